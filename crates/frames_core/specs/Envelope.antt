@@ -1,0 +1,48 @@
+-- How a call and a reply are spelled as bytes: docs/PROTOCOL.md, "Envelope" (own).
+use Rattle.std.specs.Prelude.{ℕ, ◌≡◌, ◌≢◌, ◌≤◌, ◌<◌, ◌^◌, List, [], ◌∷◌, ◌++◌, length, All}
+use Rattle.std.specs.Int.{w16, w32, to_be_bytes}
+use Rattle.frames_core.specs.declared.call.Call.{Call}
+
+-- a call without where it lies in memory
+pub record CallBytes : Type 0 where
+  pub path : List ℕ
+  pub message : List ℕ
+
+abbrev pub bytes_of : Call → CallBytes
+bytes_of call = record { path = call.path.now; message = call.message.now }
+
+abbrev pub IsPathByte : ℕ → Type 0
+IsPathByte byte = (33 ≤ byte) × (byte ≤ 126)
+
+-- the calls that have a request frame
+pub record IsCall (call : CallBytes) : Type 0 where
+  pub path_given : 1 ≤ length call.path
+  pub path_short : length call.path ≤ 128
+  pub path_bytes : All IsPathByte call.path
+  pub message_short : length call.message ≤ 1048576
+
+-- path length, path, flag, message length, message
+unfoldable pub frame : CallBytes → List ℕ
+frame call = to_be_bytes w16 (length call.path) ++ (call.path ++ (0 ∷ (to_be_bytes w32 (length call.message) ++ call.message)))
+
+-- a reply without where it lies in memory
+pub record ReplyBytes : Type 0 where
+  pub status : ℕ
+  pub text : List ℕ
+  pub body : List ℕ
+
+abbrev pub IsTextByte : ℕ → Type 0
+IsTextByte byte = (32 ≤ byte) × (byte ≤ 126)
+
+-- the replies that have a reply frame: an OK has no text, and a refusal has no body
+pub record IsReply (r : ReplyBytes) : Type 0 where
+  pub status_small : r.status < 256
+  pub text_short : length r.text < 2 ^ 16
+  pub text_bytes : All IsTextByte r.text
+  pub body_short : length r.body < 2 ^ 32
+  pub ok : r.status ≡ 0 → r.text ≡ []
+  pub refused : r.status ≢ 0 → r.body ≡ []
+
+-- status, text length, text, flag, body length, body
+unfoldable pub reply : ReplyBytes → List ℕ
+reply r = r.status ∷ (to_be_bytes w16 (length r.text) ++ (r.text ++ (0 ∷ (to_be_bytes w32 (length r.body) ++ r.body))))

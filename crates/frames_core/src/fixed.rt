@@ -1,0 +1,145 @@
+ghost use Rattle.std.specs.Prelude.{◌≡◌, ◌≢◌, ℕ, ◌+◌, ◌<◌, ◌≤◌, [], ◌∷◌, ◌++◌, List, length, take, decimal, All};
+ghost use Rattle.frames_core.specs.Envelope.{reply, IsReply, IsTextByte};
+ghost use Rattle.frames_core.specs.Texts.{fault_words};
+
+use crate::fault::{FrameFault, FrameWhy};
+use itoa::Buffer;
+use std::marker::Model;
+
+/// At most N bytes in an array, which contracts see as the list of these bytes.
+#[derive(Drop)]
+pub struct Fixed<const N: usize> {
+    array: [u8; N],
+    len: usize,
+}
+
+impl<const N: usize> Model for Fixed<N> {
+    ghost Value = { List ℕ };
+
+    ghost view = { λ f. take f.len f.array };
+
+    ghost invariant = { λ f. f.len ≤ N };
+}
+
+/// The frame of a refusal, or all of a reply's frame before its body.
+pub type FixedFrame = Fixed<168>;
+
+/// A text of one line.
+pub type FixedText = Fixed<140>;
+
+impl<const N: usize> Fixed<N> {
+    fn new() -> Self
+        ensures { result ≡ [] }
+    {
+        Fixed {
+            array: [0; N],
+            len: 0,
+        }
+    }
+
+    fn push(&mut self, byte: u8)
+        requires { length self.old < N }
+        ensures { self.new ≡ self.old ++ byte ∷ [] }
+    {
+        self.array[self.len] = byte;
+        self.len += 1;
+    }
+
+    fn extend(&mut self, bytes: &[u8])
+        requires { length self.old + length bytes.now ≤ N }
+        ensures { self.new ≡ self.old ++ bytes.now }
+    {
+        for byte in bytes {
+            self.push(*byte);
+        }
+    }
+
+    /// The bytes, lent.
+    pub fn bytes(&self) -> &[u8]
+        ensures value { result.now ≡ self.now }
+        ensures short { length result.now ≤ N }
+    {
+        &self.array[..self.len]
+    }
+}
+
+/// All that stands before the body in the frame of a reply with status 0, for a body of so many bytes.
+#[tactic(auto, unfolding(crate::specs::Envelope::reply))]
+pub fn reply_head(body_len: u32) -> FixedFrame
+    ensures { (body : List ℕ) → length body ≡ body_len → result ++ body ≡ reply (record { status = 0; text = []; body = body }) }
+{
+    let mut frame = FixedFrame::new();
+    frame.extend(&[0, 0, 0, 0]);
+    frame.extend(&body_len.to_be_bytes());
+    frame
+}
+
+/// The frame of the reply that refuses a call, with this status code and text.
+///
+/// The code is not 0. The text has at most 160 bytes, each 0x20 to 0x7E.
+#[tactic(auto, unfolding(crate::specs::Envelope::reply))]
+pub fn refusal_frame(code: u8, text: &[u8]) -> FixedFrame
+    requires refusal { code ≢ 0 }
+    requires short { length text.now ≤ 160 }
+    requires printable { All IsTextByte text.now }
+    ensures spelled { result ≡ reply (record { status = code; text = text.now; body = [] }) }
+    ensures formed { IsReply (record { status = code; text = text.now; body = [] }) }
+{
+    let mut frame = FixedFrame::new();
+    frame.push(code);
+    frame.extend(&(text.len() as u16).to_be_bytes());
+    frame.extend(text);
+    frame.extend(&[0, 0, 0, 0, 0]);
+    frame
+}
+
+/// The text, then the number in decimal.
+///
+/// The text has at most 120 bytes, each 0x20 to 0x7E, and so has what is made of it.
+pub fn text_and_number(text: &[u8], n: u64) -> FixedText
+    requires short { length text.now ≤ 120 }
+    requires printable { All IsTextByte text.now }
+    ensures value { result ≡ text.now ++ decimal n }
+    ensures short { length result ≤ length text.now + 20 }
+    ensures printable { All IsTextByte result }
+{
+    let mut line = FixedText::new();
+    line.extend(text);
+    let mut buffer = Buffer::new();
+    line.extend(buffer.format(n).as_bytes());
+    line
+}
+
+/// What a malformed frame is answered with, as `bad flag at byte 53`.
+pub fn fault_text(fault: &FrameFault) -> FixedText
+    ensures value { result ≡ fault_words fault.now.why ++ decimal fault.now.at }
+    ensures short { length result ≤ 140 }
+    ensures printable { All IsTextByte result }
+{
+    text_and_number(fault_start(fault.why), fault.at)
+}
+
+// The text before the place.
+fn fault_start(why: FrameWhy) -> &'static [u8]
+    ensures value { result.now ≡ fault_words why }
+    ensures short { length result.now ≤ 120 }
+    ensures printable { All IsTextByte result.now }
+{
+    match why {
+        FrameWhy::BadPathLength => b"bad path length at byte ",
+        FrameWhy::BadPath => b"bad path at byte ",
+        FrameWhy::BadFlag => b"bad flag at byte ",
+        FrameWhy::TooLong => b"message too long at byte ",
+        FrameWhy::EndOfInput => b"end of input at byte ",
+    }
+}
+
+/// The text as it is: at most 140 bytes.
+pub fn fixed_text(text: &[u8]) -> FixedText
+    requires { length text.now ≤ 140 }
+    ensures { result ≡ text.now }
+{
+    let mut copy = FixedText::new();
+    copy.extend(text);
+    copy
+}
