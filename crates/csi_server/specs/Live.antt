@@ -1,0 +1,77 @@
+-- A run of a server between two reads.
+use Rattle.std.specs.Prelude.{◌≡◌, ◌≢◌, ℕ, ◌+◌, ◌≤◌, ◌<◌, List, [], ◌++◌, length, take, All, Option, None}
+use Rattle.std.specs.Io.KnownBytes.{Appends, Keeps}
+use Rattle.frames_core.specs.declared.fault.FrameFault.{FrameFault}
+use Rattle.frames_core.specs.declared.fault.FrameWhy.TheVariants.{EndOfInput}
+use Rattle.csi_server.specs.declared.end.RunEnd.{RunEnd}
+use Rattle.csi_server.specs.declared.end.RunEnd.TheVariants.{Done, Malformed, ReadFailed, TurnsSpent, WriteFailed, NoMemory}
+use Rattle.frames_core.specs.Envelope.{IsCall}
+use Rattle.frames_core.specs.Stream.{frames, IsUnfinished}
+use Rattle.frames_core.specs.Framer.{FramerState}
+use Rattle.csi_server.specs.Machine.{Machine, Sight, Runs, Event, replies, calls_of}
+use Rattle.csi_server.specs.Serving.{Answered, CutOff, HasFault, WroteFront, fault_frame}
+use Rattle.csi_server.specs.declared.running.Step.{Step}
+use Rattle.csi_server.specs.declared.running.Step.TheVariants.{Fed, Faulty, Cut}
+
+-- What was answered so far, of the stream whose first bytes are these.
+pub record SoFar {S : Type 0} (m : Machine S) (start now : Sight S) (s : S) (bytes : List ℕ) (held holds : Option (List ℕ)) : Type 0 where
+  pub events : List Event
+  pub run : Runs m start now s events
+  pub each : All IsCall (calls_of events)
+  pub whole : bytes ≡ frames (calls_of events)
+  pub written : Appends held holds (replies m s events)
+
+-- All that was read is given up and answered, or held and no frame yet.
+pub record Live {S : Type 0} (m : Machine S) (start now : Sight S) (s : S) (read : List ℕ) (framer : FramerState) (held holds : Option (List ℕ)) : Type 0 where
+  pub given : List ℕ
+  pub so_far : SoFar m start now s given held holds
+  pub whole : read ≡ given ++ framer.held
+  pub past : framer.past ≡ length given
+  pub unknown : framer.fault ≡ None
+  pub unfinished : IsUnfinished framer.held
+
+-- it is so while nothing is in doubt
+abbrev pub IsLive : {S : Type 0} → Machine S → Sight S → Sight S → S → List ℕ → FramerState → Option (List ℕ) → Option (List ℕ) → Type 0
+IsLive m start now s read framer held holds = now.doubt ≡ 0 → Live m start now s read framer held holds
+
+-- one step over bytes that come behind what was read
+abbrev pub Steps : {S : Type 0} → Machine S → Sight S → Sight S → S → List ℕ → List ℕ → FramerState → Option (List ℕ) → Option (List ℕ) → Step → Type 0
+Steps m start now s read rest framer held holds (Fed n) = Live m start now s (read ++ take n rest) framer held holds
+Steps m start now s read rest framer held holds (Faulty f) = (f.why ≢ EndOfInput) × Answered m start now s (read ++ rest) held holds (λ calls. HasFault (read ++ rest) calls f.why f.at) []
+Steps m start now s read rest framer held holds Cut = CutOff m start now s (read ++ rest) held holds
+
+-- a framer that takes more bytes
+abbrev pub IsReady : FramerState → Type 0
+IsReady s = (s.fault ≡ None) × IsUnfinished s.held
+
+-- Of this many bytes it took some, counts them, and takes more.
+pub record Advances (old new : FramerState) (len n : ℕ) : Type 0 where
+  pub count : new.past + length new.held ≡ old.past + length old.held + n
+  pub within : n ≤ len
+  pub some : 0 < len → 0 < n
+  pub ready : IsReady new
+
+abbrev pub AdvancesBy : FramerState → FramerState → ℕ → Step → Type 0
+AdvancesBy old new len (Fed n) = Advances old new len n
+AdvancesBy old new len (Faulty f) = Unit {0}
+AdvancesBy old new len Cut = Unit {0}
+
+abbrev pub IsAllFed : ℕ → Step → Type 0
+IsAllFed len (Fed n) = n ≡ len
+IsAllFed len (Faulty f) = Unit {0}
+IsAllFed len Cut = Unit {0}
+
+-- The frame of the fault was written, or a beginning of it.
+abbrev pub Refuses : FrameFault → Option (List ℕ) → Option (List ℕ) → RunEnd → Type 0
+Refuses f held holds (Malformed g) = (g ≡ f) × Appends held holds (fault_frame f)
+Refuses f held holds WriteFailed = WroteFront held holds (fault_frame f)
+Refuses f held holds Done = ⊥
+Refuses f held holds ReadFailed = ⊥
+Refuses f held holds TurnsSpent = ⊥
+Refuses f held holds NoMemory = ⊥
+
+-- What is done where the input ends: nothing, or the frame that was begun is refused.
+abbrev pub Finishes : FramerState → Option (List ℕ) → Option (List ℕ) → RunEnd → Type 0
+Finishes s held holds end =
+    (IsUnfinished s.held → s.fault ≡ None → s.held ≡ [] → (end ≡ Done) × Keeps held holds)
+    × (IsUnfinished s.held → s.fault ≡ None → s.held ≢ [] → Refuses (record { why = EndOfInput; at = s.past + length s.held }) held holds end)

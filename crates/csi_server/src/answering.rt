@@ -1,0 +1,26 @@
+ghost use Rattle.std.specs.Prelude.{◌≡◌, ◌≤◌};
+ghost use Rattle.frames_core.specs.Envelope.{bytes_of};
+ghost use Rattle.csi_server.specs.Serving.{AnswersCall};
+
+use crate::service::Service;
+use crate::writing::put_reply;
+use frames_core::Call;
+use std::alloc::Global;
+use std::io::Write;
+
+/// Answers one call, or says that its reply could not be written whole.
+pub(crate) fn answer_call<C, S: Service<C>, W: Write>(
+    alloc: Global,
+    config: &C,
+    service: &mut S,
+    call: &Call<'_>,
+    frame: &mut Vec<u8>,
+    writer: &mut W,
+) -> bool
+    ensures clean { (S.sight config.now service.old).doubt ≤ (S.sight config.now service.new).doubt }
+    ensures answers { (S.sight config.now service.new).doubt ≡ 0 → (s : S.State) → (S.sight config.now service.old).holds s
+        → AnswersCall (S.machine config.now) (S.sight config.now service.old) (S.sight config.now service.new) s (bytes_of call.now) (W.contents writer.old) (W.contents writer.new) result }
+{
+    let answer = service.answer(config, alloc, call, frame);
+    put_reply(writer, &answer, frame)
+}

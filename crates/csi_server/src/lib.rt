@@ -1,0 +1,23 @@
+//! The server: it reads frames of calls and writes the frames of their replies.
+//!
+//! `specs/Machine.antt` says what a run over calls replies and leaves, `specs/Serving.antt` what is read and written by each end of
+//! a run. The engine, [`run_service`], is proved once for every [`Service`], reader and writer.
+#![tactic(auto)]
+
+mod answering;
+mod end;
+mod identity;
+pub mod laws;
+mod refused;
+mod running;
+mod service;
+#[cfg(test)]
+mod tests;
+mod wire;
+mod writing;
+
+pub use end::RunEnd;
+pub use identity::serve_identity;
+pub use refused::Refusal;
+pub use running::run_service;
+pub use service::{Answer, Service, begin_body};

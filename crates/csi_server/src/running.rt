@@ -1,0 +1,159 @@
+ghost use Rattle.std.specs.Prelude.{◌≡◌, ◌≤◌, ◌<◌, ◌+◌, ◌^◌, [], ◌++◌, length, ℕ, List, Option, None, take};
+ghost use Rattle.std.specs.Io.KnownBytes.{Keeps};
+ghost use Rattle.csi_server.specs.Serving.{Serves};
+ghost use Rattle.csi_server.specs.Live.{IsLive, Steps, AdvancesBy, IsReady, IsAllFed, Refuses, Finishes};
+
+use crate::answering::answer_call;
+use crate::end::RunEnd;
+use crate::service::Service;
+use crate::writing::put_fault;
+use frames_core::{FrameFault, Framer};
+use std::alloc::Global;
+use std::io::{Read, Write};
+
+// At most this many reads are made in one run.
+const READS: u64 = 4_294_967_296;
+
+// What came of feeding some bytes.
+#[derive(Clone, Copy)]
+pub(crate) enum Step {
+    Fed(usize),
+    Faulty(FrameFault),
+    Cut,
+}
+
+// Feeds these bytes up to the end of one frame, and answers it.
+fn answer_next<C, S: Service<C>, W: Write>(
+    alloc: Global,
+    config: &C,
+    service: &mut S,
+    framer: &mut Framer,
+    rest: &[u8],
+    frame: &mut Vec<u8>,
+    writer: &mut W,
+) -> Step
+    requires room { framer.old.past + length framer.old.held + length rest.now < 2 ^ 63 }
+    requires ready { IsReady framer.old }
+    ensures clean { (S.sight config.now service.old).doubt ≤ (S.sight config.now service.new).doubt }
+    ensures steps { (start : S) (s : S.State) (read : List ℕ) (held : Option (List ℕ))
+        → IsLive (S.machine config.now) (S.sight config.now start) (S.sight config.now service.old) s read framer.old held (W.contents writer.old)
+        → (S.sight config.now service.new).doubt ≡ 0
+        → Steps (S.machine config.now) (S.sight config.now start) (S.sight config.now service.new) s read rest.now framer.new held (W.contents writer.new) result }
+    ensures count { AdvancesBy framer.old framer.new (length rest.now) result }
+{
+    let count = framer.feed(rest);
+    if let Some(fault) = framer.fault() {
+        return Step::Faulty(fault);
+    }
+    let Some(call) = framer.frame() else {
+        return Step::Fed(count);
+    };
+    if !answer_call(alloc, config, service, &call, frame, writer) {
+        return Step::Cut;
+    }
+    framer.next_frame();
+    Step::Fed(count)
+}
+
+// Feeds the piece and answers all its frames.
+fn answer_piece<C, S: Service<C>, W: Write>(
+    alloc: Global,
+    config: &C,
+    service: &mut S,
+    framer: &mut Framer,
+    piece: &[u8],
+    frame: &mut Vec<u8>,
+    writer: &mut W,
+) -> Step
+    requires room { framer.old.past + length framer.old.held + length piece.now < 2 ^ 63 }
+    requires ready { IsReady framer.old }
+    ensures clean { (S.sight config.now service.old).doubt ≤ (S.sight config.now service.new).doubt }
+    ensures steps { (start : S) (s : S.State) (read : List ℕ) (held : Option (List ℕ))
+        → IsLive (S.machine config.now) (S.sight config.now start) (S.sight config.now service.old) s read framer.old held (W.contents writer.old)
+        → (S.sight config.now service.new).doubt ≡ 0
+        → Steps (S.machine config.now) (S.sight config.now start) (S.sight config.now service.new) s read piece.now framer.new held (W.contents writer.new) result }
+    ensures count { AdvancesBy framer.old framer.new (length piece.now) result }
+    ensures all { IsAllFed (length piece.now) result }
+{
+    let mut at = 0;
+    while at < piece.len() {
+        let (_, rest) = piece.split_at(at);
+        match answer_next(alloc, config, service, framer, rest, frame, writer) {
+            Step::Fed(count) => at += count,
+            Step::Faulty(fault) => return Step::Faulty(fault),
+            Step::Cut => return Step::Cut,
+        }
+    }
+    Step::Fed(at)
+}
+
+/// Runs a service over the calls that a reader gives, and writes their replies.
+///
+/// It reads at most 4,096 bytes a read and makes at most 2^32 reads. Each call is answered and its reply flushed as soon as its
+/// frame is whole, before the next frame is looked at. An interrupted read or write is a failure. Memory is taken for one buffer of
+/// frames at the start, and for the bodies of replies, in one buffer that is kept from call to call.
+pub fn run_service<C, S: Service<C>, R: Read, W: Write>(
+    alloc: Global,
+    config: &C,
+    service: &mut S,
+    reader: &mut R,
+    writer: &mut W,
+) -> RunEnd
+    ensures serves { Serves (S.machine config.now) (S.sight config.now service.old) (S.sight config.now service.new) (R.remaining reader.old) (R.remaining reader.new) (W.contents writer.old) (W.contents writer.new) result }
+    ensures clean { (S.sight config.now service.old).doubt ≤ (S.sight config.now service.new).doubt }
+    ensures unread { result ≡ RunEnd.NoMemory → Keeps (R.remaining reader.old) (R.remaining reader.new) }
+    ensures unwritten { result ≡ RunEnd.NoMemory → Keeps (W.contents writer.old) (W.contents writer.new) }
+{
+    let Ok(mut framer) = Framer::new(alloc) else {
+        return RunEnd::NoMemory;
+    };
+    let mut frame = Vec::new(alloc);
+    let mut piece = [0; 4096];
+    for turn in 0..READS {
+        match reader.read(&mut piece) {
+            Err(_) => return RunEnd::ReadFailed,
+            Ok(count) => {
+                if count == 0 {
+                    return finish(&mut framer, writer);
+                }
+                let (bytes, _) = piece.split_at(count);
+                match answer_piece(
+                    alloc,
+                    config,
+                    service,
+                    &mut framer,
+                    bytes,
+                    &mut frame,
+                    writer,
+                ) {
+                    Step::Fed(_) => {}
+                    Step::Faulty(fault) => return refuse(&fault, writer),
+                    Step::Cut => return RunEnd::WriteFailed,
+                }
+            }
+        }
+    }
+    RunEnd::TurnsSpent
+}
+
+// Answers a fault, the last thing that a run does.
+fn refuse<W: Write>(fault: &FrameFault, writer: &mut W) -> RunEnd
+    ensures { Refuses fault.now (W.contents writer.old) (W.contents writer.new) result }
+{
+    if put_fault(writer, fault) {
+        RunEnd::Malformed(*fault)
+    } else {
+        RunEnd::WriteFailed
+    }
+}
+
+// The input ended: what was begun and isn't whole is refused.
+fn finish<W: Write>(framer: &mut Framer, writer: &mut W) -> RunEnd
+    ensures { Finishes framer.old (W.contents writer.old) (W.contents writer.new) result }
+{
+    framer.end();
+    match framer.fault() {
+        None => RunEnd::Done,
+        Some(fault) => refuse(&fault, writer),
+    }
+}

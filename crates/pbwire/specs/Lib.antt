@@ -1,0 +1,4 @@
+pub mod Wire
+pub mod Reading
+pub mod Faults
+pub mod Writing

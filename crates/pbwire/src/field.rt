@@ -1,0 +1,47 @@
+//! Fields, and what can be wrong with the bytes in a field's place.
+
+/// What a field holds, by its wire type (Protocol Buffers encoding guide, "Message Structure").
+#[derive(Clone, Copy, Debug, PartialEq, Eq)]
+pub enum Value<'a> {
+    /// Wire type 0 (`VARINT`): a number of up to 64 bits.
+    Varint(u64),
+    /// Wire type 1 (`I64`): eight bytes, little-endian.
+    Fixed64([u8; 8]),
+    /// Wire type 2 (`LEN`): the payload, lent by the message.
+    Bytes(&'a [u8]),
+    /// Wire type 5 (`I32`): four bytes, little-endian.
+    Fixed32([u8; 4]),
+}
+
+/// One field of a message (Protocol Buffers encoding guide, "Message Structure").
+#[derive(Clone, Copy, Debug, PartialEq, Eq)]
+pub struct Field<'a> {
+    /// The field's number, from 1 to 536,870,911.
+    pub number: u32,
+    /// What the field holds.
+    pub value: Value<'a>,
+}
+
+/// Why no field stands in a place. Where several reasons hold, it is the first that a reader meets
+/// from the left, and a tag's number goes before its wire type.
+#[derive(Clone, Copy, Debug, PartialEq, Eq)]
+pub enum WireWhy {
+    /// A malformed varint, as tag, value or length: ten bytes stand there, and no first bytes of
+    /// them are one ("Base 128 Varints"). A tenth byte above 1 is malformed too.
+    Varint,
+    /// A tag whose number is 0, or that is 2^32 or more.
+    Tag,
+    /// A wire type other than 0, 1, 2 and 5. The groups of wire types 3 and 4 are not read.
+    WireType,
+    /// The message ends inside the field.
+    CutShort,
+}
+
+/// A place of a message where no field stands.
+#[derive(Clone, Copy, Debug, PartialEq, Eq)]
+pub struct WireFault {
+    /// What is wrong.
+    pub why: WireWhy,
+    /// How many bytes of the message stand before the field's tag.
+    pub at: usize,
+}

@@ -1,0 +1,21 @@
+//! The wire format of Protocol Buffers: a message's bytes read as fields, and fields written as
+//! bytes.
+//!
+//! [`Fields`] goes over a message from the left and lends each payload out of it, without memory.
+//! [`put_varint`], [`put_bytes`] and [`close_bytes`] append one field in its shortest spelling, or
+//! leave the vector as it was.
+//!
+//! What a field spells is in `specs/Wire.antt`, after the Protocol Buffers encoding guide; the
+//! functions of [`laws`] tie it to the reading and the writing.
+#![tactic(auto)]
+
+mod field;
+pub mod laws;
+mod reading;
+#[cfg(test)]
+mod tests;
+mod writing;
+
+pub use field::{Field, Value, WireFault, WireWhy};
+pub use reading::Fields;
+pub use writing::{close_bytes, put_bytes, put_varint};

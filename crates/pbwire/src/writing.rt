@@ -1,0 +1,79 @@
+//! Writing fields, each in its shortest spelling.
+
+ghost use Rattle.std.specs.Prelude.{◌-◌, ◌≡◌, ◌≤◌, ◌<◌, ◌^◌, ◌+◌, ◌*◌, ◌++◌, OnOk, OnErr, length, take, drop};
+ghost use Rattle.pbwire.specs.Wire.{Number, Payload};
+ghost use Rattle.pbwire.specs.Writing.{varint, spelling};
+
+use arrayvec::ArrayVec;
+use std::alloc::AllocError;
+
+fn push_varint(out: &mut ArrayVec<u8, 20>, number: u64)
+    requires { length out.old.items ≤ 10 }
+    ensures { out.new.items ≡ out.old.items ++ varint number }
+{
+    let mut rest = number;
+    while rest >= 128 {
+        out.push((rest % 128) as u8 + 128);
+        rest /= 128;
+    }
+    out.push(rest as u8);
+}
+
+// A tag, and the varint after it: a number, or the length of a payload.
+fn head_of(number: u32, wire_type: u64, after: u64) -> ArrayVec<u8, 20>
+    requires { wire_type < 8 }
+    ensures { result.items ≡ varint (number * 8 + wire_type) ++ varint after }
+{
+    let mut head = ArrayVec::new();
+    push_varint(&mut head, u64::from(number) * 8 + wire_type);
+    push_varint(&mut head, after);
+    head
+}
+
+/// Appends a field that holds a number (wire type 0). After an `Err` the vector is as it was.
+pub fn put_varint(out: &mut Vec<u8>, number: u32, value: u64) -> Result<(), AllocError>
+    requires { (1 ≤ number) × (number < 2 ^ 29) }
+    ensures ok { OnOk result (out.new.items ≡ out.old.items ++ spelling (record { number = number; part = Number value })) }
+    ensures err { OnErr result (out.new.items ≡ out.old.items) }
+{
+    out.extend_from_slice(head_of(number, 0, value).as_slice())
+}
+
+/// Appends a field that holds bytes (wire type 2): a text, or the bytes of an embedded message. The
+/// vector grows at most once. After an `Err` it is as it was.
+pub fn put_bytes(out: &mut Vec<u8>, number: u32, bytes: &[u8]) -> Result<(), AllocError>
+    requires { (1 ≤ number) × (number < 2 ^ 29) }
+    ensures ok { OnOk result (out.new.items ≡ out.old.items ++ spelling (record { number = number; part = Payload bytes.now })) }
+    ensures err { OnErr result (out.new.items ≡ out.old.items) }
+{
+    let head = head_of(number, 2, bytes.len() as u64);
+    out.reserve(head.len() + bytes.len())?;
+    out.extend_from_slice(head.as_slice())?;
+    out.extend_from_slice(bytes)
+}
+
+// Moves the bytes back, over as many at their end, and writes the head before them.
+fn put_before(bytes: &mut [u8], head: &[u8])
+    requires { length head.now ≤ length bytes.old }
+    ensures { bytes.new ≡ head.now ++ take (length bytes.old - length head.now) bytes.old }
+{
+    let kept = bytes.len() - head.len();
+    bytes.copy_within(..kept, head.len());
+    let (front, _) = bytes.split_at_mut(head.len());
+    front.copy_from_slice(head);
+}
+
+/// Makes the bytes from `from` on the payload of a field (wire type 2): its tag and length go before
+/// them. So an embedded message is written in place, and its length need not be known before. After
+/// an `Err` the vector is as it was.
+pub fn close_bytes(out: &mut Vec<u8>, from: usize, number: u32) -> Result<(), AllocError>
+    requires number { (1 ≤ number) × (number < 2 ^ 29) }
+    requires within { from ≤ length out.old.items }
+    ensures ok { OnOk result (out.new.items ≡ take from out.old.items ++ spelling (record { number = number; part = Payload (drop from out.old.items) })) }
+    ensures err { OnErr result (out.new.items ≡ out.old.items) }
+{
+    let head = head_of(number, 2, (out.len() - from) as u64);
+    out.extend_from_slice(head.as_slice())?;
+    put_before(out.slice_mut(from..), head.as_slice());
+    Ok(())
+}
