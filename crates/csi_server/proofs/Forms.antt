@@ -4,10 +4,14 @@ use Rattle.std.specs.Prelude.{codes, decimal, MatchOption, if◌then◌else◌}
 use Rattle.std.proofs.lemmas.List.Elements.{All-append, All-nil}
 use Rattle.std.proofs.lemmas.Fmt.{length-decimal-le}
 use Rattle.frames_core.specs.Envelope.{CallBytes, ReplyBytes, IsReply, IsTextByte}
+use Rattle.csi_types.specs.declared.method.Method.TheVariants.{Probe, GetPluginInfo}
+use Rattle.csi_types.specs.declared.reason.Reason.TheVariants as reason
+use Rattle.csi_types.specs.Reasons.{text_of}
 use Rattle.csi_server.specs.Machine.{refusal}
-use Rattle.csi_server.specs.Identity.{identity_reply, checked, malformed_at, is_probe, is_plugin_info, ready, names_of}
+use Rattle.csi_server.specs.Identity.{identity_reply, checked, malformed_at, is_call_of, ready, names_of}
 use Rattle.csi_server.specs.Places.{IsFieldList, IsPlace}
 use Rattle.csi_server.proofs.Printable.{all_printable}
+use Rattle.csi_server.proofs.Reasons.{reason_printable}
 use Rattle.csi_server.proofs.Stateless.{names_short}
 
 formed_body : (body : List ℕ) → length body < 2 ^ 32 → IsReply (record { status = 0; text = []; body = body })
@@ -47,7 +51,7 @@ by_method false false first second third a b c = c
 pub formed_reply : (places : (bytes : List ℕ) → MatchOption (malformed_at bytes) (IsFieldList bytes) (IsPlace bytes)) (numbers : (n : ℕ) → n < 2 ^ 64 → All IsTextByte (decimal n)) (name version : List ℕ) (call : CallBytes) → length name ≤ 128 → length version ≤ 128 → length call.message ≤ 1048576 → IsReply (identity_reply name version call)
 unfolding identity_reply
 formed_reply places numbers name version call a b few =
-    by_method (is_probe call) (is_plugin_info call) _ _ _
+    by_method (is_call_of Probe call) (is_call_of GetPluginInfo call) _ _ _
     (formed_checked numbers (malformed_at call.message) call.message ready few (omega arith) (places call.message))
     (formed_checked numbers (malformed_at call.message) call.message (names_of name version) few (omega (arith, names_short name version a b)) (places call.message))
-    (formed_refusal 12 (codes "unknown method") (omega arith) (λ e. omega arith) (omega arith) (all_printable (codes "unknown method") refl))
+    (formed_refusal 12 (text_of reason.UnknownMethod) (omega arith) (λ e. omega arith) (omega arith) (reason_printable reason.UnknownMethod))

@@ -4,5 +4,6 @@ mod Feeding
 mod Faults
 mod Stateless
 mod Printable
+mod Reasons
 mod Places
 mod Forms

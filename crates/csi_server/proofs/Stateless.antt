@@ -1,11 +1,16 @@
 -- What the identity service answers.
-use Rattle.std.proofs.Common.{◌≡◌, ℕ, zero, suc, ◌+◌, ◌*◌, ◌≤◌, List, [], ◌∷◌, ◌++◌, length, length-append, Bool, true, false, None, refl, sym, ◌∙◌, append_assoc, arith, inl, inr}
-use Rattle.std.specs.Prelude.{Result, Ok, Err, OnOk, ⊤, codes, if◌then◌else◌, ◌==◌, nat_lt, ◌/◌, ◌%◌}
+use Rattle.std.proofs.Common.{◌≡◌, ℕ, zero, suc, ◌+◌, ◌*◌, ◌≤◌, List, [], ◌∷◌, ◌++◌, length, length-append, Bool, true, false, Option, Some, None, ap, ◌↔◌, refl, sym, ◌∙◌, append_assoc, arith, inl, inr}
+use Rattle.std.specs.Prelude.{Result, Ok, Err, OnOk, ⊤, if◌then◌else◌, ◌==◌, nat_lt, ◌/◌, ◌%◌}
 use Rattle.pbwire.specs.Wire.{Payload}
 use Rattle.pbwire.specs.Writing.{minimal, spelling}
 use Rattle.frames_core.specs.Envelope.{CallBytes, ReplyBytes}
-use Rattle.csi_server.specs.Machine.{Machine, Unmarked, OutOfMemory, Answers, refusal}
-use Rattle.csi_server.specs.Identity.{identity_reply, identity_may_fail, is_probe, is_plugin_info, IsAnswered, ready, names_of, checked, malformed_at, text, still}
+use Rattle.std.proofs.lemmas.Slice.Eq.{bytes_eq-Decides}
+use Rattle.csi_types.specs.Methods.{path_of}
+use Rattle.csi_types.specs.declared.method.Method.{Method}
+use Rattle.csi_types.specs.declared.method.Method.TheVariants.{Probe, GetPluginInfo}
+use Rattle.csi_types.specs.declared.reason.Reason.TheVariants as reason
+use Rattle.csi_server.specs.Machine.{Machine, Unmarked, OutOfMemory, Answers, refused}
+use Rattle.csi_server.specs.Identity.{identity_reply, identity_may_fail, is_call_of, IsAnswered, ready, names_of, checked, malformed_at, text, still}
 
 pub still_answers : (m : Machine ⊤) (s : ⊤) (call : CallBytes) (r : ReplyBytes) → (m.respond s call).0 ≡ r → (m.respond s call).1 ≡ s → Answers m still still s call r
 still_answers m s call r e kept = record {
@@ -18,7 +23,7 @@ still_answers m s call r e kept = record {
   ties = λ k. k;
 }
 
-pub still_memory : (m : Machine ⊤) (s : ⊤) (call : CallBytes) (r : ReplyBytes) → r ≡ refusal 13 (codes "out of memory") → m.may_fail call → Answers m still still s call r
+pub still_memory : (m : Machine ⊤) (s : ⊤) (call : CallBytes) (r : ReplyBytes) → r ≡ refused reason.OutOfMemory → m.may_fail call → Answers m still still s call r
 still_memory m s call r e may = record {
   mark = OutOfMemory;
   allowed = λ marked. may;
@@ -33,23 +38,23 @@ pub answered_call : (m : Machine ⊤) (s : ⊤) (call : CallBytes) (message body
 answered_call m s call message body r (inl is) e kept may = still_answers m s call r (e ∙ sym is) kept
 answered_call m s call message body r (inr memory) e kept may = still_memory m s call r memory.1 (may memory.0)
 
-pub says_probe : (name version : List ℕ) (call : CallBytes) → is_probe call ≡ true → identity_reply name version call ≡ checked (malformed_at call.message) ready
+pub says_probe : (name version : List ℕ) (call : CallBytes) → is_call_of Probe call ≡ true → identity_reply name version call ≡ checked (malformed_at call.message) ready
 unfolding identity_reply
 says_probe name version call probe = rw probe
 
-pub says_info : (name version : List ℕ) (call : CallBytes) → is_probe call ≡ false → is_plugin_info call ≡ true → identity_reply name version call ≡ checked (malformed_at call.message) (names_of name version)
+pub says_info : (name version : List ℕ) (call : CallBytes) → is_call_of Probe call ≡ false → is_call_of GetPluginInfo call ≡ true → identity_reply name version call ≡ checked (malformed_at call.message) (names_of name version)
 unfolding identity_reply
 says_info name version call probe info = rw (probe, info)
 
-pub says_unknown : (name version : List ℕ) (call : CallBytes) → is_probe call ≡ false → is_plugin_info call ≡ false → identity_reply name version call ≡ refusal 12 (codes "unknown method")
+pub says_unknown : (name version : List ℕ) (call : CallBytes) → is_call_of Probe call ≡ false → is_call_of GetPluginInfo call ≡ false → identity_reply name version call ≡ refused reason.UnknownMethod
 unfolding identity_reply
 says_unknown name version call probe info = rw (probe, info)
 
-pub probe_may : (call : CallBytes) → is_probe call ≡ true → malformed_at call.message ≡ None → identity_may_fail call
+pub probe_may : (call : CallBytes) → is_call_of Probe call ≡ true → malformed_at call.message ≡ None → identity_may_fail call
 unfolding identity_may_fail
 probe_may call probe good = (inl probe, good)
 
-pub info_may : (call : CallBytes) → is_plugin_info call ≡ true → malformed_at call.message ≡ None → identity_may_fail call
+pub info_may : (call : CallBytes) → is_call_of GetPluginInfo call ≡ true → malformed_at call.message ≡ None → identity_may_fail call
 unfolding identity_may_fail
 info_may call info good = (inr info, good)
 
@@ -85,3 +90,24 @@ names_short name version a b = omega (arith, length-append (text 1 name) (text 2
 pub on_ok_assoc : {T E : Type 0} (r : Result T E) (out front one two : List ℕ) → OnOk r (out ≡ (front ++ one) ++ two) → OnOk r (out ≡ front ++ (one ++ two))
 on_ok_assoc (Ok x) out front one two p = p ∙ append_assoc front one two
 on_ok_assoc (Err e) out front one two p = tt
+
+-- ---- which method a path has
+
+false_of : (b : Bool) → (b ≡ true → ⊥) → b ≡ false
+false_of true no-true = absurd (no-true refl)
+false_of false no-true = refl
+
+pub is_call : (call : CallBytes) (found : Option Method) (m : Method) → ((m : Method) → (found ≡ Some m) ↔ (call.path ≡ path_of m)) → found ≡ Some m → is_call_of m call ≡ true
+is_call call found m h e = (bytes_eq-Decides call.path (path_of m)).1 ((h m).0 e)
+
+pub is_no_call : (call : CallBytes) (found : Option Method) (m : Method) → ((m : Method) → (found ≡ Some m) ↔ (call.path ≡ path_of m)) → (found ≡ Some m → ⊥) → is_call_of m call ≡ false
+is_no_call call found m h none = false_of (is_call_of m call) (λ e. none ((h m).1 ((bytes_eq-Decides call.path (path_of m)).0 e)))
+
+found_or : Method → Option Method → Method
+found_or m None = m
+found_or m (Some n) = n
+
+-- a path that has one method has no other
+pub is_other_call : (call : CallBytes) (found : Option Method) (m n : Method) → ((m : Method) → (found ≡ Some m) ↔ (call.path ≡ path_of m)) → found ≡ Some n → (n ≡ m → ⊥) → is_call_of m call ≡ false
+unfolding found_or
+is_other_call call found m n h e other = is_no_call call found m h (λ k. other (ap (λ (o : Option Method). found_or m o) (sym e ∙ k)))

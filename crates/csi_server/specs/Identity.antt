@@ -1,12 +1,18 @@
 -- The identity service: Probe and GetPluginInfo.
 use Rattle.std.specs.Prelude.{◌≡◌, ◌⊎◌, ⊤, ℕ, zero, suc, ◌+◌, List, [], ◌∷◌, ◌++◌, length, codes, Option, Some, None, Result, Ok, Err, if◌then◌else◌, decimal, IsTrue, ◌==◌, Bool, false}
 use Rattle.std.specs.Str.{bytes_eq}
+use Rattle.csi_types.specs.declared.reason.Reason.TheVariants as reason
+use Rattle.csi_types.specs.declared.code.Code.TheVariants as code
+use Rattle.csi_types.specs.declared.method.Method.{Method}
+use Rattle.csi_types.specs.declared.method.Method.TheVariants.{Probe, GetPluginInfo}
+use Rattle.csi_types.specs.Methods.{path_of}
+use Rattle.csi_types.specs.Codes.{number_of}
 use Rattle.frames_core.specs.Envelope.{CallBytes, ReplyBytes}
 use Rattle.pbwire.specs.Wire.{Entry, Payload}
 use Rattle.pbwire.specs.Reading.{Cursor, next_of}
 use Rattle.pbwire.specs.declared.field.WireFault.{WireFault}
 use Rattle.pbwire.specs.Writing.{spelling}
-use Rattle.csi_server.specs.Machine.{Machine, Sight, refusal}
+use Rattle.csi_server.specs.Machine.{Machine, Sight, refusal, refused}
 
 -- the place of the first fault among at most so many fields
 abbrev pub fault_of : Option (Result Entry WireFault) → Option ℕ → Option ℕ
@@ -24,7 +30,7 @@ malformed_at bytes = fault_from (length bytes + 1) (record { at = 0; rest = byte
 
 abbrev pub checked : Option ℕ → List ℕ → ReplyBytes
 checked None body = record { status = 0; text = []; body = body }
-checked (Some at) body = refusal 3 (codes "malformed message in the field at byte " ++ decimal at)
+checked (Some at) body = refusal (number_of code.InvalidArgument) (codes "malformed message in the field at byte " ++ decimal at)
 
 -- a text under this number, left out where it is empty
 abbrev pub text : ℕ → List ℕ → List ℕ
@@ -40,23 +46,20 @@ names_of name version = text 1 name ++ text 2 version
 
 -- a known call is answered with the body where its message is a list of fields, or refused for memory
 abbrev pub IsAnswered : List ℕ → List ℕ → ReplyBytes → Type 0
-IsAnswered message body r = (r ≡ checked (malformed_at message) body) ⊎ ((malformed_at message ≡ None) × (r ≡ refusal 13 (codes "out of memory")))
+IsAnswered message body r = (r ≡ checked (malformed_at message) body) ⊎ ((malformed_at message ≡ None) × (r ≡ refused reason.OutOfMemory))
 
-abbrev pub is_probe : CallBytes → Bool
-is_probe call = bytes_eq call.path (codes "/csi.v1.Identity/Probe")
-
-abbrev pub is_plugin_info : CallBytes → Bool
-is_plugin_info call = bytes_eq call.path (codes "/csi.v1.Identity/GetPluginInfo")
+abbrev pub is_call_of : Method → CallBytes → Bool
+is_call_of m call = bytes_eq call.path (path_of m)
 
 unfoldable pub identity_reply : List ℕ → List ℕ → CallBytes → ReplyBytes
 identity_reply name version call =
-    if is_probe call then checked (malformed_at call.message) ready
-    else if is_plugin_info call then checked (malformed_at call.message) (names_of name version)
-    else refusal 12 (codes "unknown method")
+    if is_call_of Probe call then checked (malformed_at call.message) ready
+    else if is_call_of GetPluginInfo call then checked (malformed_at call.message) (names_of name version)
+    else refused reason.UnknownMethod
 
 -- a call may be refused for memory where its path is known and its message is a list of fields
 unfoldable pub identity_may_fail : CallBytes → Type 0
-identity_may_fail call = (IsTrue (is_probe call) ⊎ IsTrue (is_plugin_info call)) × (malformed_at call.message ≡ None)
+identity_may_fail call = (IsTrue (is_call_of Probe call) ⊎ IsTrue (is_call_of GetPluginInfo call)) × (malformed_at call.message ≡ None)
 
 -- its state says nothing
 abbrev pub identity : List ℕ → List ℕ → Machine ⊤

@@ -2,13 +2,14 @@
 use Rattle.std.specs.Prelude.{ℕ, ◌+◌, ◌≤◌, List, [], ◌∷◌, drop, length}
 use Rattle.csi_server.specs.declared.service.Answer.{Answer}
 use Rattle.csi_server.specs.declared.service.Answer.TheVariants.{Body, Refused}
+use Rattle.csi_types.specs.Codes.{number_of}
 use Rattle.frames_core.specs.Envelope.{ReplyBytes}
 use Rattle.csi_server.specs.Machine.{refusal}
 
 -- the body stands behind room for the head
 abbrev pub reply_of : Answer → List ℕ → ReplyBytes
 reply_of Body frame = record { status = 0; text = []; body = drop 8 frame }
-reply_of (Refused r) frame = refusal r.code r.text
+reply_of (Refused r) frame = refusal (number_of r.code) r.text
 
 -- there is that room, and the body has at most 4,194,304 bytes
 abbrev pub HoldsBody : Answer → List ℕ → Type 0

@@ -1,6 +1,8 @@
 -- What a server reads and writes, by the way it ends.
 use Rattle.std.specs.Prelude.{◌≡◌, ℕ, ◌≤◌, ◌^◌, List, [], ◌∷◌, ◌++◌, length, All, Option, ◌⊎◌, decimal, Bool, true}
 use Rattle.std.specs.Io.KnownBytes.{Appends, Consumes, IsAtEnd, Keeps}
+use Rattle.csi_types.specs.declared.code.Code.TheVariants as code
+use Rattle.csi_types.specs.Codes.{number_of}
 use Rattle.frames_core.specs.declared.fault.FrameFault.{FrameFault}
 use Rattle.frames_core.specs.declared.fault.FrameWhy.{FrameWhy}
 use Rattle.frames_core.specs.declared.fault.FrameWhy.TheVariants.{EndOfInput}
@@ -28,7 +30,7 @@ pub record BeginsWithCalls (read : List ℕ) (calls : List CallBytes) : Type 0 w
 
 -- the reply frame that answers a fault
 abbrev pub fault_frame : FrameFault → List ℕ
-fault_frame f = reply (refusal 3 (fault_words f.why ++ decimal f.at))
+fault_frame f = reply (refusal (number_of code.InvalidArgument) (fault_words f.why ++ decimal f.at))
 
 -- a beginning of the bytes, also all of them
 abbrev pub IsFront : List ℕ → List ℕ → Type 0

@@ -3,6 +3,7 @@ ghost use Rattle.std.specs.Io.KnownBytes.{Consumes, IsAtEnd, Keeps};
 ghost use Rattle.csi_server.specs.Identity.{text, ready, names_of, IsAnswered, identity, still};
 ghost use Rattle.csi_server.specs.Serving.{Ended};
 ghost use Rattle.csi_server.specs.Service.{reply_of, HoldsBody, room};
+ghost use Rattle.csi_server.specs.Machine.{refused};
 ghost use Rattle.frames_core.specs.Envelope.{IsTextByte};
 
 use crate::end::RunEnd;
@@ -10,7 +11,8 @@ use crate::refused::Refusal;
 use crate::running::run_service;
 use crate::service::{Answer, Service, begin_body};
 use crate::wire::fault_place;
-use frames_core::{Call, fixed_text, text_and_number};
+use csi_types::{Code, Method, Reason, method_of};
+use frames_core::{Call, text_and_number};
 use pbwire::put_bytes;
 use std::alloc::{AllocError, Global};
 use std::io::{Read, Write};
@@ -61,11 +63,11 @@ fn put_names(frame: &mut Vec<u8>, names: &PluginNames<'_>) -> Result<(), AllocEr
 }
 
 fn malformed(place: u64) -> Refusal
-    ensures code { result.code ≡ 3 }
+    ensures code { result.code ≡ Code.InvalidArgument }
     ensures text { result.text ≡ codes "malformed message in the field at byte " ++ decimal place }
 {
     Refusal {
-        code: 3,
+        code: Code::InvalidArgument,
         text: text_and_number(malformed_start(), place),
     }
 }
@@ -79,24 +81,11 @@ fn malformed_start() -> &'static [u8]
     b"malformed message in the field at byte "
 }
 
-fn unknown_method() -> Refusal
-    ensures code { result.code ≡ 12 }
-    ensures text { result.text ≡ codes "unknown method" }
+fn unknown_method() -> Answer
+    ensures answered { (frame : List ℕ) → reply_of result frame ≡ refused Reason.UnknownMethod }
+    ensures room { (frame : List ℕ) → HoldsBody result frame }
 {
-    Refusal {
-        code: 12,
-        text: fixed_text(b"unknown method"),
-    }
-}
-
-fn out_of_memory() -> Refusal
-    ensures code { result.code ≡ 13 }
-    ensures text { result.text ≡ codes "out of memory" }
-{
-    Refusal {
-        code: 13,
-        text: fixed_text(b"out of memory"),
-    }
+    Answer::Refused(Refusal::from(Reason::UnknownMethod))
 }
 
 // Probe: no field of its message is known, and the plugin is always ready.
@@ -108,7 +97,7 @@ fn answer_probe(message: &[u8], frame: &mut Vec<u8>) -> Answer
         return Answer::Refused(malformed(place));
     }
     if put_ready(frame).is_err() {
-        return Answer::Refused(out_of_memory());
+        return Answer::Refused(Refusal::from(Reason::OutOfMemory));
     }
     Answer::Body
 }
@@ -122,7 +111,7 @@ fn answer_plugin_info(names: &PluginNames<'_>, message: &[u8], frame: &mut Vec<u
         return Answer::Refused(malformed(place));
     }
     if put_names(frame, names).is_err() {
-        return Answer::Refused(out_of_memory());
+        return Answer::Refused(Refusal::from(Reason::OutOfMemory));
     }
     Answer::Body
 }
@@ -143,13 +132,14 @@ impl<'a> Service<PluginNames<'a>> for Identity {
         call: &Call<'_>,
         frame: &mut Vec<u8>,
     ) -> Answer {
-        if call.path == b"/csi.v1.Identity/Probe".as_slice() {
-            return answer_probe(call.message, frame);
+        let Some(method) = method_of(call.path) else {
+            return unknown_method();
+        };
+        match method {
+            Method::Probe => answer_probe(call.message, frame),
+            Method::GetPluginInfo => answer_plugin_info(config, call.message, frame),
+            _ => unknown_method(),
         }
-        if call.path == b"/csi.v1.Identity/GetPluginInfo".as_slice() {
-            return answer_plugin_info(config, call.message, frame);
-        }
-        Answer::Refused(unknown_method())
     }
 }
 

@@ -5,6 +5,7 @@ ghost use Rattle.csi_server.specs.Serving.{WroteFront, fault_frame};
 ghost use Rattle.csi_server.specs.Service.{reply_of, HoldsBody};
 
 use crate::service::Answer;
+use csi_types::Code;
 use frames_core::{FrameFault, fault_text, refusal_frame};
 use std::io::Write;
 
@@ -67,7 +68,7 @@ pub(crate) fn put_reply<W: Write>(writer: &mut W, answer: &Answer, frame: &mut V
         }
         Answer::Refused(refusal) => put_flushed(
             writer,
-            refusal_frame(refusal.code, refusal.text.bytes()).bytes(),
+            refusal_frame(refusal.code.number(), refusal.text.bytes()).bytes(),
         ),
     }
 }
@@ -77,5 +78,8 @@ pub(crate) fn put_fault<W: Write>(writer: &mut W, fault: &FrameFault) -> bool
     ensures all { result ≡ true → Appends (W.contents writer.old) (W.contents writer.new) (fault_frame fault.now) }
     ensures front { WroteFront (W.contents writer.old) (W.contents writer.new) (fault_frame fault.now) }
 {
-    put_flushed(writer, refusal_frame(3, fault_text(fault).bytes()).bytes())
+    put_flushed(
+        writer,
+        refusal_frame(Code::InvalidArgument.number(), fault_text(fault).bytes()).bytes(),
+    )
 }

@@ -89,3 +89,29 @@ fn main(rt: HostRuntime) -> ExitCode {
     let end = serve_identity(rt.alloc(), NAME, VERSION, &mut reader, &mut writer);
     ExitCode::from(report(&rt, end))
 }
+
+#[cfg(test)]
+mod tests {
+    use super::*;
+    use frames_core::{FrameFault, FrameWhy};
+
+    #[test]
+    fn gives_a_status_for_each_end(rt: HostRuntime) {
+        let fault = FrameFault {
+            why: FrameWhy::BadFlag,
+            at: 53,
+        };
+        assert_eq!(rt; report(&rt, RunEnd::Done), 0);
+        assert_eq!(rt; report(&rt, RunEnd::Malformed(fault)), 1);
+        assert_eq!(rt; report(&rt, RunEnd::ReadFailed), 5);
+        assert_eq!(rt; report(&rt, RunEnd::TurnsSpent), 5);
+        assert_eq!(rt; report(&rt, RunEnd::WriteFailed), 5);
+        assert_eq!(rt; report(&rt, RunEnd::NoMemory), 6);
+    }
+
+    #[test]
+    fn takes_no_words(rt: HostRuntime) {
+        // The word of a test's run is its name.
+        assert_eq!(rt; refuse_words(&rt), Some(2));
+    }
+}

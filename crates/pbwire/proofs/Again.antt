@@ -1,10 +1,11 @@
 -- What is written is read again, and no other spelling is shorter.
-use Rattle.std.proofs.Common.{◌≡◌, ℕ, zero, suc, ◌+◌, ◌*◌, ◌/◌, ◌%◌, ◌^◌, ◌<◌, ◌≤◌, List, [], ◌∷◌, ◌++◌, length, Ok, refl, sym, ap, subst, ◌∙◌, length-append, arith, inl, inr, lit<}
+use Rattle.std.proofs.Common.{◌≡◌, ℕ, zero, suc, ◌+◌, ◌*◌, ◌/◌, ◌%◌, ◌^◌, ◌<◌, ◌≤◌, List, [], ◌∷◌, ◌++◌, length, All, Ok, refl, sym, ap, subst, ◌∙◌, length-append, arith, inl, inr, lit<}
 use Rattle.std.proofs.lemmas.Bool.{cases_lt}
 use Rattle.std.proofs.lemmas.Nat.{shr_below, pow-add}
-use Rattle.pbwire.specs.Wire.{Entry, Part, Number, Eight, Payload, Four, kind_of, groups_value, IsVarint, SpellsPart, Spells, FitsPart, FitsEntry}
+use Rattle.std.proofs.lemmas.List.Elements.{All-head, All-tail}
+use Rattle.pbwire.specs.Wire.{Entry, Part, Number, Eight, Payload, Four, kind_of, groups_value, IsVarint, SpellsPart, Spells, AreFields, FitsPart, FitsEntry}
 use Rattle.pbwire.specs.Reading.{entry_at}
-use Rattle.pbwire.specs.Writing.{minimal, varint, part, spelling}
+use Rattle.pbwire.specs.Writing.{minimal, varint, part, spelling, spellings}
 use Rattle.pbwire.proofs.Groups.{AreGroups, AreGroups-cons, groups, is_varint}
 use Rattle.pbwire.proofs.Varints.{minimal_more, minimal_last}
 use Rattle.pbwire.proofs.Spelled.{kind_low, entry_spelled}
@@ -120,3 +121,7 @@ spelling_shortest e bytes s = omega (
 
 pub entry_again : (e : Entry) (more : List ℕ) → FitsEntry e → entry_at (spelling e ++ more) ≡ Ok (e, more)
 entry_again e more fits = entry_spelled e (spelling e) more (spelling_is e fits)
+
+pub are_fields : (es : List Entry) → All FitsEntry es → AreFields es (spellings es)
+are_fields [] fit = refl
+are_fields (e ∷ es) fit = (spelling e, spellings es, spelling_is e (All-head FitsEntry e es fit), are_fields es (All-tail FitsEntry e es fit), refl)

@@ -1,5 +1,5 @@
--- Why the bytes in a field's place spell none (encoding guide, "Base 128 Varints" and "Message
--- Structure"). The guide calls such a message malformed, and gives no reasons; these are our own.
+-- Why the bytes in a field's place spell none, by what the encoding guide asks there ("Base 128
+-- Varints" and "Message Structure"). The names of the reasons are our own.
 use Rattle.std.specs.Prelude.{◌≡◌, ℕ, ◌%◌, ◌^◌, ◌<◌, ◌≤◌, ◌≢◌, ◌⊎◌, List, ◌++◌, length}
 use Rattle.pbwire.specs.declared.field.WireWhy.{WireWhy}
 use Rattle.pbwire.specs.declared.field.WireWhy.TheVariants as why

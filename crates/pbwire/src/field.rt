@@ -1,5 +1,7 @@
 //! Fields, and what can be wrong with the bytes in a field's place.
 
+use thiserror::Error;
+
 /// What a field holds, by its wire type (Protocol Buffers encoding guide, "Message Structure").
 #[derive(Clone, Copy, Debug, PartialEq, Eq)]
 pub enum Value<'a> {
@@ -22,23 +24,28 @@ pub struct Field<'a> {
     pub value: Value<'a>,
 }
 
-/// Why no field stands in a place. Where several reasons hold, it is the first that a reader meets
-/// from the left, and a tag's number goes before its wire type.
-#[derive(Clone, Copy, Debug, PartialEq, Eq)]
+/// Why no field stands in a place. One reason holds: a tag's goes before its payload's, and the tag's
+/// number before its wire type.
+#[derive(Clone, Copy, Debug, PartialEq, Eq, Error)]
 pub enum WireWhy {
     /// A malformed varint, as tag, value or length: ten bytes stand there, and no first bytes of
     /// them are one ("Base 128 Varints"). A tenth byte above 1 is malformed too.
+    #[error("malformed varint")]
     Varint,
     /// A tag whose number is 0, or that is 2^32 or more.
+    #[error("malformed tag")]
     Tag,
     /// A wire type other than 0, 1, 2 and 5. The groups of wire types 3 and 4 are not read.
+    #[error("unknown wire type")]
     WireType,
     /// The message ends inside the field.
+    #[error("field cut short")]
     CutShort,
 }
 
-/// A place of a message where no field stands.
-#[derive(Clone, Copy, Debug, PartialEq, Eq)]
+/// A place of a message where a field should stand, and none does.
+#[derive(Clone, Copy, Debug, PartialEq, Eq, Error)]
+#[error("{why} at byte {at}")]
 pub struct WireFault {
     /// What is wrong.
     pub why: WireWhy,

@@ -1,11 +1,11 @@
 //! Laws of the wire format: each is the contract of a function that does nothing.
 
-ghost use Rattle.std.specs.Prelude.{◌≡◌, ◌↔◌, ◌∷◌, ◌++◌, ◌<◌, ◌≤◌, ℕ, List, Ok, Err, length};
+ghost use Rattle.std.specs.Prelude.{◌≡◌, ◌↔◌, ◌∷◌, ◌++◌, ◌<◌, ◌≤◌, ℕ, List, Ok, Err, All, length};
 ghost use Rattle.pbwire.specs.declared.field.WireWhy.{WireWhy};
 ghost use Rattle.pbwire.specs.Wire.{Entry, Spells, AreFields, FitsEntry};
 ghost use Rattle.pbwire.specs.Reading.{entry_at};
 ghost use Rattle.pbwire.specs.Faults.{Faults};
-ghost use Rattle.pbwire.specs.Writing.{spelling};
+ghost use Rattle.pbwire.specs.Writing.{spelling, spellings};
 
 /// A field is read exactly where one is spelled, whatever follows it, and takes at least one byte.
 pub fn spelled()
@@ -31,11 +31,13 @@ pub fn listed()
         AreFields (e ∷ es) bytes ↔ ((rest : List ℕ) × (entry_at bytes ≡ Ok (e, rest)) × AreFields es rest) }
 {}
 
-/// What is written is read again, whatever follows it, and no other spelling of the field is
-/// shorter. A field has a spelling exactly where its number and what it holds are in range.
+/// What is written is read again, whatever follows it; fields that are written one after the other
+/// are a message with that list; and no other spelling of a field is shorter. A field has a spelling
+/// exactly where its number and what it holds are in range.
 pub fn written()
     ensures again { (e : Entry) (more : List ℕ) → FitsEntry e → entry_at (spelling e ++ more) ≡ Ok (e, more) }
     ensures spells { (e : Entry) → FitsEntry e → Spells e (spelling e) }
     ensures fits { (e : Entry) (bytes : List ℕ) → Spells e bytes → FitsEntry e }
+    ensures whole { (es : List Entry) → All FitsEntry es → AreFields es (spellings es) }
     ensures shortest { (e : Entry) (bytes : List ℕ) → Spells e bytes → length (spelling e) ≤ length bytes }
 {}

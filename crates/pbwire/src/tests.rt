@@ -1,4 +1,7 @@
-use crate::{Field, Fields, Value, WireFault, WireWhy, close_bytes, put_bytes, put_varint};
+use crate::{
+    Field, Fields, Value, WireFault, WireWhy, close_bytes, put_bytes, put_entry, put_map,
+    put_varint,
+};
 use std::process::Abort;
 use std::test::Fail;
 
@@ -168,5 +171,35 @@ fn writes(rt: HostRuntime) -> Result<(), Fail> {
             0x01,
         ],
     );
+    Ok(())
+}
+
+#[test]
+fn maps(rt: HostRuntime) -> Result<(), Fail> {
+    let mut out = Vec::new(rt.alloc());
+    put_entry(&mut out, 4, b"k", b"")?;
+    is_written(&rt, &out, &[0x22, 0x05, 0x0a, 0x01, 0x6b, 0x12, 0x00]);
+    out.clear();
+    let entries: [(&[u8], &[u8]); 2] = [(b"", b"x"), (b"key", b"v")];
+    put_map(&mut out, 2, entries.iter().copied())?;
+    is_written(
+        &rt,
+        &out,
+        &[
+            0x12, 0x05, 0x0a, 0x00, 0x12, 0x01, 0x78, 0x12, 0x08, 0x0a, 0x03, 0x6b, 0x65, 0x79,
+            0x12, 0x01, 0x76,
+        ],
+    );
+    Ok(())
+}
+
+#[test]
+fn fault_texts(rt: HostRuntime) -> Result<(), Fail> {
+    let fault = WireFault {
+        why: WireWhy::WireType,
+        at: 2,
+    };
+    let text = format!(in rt.alloc(); "{fault}")?;
+    assert_eq!(rt; text.as_str(), "unknown wire type at byte 2");
     Ok(())
 }

@@ -1,8 +1,10 @@
 //! Writing fields, each in its shortest spelling.
 
-ghost use Rattle.std.specs.Prelude.{◌-◌, ◌≡◌, ◌≤◌, ◌<◌, ◌^◌, ◌+◌, ◌*◌, ◌++◌, OnOk, OnErr, length, take, drop};
+ghost use Rattle.std.specs.Prelude.{◌-◌, ◌≡◌, ◌≤◌, ◌<◌, ◌^◌, ◌+◌, ◌*◌, ◌++◌, OnOk, OnErr, length, map, take, drop};
+ghost use Rattle.std.specs.Iterator.{IsFinite};
+ghost use Rattle.std.specs.Iterator.Runs.{WholeRun};
 ghost use Rattle.pbwire.specs.Wire.{Number, Payload};
-ghost use Rattle.pbwire.specs.Writing.{varint, spelling};
+ghost use Rattle.pbwire.specs.Writing.{varint, spelling, spellings, map_entry, map_entries, bytes_of};
 
 use arrayvec::ArrayVec;
 use std::alloc::AllocError;
@@ -75,5 +77,57 @@ pub fn close_bytes(out: &mut Vec<u8>, from: usize, number: u32) -> Result<(), Al
     let head = head_of(number, 2, (out.len() - from) as u64);
     out.extend_from_slice(head.as_slice())?;
     put_before(out.slice_mut(from..), head.as_slice());
+    Ok(())
+}
+
+// As `put_entry`, but what is written before an `Err` stays.
+fn append_entry(out: &mut Vec<u8>, number: u32, key: &[u8], value: &[u8]) -> Result<(), AllocError>
+    requires { (1 ≤ number) × (number < 2 ^ 29) }
+    ensures ok { OnOk result (out.new.items ≡ out.old.items ++ spelling (map_entry number (key.now, value.now))) }
+    ensures err { OnErr result (take (length out.old.items) out.new.items ≡ out.old.items) }
+{
+    let from = out.len();
+    put_bytes(out, 1, key)?;
+    put_bytes(out, 2, value)?;
+    close_bytes(out, from, number)
+}
+
+/// Appends one entry of a map of texts: an embedded message with the key as field 1 and the value as
+/// field 2, both also where they are empty. After an `Err` the vector is as it was.
+pub fn put_entry(out: &mut Vec<u8>, number: u32, key: &[u8], value: &[u8]) -> Result<(), AllocError>
+    requires { (1 ≤ number) × (number < 2 ^ 29) }
+    ensures ok { OnOk result (out.new.items ≡ out.old.items ++ spelling (map_entry number (key.now, value.now))) }
+    ensures err { OnErr result (out.new.items ≡ out.old.items) }
+{
+    let from = out.len();
+    let written = append_entry(out, number, key, value);
+    if written.is_err() {
+        out.truncate(from);
+    }
+    written
+}
+
+/// Appends a map of texts: its entries, with keys and values lent, in the order in which they come. A
+/// map that is ordered by the bytes of its keys gives them in that order, so that equal maps are
+/// written alike. After an `Err` the vector is as it was.
+pub fn put_map<'a, I: Iterator<Item = (&'a [u8], &'a [u8])> + Drop>(
+    out: &mut Vec<u8>,
+    number: u32,
+    entries: I,
+) -> Result<(), AllocError>
+    requires number { (1 ≤ number) × (number < 2 ^ 29) }
+    requires begins { I.can_next entries }
+    requires ends { IsFinite (I.remaining entries) }
+    ensures ok { OnOk result (WholeRun I.next_gives entries
+        (λ run. out.new.items ≡ out.old.items ++ spellings (map_entries number (map bytes_of run.items)))) }
+    ensures err { OnErr result (out.new.items ≡ out.old.items) }
+{
+    let start = out.len();
+    for (key, value) in entries {
+        if let Err(refused) = put_entry(out, number, key, value) {
+            out.truncate(start);
+            return Err(refused);
+        }
+    }
     Ok(())
 }

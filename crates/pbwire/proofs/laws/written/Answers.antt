@@ -1,4 +1,4 @@
-use Rattle.pbwire.proofs.Again.{entry_again, spelling_is, spelled_fits, spelling_shortest}
+use Rattle.pbwire.proofs.Again.{entry_again, are_fields, spelling_is, spelled_fits, spelling_shortest}
 use Rattle.pbwire.proofs.laws.written.Goals as goal
 
 pub returns-clause-again : goal.returns-clause-again
@@ -12,3 +12,6 @@ returns-clause-fits c = spelled_fits
 
 pub returns-clause-shortest : goal.returns-clause-shortest
 returns-clause-shortest c = spelling_shortest
+
+pub returns-clause-whole : goal.returns-clause-whole
+returns-clause-whole c = are_fields

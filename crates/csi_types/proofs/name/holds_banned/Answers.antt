@@ -1,0 +1,9 @@
+use Rattle.std.proofs.Common.{rules, tests}
+use Rattle.std.proofs.lemmas.Iterator.{YieldsList-from_chars}
+use Rattle.std.proofs.lemmas.Iterator.Search.{any_from_yields_List}
+use Rattle.csi_types.specs.Names.{is_banned}
+use Rattle.csi_types.proofs.name.holds_banned.Goals as goal
+
+pub returns : goal.returns
+returns c =
+    any_from_yields_List is_banned _ _ _ c.any.ensures.ran (YieldsList-from_chars c.args.text.now c.utf8.text cc) (λ x b q k. search (rules, tests))

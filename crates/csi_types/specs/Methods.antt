@@ -1,0 +1,18 @@
+-- The paths of the methods (gRPC over HTTP2, 'Requests': a path is the service and the method).
+use Rattle.std.specs.Prelude.{ℕ, List, codes}
+use Rattle.csi_types.specs.declared.method.Method.{Method}
+use Rattle.csi_types.specs.declared.method.Method.TheVariants.{GetPluginInfo, GetPluginCapabilities, Probe, CreateVolume, DeleteVolume, ControllerPublishVolume, ControllerUnpublishVolume, ValidateVolumeCapabilities, ListVolumes, GetCapacity, ControllerGetCapabilities}
+
+-- the path of a method
+abbrev pub path_of : Method → List ℕ
+path_of GetPluginInfo = codes "/csi.v1.Identity/GetPluginInfo"
+path_of GetPluginCapabilities = codes "/csi.v1.Identity/GetPluginCapabilities"
+path_of Probe = codes "/csi.v1.Identity/Probe"
+path_of CreateVolume = codes "/csi.v1.Controller/CreateVolume"
+path_of DeleteVolume = codes "/csi.v1.Controller/DeleteVolume"
+path_of ControllerPublishVolume = codes "/csi.v1.Controller/ControllerPublishVolume"
+path_of ControllerUnpublishVolume = codes "/csi.v1.Controller/ControllerUnpublishVolume"
+path_of ValidateVolumeCapabilities = codes "/csi.v1.Controller/ValidateVolumeCapabilities"
+path_of ListVolumes = codes "/csi.v1.Controller/ListVolumes"
+path_of GetCapacity = codes "/csi.v1.Controller/GetCapacity"
+path_of ControllerGetCapabilities = codes "/csi.v1.Controller/ControllerGetCapabilities"

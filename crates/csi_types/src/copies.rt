@@ -1,0 +1,65 @@
+//! Copies of values.
+
+ghost use Rattle.std.specs.Prelude.{◌≡◌, IfOk};
+
+use crate::capability::{Access, Capability, Mount};
+use crate::items::Items;
+use crate::map::Map;
+use crate::text::Text;
+use std::alloc::{AllocError, Global};
+
+/// A text equal to this one.
+pub fn copy_text(alloc: Global, text: &str) -> Result<Text, AllocError>
+    ensures { IfOk result (λ copy. copy ≡ text.now) }
+{
+    Text::from_str(alloc, text)
+}
+
+/// A map equal to this one.
+pub fn copy_map(alloc: Global, map: &Map) -> Result<Map, AllocError>
+    ensures { IfOk result (λ copy. copy ≡ map.now) }
+{
+    let mut copy = Map::new(alloc);
+    for (key, value) in map.iter() {
+        copy.insert(
+            copy_text(alloc, key.as_str())?,
+            copy_text(alloc, value.as_str())?,
+        )?;
+    }
+    Ok(copy)
+}
+
+/// A capability equal to this one.
+pub fn copy_capability(alloc: Global, capability: &Capability) -> Result<Capability, AllocError>
+    ensures { IfOk result (λ copy. copy ≡ capability.now) }
+{
+    let access = match &capability.access {
+        Access::Missing => Access::Missing,
+        Access::Block => Access::Block,
+        Access::Mount(mount) => Access::Mount(copy_mount(alloc, mount)?),
+    };
+    Ok(Capability {
+        access,
+        mode: capability.mode,
+    })
+}
+
+fn copy_mount(alloc: Global, mount: &Mount) -> Result<Mount, AllocError>
+    ensures { IfOk result (λ copy. copy ≡ mount.now) }
+{
+    Ok(Mount {
+        fs_type: copy_text(alloc, mount.fs_type.as_str())?,
+        flags: copy_texts(alloc, &mount.flags)?,
+        group: copy_text(alloc, mount.group.as_str())?,
+    })
+}
+
+fn copy_texts(alloc: Global, texts: &Items<Text>) -> Result<Items<Text>, AllocError>
+    ensures { IfOk result (λ copy. copy ≡ texts.now) }
+{
+    let mut copies = Items::new(alloc);
+    for text in texts.as_slice() {
+        copies.push(copy_text(alloc, text.as_str())?)?;
+    }
+    Ok(copies)
+}

@@ -1,0 +1,41 @@
+//! The values of the Container Storage Interface (CSI 1.x, Identity and Controller services).
+#![tactic(auto)]
+
+mod capability;
+mod capacity;
+mod code;
+mod copies;
+mod items;
+mod limits;
+mod map;
+mod method;
+mod name;
+mod reason;
+mod requests;
+mod responses;
+#[cfg(test)]
+mod tests;
+mod text;
+mod topology;
+mod volume;
+
+pub use capability::{Access, Capability, Mount};
+pub use capacity::CapacityRange;
+pub use code::Code;
+pub use copies::{copy_capability, copy_map, copy_text};
+pub use items::Items;
+pub use limits::{
+    MAX_MAP_BYTES, MAX_MOUNT_FLAGS_BYTES, MAX_NODE_ID_BYTES, MAX_NODES, MAX_NUMBER, MAX_POOL_BYTES,
+    MAX_POOLS, MAX_SEGMENTS, MAX_TEXT_BYTES, MAX_VOLUMES,
+};
+pub use map::Map;
+pub use method::{Method, method_of};
+pub use name::name_reason;
+pub use reason::Reason;
+pub use requests::{
+    CreateVolume, DeleteVolume, GetCapacity, ListVolumes, Publish, Request, Unpublish, Validate,
+};
+pub use responses::Response;
+pub use text::Text;
+pub use topology::Requirement;
+pub use volume::{Confirmed, Entry, VolumeInfo};

@@ -1,0 +1,34 @@
+//! Limits of this plugin.
+//!
+//! 128 bytes for a text and 4 KiB for a map are the general limits of the CSI specification, 'Size
+//! Limits'. The others are this plugin's own.
+
+/// The most bytes of a text: a name, a volume id, a token, a file system, a mount group.
+pub const MAX_TEXT_BYTES: usize = 128;
+
+/// The most bytes of a node id.
+pub const MAX_NODE_ID_BYTES: usize = 256;
+
+/// The most bytes of all flags of one mount together.
+pub const MAX_MOUNT_FLAGS_BYTES: usize = 4096;
+
+/// The most bytes of all keys and values of one map together.
+pub const MAX_MAP_BYTES: usize = 4096;
+
+/// The most pools.
+pub const MAX_POOLS: usize = 16;
+
+/// The most segments of a pool.
+pub const MAX_SEGMENTS: usize = 8;
+
+/// The most nodes.
+pub const MAX_NODES: usize = 64;
+
+/// The most volumes.
+pub const MAX_VOLUMES: u64 = 100_000;
+
+/// The most bytes of all pools together.
+pub const MAX_POOL_BYTES: u64 = 1 << 62;
+
+/// The number at which no further volume is made.
+pub const MAX_NUMBER: u64 = 1 << 62;

@@ -1,0 +1,83 @@
+//! The methods of the Identity and the Controller service.
+
+ghost use Rattle.std.specs.Prelude.{◌≡◌, ◌↔◌};
+ghost use Rattle.csi_types.specs.Methods.{path_of};
+ghost use Rattle.csi_types.specs.declared.method.Method.{Method};
+
+/// A method (CSI specification, 'RPC Interface').
+#[derive(Clone, Copy, Debug, PartialEq, Eq)]
+pub enum Method {
+    /// `csi.v1.Identity.GetPluginInfo`.
+    GetPluginInfo,
+    /// `csi.v1.Identity.GetPluginCapabilities`.
+    GetPluginCapabilities,
+    /// `csi.v1.Identity.Probe`.
+    Probe,
+    /// `csi.v1.Controller.CreateVolume`.
+    CreateVolume,
+    /// `csi.v1.Controller.DeleteVolume`.
+    DeleteVolume,
+    /// `csi.v1.Controller.ControllerPublishVolume`.
+    ControllerPublishVolume,
+    /// `csi.v1.Controller.ControllerUnpublishVolume`.
+    ControllerUnpublishVolume,
+    /// `csi.v1.Controller.ValidateVolumeCapabilities`.
+    ValidateVolumeCapabilities,
+    /// `csi.v1.Controller.ListVolumes`.
+    ListVolumes,
+    /// `csi.v1.Controller.GetCapacity`.
+    GetCapacity,
+    /// `csi.v1.Controller.ControllerGetCapabilities`.
+    ControllerGetCapabilities,
+}
+
+impl Method {
+    /// The path of a call of the method: its service and its name.
+    pub fn path(self) -> &'static str
+        ensures { result.now ≡ path_of self }
+    {
+        match self {
+            Method::GetPluginInfo => "/csi.v1.Identity/GetPluginInfo",
+            Method::GetPluginCapabilities => "/csi.v1.Identity/GetPluginCapabilities",
+            Method::Probe => "/csi.v1.Identity/Probe",
+            Method::CreateVolume => "/csi.v1.Controller/CreateVolume",
+            Method::DeleteVolume => "/csi.v1.Controller/DeleteVolume",
+            Method::ControllerPublishVolume => "/csi.v1.Controller/ControllerPublishVolume",
+            Method::ControllerUnpublishVolume => "/csi.v1.Controller/ControllerUnpublishVolume",
+            Method::ValidateVolumeCapabilities => "/csi.v1.Controller/ValidateVolumeCapabilities",
+            Method::ListVolumes => "/csi.v1.Controller/ListVolumes",
+            Method::GetCapacity => "/csi.v1.Controller/GetCapacity",
+            Method::ControllerGetCapabilities => "/csi.v1.Controller/ControllerGetCapabilities",
+        }
+    }
+}
+
+/// The method of a path, or `None` where no method has that path.
+pub fn method_of(path: &[u8]) -> Option<Method>
+    ensures { (method : Method) → (result ≡ Some method) ↔ (path.now ≡ path_of method) }
+{
+    let method = likely_method(path)?;
+    (path == method.path().as_bytes()).then_some(method)
+}
+
+// The only method that may have this path, by its length and one byte.
+fn likely_method(path: &[u8]) -> Option<Method>
+    ensures { (method : Method) → path.now ≡ path_of method → result ≡ Some method }
+{
+    Some(match path.len() {
+        22 => Method::Probe,
+        30 => match path[19] {
+            b'L' => Method::ListVolumes,
+            b'G' => Method::GetCapacity,
+            _ => Method::GetPluginInfo,
+        },
+        31 if path[19] == b'C' => Method::CreateVolume,
+        31 => Method::DeleteVolume,
+        38 => Method::GetPluginCapabilities,
+        42 => Method::ControllerPublishVolume,
+        44 if path[29] == b'U' => Method::ControllerUnpublishVolume,
+        44 => Method::ControllerGetCapabilities,
+        45 => Method::ValidateVolumeCapabilities,
+        _ => return None,
+    })
+}

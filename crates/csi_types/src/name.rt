@@ -1,0 +1,40 @@
+//! The names of volumes.
+
+ghost use Rattle.std.specs.Prelude.{◌≡◌};
+ghost use Rattle.csi_types.specs.Names.{refused_name, holds_banned, is_banned};
+
+use crate::limits::MAX_TEXT_BYTES;
+use crate::reason::Reason;
+
+/// Why a volume can't have a name, if it can't (CSI specification, 'CreateVolume', the field
+/// `name`): the first of `NameMissing` where it is empty, `NameTooLong` where it has more than 128
+/// bytes, and `NameBanned` where it holds U+0000 to U+0008, U+000B, U+000C, U+000E to U+001F or
+/// U+007F to U+009F.
+pub fn name_reason(name: &str) -> Option<Reason>
+    ensures { result ≡ refused_name name.now }
+{
+    if name.is_empty() {
+        Some(Reason::NameMissing)
+    } else if name.len() > MAX_TEXT_BYTES {
+        Some(Reason::NameTooLong)
+    } else if holds_banned(name) {
+        Some(Reason::NameBanned)
+    } else {
+        None
+    }
+}
+
+fn holds_banned(text: &str) -> bool
+    ensures { result ≡ holds_banned text.now }
+{
+    text.chars().any(is_banned)
+}
+
+fn is_banned(character: char) -> bool
+    ensures { result ≡ is_banned character }
+{
+    matches!(
+        character,
+        '\0'..='\u{8}' | '\u{b}' | '\u{c}' | '\u{e}'..='\u{1f}' | '\u{7f}'..='\u{9f}'
+    )
+}

@@ -1,0 +1,164 @@
+//! Why a request is refused.
+
+ghost use Rattle.std.specs.Prelude.{◌≡◌};
+ghost use Rattle.csi_types.specs.Reasons.{code_of, text_of};
+
+use crate::code::Code;
+use thiserror::Error;
+
+/// Why a request is refused. Its `Display` is its text.
+///
+/// A message that can't be decoded is no reason: its text tells a place, and so is made apart.
+#[derive(Clone, Copy, Debug, PartialEq, Eq, Error)]
+#[error("{}", self.text())]
+pub enum Reason {
+    /// `name` is empty.
+    NameMissing,
+    /// `name` has more than 128 bytes.
+    NameTooLong,
+    /// `name` has a control character other than tab, line feed and carriage return.
+    NameBanned,
+    /// No volume capability is given.
+    CapabilityMissing,
+    /// A volume capability is neither block nor mount.
+    AccessTypeMissing,
+    /// The access mode of a volume capability is absent or not one of those known.
+    AccessModeUnknown,
+    /// A volume can't be made with a capability that is asked for.
+    CapabilityNotSupported,
+    /// `required_bytes` or `limit_bytes` is below 0.
+    CapacityNegative,
+    /// The keys and values of a map have more than 4,096 bytes.
+    MapTooLarge,
+    /// An id, a token, a file system, a mount group or the flags of a mount are above their limit.
+    TextTooLong,
+    /// `volume_content_source` is present.
+    SourceNotSupported,
+    /// Two keys of one topology differ at most in the case of ASCII letters.
+    TopologyKeysAlike,
+    /// A preferred topology is none of the requisite ones.
+    PreferredNotRequisite,
+    /// `volume_id` is empty.
+    VolumeIdMissing,
+    /// `node_id` is empty.
+    NodeIdMissing,
+    /// `max_entries` is below 0.
+    MaxEntriesNegative,
+    /// The path is that of no method.
+    UnknownMethod,
+    /// No volume has the id.
+    VolumeNotFound,
+    /// No node has the id.
+    NodeNotFound,
+    /// A volume of the name stands, and is not as the request asks.
+    VolumeNotCompatible,
+    /// No pool that serves the topology has room.
+    NoRoom,
+    /// The most volumes stand.
+    TooManyVolumes,
+    /// No number is left for a further volume.
+    NumbersUsedUp,
+    /// No size is within the capacity range and the sizes of this plugin.
+    OutOfRange,
+    /// The volume is published at a node.
+    VolumeInUse,
+    /// The volume is published at a node beside which it can't be published here.
+    PublishedElsewhere,
+    /// The volume is published at the node with another capability or readonly flag.
+    PublishedOtherwise,
+    /// The node holds as many volumes as it can.
+    NodeFull,
+    /// The volume was not made with the capability.
+    CapabilityNotOfVolume,
+    /// `starting_token` is none that this plugin gives.
+    BadToken,
+    /// The reply would pass 4,194,304 bytes.
+    ReplyTooLarge,
+    /// Memory was refused.
+    OutOfMemory,
+    /// The store refused the call, which changed nothing.
+    StoreRefused,
+    /// The store is down until it is opened again.
+    StoreDown,
+}
+
+impl Reason {
+    /// The status code of the reply.
+    pub fn code(self) -> Code
+        ensures { result ≡ code_of self }
+    {
+        match self {
+            Reason::NameMissing
+            | Reason::NameTooLong
+            | Reason::NameBanned
+            | Reason::CapabilityMissing
+            | Reason::AccessTypeMissing
+            | Reason::AccessModeUnknown
+            | Reason::CapabilityNotSupported
+            | Reason::CapacityNegative
+            | Reason::MapTooLarge
+            | Reason::TextTooLong
+            | Reason::SourceNotSupported
+            | Reason::TopologyKeysAlike
+            | Reason::PreferredNotRequisite
+            | Reason::VolumeIdMissing
+            | Reason::NodeIdMissing
+            | Reason::MaxEntriesNegative
+            | Reason::CapabilityNotOfVolume => Code::InvalidArgument,
+            Reason::VolumeNotFound | Reason::NodeNotFound => Code::NotFound,
+            Reason::VolumeNotCompatible | Reason::PublishedOtherwise => Code::AlreadyExists,
+            Reason::NoRoom
+            | Reason::TooManyVolumes
+            | Reason::NumbersUsedUp
+            | Reason::NodeFull
+            | Reason::ReplyTooLarge => Code::ResourceExhausted,
+            Reason::VolumeInUse | Reason::PublishedElsewhere => Code::FailedPrecondition,
+            Reason::BadToken => Code::Aborted,
+            Reason::OutOfRange => Code::OutOfRange,
+            Reason::UnknownMethod => Code::Unimplemented,
+            Reason::OutOfMemory | Reason::StoreRefused | Reason::StoreDown => Code::Internal,
+        }
+    }
+
+    /// The text of the reply.
+    pub fn text(self) -> &'static str
+        ensures { result.now ≡ text_of self }
+    {
+        match self {
+            Reason::NameMissing => "name is missing",
+            Reason::NameTooLong => "name is longer than 128 bytes",
+            Reason::NameBanned => "name holds a banned character",
+            Reason::CapabilityMissing => "volume capability is missing",
+            Reason::AccessTypeMissing => "access type is missing",
+            Reason::AccessModeUnknown => "access mode is missing or unknown",
+            Reason::CapabilityNotSupported => "volume capability is not supported",
+            Reason::CapacityNegative => "capacity is negative",
+            Reason::MapTooLarge => "map is larger than 4096 bytes",
+            Reason::TextTooLong => "text is too long",
+            Reason::SourceNotSupported => "content source is not supported",
+            Reason::TopologyKeysAlike => "topology keys are alike",
+            Reason::PreferredNotRequisite => "preferred topology is not requisite",
+            Reason::VolumeIdMissing => "volume id is missing",
+            Reason::NodeIdMissing => "node id is missing",
+            Reason::MaxEntriesNegative => "max_entries is negative",
+            Reason::UnknownMethod => "unknown method",
+            Reason::VolumeNotFound => "volume not found",
+            Reason::NodeNotFound => "node not found",
+            Reason::VolumeNotCompatible => "volume exists and is not compatible",
+            Reason::NoRoom => "no room in the topology",
+            Reason::TooManyVolumes => "too many volumes",
+            Reason::NumbersUsedUp => "volume numbers are used up",
+            Reason::OutOfRange => "capacity is out of range",
+            Reason::VolumeInUse => "volume is in use",
+            Reason::PublishedElsewhere => "volume is published elsewhere",
+            Reason::PublishedOtherwise => "volume is published otherwise",
+            Reason::NodeFull => "node is full",
+            Reason::CapabilityNotOfVolume => "volume does not have this capability",
+            Reason::BadToken => "bad starting token",
+            Reason::ReplyTooLarge => "reply too large",
+            Reason::OutOfMemory => "out of memory",
+            Reason::StoreRefused => "store refused",
+            Reason::StoreDown => "store is down",
+        }
+    }
+}

@@ -1,0 +1,126 @@
+//! Requests.
+
+use crate::capability::Capability;
+use crate::capacity::CapacityRange;
+use crate::items::Items;
+use crate::map::Map;
+use crate::text::Text;
+use crate::topology::Requirement;
+
+/// `CreateVolumeRequest` (CSI specification, 'CreateVolume').
+#[derive(Debug, PartialEq, Eq, Drop)]
+pub struct CreateVolume {
+    /// `name`, field 1.
+    pub name: Text,
+    /// `capacity_range`, field 2.
+    pub range: Option<CapacityRange>,
+    /// `volume_capabilities`, field 3.
+    pub capabilities: Items<Capability>,
+    /// `parameters`, field 4.
+    pub parameters: Map,
+    /// `secrets`, field 5.
+    pub secrets: Map,
+    /// Whether `volume_content_source`, field 6, is present.
+    pub source: bool,
+    /// `accessibility_requirements`, field 7.
+    pub topology: Option<Requirement>,
+}
+
+/// `DeleteVolumeRequest` (CSI specification, 'DeleteVolume').
+#[derive(Debug, PartialEq, Eq, Drop)]
+pub struct DeleteVolume {
+    /// `volume_id`, field 1.
+    pub volume_id: Text,
+    /// `secrets`, field 2.
+    pub secrets: Map,
+}
+
+/// `ControllerPublishVolumeRequest` (CSI specification, 'ControllerPublishVolume').
+#[derive(Debug, PartialEq, Eq, Drop)]
+pub struct Publish {
+    /// `volume_id`, field 1.
+    pub volume_id: Text,
+    /// `node_id`, field 2.
+    pub node_id: Text,
+    /// `volume_capability`, field 3.
+    pub capability: Option<Capability>,
+    /// `readonly`, field 4.
+    pub readonly: bool,
+    /// `secrets`, field 5.
+    pub secrets: Map,
+    /// `volume_context`, field 6.
+    pub context: Map,
+}
+
+/// `ControllerUnpublishVolumeRequest` (CSI specification, 'ControllerUnpublishVolume').
+#[derive(Debug, PartialEq, Eq, Drop)]
+pub struct Unpublish {
+    /// `volume_id`, field 1.
+    pub volume_id: Text,
+    /// `node_id`, field 2; empty for all nodes.
+    pub node_id: Text,
+    /// `secrets`, field 3.
+    pub secrets: Map,
+}
+
+/// `ValidateVolumeCapabilitiesRequest` (CSI specification, 'ValidateVolumeCapabilities').
+#[derive(Debug, PartialEq, Eq, Drop)]
+pub struct Validate {
+    /// `volume_id`, field 1.
+    pub volume_id: Text,
+    /// `volume_context`, field 2.
+    pub context: Map,
+    /// `volume_capabilities`, field 3.
+    pub capabilities: Items<Capability>,
+    /// `parameters`, field 4.
+    pub parameters: Map,
+    /// `secrets`, field 5.
+    pub secrets: Map,
+}
+
+/// `ListVolumesRequest` (CSI specification, 'ListVolumes').
+#[derive(Debug, PartialEq, Eq, Drop)]
+pub struct ListVolumes {
+    /// `max_entries`, field 1; 0 for as many as a page holds.
+    pub max_entries: i32,
+    /// `starting_token`, field 2; empty for the first page.
+    pub token: Text,
+}
+
+/// `GetCapacityRequest` (CSI specification, 'GetCapacity').
+#[derive(Debug, PartialEq, Eq, Drop)]
+pub struct GetCapacity {
+    /// `volume_capabilities`, field 1.
+    pub capabilities: Items<Capability>,
+    /// `parameters`, field 2.
+    pub parameters: Map,
+    /// The segments of `accessible_topology`, field 3.
+    pub topology: Option<Map>,
+}
+
+/// The request of a call, by its method.
+#[derive(Debug, PartialEq, Eq, Drop)]
+pub enum Request {
+    /// `GetPluginInfoRequest`, without fields.
+    PluginInfo,
+    /// `GetPluginCapabilitiesRequest`, without fields.
+    PluginCapabilities,
+    /// `ProbeRequest`, without fields.
+    Probe,
+    /// `ControllerGetCapabilitiesRequest`, without fields.
+    ControllerCapabilities,
+    /// `CreateVolumeRequest`.
+    Create(CreateVolume),
+    /// `DeleteVolumeRequest`.
+    Delete(DeleteVolume),
+    /// `ControllerPublishVolumeRequest`.
+    Publish(Publish),
+    /// `ControllerUnpublishVolumeRequest`.
+    Unpublish(Unpublish),
+    /// `ValidateVolumeCapabilitiesRequest`.
+    Validate(Validate),
+    /// `ListVolumesRequest`.
+    List(ListVolumes),
+    /// `GetCapacityRequest`.
+    Capacity(GetCapacity),
+}
