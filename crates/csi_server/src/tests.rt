@@ -134,31 +134,35 @@ fn answers_probe_in_any_pieces(rt: HostRuntime) -> Result<(), Fail> {
     expect_run(&rt, PROBE, RunEnd::Done, READY)
 }
 
+// The reply frame that refuses with status 3 and this text.
+fn refusal_of<R: AllocGlobal>(rt: &R, text: &str) -> Result<Vec<u8>, Fail> {
+    let Ok(length) = u16::try_from(text.len()) else {
+        return Err(Fail::new("a long text"));
+    };
+    let mut frame = Vec::from_slice(rt.alloc(), &[3])?;
+    frame.extend_from_slice(&length.to_be_bytes())?;
+    frame.extend_from_slice(text.as_bytes())?;
+    frame.extend_from_slice(&[0; 5])?;
+    Ok(frame)
+}
+
 #[test]
 fn refuses_each_front(rt: HostRuntime) -> Result<(), Fail> {
-    for n in 1..10usize {
-        let reply = format!(in rt.alloc();
-            "\x03\x00\x16end of input at byte {n}\x00\x00\x00\x00\x00"
-        )?;
+    for n in 1..29usize {
+        let text = format!(in rt.alloc(); "end of input at byte {n}")?;
         expect_run(
             &rt,
             &PROBE[..n],
             malformed(FrameWhy::EndOfInput, n as u64),
-            reply.as_bytes(),
+            &refusal_of(&rt, text.as_str())?,
         )?;
     }
-    for n in 10..29usize {
-        let reply = format!(in rt.alloc();
-            "\x03\x00\x17end of input at byte {n}\x00\x00\x00\x00\x00"
-        )?;
-        expect_run(
-            &rt,
-            &PROBE[..n],
-            malformed(FrameWhy::EndOfInput, n as u64),
-            reply.as_bytes(),
-        )?;
-    }
-    Ok(())
+    expect_run(
+        &rt,
+        &PROBE[..10],
+        malformed(FrameWhy::EndOfInput, 10),
+        b"\x03\x00\x17end of input at byte 10\x00\x00\x00\x00\x00",
+    )
 }
 
 #[test]

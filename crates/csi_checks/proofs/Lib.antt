@@ -1,0 +1,3 @@
+mod Folding
+mod Marked
+mod Pairs

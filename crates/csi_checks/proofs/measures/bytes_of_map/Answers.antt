@@ -1,0 +1,10 @@
+use Rattle.std.proofs.Common.{◌≡◌, ◌^◌, ◌-◌, ◌+◌, ◌∙◌, ap, min, length, sum_by, map, rules}
+use Rattle.std.specs.FinMap.{entries}
+use Rattle.std.specs.Map.Iter.{deref_pair}
+use Rattle.std.proofs.lemmas.Map.Iter.{iter_end}
+use Rattle.csi_checks.proofs.measures.bytes_of_map.Goals as goal
+
+pub returns : goal.returns
+returns c =
+    let all : map deref_pair c.loop-key.yielded ≡ entries c.args.map.now = search (rules, iter_end) in
+    c.loop-key.invariant ∙ ap (λ es. min (sum_by (λ e. length e.0 + length e.1) es) (2 ^ 64 - 1)) all

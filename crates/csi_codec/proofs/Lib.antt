@@ -1,0 +1,4 @@
+pub mod Loops
+pub mod Steps
+pub mod Places
+pub mod Writes

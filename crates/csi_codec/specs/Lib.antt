@@ -1,0 +1,15 @@
+pub mod Fields
+pub mod Views
+pub mod Canon
+pub mod Parts
+pub mod Requests
+pub mod Responses
+pub mod Methods
+pub mod Stops
+pub mod Kept
+pub mod Unique
+pub mod Rows
+pub mod Slots
+pub mod Again
+pub mod AgainRequests
+pub mod AgainResponses

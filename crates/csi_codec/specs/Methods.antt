@@ -1,0 +1,208 @@
+-- Which message each method takes and answers (CSI specification, 'RPC Interface').
+use Rattle.std.specs.Prelude.{ℕ, List}
+use Rattle.csi_types.specs.declared.method.Method.{Method}
+use Rattle.csi_types.specs.declared.method.Method.TheVariants as method
+use Rattle.csi_types.specs.declared.requests.Request.{Request}
+use Rattle.csi_types.specs.declared.requests.Request.TheVariants as request
+use Rattle.csi_types.specs.declared.responses.Response.{Response}
+use Rattle.csi_types.specs.declared.responses.Response.TheVariants as response
+use Rattle.csi_codec.specs.Fields.{AreGood, IsPlace, Means}
+use Rattle.csi_codec.specs.declared.message.DecodeFault.{DecodeFault}
+use Rattle.csi_codec.specs.declared.message.DecodeFault.TheVariants as fault
+use Rattle.csi_codec.specs.Views.{Views, GoodEntry, AnyPayload, value_of}
+use Rattle.csi_codec.specs.Canon.{Rows, bytes_of, Start, FitsMap, FitsOption}
+use Rattle.csi_codec.specs.Parts.{flag_in, canon_flag, FitsFlag, GoodOnly, only_in, canon_only, types_in, GoodTypes, canon_types, FitsTypes, volume_in, GoodVolume, canon_volume, FitsVolume, map_in, GoodMap, canon_map}
+use Rattle.csi_codec.specs.Requests.{create_in, GoodCreate, canon_create, FitsCreate, delete_in, GoodDelete, canon_delete, FitsDelete, publish_in, GoodPublish, canon_publish, FitsPublish, unpublish_in, GoodUnpublish, canon_unpublish, FitsUnpublish, validate_in, GoodValidate, canon_validate, FitsValidate, list_in, GoodList, canon_list, FitsList, capacity_in, GoodCapacity, canon_capacity, FitsCapacity}
+use Rattle.csi_codec.specs.declared.response_parts.PluginInfo.{PluginInfo}
+use Rattle.csi_codec.specs.declared.response_parts.Validation.{Validation}
+use Rattle.csi_codec.specs.declared.response_parts.Listing.{Listing}
+use Rattle.csi_codec.specs.declared.response_parts.FreeCapacity.{FreeCapacity}
+use Rattle.csi_codec.specs.Responses.{info_in, GoodInfo, canon_info, FitsInfo, validation_in, GoodValidation, canon_validation, FitsValidation, listing_in, GoodListing, canon_listing, FitsListing, free_in, GoodFree, canon_free, FitsFree}
+
+-- ---- requests
+
+abbrev pub GoodRequest : Method → ℕ → List ℕ → Type 0
+GoodRequest method.GetPluginInfo = AnyPayload
+GoodRequest method.GetPluginCapabilities = AnyPayload
+GoodRequest method.Probe = AnyPayload
+GoodRequest method.CreateVolume = GoodCreate
+GoodRequest method.DeleteVolume = GoodDelete
+GoodRequest method.ControllerPublishVolume = GoodPublish
+GoodRequest method.ControllerUnpublishVolume = GoodUnpublish
+GoodRequest method.ValidateVolumeCapabilities = GoodValidate
+GoodRequest method.ListVolumes = GoodList
+GoodRequest method.GetCapacity = GoodCapacity
+GoodRequest method.ControllerGetCapabilities = AnyPayload
+
+abbrev pub request_in : Method → Views → Request
+request_in method.GetPluginInfo v = request.PluginInfo
+request_in method.GetPluginCapabilities v = request.PluginCapabilities
+request_in method.Probe v = request.Probe
+request_in method.CreateVolume v = request.Create (create_in v)
+request_in method.DeleteVolume v = request.Delete (delete_in v)
+request_in method.ControllerPublishVolume v = request.Publish (publish_in v)
+request_in method.ControllerUnpublishVolume v = request.Unpublish (unpublish_in v)
+request_in method.ValidateVolumeCapabilities v = request.Validate (validate_in v)
+request_in method.ListVolumes v = request.List (list_in v)
+request_in method.GetCapacity v = request.Capacity (capacity_in v)
+request_in method.ControllerGetCapabilities v = request.ControllerCapabilities
+
+abbrev pub request_method : Request → Method
+request_method request.PluginInfo = method.GetPluginInfo
+request_method request.PluginCapabilities = method.GetPluginCapabilities
+request_method request.Probe = method.Probe
+request_method request.ControllerCapabilities = method.ControllerGetCapabilities
+request_method (request.Create v) = method.CreateVolume
+request_method (request.Delete v) = method.DeleteVolume
+request_method (request.Publish v) = method.ControllerPublishVolume
+request_method (request.Unpublish v) = method.ControllerUnpublishVolume
+request_method (request.Validate v) = method.ValidateVolumeCapabilities
+request_method (request.List v) = method.ListVolumes
+request_method (request.Capacity v) = method.GetCapacity
+
+abbrev pub canon_request : Request → Rows
+canon_request request.PluginInfo = Start
+canon_request request.PluginCapabilities = Start
+canon_request request.Probe = Start
+canon_request request.ControllerCapabilities = Start
+canon_request (request.Create v) = canon_create v
+canon_request (request.Delete v) = canon_delete v
+canon_request (request.Publish v) = canon_publish v
+canon_request (request.Unpublish v) = canon_unpublish v
+canon_request (request.Validate v) = canon_validate v
+canon_request (request.List v) = canon_list v
+canon_request (request.Capacity v) = canon_capacity v
+
+unfoldable pub FitsRequest : Request → Type 0
+FitsRequest request.PluginInfo = Unit {0}
+FitsRequest request.PluginCapabilities = Unit {0}
+FitsRequest request.Probe = Unit {0}
+FitsRequest request.ControllerCapabilities = Unit {0}
+FitsRequest (request.Create v) = FitsCreate v
+FitsRequest (request.Delete v) = FitsDelete v
+FitsRequest (request.Publish v) = FitsPublish v
+FitsRequest (request.Unpublish v) = FitsUnpublish v
+FitsRequest (request.Validate v) = FitsValidate v
+FitsRequest (request.List v) = FitsList v
+FitsRequest (request.Capacity v) = FitsCapacity v
+
+-- the bytes mean this request
+unfoldable pub MeansRequest : Method → List ℕ → Request → Type 0
+MeansRequest m bytes r = Means (GoodEntry (GoodRequest m)) (value_of (request_in m)) bytes r
+
+-- the bytes are good, so they mean a request
+unfoldable pub IsGoodRequest : Method → List ℕ → Type 0
+IsGoodRequest m bytes = AreGood (GoodEntry (GoodRequest m)) bytes
+
+-- the bytes mean no request, and their longest front that is a list of good fields ends here
+unfoldable pub IsNoRequest : Method → List ℕ → ℕ → Type 0
+IsNoRequest m bytes at = IsPlace (GoodEntry (GoodRequest m)) bytes at × (AreGood (GoodEntry (GoodRequest m)) bytes → ⊥)
+
+-- what a fault says of the bytes
+abbrev pub RefusesRequest : Method → List ℕ → DecodeFault → Type 0
+RefusesRequest m bytes (fault.Malformed at) = IsNoRequest m bytes at
+RefusesRequest m bytes fault.NoMemory = IsGoodRequest m bytes
+
+-- the one spelling of the request
+unfoldable pub request_bytes : Request → List ℕ
+request_bytes r = bytes_of (canon_request r)
+
+-- ---- responses
+
+abbrev pub GoodResponse : Method → ℕ → List ℕ → Type 0
+GoodResponse method.GetPluginInfo = GoodInfo
+GoodResponse method.GetPluginCapabilities = GoodTypes
+GoodResponse method.Probe = GoodOnly AnyPayload
+GoodResponse method.CreateVolume = GoodOnly GoodVolume
+GoodResponse method.DeleteVolume = AnyPayload
+GoodResponse method.ControllerPublishVolume = GoodMap
+GoodResponse method.ControllerUnpublishVolume = AnyPayload
+GoodResponse method.ValidateVolumeCapabilities = GoodValidation
+GoodResponse method.ListVolumes = GoodListing
+GoodResponse method.GetCapacity = GoodFree
+GoodResponse method.ControllerGetCapabilities = GoodTypes
+
+abbrev pub of_info : PluginInfo → Response
+of_info r = response.PluginInfo r.name r.version
+
+abbrev pub of_validation : Validation → Response
+of_validation r = response.Validate r.confirmed r.message
+
+abbrev pub of_listing : Listing → Response
+of_listing r = response.List r.entries r.token
+
+abbrev pub of_free : FreeCapacity → Response
+of_free r = response.Capacity r.available r.maximum
+
+abbrev pub response_in : Method → Views → Response
+response_in method.GetPluginInfo v = of_info (info_in v)
+response_in method.GetPluginCapabilities v = response.PluginCapabilities (types_in v)
+response_in method.Probe v = response.Probe (only_in flag_in v)
+response_in method.CreateVolume v = response.Create (only_in volume_in v)
+response_in method.DeleteVolume v = response.Delete
+response_in method.ControllerPublishVolume v = response.Publish (map_in v)
+response_in method.ControllerUnpublishVolume v = response.Unpublish
+response_in method.ValidateVolumeCapabilities v = of_validation (validation_in v)
+response_in method.ListVolumes v = of_listing (listing_in v)
+response_in method.GetCapacity v = of_free (free_in v)
+response_in method.ControllerGetCapabilities v = response.ControllerCapabilities (types_in v)
+
+abbrev pub response_method : Response → Method
+response_method (response.PluginInfo name version) = method.GetPluginInfo
+response_method (response.PluginCapabilities os) = method.GetPluginCapabilities
+response_method (response.Probe o) = method.Probe
+response_method (response.ControllerCapabilities os) = method.ControllerGetCapabilities
+response_method (response.Create o) = method.CreateVolume
+response_method response.Delete = method.DeleteVolume
+response_method (response.Publish m) = method.ControllerPublishVolume
+response_method response.Unpublish = method.ControllerUnpublishVolume
+response_method (response.Validate confirmed message) = method.ValidateVolumeCapabilities
+response_method (response.List es token) = method.ListVolumes
+response_method (response.Capacity available maximum) = method.GetCapacity
+
+abbrev pub canon_response : Response → Rows
+canon_response (response.PluginInfo name version) = canon_info (record { name = name; version = version })
+canon_response (response.PluginCapabilities os) = canon_types os
+canon_response (response.Probe o) = canon_only canon_flag o
+canon_response (response.ControllerCapabilities os) = canon_types os
+canon_response (response.Create o) = canon_only canon_volume o
+canon_response response.Delete = Start
+canon_response (response.Publish m) = canon_map m
+canon_response response.Unpublish = Start
+canon_response (response.Validate confirmed message) = canon_validation (record { confirmed = confirmed; message = message })
+canon_response (response.List es token) = canon_listing (record { entries = es; token = token })
+canon_response (response.Capacity available maximum) = canon_free (record { available = available; maximum = maximum })
+
+unfoldable pub FitsResponse : Response → Type 0
+FitsResponse (response.PluginInfo name version) = FitsInfo (record { name = name; version = version })
+FitsResponse (response.PluginCapabilities os) = FitsTypes os
+FitsResponse (response.Probe o) = FitsOption FitsFlag canon_flag o
+FitsResponse (response.ControllerCapabilities os) = FitsTypes os
+FitsResponse (response.Create o) = FitsOption FitsVolume canon_volume o
+FitsResponse response.Delete = Unit {0}
+FitsResponse (response.Publish m) = FitsMap m
+FitsResponse response.Unpublish = Unit {0}
+FitsResponse (response.Validate confirmed message) = FitsValidation (record { confirmed = confirmed; message = message })
+FitsResponse (response.List es token) = FitsListing (record { entries = es; token = token })
+FitsResponse (response.Capacity available maximum) = FitsFree (record { available = available; maximum = maximum })
+
+-- the bytes mean this response
+unfoldable pub MeansResponse : Method → List ℕ → Response → Type 0
+MeansResponse m bytes r = Means (GoodEntry (GoodResponse m)) (value_of (response_in m)) bytes r
+
+-- the bytes are good, so they mean a response
+unfoldable pub IsGoodResponse : Method → List ℕ → Type 0
+IsGoodResponse m bytes = AreGood (GoodEntry (GoodResponse m)) bytes
+
+-- the bytes mean no response, and their longest front that is a list of good fields ends here
+unfoldable pub IsNoResponse : Method → List ℕ → ℕ → Type 0
+IsNoResponse m bytes at = IsPlace (GoodEntry (GoodResponse m)) bytes at × (AreGood (GoodEntry (GoodResponse m)) bytes → ⊥)
+
+-- what a fault says of the bytes
+abbrev pub RefusesResponse : Method → List ℕ → DecodeFault → Type 0
+RefusesResponse m bytes (fault.Malformed at) = IsNoResponse m bytes at
+RefusesResponse m bytes fault.NoMemory = IsGoodResponse m bytes
+
+-- the one spelling of the response
+unfoldable pub response_bytes : Response → List ℕ
+response_bytes r = bytes_of (canon_response r)

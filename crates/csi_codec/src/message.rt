@@ -1,0 +1,141 @@
+//! Reading a message of any type: first a pass that looks for faults and takes no memory, then one that builds.
+
+ghost use Rattle.std.specs.Prelude.{◌≡◌, ◌↔◌, ℕ, List, [], ◌∷◌, ◌++◌, IsTrue, OnOk, IfOk, IfErr, MatchOption};
+ghost use Rattle.pbwire.specs.Wire.{Entry};
+ghost use Rattle.pbwire.specs.Reading.{entry_of};
+ghost use Rattle.csi_codec.specs.Fields.{AreGood, Refuses, Means, fields_of};
+ghost use Rattle.csi_codec.specs.Views.{Views, views, no_views, with_number, with_payload, GoodEntry, value_of};
+ghost use Rattle.csi_codec.specs.Stops.{Stops};
+
+use pbwire::{Field, Fields, Value};
+use std::alloc::{AllocError, Global};
+
+/// A type that is read from the fields of a message.
+///
+/// Its value is a function of what stands under each field number, so to read a message is to take its fields
+/// one after the other.
+pub trait Message: Drop {
+    /// Which payloads are good under which number.
+    ghost good: { ℕ → List ℕ → Type 0 };
+
+    /// The value, by what stands in the message.
+    ghost of: { Views → Self };
+
+    /// The value of a message without fields. It takes no memory.
+    fn empty(alloc: Global) -> Self
+        ensures { result ≡ of no_views };
+
+    /// Whether this payload is good under this number.
+    fn is_good(number: u32, payload: &[u8]) -> bool
+        ensures { IsTrue result ↔ good number payload.now };
+
+    /// Takes one more varint.
+    fn merge_number(&mut self, number: u32, value: u64)
+        ensures { (v : Views) → self.old ≡ of v → self.new ≡ of (with_number number value v) };
+
+    /// Takes one more payload. Where memory is refused it may have been taken in part.
+    fn merge_payload(
+        &mut self,
+        alloc: Global,
+        number: u32,
+        payload: &[u8],
+    ) -> Result<(), AllocError>
+        requires { good number payload.now }
+        ensures { OnOk result ((v : Views) → self.old ≡ of v → self.new ≡ of (with_payload number payload.now v)) };
+}
+
+/// Why a message is not read.
+#[derive(Clone, Copy, Debug, PartialEq, Eq, thiserror::Error)]
+pub enum DecodeFault {
+    /// The bytes mean no value: the field at this byte is malformed, holds a text that is not UTF-8, or holds an
+    /// embedded message that is malformed itself. The bytes before it are the longest front of the message that
+    /// is a list of good fields.
+    #[error("malformed message in the field at byte {at}")]
+    Malformed {
+        /// The place of the field, in bytes from the start of the message.
+        at: usize,
+    },
+    /// The bytes mean a value, and there is no memory for it.
+    #[error("out of memory")]
+    NoMemory,
+}
+
+fn is_good_field<M: Message>(field: &Field<'_>) -> bool
+    ensures { IsTrue result ↔ GoodEntry M.good (entry_of field.now) }
+{
+    match field.value {
+        Value::Bytes(payload) => M::is_good(field.number, payload),
+        Value::Varint(_) | Value::Fixed64(_) | Value::Fixed32(_) => true,
+    }
+}
+
+fn merge_field<M: Message>(
+    message: &mut M,
+    alloc: Global,
+    field: &Field<'_>,
+) -> Result<(), AllocError>
+    requires { GoodEntry M.good (entry_of field.now) }
+    ensures { OnOk result ((seen : List Entry) → message.old ≡ value_of M.of seen → message.new ≡ value_of M.of (seen ++ entry_of field.now ∷ [])) }
+{
+    match field.value {
+        Value::Varint(number) => message.merge_number(field.number, number),
+        Value::Bytes(payload) => message.merge_payload(alloc, field.number, payload)?,
+        Value::Fixed64(_) | Value::Fixed32(_) => {}
+    }
+    Ok(())
+}
+
+/// The place at which the bytes stop being a list of good fields, if they do. It takes no memory.
+pub fn first_fault<M: Message>(bytes: &[u8]) -> Option<usize>
+    ensures { MatchOption result (AreGood (GoodEntry M.good) bytes.now) (Stops (GoodEntry M.good) bytes.now) }
+{
+    let mut fields = Fields::new(bytes);
+    let mut place = 0;
+    while let Some(next) = fields.next_field() {
+        let Ok(field) = next else {
+            return Some(place);
+        };
+        if !is_good_field::<M>(&field) {
+            return Some(place);
+        }
+        place = fields.at();
+    }
+    None
+}
+
+/// Takes all fields of good bytes. Where memory is refused some may have been taken.
+pub fn merge<M: Message>(message: &mut M, alloc: Global, bytes: &[u8]) -> Result<(), AllocError>
+    requires { AreGood (GoodEntry M.good) bytes.now }
+    ensures { OnOk result ((seen : List Entry) → message.old ≡ value_of M.of seen → message.new ≡ value_of M.of (seen ++ fields_of bytes.now)) }
+{
+    let mut fields = Fields::new(bytes);
+    while let Some(next) = fields.next_field() {
+        let Ok(field) = next else { unreachable!() };
+        merge_field(message, alloc, &field)?;
+    }
+    Ok(())
+}
+
+/// What good bytes mean.
+pub fn read<M: Message>(alloc: Global, bytes: &[u8]) -> Result<M, AllocError>
+    requires { AreGood (GoodEntry M.good) bytes.now }
+    ensures { IfOk result (λ message. message ≡ value_of M.of (fields_of bytes.now)) }
+{
+    let mut message = M::empty(alloc);
+    merge(&mut message, alloc, bytes)?;
+    Ok(message)
+}
+
+/// What the bytes mean. Faults are looked for first, so want of memory is answered only where they mean a value.
+pub fn decode_message<M: Message>(alloc: Global, bytes: &[u8]) -> Result<M, DecodeFault>
+    ensures ok { IfOk result (Means (GoodEntry M.good) (value_of M.of) bytes.now) }
+    ensures err { IfErr result (Refuses (GoodEntry M.good) bytes.now) }
+{
+    if let Some(at) = first_fault::<M>(bytes) {
+        return Err(DecodeFault::Malformed { at });
+    }
+    match read(alloc, bytes) {
+        Ok(message) => Ok(message),
+        Err(_) => Err(DecodeFault::NoMemory),
+    }
+}

@@ -1,0 +1,94 @@
+//! Requests by their method.
+
+ghost use Rattle.std.specs.Prelude.{◌≡◌, ◌++◌, OnOk, OnErr, IfOk, IfErr};
+ghost use Rattle.csi_codec.specs.Kept.{Keeps};
+ghost use Rattle.csi_codec.specs.Methods.{RefusesRequest, MeansRequest, request_bytes, FitsRequest};
+
+use crate::message::{DecodeFault, decode_message};
+use crate::single::NoFields;
+use crate::writing::Written;
+use csi_types::{Method, Request};
+use std::alloc::{AllocError, Global};
+
+/// The request of this method that the bytes mean (Protocol Buffers encoding guide; CSI specification, csi.proto).
+///
+/// Fields come in any order, and unknown ones are skipped. Of a scalar or a text the last occurrence counts, those
+/// of an embedded message are merged, and those of a repeated field are its elements. Faults are looked for first,
+/// without memory.
+///
+/// # Errors
+///
+/// [`DecodeFault::Malformed`] exactly where the bytes mean no request; [`DecodeFault::NoMemory`] only where they mean
+/// one.
+#[tactic(auto, unfolding(crate::specs::Methods::MeansRequest, crate::specs::Methods::IsNoRequest, crate::specs::Methods::IsGoodRequest))]
+pub fn decode(alloc: Global, method: Method, bytes: &[u8]) -> Result<Request, DecodeFault>
+    ensures ok { IfOk result (MeansRequest method bytes.now) }
+    ensures err { IfErr result (RefusesRequest method bytes.now) }
+{
+    match method {
+        Method::GetPluginInfo => {
+            let NoFields = decode_message(alloc, bytes)?;
+            Ok(Request::PluginInfo)
+        }
+        Method::GetPluginCapabilities => {
+            let NoFields = decode_message(alloc, bytes)?;
+            Ok(Request::PluginCapabilities)
+        }
+        Method::Probe => {
+            let NoFields = decode_message(alloc, bytes)?;
+            Ok(Request::Probe)
+        }
+        Method::CreateVolume => Ok(Request::Create(decode_message(alloc, bytes)?)),
+        Method::DeleteVolume => Ok(Request::Delete(decode_message(alloc, bytes)?)),
+        Method::ControllerPublishVolume => Ok(Request::Publish(decode_message(alloc, bytes)?)),
+        Method::ControllerUnpublishVolume => Ok(Request::Unpublish(decode_message(alloc, bytes)?)),
+        Method::ValidateVolumeCapabilities => Ok(Request::Validate(decode_message(alloc, bytes)?)),
+        Method::ListVolumes => Ok(Request::List(decode_message(alloc, bytes)?)),
+        Method::GetCapacity => Ok(Request::Capacity(decode_message(alloc, bytes)?)),
+        Method::ControllerGetCapabilities => {
+            let NoFields = decode_message(alloc, bytes)?;
+            Ok(Request::ControllerCapabilities)
+        }
+    }
+}
+
+// Appends the spelling. Where memory is refused a part of it may stand there.
+#[tactic(auto, unfolding(crate::specs::Methods::request_bytes, crate::specs::Methods::FitsRequest))]
+fn write_request(request: &Request, out: &mut Vec<u8>) -> Result<(), AllocError>
+    ensures ok { OnOk result (out.new.items ≡ out.old.items ++ request_bytes request.now) }
+    ensures fitting { OnOk result (FitsRequest request.now) }
+    ensures kept { Keeps out.old.items out.new.items }
+{
+    match request {
+        Request::PluginInfo
+        | Request::PluginCapabilities
+        | Request::Probe
+        | Request::ControllerCapabilities => Ok(()),
+        Request::Create(message) => message.write(out),
+        Request::Delete(message) => message.write(out),
+        Request::Publish(message) => message.write(out),
+        Request::Unpublish(message) => message.write(out),
+        Request::Validate(message) => message.write(out),
+        Request::List(message) => message.write(out),
+        Request::Capacity(message) => message.write(out),
+    }
+}
+
+/// Appends the one spelling of the request: rising field numbers, minimal varints, default scalars and empty texts
+/// left out, present messages written even when empty, map entries in byte order of their keys with both parts.
+///
+/// # Errors
+///
+/// Where memory is refused the vector is as it was.
+pub fn encode_request(request: &Request, out: &mut Vec<u8>) -> Result<(), AllocError>
+    ensures ok { OnOk result (out.new.items ≡ out.old.items ++ request_bytes request.now) }
+    ensures fitting { OnOk result (FitsRequest request.now) }
+    ensures err { OnErr result (out.new.items ≡ out.old.items) }
+{
+    let from = out.len();
+    let written = write_request(request, out);
+    if written.is_err() {
+        out.truncate(from);
+    }
+    written
+}

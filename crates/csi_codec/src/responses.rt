@@ -1,0 +1,113 @@
+//! Responses by their method.
+
+ghost use Rattle.std.specs.Prelude.{◌≡◌, ◌++◌, OnOk, OnErr, IfOk, IfErr};
+ghost use Rattle.csi_codec.specs.Kept.{Keeps};
+ghost use Rattle.csi_codec.specs.Methods.{RefusesResponse, MeansResponse, response_bytes, FitsResponse};
+
+use crate::message::{DecodeFault, decode_message};
+use crate::response_parts::{FreeCapacity, Listing, PluginInfo, Validation};
+use crate::single::NoFields;
+use crate::writing::{Written, put_messages, put_option, put_signed, put_text};
+use csi_types::{Method, Response};
+use std::alloc::{AllocError, Global};
+
+/// The response of this method that the bytes mean, as [`decode`](crate::decode) reads requests.
+///
+/// # Errors
+///
+/// [`DecodeFault::Malformed`] exactly where the bytes mean no response; [`DecodeFault::NoMemory`] only where they
+/// mean one.
+#[tactic(auto, unfolding(crate::specs::Methods::MeansResponse, crate::specs::Methods::IsNoResponse, crate::specs::Methods::IsGoodResponse))]
+pub fn decode_response(alloc: Global, method: Method, bytes: &[u8]) -> Result<Response, DecodeFault>
+    ensures ok { IfOk result (MeansResponse method bytes.now) }
+    ensures err { IfErr result (RefusesResponse method bytes.now) }
+{
+    match method {
+        Method::GetPluginInfo => {
+            let PluginInfo { name, version } = decode_message(alloc, bytes)?;
+            Ok(Response::PluginInfo { name, version })
+        }
+        Method::GetPluginCapabilities => {
+            Ok(Response::PluginCapabilities(decode_message(alloc, bytes)?))
+        }
+        Method::Probe => Ok(Response::Probe(decode_message(alloc, bytes)?)),
+        Method::CreateVolume => Ok(Response::Create(decode_message(alloc, bytes)?)),
+        Method::DeleteVolume => {
+            let NoFields = decode_message(alloc, bytes)?;
+            Ok(Response::Delete)
+        }
+        Method::ControllerPublishVolume => Ok(Response::Publish(decode_message(alloc, bytes)?)),
+        Method::ControllerUnpublishVolume => {
+            let NoFields = decode_message(alloc, bytes)?;
+            Ok(Response::Unpublish)
+        }
+        Method::ValidateVolumeCapabilities => {
+            let Validation { confirmed, message } = decode_message(alloc, bytes)?;
+            Ok(Response::Validate { confirmed, message })
+        }
+        Method::ListVolumes => {
+            let Listing { entries, token } = decode_message(alloc, bytes)?;
+            Ok(Response::List { entries, token })
+        }
+        Method::GetCapacity => {
+            let FreeCapacity { available, maximum } = decode_message(alloc, bytes)?;
+            Ok(Response::Capacity { available, maximum })
+        }
+        Method::ControllerGetCapabilities => {
+            Ok(Response::ControllerCapabilities(decode_message(alloc, bytes)?))
+        }
+    }
+}
+
+// Appends the spelling. Where memory is refused a part of it may stand there.
+#[tactic(auto, using(crate::proofs::Writes::wrote_two, crate::proofs::Writes::keeps_on), unfolding(crate::specs::Methods::response_bytes, crate::specs::Methods::FitsResponse))]
+fn write_response(response: &Response, out: &mut Vec<u8>) -> Result<(), AllocError>
+    ensures ok { OnOk result (out.new.items ≡ out.old.items ++ response_bytes response.now) }
+    ensures fitting { OnOk result (FitsResponse response.now) }
+    ensures kept { Keeps out.old.items out.new.items }
+{
+    match response {
+        Response::PluginInfo { name, version } => {
+            put_text(out, 1, name)?;
+            put_text(out, 2, version)?;
+        }
+        Response::PluginCapabilities(types) | Response::ControllerCapabilities(types) => {
+            types.write(out)?
+        }
+        Response::Probe(ready) => ready.write(out)?,
+        Response::Create(volume) => volume.write(out)?,
+        Response::Delete | Response::Unpublish => {}
+        Response::Publish(context) => context.write(out)?,
+        Response::Validate { confirmed, message } => {
+            put_option(out, 1, confirmed)?;
+            put_text(out, 2, message)?;
+        }
+        Response::List { entries, token } => {
+            put_messages(out, 1, entries)?;
+            put_text(out, 2, token)?;
+        }
+        Response::Capacity { available, maximum } => {
+            put_signed(out, 1, *available)?;
+            put_option(out, 2, maximum)?;
+        }
+    }
+    Ok(())
+}
+
+/// Appends the one spelling of the response, as [`encode_request`](crate::encode_request) does.
+///
+/// # Errors
+///
+/// Where memory is refused the vector is as it was.
+pub fn encode_response(response: &Response, out: &mut Vec<u8>) -> Result<(), AllocError>
+    ensures ok { OnOk result (out.new.items ≡ out.old.items ++ response_bytes response.now) }
+    ensures fitting { OnOk result (FitsResponse response.now) }
+    ensures err { OnErr result (out.new.items ≡ out.old.items) }
+{
+    let from = out.len();
+    let written = write_response(response, out);
+    if written.is_err() {
+        out.truncate(from);
+    }
+    written
+}

@@ -1,0 +1,177 @@
+//! Writing a message of any type, in its one spelling.
+//!
+//! An embedded message is written in place: first its fields, then its head before them.
+
+ghost use Rattle.std.specs.Prelude.{◌≡◌, ◌++◌, ◌∷◌, [], ◌≤◌, ◌<◌, ◌^◌, List, OnOk, OnErr, option_to_list, length};
+ghost use Rattle.std.specs.FinMap.{entries};
+ghost use Rattle.pbwire.specs.Writing.{spellings};
+ghost use Rattle.csi_codec.specs.Canon.{Rows, bytes_of, row_fields, payload_fields, text_row, texts_row, signed_row, flag_row, presence_row, option_row, messages_row, map_row, canon_pair, FitsText, FitsTexts, FitsI64, FitsInner, FitsOption, FitsMessages, FitsPair, FitsMap};
+ghost use Rattle.csi_codec.specs.Kept.{Keeps};
+ghost use Rattle.csi_codec.specs.Rows.{RoundTrip};
+
+use crate::message::Message;
+use csi_types::{Items, Map, Text};
+use pbwire::{close_bytes, put_bytes, put_entry, put_varint};
+use std::alloc::AllocError;
+
+/// A message with one spelling.
+pub trait Written: Message {
+    /// The fields of the spelling, by their numbers.
+    ghost canon: { Self → Rows };
+
+    /// Which values have a spelling. Every value that is written is one.
+    ghost fits: { Self → Type 0 };
+
+    /// Appends the spelling. Where memory is refused a part of it may stand there.
+    fn write(&self, out: &mut Vec<u8>) -> Result<(), AllocError>
+        ensures ok { OnOk result (out.new.items ≡ out.old.items ++ bytes_of (canon self.now)) }
+        ensures fitting { OnOk result (fits self.now) }
+        ensures kept { Keeps out.old.items out.new.items };
+
+    /// The spelling of a value means the value.
+    ghost again: { (v : Self) → fits v → RoundTrip Self.Message.good Self.Message.of canon v };
+}
+
+/// Appends a text, unless it is empty.
+#[tactic(auto, unfolding(crate::specs::Canon::row_fields))]
+pub fn put_text(out: &mut Vec<u8>, number: u32, text: &Text) -> Result<(), AllocError>
+    requires { (1 ≤ number) × (number < 2 ^ 29) }
+    ensures ok { OnOk result (out.new.items ≡ out.old.items ++ spellings (row_fields (text_row number text.now))) }
+    ensures fitting { OnOk result (FitsText text.now) }
+    ensures kept { Keeps out.old.items out.new.items }
+{
+    if text.is_empty() {
+        return Ok(());
+    }
+    put_bytes(out, number, text.as_bytes())
+}
+
+/// Appends texts, also empty ones.
+#[tactic(auto, unfolding(crate::specs::Canon::row_fields))]
+pub fn put_texts(out: &mut Vec<u8>, number: u32, texts: &Items<Text>) -> Result<(), AllocError>
+    requires { (1 ≤ number) × (number < 2 ^ 29) }
+    ensures ok { OnOk result (out.new.items ≡ out.old.items ++ spellings (row_fields (texts_row number texts.now))) }
+    ensures fitting { OnOk result (FitsTexts texts.now) }
+    ensures kept { Keeps out.old.items out.new.items }
+{
+    for text in texts.as_slice() {
+        put_bytes(out, number, text.as_bytes())?;
+    }
+    Ok(())
+}
+
+/// Appends a signed number, unless it is 0.
+#[tactic(auto, unfolding(crate::specs::Canon::row_fields))]
+pub fn put_signed(out: &mut Vec<u8>, number: u32, value: i64) -> Result<(), AllocError>
+    requires { (1 ≤ number) × (number < 2 ^ 29) }
+    ensures ok { OnOk result (out.new.items ≡ out.old.items ++ spellings (row_fields (signed_row number value))) }
+    ensures kept { Keeps out.old.items out.new.items }
+{
+    if value == 0 {
+        return Ok(());
+    }
+    put_varint(out, number, value.cast_unsigned())
+}
+
+/// Appends a flag, unless it is false.
+#[tactic(auto, unfolding(crate::specs::Canon::row_fields))]
+pub fn put_flag(out: &mut Vec<u8>, number: u32, flag: bool) -> Result<(), AllocError>
+    requires { (1 ≤ number) × (number < 2 ^ 29) }
+    ensures ok { OnOk result (out.new.items ≡ out.old.items ++ spellings (row_fields (flag_row number flag))) }
+    ensures kept { Keeps out.old.items out.new.items }
+{
+    if !flag {
+        return Ok(());
+    }
+    put_varint(out, number, 1)
+}
+
+/// Appends an empty message, if there is one.
+#[tactic(auto, unfolding(crate::specs::Canon::row_fields))]
+pub fn put_presence(out: &mut Vec<u8>, number: u32, present: bool) -> Result<(), AllocError>
+    requires { (1 ≤ number) × (number < 2 ^ 29) }
+    ensures ok { OnOk result (out.new.items ≡ out.old.items ++ spellings (row_fields (presence_row number present))) }
+    ensures kept { Keeps out.old.items out.new.items }
+{
+    if !present {
+        return Ok(());
+    }
+    put_bytes(out, number, &[])
+}
+
+/// Appends a message.
+pub fn put_message<M: Written>(
+    out: &mut Vec<u8>,
+    number: u32,
+    message: &M,
+) -> Result<(), AllocError>
+    requires { (1 ≤ number) × (number < 2 ^ 29) }
+    ensures ok { OnOk result (out.new.items ≡ out.old.items ++ spellings (payload_fields number (bytes_of (M.canon message.now) ∷ []))) }
+    ensures fitting { OnOk result (FitsInner M.fits M.canon message.now) }
+    ensures kept { Keeps out.old.items out.new.items }
+{
+    let from = out.len();
+    message.write(out)?;
+    close_bytes(out, from, number)
+}
+
+/// Appends a message, if there is one.
+#[tactic(auto, unfolding(crate::specs::Canon::row_fields))]
+pub fn put_option<M: Written>(
+    out: &mut Vec<u8>,
+    number: u32,
+    message: &Option<M>,
+) -> Result<(), AllocError>
+    requires { (1 ≤ number) × (number < 2 ^ 29) }
+    ensures ok { OnOk result (out.new.items ≡ out.old.items ++ spellings (row_fields (option_row M.canon number message.now))) }
+    ensures fitting { OnOk result (FitsOption M.fits M.canon message.now) }
+    ensures kept { Keeps out.old.items out.new.items }
+{
+    match message {
+        None => Ok(()),
+        Some(message) => put_message(out, number, message),
+    }
+}
+
+/// Appends messages, each as a field of its own.
+#[tactic(auto, unfolding(crate::specs::Canon::row_fields))]
+pub fn put_messages<M: Written>(
+    out: &mut Vec<u8>,
+    number: u32,
+    messages: &Items<M>,
+) -> Result<(), AllocError>
+    requires { (1 ≤ number) × (number < 2 ^ 29) }
+    ensures ok { OnOk result (out.new.items ≡ out.old.items ++ spellings (row_fields (messages_row M.canon number messages.now))) }
+    ensures fitting { OnOk result (FitsMessages M.fits M.canon messages.now) }
+    ensures kept { Keeps out.old.items out.new.items }
+{
+    for message in messages.as_slice() {
+        put_message(out, number, message)?;
+    }
+    Ok(())
+}
+
+/// Appends a map, its entries in byte order of their keys.
+#[tactic(auto, unfolding(crate::specs::Canon::row_fields))]
+pub fn put_map(out: &mut Vec<u8>, number: u32, map: &Map) -> Result<(), AllocError>
+    requires { (1 ≤ number) × (number < 2 ^ 29) }
+    ensures ok { OnOk result (out.new.items ≡ out.old.items ++ spellings (row_fields (map_row number map.now))) }
+    ensures fitting { OnOk result (FitsMap map.now) }
+    ensures kept { Keeps out.old.items out.new.items }
+{
+    for (key, value) in map.iter() {
+        put_pair(out, number, key, value)?;
+    }
+    Ok(())
+}
+
+// Appends an entry of a map, with both its parts, also empty ones.
+#[tactic(auto, unfolding(crate::specs::Canon::row_fields))]
+fn put_pair(out: &mut Vec<u8>, number: u32, key: &Text, value: &Text) -> Result<(), AllocError>
+    requires { (1 ≤ number) × (number < 2 ^ 29) }
+    ensures ok { OnOk result (out.new.items ≡ out.old.items ++ spellings (payload_fields number (bytes_of (canon_pair (key.now, value.now)) ∷ []))) }
+    ensures fitting { OnOk result (FitsInner FitsPair canon_pair (key.now, value.now)) }
+    ensures kept { Keeps out.old.items out.new.items }
+{
+    put_entry(out, number, key.as_bytes(), value.as_bytes())
+}
