@@ -79,14 +79,19 @@ fn parameters(rt: HostRuntime) -> Result<(), Fail> {
 }
 
 #[test]
-fn secrets_and_segments(rt: HostRuntime) -> Result<(), Fail> {
+fn secrets(rt: HostRuntime) -> Result<(), Fail> {
     let alloc = rt.alloc();
     for (length, want) in [(4095, Ok(())), (4096, Err(Reason::MapTooLarge))] {
-        let delete = Request::Delete(DeleteVolume {
-            volume_id: copy_text(alloc, "vol-1")?,
-            secrets: map_of_one(alloc, length)?,
-        });
+        let delete = delete_of(alloc, "vol-1", map_of_one(alloc, length)?)?;
         assert_eq!(rt; check(&delete), want);
+    }
+    Ok(())
+}
+
+#[test]
+fn segments(rt: HostRuntime) -> Result<(), Fail> {
+    let alloc = rt.alloc();
+    for (length, want) in [(4095, Ok(())), (4096, Err(Reason::MapTooLarge))] {
         let capacity = capacity_of(alloc, map_of_one(alloc, length)?);
         assert_eq!(rt; check(&capacity), want);
     }
@@ -128,6 +133,12 @@ fn topologies(rt: HostRuntime) -> Result<(), Fail> {
         let request = Request::Create(create);
         assert_eq!(rt; check(&request), want);
     }
+    Ok(())
+}
+
+#[test]
+fn alike_keys(rt: HostRuntime) -> Result<(), Fail> {
+    let alloc = rt.alloc();
     let request = capacity_of(alloc, map(alloc, &[("a", ""), ("A", "")])?);
     assert_eq!(rt; check(&request), Err(Reason::TopologyKeysAlike));
     Ok(())
@@ -165,7 +176,7 @@ fn many_topologies(rt: HostRuntime) -> Result<(), Fail> {
 }
 
 #[test]
-fn volume_ids(rt: HostRuntime) -> Result<(), Fail> {
+fn deleted_ids(rt: HostRuntime) -> Result<(), Fail> {
     let alloc = rt.alloc();
     let long = repeated(alloc, "a", 129)?;
     for (volume_id, want) in [
@@ -173,17 +184,23 @@ fn volume_ids(rt: HostRuntime) -> Result<(), Fail> {
         ("vol-1", Ok(())),
         (long.as_str(), Err(Reason::TextTooLong)),
     ] {
-        let request = Request::Delete(DeleteVolume {
-            volume_id: copy_text(alloc, volume_id)?,
-            secrets: Map::new(alloc),
-        });
-        assert_eq!(rt; check(&request), want);
-        let request = Request::Unpublish(Unpublish {
-            volume_id: copy_text(alloc, volume_id)?,
-            node_id: Text::new(alloc),
-            secrets: Map::new(alloc),
-        });
-        assert_eq!(rt; check(&request), want);
+        let delete = delete_of(alloc, volume_id, Map::new(alloc))?;
+        assert_eq!(rt; check(&delete), want);
+    }
+    Ok(())
+}
+
+#[test]
+fn unpublished_ids(rt: HostRuntime) -> Result<(), Fail> {
+    let alloc = rt.alloc();
+    let long = repeated(alloc, "a", 129)?;
+    for (volume_id, want) in [
+        ("", Err(Reason::VolumeIdMissing)),
+        ("vol-1", Ok(())),
+        (long.as_str(), Err(Reason::TextTooLong)),
+    ] {
+        let unpublish = unpublish_of(alloc, volume_id)?;
+        assert_eq!(rt; check(&unpublish), want);
     }
     Ok(())
 }
@@ -296,6 +313,21 @@ fn map(alloc: Global, entries: &[(&str, &str)]) -> Result<Map, Fail> {
         map.insert(copy_text(alloc, key)?, copy_text(alloc, value)?)?;
     }
     Ok(map)
+}
+
+fn delete_of(alloc: Global, volume_id: &str, secrets: Map) -> Result<Request, Fail> {
+    Ok(Request::Delete(DeleteVolume {
+        volume_id: copy_text(alloc, volume_id)?,
+        secrets,
+    }))
+}
+
+fn unpublish_of(alloc: Global, volume_id: &str) -> Result<Request, Fail> {
+    Ok(Request::Unpublish(Unpublish {
+        volume_id: copy_text(alloc, volume_id)?,
+        node_id: Text::new(alloc),
+        secrets: Map::new(alloc),
+    }))
 }
 
 fn capacity_of(alloc: Global, topology: Map) -> Request {
