@@ -4,8 +4,9 @@
 //! that a peer can send. So their places are noted in a table by a mark, which topologies share
 //! that are equal when their keys are folded. The table proposes places and decides nothing: what
 //! it proposes is compared, and what it doesn't know is looked for in the whole list. The marks
-//! begin with a seed that depends on the whole list, so that a peer can't compute topologies of one
-//! mark before it knows the list that they stand in.
+//! begin with a seed that depends on the whole list, so that topologies that share a mark in one
+//! list don't in another. A peer that solves for a whole list of one mark makes the search slow
+//! again: the seed is no secret.
 
 use csi_types::{Map, Text};
 
