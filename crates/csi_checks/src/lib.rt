@@ -2,12 +2,10 @@
 #![tactic(auto)]
 
 mod capabilities;
-mod keys;
+mod marks;
 mod measures;
 mod places;
 mod requests;
-#[cfg(test)]
-mod tests;
 mod topologies;
 
 pub use requests::check;

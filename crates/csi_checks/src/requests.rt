@@ -4,13 +4,12 @@ ghost use Rattle.std.specs.Prelude.{◌≡◌, OnOk, IfErr};
 ghost use Rattle.csi_types.specs.Checks.{checked};
 ghost use Rattle.csi_checks.specs.Requirements.{refused_requirement};
 
-use crate::capabilities::faults_of;
-use crate::keys::has_alike_keys;
+use crate::capabilities::{has_long_text, has_missing_access, has_unknown_mode, has_unsupported};
 use crate::measures::{is_large_map, is_long_node_id, is_long_text, is_negative_range};
 use crate::topologies::{has_ambiguous_term, has_large_term, prefers_another};
 use csi_types::{
     CreateVolume, DeleteVolume, GetCapacity, ListVolumes, Publish, Reason, Request, Requirement,
-    Unpublish, Validate, name_reason,
+    Unpublish, Validate, has_alike_keys, name_reason,
 };
 
 /// The reason of the first check that a request doesn't pass, in the order of the checks; `Ok`
@@ -50,16 +49,16 @@ fn first_reason(request: &Request) -> Option<Reason>
 fn create_reason(request: &CreateVolume) -> Option<Reason>
     ensures { result ≡ checked (Request.Create request.now) }
 {
-    let faults = faults_of(request.capabilities.as_slice());
+    let capabilities = request.capabilities.as_slice();
     if let Some(reason) = name_reason(request.name.as_str()) {
         Some(reason)
     } else if request.capabilities.is_empty() {
         Some(Reason::CapabilityMissing)
-    } else if faults.access_missing {
+    } else if has_missing_access(capabilities) {
         Some(Reason::AccessTypeMissing)
-    } else if faults.mode_unknown {
+    } else if has_unknown_mode(capabilities) {
         Some(Reason::AccessModeUnknown)
-    } else if faults.not_supported {
+    } else if has_unsupported(capabilities) {
         Some(Reason::CapabilityNotSupported)
     } else if request.range.as_ref().is_some_and(is_negative_range) {
         Some(Reason::CapacityNegative)
@@ -68,7 +67,7 @@ fn create_reason(request: &CreateVolume) -> Option<Reason>
         || request.topology.as_ref().is_some_and(has_large_term)
     {
         Some(Reason::MapTooLarge)
-    } else if faults.text_too_long {
+    } else if has_long_text(capabilities) {
         Some(Reason::TextTooLong)
     } else if request.source {
         Some(Reason::SourceNotSupported)
@@ -95,18 +94,22 @@ fn requirement_reason(requirement: &Requirement) -> Option<Reason>
 fn capacity_reason(request: &GetCapacity) -> Option<Reason>
     ensures { result ≡ checked (Request.Capacity request.now) }
 {
-    let faults = faults_of(request.capabilities.as_slice());
-    if faults.access_missing {
+    let capabilities = request.capabilities.as_slice();
+    if has_missing_access(capabilities) {
         Some(Reason::AccessTypeMissing)
-    } else if faults.mode_unknown {
+    } else if has_unknown_mode(capabilities) {
         Some(Reason::AccessModeUnknown)
     } else if is_large_map(&request.parameters)
         || request.topology.as_ref().is_some_and(is_large_map)
     {
         Some(Reason::MapTooLarge)
-    } else if faults.text_too_long {
+    } else if has_long_text(capabilities) {
         Some(Reason::TextTooLong)
-    } else if request.topology.as_ref().is_some_and(has_alike_keys) {
+    } else if request
+        .topology
+        .as_ref()
+        .is_some_and(|topology| has_alike_keys(topology))
+    {
         Some(Reason::TopologyKeysAlike)
     } else {
         None
@@ -160,18 +163,18 @@ fn list_reason(request: &ListVolumes) -> Option<Reason>
 fn publish_reason(request: &Publish) -> Option<Reason>
     ensures { result ≡ checked (Request.Publish request.now) }
 {
-    let faults = faults_of(request.capability.as_slice());
+    let capabilities = request.capability.as_slice();
     if request.capability.is_none() {
         Some(Reason::CapabilityMissing)
-    } else if faults.access_missing {
+    } else if has_missing_access(capabilities) {
         Some(Reason::AccessTypeMissing)
-    } else if faults.mode_unknown {
+    } else if has_unknown_mode(capabilities) {
         Some(Reason::AccessModeUnknown)
     } else if is_large_map(&request.secrets) || is_large_map(&request.context) {
         Some(Reason::MapTooLarge)
     } else if is_long_text(&request.volume_id)
         || is_long_node_id(&request.node_id)
-        || faults.text_too_long
+        || has_long_text(capabilities)
     {
         Some(Reason::TextTooLong)
     } else if request.volume_id.is_empty() {
@@ -187,19 +190,19 @@ fn publish_reason(request: &Publish) -> Option<Reason>
 fn validate_reason(request: &Validate) -> Option<Reason>
     ensures { result ≡ checked (Request.Validate request.now) }
 {
-    let faults = faults_of(request.capabilities.as_slice());
+    let capabilities = request.capabilities.as_slice();
     if request.capabilities.is_empty() {
         Some(Reason::CapabilityMissing)
-    } else if faults.access_missing {
+    } else if has_missing_access(capabilities) {
         Some(Reason::AccessTypeMissing)
-    } else if faults.mode_unknown {
+    } else if has_unknown_mode(capabilities) {
         Some(Reason::AccessModeUnknown)
     } else if is_large_map(&request.context)
         || is_large_map(&request.parameters)
         || is_large_map(&request.secrets)
     {
         Some(Reason::MapTooLarge)
-    } else if is_long_text(&request.volume_id) || faults.text_too_long {
+    } else if is_long_text(&request.volume_id) || has_long_text(capabilities) {
         Some(Reason::TextTooLong)
     } else if request.volume_id.is_empty() {
         Some(Reason::VolumeIdMissing)

@@ -1,16 +1,15 @@
-//! Topologies, compared with the ASCII letters of their keys folded.
+//! Topologies of a requirement, compared with the ASCII letters of their keys folded.
 
-ghost use Rattle.std.specs.Prelude.{◌≡◌, ◌||◌, ◌&&◌, ◌++◌, All, not, false, true, nat_lt};
-ghost use Rattle.std.specs.FinMap.{entries};
-ghost use Rattle.std.specs.List.{list_any, list_all};
+ghost use Rattle.std.specs.Prelude.{◌≡◌, ◌++◌, All, not, false, true, nat_lt};
+ghost use Rattle.std.specs.List.{list_any};
 ghost use Rattle.csi_types.specs.Checks.{map_bytes, prefers_another};
-ghost use Rattle.csi_types.specs.Maps.{same_text};
-ghost use Rattle.csi_types.specs.Topology.{alike, has_alike_keys, same_topology};
+ghost use Rattle.csi_types.specs.Topology.{has_alike_keys, same_topology};
 
-use crate::keys::{are_alike, has_alike_keys};
+use crate::marks::begun_by;
 use crate::measures::is_large_map;
-use crate::places::{NO_PLACE, TABLE_LENGTH, note_all, proposed, seed_of};
-use csi_types::{Items, MAX_MAP_BYTES, Map, Requirement, Text};
+use crate::places::{NO_PLACE, TABLE_LENGTH, first_slot, note, tried};
+use csi_types::{Items, MAX_MAP_BYTES, Map, Requirement, has_alike_keys, same_topology};
+use std::hash::DefaultHasher;
 
 // Pairs of topologies that are compared without a table.
 const FEW_PAIRS: usize = 64;
@@ -38,31 +37,7 @@ pub(crate) fn has_ambiguous_term(requirement: &Requirement) -> bool
 fn is_any_ambiguous(topologies: &Items<Map>) -> bool
     ensures { result ≡ list_any has_alike_keys topologies.now }
 {
-    topologies.iter().any(has_alike_keys)
-}
-
-// Whether each entry of `part` is one of `whole`.
-fn has_all_of(whole: &Map, part: &Map) -> bool
-    ensures { result ≡ list_all (λ e. list_any (λ f. alike e.0 f.0 && same_text e.1 f.1) (entries whole.now)) (entries part.now) }
-{
-    part.iter().all(|(key, value)| has_entry(whole, key, value))
-}
-
-fn has_entry(topology: &Map, key: &Text, value: &Text) -> bool
-    ensures { result ≡ list_any (λ f. alike key.now f.0 && same_text value.now f.1) (entries topology.now) }
-{
-    topology
-        .iter()
-        .any(|(other, set)| are_alike(key, other) && value == set)
-}
-
-// Whether topologies are equal when their keys are folded. Neither has two keys that are alike.
-fn are_same(one: &Map, other: &Map) -> bool
-    requires one { has_alike_keys one.now ≡ false }
-    requires other { has_alike_keys other.now ≡ false }
-    ensures { result ≡ same_topology one.now other.now }
-{
-    one.len() == other.len() && has_all_of(other, one)
+    topologies.iter().any(|topology| has_alike_keys(topology))
 }
 
 /// Whether there is a requisite topology, and some preferred one is none of them. No topology has
@@ -78,7 +53,7 @@ pub(crate) fn prefers_another(requirement: &Requirement) -> bool
         return false;
     }
     if requisite.len().saturating_mul(preferred.len()) <= FEW_PAIRS {
-        is_any_outside(&[], 0, requisite, preferred)
+        is_any_outside(&[], DefaultHasher::new(), requisite, preferred)
     } else {
         is_any_outside_many(requisite, preferred)
     }
@@ -92,31 +67,47 @@ fn is_any_outside_many(list: &[Map], topologies: &[Map]) -> bool
     ensures { result ≡ list_any (λ p. not (list_any (same_topology p) list.now)) topologies.now }
 {
     let mut table = [NO_PLACE; TABLE_LENGTH];
-    let seed = seed_of(list);
-    note_all(&mut table, seed, list);
-    is_any_outside(&table, seed, list, topologies)
+    let begun = begun_by(list);
+    note_all(&mut table, begun, list);
+    is_any_outside(&table, begun, list, topologies)
+}
+
+// Notes where topologies stand, one place for those that are equal.
+fn note_all(table: &mut [u32], begun: DefaultHasher, list: &[Map])
+    requires list { All (λ m. has_alike_keys m ≡ false) list.now }
+{
+    for place in 0..list.len() {
+        let first = first_slot(begun, &list[place]);
+        if !is_proposed(tried(table, first), list, &list[place]) {
+            note(table, first, place);
+        }
+    }
 }
 
 // Whether one of the topologies is none of the list. The table proposes where they may stand.
-fn is_any_outside(table: &[u32], seed: u64, list: &[Map], topologies: &[Map]) -> bool
+fn is_any_outside(table: &[u32], begun: DefaultHasher, list: &[Map], topologies: &[Map]) -> bool
     requires list { All (λ m. has_alike_keys m ≡ false) list.now }
     requires all { All (λ m. has_alike_keys m ≡ false) topologies.now }
     ensures { result ≡ list_any (λ p. not (list_any (same_topology p) list.now)) topologies.now }
 {
     for topology in topologies {
-        if !is_proposed(table, seed, list, topology) && !is_among(list, topology) {
+        let places = tried(table, first_slot(begun, topology));
+        if !is_proposed(places, list, topology) && !is_among(list, topology) {
             return true;
         }
     }
     false
 }
 
-fn is_proposed(table: &[u32], seed: u64, list: &[Map], topology: &Map) -> bool
+fn is_proposed(places: &[u32], list: &[Map], topology: &Map) -> bool
     requires list { All (λ m. has_alike_keys m ≡ false) list.now }
     requires one { has_alike_keys topology.now ≡ false }
     ensures { result ≡ true → list_any (same_topology topology.now) list.now ≡ true }
 {
-    for place in proposed(table, seed, topology) {
+    for place in places {
+        if *place == NO_PLACE {
+            return false;
+        }
         if is_at(list, *place as usize, topology) {
             return true;
         }
@@ -129,7 +120,7 @@ fn is_at(list: &[Map], place: usize, topology: &Map) -> bool
     requires one { has_alike_keys topology.now ≡ false }
     ensures { result ≡ true → list_any (same_topology topology.now) list.now ≡ true }
 {
-    place < list.len() && are_same(topology, &list[place])
+    place < list.len() && same_topology(topology, &list[place])
 }
 
 fn is_among(list: &[Map], topology: &Map) -> bool
@@ -138,7 +129,7 @@ fn is_among(list: &[Map], topology: &Map) -> bool
     ensures { result ≡ list_any (same_topology topology.now) list.now }
 {
     for candidate in list {
-        if are_same(topology, candidate) {
+        if same_topology(topology, candidate) {
             return true;
         }
     }

@@ -4,9 +4,10 @@ use Rattle.std.specs.Prelude.{ℕ, ℤ, Bool, true, ◌&&◌, nat_lt, ◌<◌, �
 use Rattle.std.specs.Int.{cast_unsigned, w32, w64}
 use Rattle.std.specs.List.{AllByRecursion}
 use Rattle.std.specs.FinMap.{entries}
-use Rattle.pbwire.specs.Wire.{Entry, Number, Payload}
+use Rattle.pbwire.specs.Wire.{WireField, Number, Payload}
 use Rattle.pbwire.specs.Writing.{spellings}
-use Rattle.csi_codec.specs.Views.{Payloads, Texts}
+use Rattle.csi_types.specs.Maps.{TextMap}
+use Rattle.csi_codec.specs.Views.{Payloads}
 
 -- ---- rows: the fields of one number, all varints or all payloads
 
@@ -14,13 +15,13 @@ pub data Row : Type 0 where
   Numbers : ℕ → List ℕ → Row
   Strings : ℕ → List (List ℕ) → Row
 
-abbrev pub payload_fields : ℕ → Payloads → List Entry
+abbrev pub payload_fields : ℕ → Payloads → List WireField
 payload_fields k ps = map (λ p. record { number = k; part = Payload p }) ps
 
-abbrev pub number_fields : ℕ → List ℕ → List Entry
+abbrev pub number_fields : ℕ → List ℕ → List WireField
 number_fields k xs = map (λ x. record { number = k; part = Number x }) xs
 
-unfoldable pub row_fields : Row → List Entry
+unfoldable pub row_fields : Row → List WireField
 row_fields (Numbers k xs) = number_fields k xs
 row_fields (Strings k ps) = payload_fields k ps
 
@@ -30,7 +31,7 @@ pub data Rows : Type 0 where
   Start : Rows
   ◌▸◌ : Rows → Row → Rows
 
-abbrev pub fields : Rows → List Entry
+abbrev pub fields : Rows → List WireField
 fields Start = []
 fields (rs ▸ r) = fields rs ++ row_fields r
 
@@ -78,8 +79,8 @@ abbrev pub spelled : {V : Type 0} → (V → Rows) → List V → Payloads
 spelled canon vs = map (λ v. bytes_of (canon v)) vs
 
 -- both parts are always written
-abbrev pub canon_pair : List ℕ × List ℕ → Rows
-canon_pair e = Start ▸ Strings 1 (e.0 ∷ []) ▸ Strings 2 (e.1 ∷ [])
+abbrev pub canon_map_entry : List ℕ × List ℕ → Rows
+canon_map_entry e = Start ▸ Strings 1 (e.0 ∷ []) ▸ Strings 2 (e.1 ∷ [])
 
 -- ---- rows by the kind of the part
 
@@ -101,8 +102,8 @@ option_row canon k o = Strings k (spelled canon (option_to_list o))
 abbrev pub messages_row : {V : Type 0} → (V → Rows) → ℕ → List V → Row
 messages_row canon k vs = Strings k (spelled canon vs)
 
-abbrev pub map_row : ℕ → Texts → Row
-map_row k m = Strings k (spelled canon_pair (entries m))
+abbrev pub map_row : ℕ → TextMap → Row
+map_row k m = Strings k (spelled canon_map_entry (entries m))
 
 abbrev pub presence_row : ℕ → Bool → Row
 presence_row k b = Strings k (presence b)
@@ -131,8 +132,8 @@ FitsOption fits canon o = IfSome o (FitsInner fits canon)
 abbrev pub FitsMessages : {V : Type 0} → (V → Type 0) → (V → Rows) → List V → Type 0
 FitsMessages fits canon vs = AllByRecursion (FitsInner fits canon) vs
 
-abbrev pub FitsPair : List ℕ × List ℕ → Type 0
-FitsPair e = FitsText e.0 × FitsText e.1
+abbrev pub FitsMapEntry : List ℕ × List ℕ → Type 0
+FitsMapEntry e = FitsText e.0 × FitsText e.1
 
-abbrev pub FitsMap : Texts → Type 0
-FitsMap m = FitsMessages FitsPair canon_pair (entries m)
+abbrev pub FitsMap : TextMap → Type 0
+FitsMap m = FitsMessages FitsMapEntry canon_map_entry (entries m)

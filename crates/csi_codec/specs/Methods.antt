@@ -6,33 +6,38 @@ use Rattle.csi_types.specs.declared.requests.Request.{Request}
 use Rattle.csi_types.specs.declared.requests.Request.TheVariants as request
 use Rattle.csi_types.specs.declared.responses.Response.{Response}
 use Rattle.csi_types.specs.declared.responses.Response.TheVariants as response
-use Rattle.csi_codec.specs.Fields.{AreGood, IsPlace, Means}
+use Rattle.csi_codec.specs.Fields.{AreGood, IsRefusedAt, Means}
 use Rattle.csi_codec.specs.declared.message.DecodeFault.{DecodeFault}
 use Rattle.csi_codec.specs.declared.message.DecodeFault.TheVariants as fault
-use Rattle.csi_codec.specs.Views.{Views, GoodEntry, AnyPayload, value_of}
+use Rattle.csi_codec.specs.Views.{Views, value_of}
+use Rattle.csi_codec.specs.Schema.{Schema, AnyPayload, Good, GoodField}
 use Rattle.csi_codec.specs.Canon.{Rows, bytes_of, Start, FitsMap, FitsOption}
-use Rattle.csi_codec.specs.Parts.{flag_in, canon_flag, FitsFlag, GoodOnly, only_in, canon_only, types_in, GoodTypes, canon_types, FitsTypes, volume_in, GoodVolume, canon_volume, FitsVolume, map_in, GoodMap, canon_map}
-use Rattle.csi_codec.specs.Requests.{create_in, GoodCreate, canon_create, FitsCreate, delete_in, GoodDelete, canon_delete, FitsDelete, publish_in, GoodPublish, canon_publish, FitsPublish, unpublish_in, GoodUnpublish, canon_unpublish, FitsUnpublish, validate_in, GoodValidate, canon_validate, FitsValidate, list_in, GoodList, canon_list, FitsList, capacity_in, GoodCapacity, canon_capacity, FitsCapacity}
-use Rattle.csi_codec.specs.declared.response_parts.PluginInfo.{PluginInfo}
-use Rattle.csi_codec.specs.declared.response_parts.Validation.{Validation}
-use Rattle.csi_codec.specs.declared.response_parts.Listing.{Listing}
-use Rattle.csi_codec.specs.declared.response_parts.FreeCapacity.{FreeCapacity}
-use Rattle.csi_codec.specs.Responses.{info_in, GoodInfo, canon_info, FitsInfo, validation_in, GoodValidation, canon_validation, FitsValidation, listing_in, GoodListing, canon_listing, FitsListing, free_in, GoodFree, canon_free, FitsFree}
+use Rattle.csi_codec.specs.messages.Single.{bool_value_in, canon_bool_value, FitsBoolValue, only_schema, only_in, canon_only, types_in, types_schema, canon_types, FitsTypes}
+use Rattle.csi_codec.specs.messages.Topology.{map_in, map_schema, canon_map}
+use Rattle.csi_codec.specs.messages.Volume.{volume_in, volume_schema, canon_volume, FitsVolume}
+use Rattle.csi_codec.specs.messages.VolumeRequests.{create_in, create_schema, canon_create, FitsCreate, delete_in, delete_schema, canon_delete, FitsDelete}
+use Rattle.csi_codec.specs.messages.PublishRequests.{publish_in, publish_schema, canon_publish, FitsPublish, unpublish_in, unpublish_schema, canon_unpublish, FitsUnpublish}
+use Rattle.csi_codec.specs.messages.QueryRequests.{validate_in, validate_schema, canon_validate, FitsValidate, list_in, list_schema, canon_list, FitsList, capacity_in, capacity_schema, canon_capacity, FitsCapacity}
+use Rattle.csi_codec.specs.declared.messages.response_parts.PluginInfo.{PluginInfo}
+use Rattle.csi_codec.specs.declared.messages.response_parts.Validation.{Validation}
+use Rattle.csi_codec.specs.declared.messages.response_parts.Listing.{Listing}
+use Rattle.csi_codec.specs.declared.messages.response_parts.FreeCapacity.{FreeCapacity}
+use Rattle.csi_codec.specs.messages.ResponseParts.{info_in, info_schema, canon_info, FitsInfo, validation_in, validation_schema, canon_validation, FitsValidation, listing_in, listing_schema, canon_listing, FitsListing, free_in, free_schema, canon_free, FitsFree}
 
 -- ---- requests
 
-abbrev pub GoodRequest : Method → ℕ → List ℕ → Type 0
-GoodRequest method.GetPluginInfo = AnyPayload
-GoodRequest method.GetPluginCapabilities = AnyPayload
-GoodRequest method.Probe = AnyPayload
-GoodRequest method.CreateVolume = GoodCreate
-GoodRequest method.DeleteVolume = GoodDelete
-GoodRequest method.ControllerPublishVolume = GoodPublish
-GoodRequest method.ControllerUnpublishVolume = GoodUnpublish
-GoodRequest method.ValidateVolumeCapabilities = GoodValidate
-GoodRequest method.ListVolumes = GoodList
-GoodRequest method.GetCapacity = GoodCapacity
-GoodRequest method.ControllerGetCapabilities = AnyPayload
+abbrev pub request_schema : Method → Schema
+request_schema method.GetPluginInfo = AnyPayload
+request_schema method.GetPluginCapabilities = AnyPayload
+request_schema method.Probe = AnyPayload
+request_schema method.CreateVolume = create_schema
+request_schema method.DeleteVolume = delete_schema
+request_schema method.ControllerPublishVolume = publish_schema
+request_schema method.ControllerUnpublishVolume = unpublish_schema
+request_schema method.ValidateVolumeCapabilities = validate_schema
+request_schema method.ListVolumes = list_schema
+request_schema method.GetCapacity = capacity_schema
+request_schema method.ControllerGetCapabilities = AnyPayload
 
 abbrev pub request_in : Method → Views → Request
 request_in method.GetPluginInfo v = request.PluginInfo
@@ -88,15 +93,15 @@ FitsRequest (request.Capacity v) = FitsCapacity v
 
 -- the bytes mean this request
 unfoldable pub MeansRequest : Method → List ℕ → Request → Type 0
-MeansRequest m bytes r = Means (GoodEntry (GoodRequest m)) (value_of (request_in m)) bytes r
+MeansRequest m bytes r = Means (GoodField (Good (request_schema m))) (value_of (request_in m)) bytes r
 
 -- the bytes are good, so they mean a request
 unfoldable pub IsGoodRequest : Method → List ℕ → Type 0
-IsGoodRequest m bytes = AreGood (GoodEntry (GoodRequest m)) bytes
+IsGoodRequest m bytes = AreGood (GoodField (Good (request_schema m))) bytes
 
--- the bytes mean no request, and their longest front that is a list of good fields ends here
+-- the bytes mean no request, and their longest prefix that is a list of good fields ends here
 unfoldable pub IsNoRequest : Method → List ℕ → ℕ → Type 0
-IsNoRequest m bytes at = IsPlace (GoodEntry (GoodRequest m)) bytes at × (AreGood (GoodEntry (GoodRequest m)) bytes → ⊥)
+IsNoRequest m bytes at = IsRefusedAt (GoodField (Good (request_schema m))) bytes at
 
 -- what a fault says of the bytes
 abbrev pub RefusesRequest : Method → List ℕ → DecodeFault → Type 0
@@ -109,18 +114,18 @@ request_bytes r = bytes_of (canon_request r)
 
 -- ---- responses
 
-abbrev pub GoodResponse : Method → ℕ → List ℕ → Type 0
-GoodResponse method.GetPluginInfo = GoodInfo
-GoodResponse method.GetPluginCapabilities = GoodTypes
-GoodResponse method.Probe = GoodOnly AnyPayload
-GoodResponse method.CreateVolume = GoodOnly GoodVolume
-GoodResponse method.DeleteVolume = AnyPayload
-GoodResponse method.ControllerPublishVolume = GoodMap
-GoodResponse method.ControllerUnpublishVolume = AnyPayload
-GoodResponse method.ValidateVolumeCapabilities = GoodValidation
-GoodResponse method.ListVolumes = GoodListing
-GoodResponse method.GetCapacity = GoodFree
-GoodResponse method.ControllerGetCapabilities = GoodTypes
+abbrev pub response_schema : Method → Schema
+response_schema method.GetPluginInfo = info_schema
+response_schema method.GetPluginCapabilities = types_schema
+response_schema method.Probe = only_schema AnyPayload
+response_schema method.CreateVolume = only_schema volume_schema
+response_schema method.DeleteVolume = AnyPayload
+response_schema method.ControllerPublishVolume = map_schema
+response_schema method.ControllerUnpublishVolume = AnyPayload
+response_schema method.ValidateVolumeCapabilities = validation_schema
+response_schema method.ListVolumes = listing_schema
+response_schema method.GetCapacity = free_schema
+response_schema method.ControllerGetCapabilities = types_schema
 
 abbrev pub of_info : PluginInfo → Response
 of_info r = response.PluginInfo r.name r.version
@@ -137,7 +142,7 @@ of_free r = response.Capacity r.available r.maximum
 abbrev pub response_in : Method → Views → Response
 response_in method.GetPluginInfo v = of_info (info_in v)
 response_in method.GetPluginCapabilities v = response.PluginCapabilities (types_in v)
-response_in method.Probe v = response.Probe (only_in flag_in v)
+response_in method.Probe v = response.Probe (only_in bool_value_in v)
 response_in method.CreateVolume v = response.Create (only_in volume_in v)
 response_in method.DeleteVolume v = response.Delete
 response_in method.ControllerPublishVolume v = response.Publish (map_in v)
@@ -163,7 +168,7 @@ response_method (response.Capacity available maximum) = method.GetCapacity
 abbrev pub canon_response : Response → Rows
 canon_response (response.PluginInfo name version) = canon_info (record { name = name; version = version })
 canon_response (response.PluginCapabilities os) = canon_types os
-canon_response (response.Probe o) = canon_only canon_flag o
+canon_response (response.Probe o) = canon_only canon_bool_value o
 canon_response (response.ControllerCapabilities os) = canon_types os
 canon_response (response.Create o) = canon_only canon_volume o
 canon_response response.Delete = Start
@@ -176,7 +181,7 @@ canon_response (response.Capacity available maximum) = canon_free (record { avai
 unfoldable pub FitsResponse : Response → Type 0
 FitsResponse (response.PluginInfo name version) = FitsInfo (record { name = name; version = version })
 FitsResponse (response.PluginCapabilities os) = FitsTypes os
-FitsResponse (response.Probe o) = FitsOption FitsFlag canon_flag o
+FitsResponse (response.Probe o) = FitsOption FitsBoolValue canon_bool_value o
 FitsResponse (response.ControllerCapabilities os) = FitsTypes os
 FitsResponse (response.Create o) = FitsOption FitsVolume canon_volume o
 FitsResponse response.Delete = Unit {0}
@@ -188,15 +193,15 @@ FitsResponse (response.Capacity available maximum) = FitsFree (record { availabl
 
 -- the bytes mean this response
 unfoldable pub MeansResponse : Method → List ℕ → Response → Type 0
-MeansResponse m bytes r = Means (GoodEntry (GoodResponse m)) (value_of (response_in m)) bytes r
+MeansResponse m bytes r = Means (GoodField (Good (response_schema m))) (value_of (response_in m)) bytes r
 
 -- the bytes are good, so they mean a response
 unfoldable pub IsGoodResponse : Method → List ℕ → Type 0
-IsGoodResponse m bytes = AreGood (GoodEntry (GoodResponse m)) bytes
+IsGoodResponse m bytes = AreGood (GoodField (Good (response_schema m))) bytes
 
--- the bytes mean no response, and their longest front that is a list of good fields ends here
+-- the bytes mean no response, and their longest prefix that is a list of good fields ends here
 unfoldable pub IsNoResponse : Method → List ℕ → ℕ → Type 0
-IsNoResponse m bytes at = IsPlace (GoodEntry (GoodResponse m)) bytes at × (AreGood (GoodEntry (GoodResponse m)) bytes → ⊥)
+IsNoResponse m bytes at = IsRefusedAt (GoodField (Good (response_schema m))) bytes at
 
 -- what a fault says of the bytes
 abbrev pub RefusesResponse : Method → List ℕ → DecodeFault → Type 0

@@ -1,12 +1,11 @@
 -- What a list of fields gives under a number. A field counts only with the wire type of its kind.
-use Rattle.std.specs.Prelude.{ℕ, ℤ, Bool, true, false, not, ◌%◌, ◌^◌, List, [], ◌∷◌, ◌++◌, map, reverse, Option, Some, None, IfSome, IsUtf8, MatchBool, ◌==◌, if◌then◌else◌}
+use Rattle.std.specs.Prelude.{ℕ, ℤ, Bool, true, false, not, ◌%◌, ◌^◌, List, [], ◌∷◌, ◌++◌, map, reverse, Option, Some, None, ◌==◌, if◌then◌else◌}
 use Rattle.std.specs.Int.{cast_signed, w32, w64}
 use Rattle.std.specs.List.{filter_map, flat_map}
-use Rattle.std.specs.Ordering.{nat_cmp}
-use Rattle.std.specs.Cmp.Lexicographic.{slice_cmp}
-use Rattle.std.specs.FinMap.{FinMap, from_entries}
-use Rattle.pbwire.specs.Wire.{Entry, Part, Number, Eight, Payload, Four}
-use Rattle.csi_codec.specs.Fields.{fields_of, AreGood}
+use Rattle.std.specs.FinMap.{from_entries}
+use Rattle.csi_types.specs.Maps.{TextMap}
+use Rattle.pbwire.specs.Wire.{WireField, Part, Number, Eight, Payload, Four}
+use Rattle.csi_codec.specs.Fields.{fields_of}
 
 abbrev pub Payloads : Type 0
 Payloads = List (List ℕ)
@@ -23,10 +22,10 @@ number (Eight bytes) = None
 number (Payload bytes) = None
 number (Four bytes) = None
 
-abbrev pub payload_of : ℕ → Entry → Option (List ℕ)
+abbrev pub payload_of : ℕ → WireField → Option (List ℕ)
 payload_of n e = if e.number == n then payload e.part else None
 
-abbrev pub number_of : ℕ → Entry → Option ℕ
+abbrev pub number_of : ℕ → WireField → Option ℕ
 number_of n e = if e.number == n then number e.part else None
 
 -- a payload beside the number of its field
@@ -34,7 +33,7 @@ abbrev pub beside : ℕ → Option (List ℕ) → Option (ℕ × List ℕ)
 beside n None = None
 beside n (Some p) = Some (n, p)
 
-abbrev pub member_of : (ℕ → Bool) → Entry → Option (ℕ × List ℕ)
+abbrev pub member_of : (ℕ → Bool) → WireField → Option (ℕ × List ℕ)
 member_of test e = if test e.number then beside e.number (payload e.part) else None
 
 -- what stands in a message: the payloads and the varints of each number in order, and the payloads of all numbers
@@ -44,11 +43,11 @@ pub record Views : Type 0 where
   pub numbers : ℕ → List ℕ
   pub members : (ℕ → Bool) → List (ℕ × List ℕ)
 
-unfoldable pub views : List Entry → Views
+unfoldable pub views : List WireField → Views
 views fs = record { payloads = λ n. filter_map (payload_of n) fs; numbers = λ n. filter_map (number_of n) fs; members = λ test. filter_map (member_of test) fs }
 
 -- the value of a list of fields, where it is said by views
-abbrev pub value_of : {V : Type 0} → (Views → V) → List Entry → V
+abbrev pub value_of : {V : Type 0} → (Views → V) → List WireField → V
 value_of of fs = of (views fs)
 
 -- ---- scalars (Protocol Buffers encoding guide, 'Last One Wins')
@@ -76,10 +75,10 @@ flag ns = not (last_or 0 ns == 0)
 -- ---- embedded messages, whose occurrences are merged (encoding guide, 'Last One Wins' and 'Length-Delimited Records')
 
 -- the fields of all the payloads, joined
-abbrev pub joined : Payloads → List Entry
+abbrev pub joined : Payloads → List WireField
 joined ps = flat_map fields_of ps
 
-abbrev pub inner : {V : Type 0} → (List Entry → V) → Payloads → Option V
+abbrev pub inner : {V : Type 0} → (List WireField → V) → Payloads → Option V
 inner value [] = None
 inner value (p ∷ ps) = Some (value (joined (p ∷ ps)))
 
@@ -91,28 +90,25 @@ is_present (p ∷ ps) = true
 -- ---- repeated messages (encoding guide, 'Repeated Elements')
 
 -- each payload is a message of its own
-abbrev pub messages : {V : Type 0} → (List Entry → V) → Payloads → List V
+abbrev pub messages : {V : Type 0} → (List WireField → V) → Payloads → List V
 messages value ps = map (λ p. value (fields_of p)) ps
 
 -- ---- maps of texts (encoding guide, 'Maps')
 
-abbrev pub Texts : Type 0
-Texts = FinMap (slice_cmp nat_cmp) (List ℕ)
-
 -- a missing part is the empty text
-abbrev pub pair_in : Views → List ℕ × List ℕ
-pair_in v = (text (v.payloads 1), text (v.payloads 2))
+abbrev pub map_entry_in : Views → List ℕ × List ℕ
+map_entry_in v = (text (v.payloads 1), text (v.payloads 2))
 
-abbrev pub pair : List Entry → List ℕ × List ℕ
-pair fs = pair_in (views fs)
+abbrev pub map_entry : List WireField → List ℕ × List ℕ
+map_entry fs = map_entry_in (views fs)
 
 -- of equal keys the last entry counts
-abbrev pub text_map : Payloads → Texts
-text_map ps = from_entries (reverse (messages pair ps))
+abbrev pub text_map : Payloads → TextMap
+text_map ps = from_entries (reverse (messages map_entry ps))
 
 -- ---- oneofs (encoding guide, 'Oneofs')
 
--- the payloads at the front that are of this number
+-- the prefix of payloads that are of this number
 abbrev pub run_at : ℕ → List (ℕ × List ℕ) → Payloads
 run_at k [] = []
 run_at k (m ∷ ms) = if m.0 == k then m.1 ∷ run_at k ms else []
@@ -144,24 +140,3 @@ with_number k x v = record {
   numbers = λ n. if k == n then v.numbers n ++ x ∷ [] else v.numbers n;
   members = v.members;
 }
-
--- ---- good fields
-
--- a field is good where its payload is good under its number; without a payload it is always good
-abbrev pub GoodEntry : (ℕ → List ℕ → Type 0) → Entry → Type 0
-GoodEntry good e = IfSome (payload e.part) (good e.number)
-
--- the payload is by itself a list of good fields
-abbrev pub IsGoodMessage : (ℕ → List ℕ → Type 0) → List ℕ → Type 0
-IsGoodMessage good p = AreGood (GoodEntry good) p
-
--- no number is known, so any payload is good
-abbrev pub AnyPayload : ℕ → List ℕ → Type 0
-AnyPayload k p = Unit {0}
-
--- a line of a table of payloads: under n, P is asked of the payload; under another number, what the table goes on with
-abbrev pub Under : ℕ → (List ℕ → Type 0) → (ℕ → List ℕ → Type 0) → ℕ → List ℕ → Type 0
-Under n P others k p = MatchBool (k == n) (P p) (others k p)
-
-abbrev pub GoodPair : ℕ → List ℕ → Type 0
-GoodPair = Under 1 IsUtf8 (Under 2 IsUtf8 AnyPayload)

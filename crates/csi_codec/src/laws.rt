@@ -1,31 +1,57 @@
 //! Laws of the definitions that the contracts cite.
 
-ghost use Rattle.std.specs.Prelude.{◌≡◌, ℕ, List, IsTrue};
-ghost use Rattle.pbwire.specs.Wire.{Entry, AreFields};
+ghost use Rattle.std.specs.Prelude.{◌≡◌, ℕ, ℤ, Bool, List, Option, Ok, Err, IsTrue};
+ghost use Rattle.pbwire.specs.Wire.{WireField, AreFields};
 ghost use Rattle.csi_types.specs.declared.method.Method.{Method};
 ghost use Rattle.csi_types.specs.declared.requests.Request.{Request};
+ghost use Rattle.csi_types.specs.declared.capacity.CapacityRange.{CapacityRange};
+ghost use Rattle.csi_types.specs.declared.capability.Mount.{Mount};
+ghost use Rattle.csi_types.specs.declared.capability.Capability.{Capability};
+ghost use Rattle.csi_types.specs.declared.topology.Requirement.{Requirement};
+ghost use Rattle.csi_types.specs.declared.volume.VolumeInfo.{VolumeInfo};
+ghost use Rattle.csi_types.specs.declared.volume.Entry.{Entry};
+ghost use Rattle.csi_types.specs.declared.volume.Confirmed.{Confirmed};
 ghost use Rattle.csi_types.specs.declared.responses.Response.{Response};
-ghost use Rattle.csi_codec.specs.Canon.{rises};
+ghost use Rattle.csi_types.specs.Maps.{TextMap};
+ghost use Rattle.csi_codec.specs.Canon.{rises, canon_map_entry};
+ghost use Rattle.csi_codec.specs.messages.Single.{canon_bool_value, canon_number, canon_only};
+ghost use Rattle.csi_codec.specs.messages.Capacity.{canon_range};
+ghost use Rattle.csi_codec.specs.messages.Capability.{canon_mount, canon_capability};
+ghost use Rattle.csi_codec.specs.messages.Topology.{canon_map, canon_requirement};
+ghost use Rattle.csi_codec.specs.messages.Volume.{canon_volume, canon_nodes, canon_entry, canon_confirmed};
 ghost use Rattle.csi_codec.specs.Fields.{fields_of};
 ghost use Rattle.csi_codec.specs.Methods.{request_method, canon_request, request_bytes, FitsRequest, MeansRequest, IsGoodRequest, IsNoRequest, response_method, canon_response, response_bytes, FitsResponse, MeansResponse, IsGoodResponse, IsNoResponse};
+ghost use Rattle.csi_codec.specs.Reading.{read_request, IsRead, read_response, IsReadResponse};
+
+use csi_types::laws::map_entries;
+use pbwire::laws::{spelled, written};
 
 /// The spelling of a request or a response means it. An `Ok` of [`encode_request`](crate::encode_request) and of
 /// [`encode_response`](crate::encode_response) says that the value fits, so what they write is read as the value.
 pub fn round_trip()
     ensures requests { (r : Request) → FitsRequest r → MeansRequest (request_method r) (request_bytes r) r }
     ensures responses { (r : Response) → FitsResponse r → MeansResponse (response_method r) (response_bytes r) r }
-{}
+{
+    spelled();
+    written();
+    map_entries();
+}
 
 /// The fields of a payload are those that its bytes spell (Protocol Buffers encoding guide, 'Message Structure').
+#[inline(always)]
 pub fn fields()
-    ensures { (bytes : List ℕ) (es : List Entry) → AreFields es bytes → fields_of bytes ≡ es }
-{}
+    ensures { (bytes : List ℕ) (es : List WireField) → AreFields es bytes → fields_of bytes ≡ es }
+{
+    spelled();
+}
 
 /// Bytes mean at most one request of a method, and at most one response.
 pub fn one_meaning()
     ensures requests { (m : Method) (bytes : List ℕ) (r s : Request) → MeansRequest m bytes r → MeansRequest m bytes s → r ≡ s }
     ensures responses { (m : Method) (bytes : List ℕ) (r s : Response) → MeansResponse m bytes r → MeansResponse m bytes s → r ≡ s }
-{}
+{
+    spelled();
+}
 
 /// Bytes that are good mean a request, and so for responses.
 pub fn a_meaning()
@@ -39,15 +65,54 @@ pub fn no_meaning()
     ensures responses { (m : Method) (bytes : List ℕ) (at : ℕ) → IsNoResponse m bytes at → (r : Response) → MeansResponse m bytes r → ⊥ }
 {}
 
-/// Bytes that mean no request are refused at one place, and so for responses.
-pub fn one_place()
+/// Bytes that mean no request are refused at one offset, and so for responses.
+pub fn one_offset()
     ensures requests { (m : Method) (bytes : List ℕ) (a b : ℕ) → IsNoRequest m bytes a → IsNoRequest m bytes b → a ≡ b }
     ensures responses { (m : Method) (bytes : List ℕ) (a b : ℕ) → IsNoResponse m bytes a → IsNoResponse m bytes b → a ≡ b }
 {}
 
-/// In a spelling the field numbers rise, from 1 to 2^29 - 1 (Protocol Buffers language guide, 'Assigning Field
-/// Numbers').
+/// What [`decode`](crate::decode) and [`decode_response`](crate::decode_response) find in any bytes, as a function of the
+/// method and the bytes: the value that they mean, or the offset at which they are refused.
+pub fn reading()
+    ensures requests { (m : Method) (bytes : List ℕ) → IsRead m bytes (read_request m bytes) }
+    ensures responses { (m : Method) (bytes : List ℕ) → IsReadResponse m bytes (read_response m bytes) }
+{
+    spelled();
+}
+
+/// The function reads what the bytes mean, and where they are refused it gives that offset.
+pub fn read_as_meant()
+    ensures requests { (m : Method) (bytes : List ℕ) (r : Request) → MeansRequest m bytes r → read_request m bytes ≡ Ok r }
+    ensures no_request { (m : Method) (bytes : List ℕ) (at : ℕ) → IsNoRequest m bytes at → read_request m bytes ≡ Err at }
+    ensures responses { (m : Method) (bytes : List ℕ) (r : Response) → MeansResponse m bytes r → read_response m bytes ≡ Ok r }
+    ensures no_response { (m : Method) (bytes : List ℕ) (at : ℕ) → IsNoResponse m bytes at → read_response m bytes ≡ Err at }
+{
+    reading();
+    one_meaning();
+    no_meaning();
+    one_offset();
+}
+
+/// In a spelling the field numbers of the message rise, from 1 to 2^29 - 1 (Protocol Buffers language guide, 'Assigning
+/// Field Numbers').
 pub fn rising()
     ensures requests { (r : Request) → IsTrue (rises (canon_request r)) }
     ensures responses { (r : Response) → IsTrue (rises (canon_response r)) }
+{}
+
+/// The same for each message that stands in another one: spellings are made of these alone.
+pub fn rising_within()
+    ensures ranges { (r : CapacityRange) → IsTrue (rises (canon_range r)) }
+    ensures mounts { (m : Mount) → IsTrue (rises (canon_mount m)) }
+    ensures capabilities { (c : Capability) → IsTrue (rises (canon_capability c)) }
+    ensures map_entries { (e : List ℕ × List ℕ) → IsTrue (rises (canon_map_entry e)) }
+    ensures maps { (m : TextMap) → IsTrue (rises (canon_map m)) }
+    ensures requirements { (r : Requirement) → IsTrue (rises (canon_requirement r)) }
+    ensures numbers { (z : ℤ) → IsTrue (rises (canon_number z)) }
+    ensures flags { (b : Bool) → IsTrue (rises (canon_bool_value b)) }
+    ensures service_capabilities { (o : Option ℤ) → IsTrue (rises (canon_only canon_number o)) }
+    ensures volumes { (v : VolumeInfo) → IsTrue (rises (canon_volume v)) }
+    ensures statuses { (nodes : List (List ℕ)) → IsTrue (rises (canon_nodes nodes)) }
+    ensures entries { (e : Entry) → IsTrue (rises (canon_entry e)) }
+    ensures confirmed { (c : Confirmed) → IsTrue (rises (canon_confirmed c)) }
 {}

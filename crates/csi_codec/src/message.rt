@@ -1,12 +1,15 @@
 //! Reading a message of any type: first a pass that looks for faults and takes no memory, then one that builds.
 
 ghost use Rattle.std.specs.Prelude.{◌≡◌, ◌↔◌, ℕ, List, [], ◌∷◌, ◌++◌, IsTrue, OnOk, IfOk, IfErr, MatchOption};
-ghost use Rattle.pbwire.specs.Wire.{Entry};
-ghost use Rattle.pbwire.specs.Reading.{entry_of};
-ghost use Rattle.csi_codec.specs.Fields.{AreGood, Refuses, Means, fields_of};
-ghost use Rattle.csi_codec.specs.Views.{Views, views, no_views, with_number, with_payload, GoodEntry, value_of};
-ghost use Rattle.csi_codec.specs.Stops.{Stops};
+ghost use Rattle.pbwire.specs.Wire.{WireField};
+ghost use Rattle.pbwire.specs.Reading.{wire_field_of};
+ghost use Rattle.csi_codec.specs.Schema.{Schema, GoodField, Good};
+ghost use Rattle.csi_codec.specs.Fields.{AreGood, IsRefusedAt, Refuses, Means, fields_of};
+ghost use Rattle.csi_codec.specs.Views.{Views, views, no_views, with_number, with_payload, value_of};
 
+use crate::laws;
+use csi_types::Reason;
+use pbwire::laws::spelled;
 use pbwire::{Field, Fields, Value};
 use std::alloc::{AllocError, Global};
 
@@ -15,8 +18,8 @@ use std::alloc::{AllocError, Global};
 /// Its value is a function of what stands under each field number, so to read a message is to take its fields
 /// one after the other.
 pub trait Message: Drop {
-    /// Which payloads are good under which number.
-    ghost good: { ℕ → List ℕ → Type 0 };
+    /// Under which numbers stand texts and embedded messages.
+    ghost schema: { Schema };
 
     /// The value, by what stands in the message.
     ghost of: { Views → Self };
@@ -27,7 +30,7 @@ pub trait Message: Drop {
 
     /// Whether this payload is good under this number.
     fn is_good(number: u32, payload: &[u8]) -> bool
-        ensures { IsTrue result ↔ good number payload.now };
+        ensures { IsTrue result ↔ Good schema number payload.now };
 
     /// Takes one more varint.
     fn merge_number(&mut self, number: u32, value: u64)
@@ -40,28 +43,31 @@ pub trait Message: Drop {
         number: u32,
         payload: &[u8],
     ) -> Result<(), AllocError>
-        requires { good number payload.now }
+        requires { Good schema number payload.now }
         ensures { OnOk result ((v : Views) → self.old ≡ of v → self.new ≡ of (with_payload number payload.now v)) };
 }
 
-/// Why a message is not read.
+/// The text of a malformed message, up to the offset of its field, which follows in decimal.
+pub const MALFORMED_MESSAGE: &str = "malformed message in the field at byte ";
+
+/// Why a message is not read. Want of memory is displayed as [`Reason::OutOfMemory`] is.
 #[derive(Clone, Copy, Debug, PartialEq, Eq, thiserror::Error)]
 pub enum DecodeFault {
     /// The bytes mean no value: the field at this byte is malformed, holds a text that is not UTF-8, or holds an
-    /// embedded message that is malformed itself. The bytes before it are the longest front of the message that
+    /// embedded message that is malformed itself. The bytes before it are the longest prefix of the message that
     /// is a list of good fields.
-    #[error("malformed message in the field at byte {at}")]
+    #[error("{}{at}", MALFORMED_MESSAGE)]
     Malformed {
-        /// The place of the field, in bytes from the start of the message.
+        /// The offset of the field, in bytes from the start of the message.
         at: usize,
     },
     /// The bytes mean a value, and there is no memory for it.
-    #[error("out of memory")]
+    #[error("{}", Reason::OutOfMemory)]
     NoMemory,
 }
 
 fn is_good_field<M: Message>(field: &Field<'_>) -> bool
-    ensures { IsTrue result ↔ GoodEntry M.good (entry_of field.now) }
+    ensures { IsTrue result ↔ GoodField (Good M.schema) (wire_field_of field.now) }
 {
     match field.value {
         Value::Bytes(payload) => M::is_good(field.number, payload),
@@ -74,8 +80,8 @@ fn merge_field<M: Message>(
     alloc: Global,
     field: &Field<'_>,
 ) -> Result<(), AllocError>
-    requires { GoodEntry M.good (entry_of field.now) }
-    ensures { OnOk result ((seen : List Entry) → message.old ≡ value_of M.of seen → message.new ≡ value_of M.of (seen ++ entry_of field.now ∷ [])) }
+    requires { GoodField (Good M.schema) (wire_field_of field.now) }
+    ensures { OnOk result ((seen : List WireField) → message.old ≡ value_of M.of seen → message.new ≡ value_of M.of (seen ++ wire_field_of field.now ∷ [])) }
 {
     match field.value {
         Value::Varint(number) => message.merge_number(field.number, number),
@@ -85,29 +91,31 @@ fn merge_field<M: Message>(
     Ok(())
 }
 
-/// The place at which the bytes stop being a list of good fields, if they do. It takes no memory.
+/// The offset at which the bytes stop being a list of good fields, if they do. It takes no memory.
 pub fn first_fault<M: Message>(bytes: &[u8]) -> Option<usize>
-    ensures { MatchOption result (AreGood (GoodEntry M.good) bytes.now) (Stops (GoodEntry M.good) bytes.now) }
+    ensures { MatchOption result (AreGood (GoodField (Good M.schema)) bytes.now) (IsRefusedAt (GoodField (Good M.schema)) bytes.now) }
 {
+    spelled();
     let mut fields = Fields::new(bytes);
-    let mut place = 0;
+    let mut offset = 0;
     while let Some(next) = fields.next_field() {
         let Ok(field) = next else {
-            return Some(place);
+            return Some(offset);
         };
         if !is_good_field::<M>(&field) {
-            return Some(place);
+            return Some(offset);
         }
-        place = fields.at();
+        offset = fields.at();
     }
     None
 }
 
 /// Takes all fields of good bytes. Where memory is refused some may have been taken.
 pub fn merge<M: Message>(message: &mut M, alloc: Global, bytes: &[u8]) -> Result<(), AllocError>
-    requires { AreGood (GoodEntry M.good) bytes.now }
-    ensures { OnOk result ((seen : List Entry) → message.old ≡ value_of M.of seen → message.new ≡ value_of M.of (seen ++ fields_of bytes.now)) }
+    requires { AreGood (GoodField (Good M.schema)) bytes.now }
+    ensures { OnOk result ((seen : List WireField) → message.old ≡ value_of M.of seen → message.new ≡ value_of M.of (seen ++ fields_of bytes.now)) }
 {
+    spelled();
     let mut fields = Fields::new(bytes);
     while let Some(next) = fields.next_field() {
         let Ok(field) = next else { unreachable!() };
@@ -118,7 +126,7 @@ pub fn merge<M: Message>(message: &mut M, alloc: Global, bytes: &[u8]) -> Result
 
 /// What good bytes mean.
 pub fn read<M: Message>(alloc: Global, bytes: &[u8]) -> Result<M, AllocError>
-    requires { AreGood (GoodEntry M.good) bytes.now }
+    requires { AreGood (GoodField (Good M.schema)) bytes.now }
     ensures { IfOk result (λ message. message ≡ value_of M.of (fields_of bytes.now)) }
 {
     let mut message = M::empty(alloc);
@@ -128,9 +136,10 @@ pub fn read<M: Message>(alloc: Global, bytes: &[u8]) -> Result<M, AllocError>
 
 /// What the bytes mean. Faults are looked for first, so want of memory is answered only where they mean a value.
 pub fn decode_message<M: Message>(alloc: Global, bytes: &[u8]) -> Result<M, DecodeFault>
-    ensures ok { IfOk result (Means (GoodEntry M.good) (value_of M.of) bytes.now) }
-    ensures err { IfErr result (Refuses (GoodEntry M.good) bytes.now) }
+    ensures ok { IfOk result (Means (GoodField (Good M.schema)) (value_of M.of) bytes.now) }
+    ensures err { IfErr result (Refuses (GoodField (Good M.schema)) bytes.now) }
 {
+    laws::fields();
     if let Some(at) = first_fault::<M>(bytes) {
         return Err(DecodeFault::Malformed { at });
     }

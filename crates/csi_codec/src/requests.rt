@@ -3,11 +3,13 @@
 ghost use Rattle.std.specs.Prelude.{◌≡◌, ◌++◌, OnOk, OnErr, IfOk, IfErr};
 ghost use Rattle.csi_codec.specs.Kept.{Keeps};
 ghost use Rattle.csi_codec.specs.Methods.{RefusesRequest, MeansRequest, request_bytes, FitsRequest};
+ghost use Rattle.csi_codec.specs.Reading.{read_request, Decodes};
 
 use crate::message::{DecodeFault, decode_message};
-use crate::single::NoFields;
+use crate::messages::single::NoFields;
 use crate::writing::Written;
 use csi_types::{Method, Request};
+use pbwire::laws::spelled;
 use std::alloc::{AllocError, Global};
 
 /// The request of this method that the bytes mean (Protocol Buffers encoding guide; CSI specification, csi.proto).
@@ -20,8 +22,17 @@ use std::alloc::{AllocError, Global};
 ///
 /// [`DecodeFault::Malformed`] exactly where the bytes mean no request; [`DecodeFault::NoMemory`] only where they mean
 /// one.
-#[tactic(auto, unfolding(crate::specs::Methods::MeansRequest, crate::specs::Methods::IsNoRequest, crate::specs::Methods::IsGoodRequest))]
 pub fn decode(alloc: Global, method: Method, bytes: &[u8]) -> Result<Request, DecodeFault>
+    ensures ok { IfOk result (MeansRequest method bytes.now) }
+    ensures err { IfErr result (RefusesRequest method bytes.now) }
+    ensures exact { Decodes (read_request method bytes.now) result }
+{
+    spelled();
+    decode_by_method(alloc, method, bytes)
+}
+
+#[tactic(auto, unfolding(crate::specs::Methods::MeansRequest, crate::specs::Methods::IsNoRequest, crate::specs::Methods::IsGoodRequest))]
+fn decode_by_method(alloc: Global, method: Method, bytes: &[u8]) -> Result<Request, DecodeFault>
     ensures ok { IfOk result (MeansRequest method bytes.now) }
     ensures err { IfErr result (RefusesRequest method bytes.now) }
 {

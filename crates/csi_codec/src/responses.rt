@@ -3,12 +3,17 @@
 ghost use Rattle.std.specs.Prelude.{◌≡◌, ◌++◌, OnOk, OnErr, IfOk, IfErr};
 ghost use Rattle.csi_codec.specs.Kept.{Keeps};
 ghost use Rattle.csi_codec.specs.Methods.{RefusesResponse, MeansResponse, response_bytes, FitsResponse};
+ghost use Rattle.csi_codec.specs.Reading.{read_response, Decodes};
 
 use crate::message::{DecodeFault, decode_message};
-use crate::response_parts::{FreeCapacity, Listing, PluginInfo, Validation};
-use crate::single::NoFields;
-use crate::writing::{Written, put_messages, put_option, put_signed, put_text};
+use crate::messages::response_parts::{
+    FreeCapacity, Listing, PluginInfo, Validation, put_free_capacity, put_listing, put_plugin_info,
+    put_validation,
+};
+use crate::messages::single::NoFields;
+use crate::writing::Written;
 use csi_types::{Method, Response};
+use pbwire::laws::spelled;
 use std::alloc::{AllocError, Global};
 
 /// The response of this method that the bytes mean, as [`decode`](crate::decode) reads requests.
@@ -17,8 +22,17 @@ use std::alloc::{AllocError, Global};
 ///
 /// [`DecodeFault::Malformed`] exactly where the bytes mean no response; [`DecodeFault::NoMemory`] only where they
 /// mean one.
-#[tactic(auto, unfolding(crate::specs::Methods::MeansResponse, crate::specs::Methods::IsNoResponse, crate::specs::Methods::IsGoodResponse))]
 pub fn decode_response(alloc: Global, method: Method, bytes: &[u8]) -> Result<Response, DecodeFault>
+    ensures ok { IfOk result (MeansResponse method bytes.now) }
+    ensures err { IfErr result (RefusesResponse method bytes.now) }
+    ensures exact { Decodes (read_response method bytes.now) result }
+{
+    spelled();
+    decode_by_method(alloc, method, bytes)
+}
+
+#[tactic(auto, unfolding(crate::specs::Methods::MeansResponse, crate::specs::Methods::IsNoResponse, crate::specs::Methods::IsGoodResponse))]
+fn decode_by_method(alloc: Global, method: Method, bytes: &[u8]) -> Result<Response, DecodeFault>
     ensures ok { IfOk result (MeansResponse method bytes.now) }
     ensures err { IfErr result (RefusesResponse method bytes.now) }
 {
@@ -60,38 +74,25 @@ pub fn decode_response(alloc: Global, method: Method, bytes: &[u8]) -> Result<Re
 }
 
 // Appends the spelling. Where memory is refused a part of it may stand there.
-#[tactic(auto, using(crate::proofs::Writes::wrote_two, crate::proofs::Writes::keeps_on), unfolding(crate::specs::Methods::response_bytes, crate::specs::Methods::FitsResponse))]
+#[tactic(auto, unfolding(crate::specs::Methods::response_bytes, crate::specs::Methods::FitsResponse))]
 fn write_response(response: &Response, out: &mut Vec<u8>) -> Result<(), AllocError>
     ensures ok { OnOk result (out.new.items ≡ out.old.items ++ response_bytes response.now) }
     ensures fitting { OnOk result (FitsResponse response.now) }
     ensures kept { Keeps out.old.items out.new.items }
 {
     match response {
-        Response::PluginInfo { name, version } => {
-            put_text(out, 1, name)?;
-            put_text(out, 2, version)?;
-        }
+        Response::PluginInfo { name, version } => put_plugin_info(out, name, version),
         Response::PluginCapabilities(types) | Response::ControllerCapabilities(types) => {
-            types.write(out)?
+            types.write(out)
         }
-        Response::Probe(ready) => ready.write(out)?,
-        Response::Create(volume) => volume.write(out)?,
-        Response::Delete | Response::Unpublish => {}
-        Response::Publish(context) => context.write(out)?,
-        Response::Validate { confirmed, message } => {
-            put_option(out, 1, confirmed)?;
-            put_text(out, 2, message)?;
-        }
-        Response::List { entries, token } => {
-            put_messages(out, 1, entries)?;
-            put_text(out, 2, token)?;
-        }
-        Response::Capacity { available, maximum } => {
-            put_signed(out, 1, *available)?;
-            put_option(out, 2, maximum)?;
-        }
+        Response::Probe(ready) => ready.write(out),
+        Response::Create(volume) => volume.write(out),
+        Response::Delete | Response::Unpublish => Ok(()),
+        Response::Publish(context) => context.write(out),
+        Response::Validate { confirmed, message } => put_validation(out, confirmed, message),
+        Response::List { entries, token } => put_listing(out, entries, token),
+        Response::Capacity { available, maximum } => put_free_capacity(out, *available, maximum),
     }
-    Ok(())
 }
 
 /// Appends the one spelling of the response, as [`encode_request`](crate::encode_request) does.

@@ -1,10 +1,12 @@
 //! Taking one more payload into a part of a message.
 
 ghost use Rattle.std.specs.Prelude.{◌≡◌, ◌↔◌, ◌++◌, ◌∷◌, [], IsTrue, IsUtf8, IfOk, OnOk};
+ghost use Rattle.csi_codec.specs.Schema.{GoodField, Good, map_entry_schema};
 ghost use Rattle.csi_codec.specs.Fields.{AreGood, fields_of};
-ghost use Rattle.csi_codec.specs.Views.{Payloads, GoodEntry, GoodPair, value_of, inner, messages, text_map};
+ghost use Rattle.csi_codec.specs.Views.{Payloads, value_of, inner, messages, text_map};
 
 use crate::message::{Message, first_fault, merge, read};
+use crate::messages::single::MapEntry;
 use csi_types::{Items, Map, Text};
 use std::alloc::{AllocError, Global};
 
@@ -12,6 +14,10 @@ use std::alloc::{AllocError, Global};
 pub fn is_text(payload: &[u8]) -> bool
     ensures { IsTrue result ↔ IsUtf8 payload.now }
 {
+    // Most texts are short and ASCII.
+    if payload.len() < 8 && payload.is_ascii() {
+        return true;
+    }
     simdutf8::basic::from_utf8(payload).is_ok()
 }
 
@@ -26,7 +32,7 @@ pub fn text(alloc: Global, payload: &[u8]) -> Result<Text, AllocError>
 
 /// Whether the payload is by itself a list of good fields.
 pub fn is_message<M: Message>(payload: &[u8]) -> bool
-    ensures { IsTrue result ↔ AreGood (GoodEntry M.good) payload.now }
+    ensures { IsTrue result ↔ AreGood (GoodField (Good M.schema)) payload.now }
 {
     first_fault::<M>(payload).is_none()
 }
@@ -37,7 +43,7 @@ pub fn merge_message<M: Message>(
     alloc: Global,
     payload: &[u8],
 ) -> Result<(), AllocError>
-    requires { AreGood (GoodEntry M.good) payload.now }
+    requires { AreGood (GoodField (Good M.schema)) payload.now }
     ensures { OnOk result ((ps : Payloads) → slot.old ≡ inner (value_of M.of) ps → slot.new ≡ inner (value_of M.of) (ps ++ payload.now ∷ [])) }
 {
     match slot {
@@ -53,7 +59,7 @@ pub fn push_message<M: Message>(
     alloc: Global,
     payload: &[u8],
 ) -> Result<(), AllocError>
-    requires { AreGood (GoodEntry M.good) payload.now }
+    requires { AreGood (GoodField (Good M.schema)) payload.now }
     ensures { OnOk result ((ps : Payloads) → items.old ≡ messages (value_of M.of) ps → items.new ≡ messages (value_of M.of) (ps ++ payload.now ∷ [])) }
 {
     items.push(read(alloc, payload)?)?;
@@ -62,9 +68,9 @@ pub fn push_message<M: Message>(
 
 /// Enters an entry into a map, over an earlier one of the same key.
 pub fn merge_entry(map: &mut Map, alloc: Global, payload: &[u8]) -> Result<(), AllocError>
-    requires { AreGood (GoodEntry GoodPair) payload.now }
+    requires { AreGood (GoodField (Good map_entry_schema)) payload.now }
     ensures { OnOk result ((ps : Payloads) → map.old ≡ text_map ps → map.new ≡ text_map (ps ++ payload.now ∷ [])) }
 {
-    let (key, value) = read::<(Text, Text)>(alloc, payload)?;
+    let (key, value) = read::<MapEntry>(alloc, payload)?;
     map.insert(key, value)
 }

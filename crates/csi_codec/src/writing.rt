@@ -1,16 +1,16 @@
 //! Writing a message of any type, in its one spelling.
 //!
-//! An embedded message is written in place: first its fields, then its head before them.
+//! An embedded message is written in place: an empty field, its fields behind it, and then its length.
 
 ghost use Rattle.std.specs.Prelude.{◌≡◌, ◌++◌, ◌∷◌, [], ◌≤◌, ◌<◌, ◌^◌, List, OnOk, OnErr, option_to_list, length};
 ghost use Rattle.std.specs.FinMap.{entries};
 ghost use Rattle.pbwire.specs.Writing.{spellings};
-ghost use Rattle.csi_codec.specs.Canon.{Rows, bytes_of, row_fields, payload_fields, text_row, texts_row, signed_row, flag_row, presence_row, option_row, messages_row, map_row, canon_pair, FitsText, FitsTexts, FitsI64, FitsInner, FitsOption, FitsMessages, FitsPair, FitsMap};
+ghost use Rattle.csi_codec.specs.Canon.{Rows, bytes_of, row_fields, payload_fields, text_row, texts_row, signed_row, flag_row, presence_row, option_row, messages_row, map_row, canon_map_entry, FitsText, FitsTexts, FitsI64, FitsInner, FitsOption, FitsMessages, FitsMapEntry, FitsMap};
 ghost use Rattle.csi_codec.specs.Kept.{Keeps};
-ghost use Rattle.csi_codec.specs.Rows.{RoundTrip};
 
 use crate::message::Message;
 use csi_types::{Items, Map, Text};
+use pbwire::laws::closed;
 use pbwire::{close_bytes, put_bytes, put_entry, put_varint};
 use std::alloc::AllocError;
 
@@ -27,9 +27,6 @@ pub trait Written: Message {
         ensures ok { OnOk result (out.new.items ≡ out.old.items ++ bytes_of (canon self.now)) }
         ensures fitting { OnOk result (fits self.now) }
         ensures kept { Keeps out.old.items out.new.items };
-
-    /// The spelling of a value means the value.
-    ghost again: { (v : Self) → fits v → RoundTrip Self.Message.good Self.Message.of canon v };
 }
 
 /// Appends a text, unless it is empty.
@@ -110,9 +107,11 @@ pub fn put_message<M: Written>(
     ensures fitting { OnOk result (FitsInner M.fits M.canon message.now) }
     ensures kept { Keeps out.old.items out.new.items }
 {
+    closed();
+    put_bytes(out, number, &[])?;
     let from = out.len();
     message.write(out)?;
-    close_bytes(out, from, number)
+    close_bytes(out, from)
 }
 
 /// Appends a message, if there is one.
@@ -160,17 +159,17 @@ pub fn put_map(out: &mut Vec<u8>, number: u32, map: &Map) -> Result<(), AllocErr
     ensures kept { Keeps out.old.items out.new.items }
 {
     for (key, value) in map.iter() {
-        put_pair(out, number, key, value)?;
+        put_map_entry(out, number, key, value)?;
     }
     Ok(())
 }
 
 // Appends an entry of a map, with both its parts, also empty ones.
 #[tactic(auto, unfolding(crate::specs::Canon::row_fields))]
-fn put_pair(out: &mut Vec<u8>, number: u32, key: &Text, value: &Text) -> Result<(), AllocError>
+fn put_map_entry(out: &mut Vec<u8>, number: u32, key: &Text, value: &Text) -> Result<(), AllocError>
     requires { (1 ≤ number) × (number < 2 ^ 29) }
-    ensures ok { OnOk result (out.new.items ≡ out.old.items ++ spellings (payload_fields number (bytes_of (canon_pair (key.now, value.now)) ∷ []))) }
-    ensures fitting { OnOk result (FitsInner FitsPair canon_pair (key.now, value.now)) }
+    ensures ok { OnOk result (out.new.items ≡ out.old.items ++ spellings (payload_fields number (bytes_of (canon_map_entry (key.now, value.now)) ∷ []))) }
+    ensures fitting { OnOk result (FitsInner FitsMapEntry canon_map_entry (key.now, value.now)) }
     ensures kept { Keeps out.old.items out.new.items }
 {
     put_entry(out, number, key.as_bytes(), value.as_bytes())

@@ -1,5 +1,5 @@
 -- What one feed of a framer makes of a run.
-use Rattle.std.proofs.Common.{◌≡◌, ◌≢◌, ℕ, ◌+◌, ◌-◌, ◌≤◌, ◌<◌, List, [], ◌∷◌, ◌++◌, length, take, drop, Option, Some, None, Bool, true, refl, sym, ap, subst, ◌∙◌, append_assoc, append-nil, length-append, arith, inl, inr, ◌⊎◌}
+use Rattle.std.proofs.Common.{◌≡◌, ◌≢◌, ℕ, ◌+◌, ◌-◌, ◌≤◌, ◌<◌, List, [], ◌∷◌, ◌++◌, length, take, drop, Option, Some, None, refl, sym, ap, subst, ◌∙◌, append_assoc, append-nil, length-append, arith, inl, inr, ◌⊎◌}
 use Rattle.std.specs.Prelude.{IfSome, IsSome}
 use Rattle.std.proofs.lemmas.Bool.{cases_lt}
 use Rattle.std.proofs.lemmas.List.{take-append-drop, take_all, length-take}
@@ -92,17 +92,17 @@ fed_fault m begin now s read old new rest n held holds f h fed is =
           (answered_fault m begin now s h.given (new.held ++ drop n rest) (read ++ rest) held holds h.so_far (all_of read h.given old new rest n h.whole fed) f.why (f.at - new.past) longer),
     )
 
-pub fed_cut : {S : Type 0} (m : Machine S) (begin mid now : Sight S) (s : S) (read : List ℕ) (old new : FramerState) (rest : List ℕ) (n : ℕ) (call : CallBytes) (held holds then_ : Option (List ℕ)) (whole : Bool) → Live m begin mid s read old held holds → Fed old new rest n → IsCall call → new.held ≡ frame call → ((t : S) → mid.holds t → AnswersCall m mid now t call holds then_ whole)
-    → CutOff m begin now s (read ++ rest) held then_
-fed_cut m begin mid now s read old new rest n call held holds then_ whole h fed good is a =
-    cut_call m begin mid now s h.given new.held (drop n rest) (read ++ rest) call held holds then_ whole h.so_far good is (all_of read h.given old new rest n h.whole fed) a
+pub fed_cut : {S : Type 0} (m : Machine S) (begin mid now : Sight S) (s : S) (read : List ℕ) (old new : FramerState) (rest : List ℕ) (n : ℕ) (call : CallBytes) (held holds then_ : Option (List ℕ)) (Whole : Type 0) → Live m begin mid s read old held holds → Fed old new rest n → IsCall call → new.held ≡ frame call → ((t : S) → mid.holds t → AnswersCall m mid now t call holds then_ Whole)
+    → CutOff m begin now s (read ++ rest) ⊥ held then_
+fed_cut m begin mid now s read old new rest n call held holds then_ Whole h fed good is a =
+    cut_call m begin mid now s h.given new.held (drop n rest) (read ++ rest) call held holds then_ Whole h.so_far good is (all_of read h.given old new rest n h.whole fed) a
 
-pub fed_answered : {S : Type 0} (m : Machine S) (begin mid now : Sight S) (s : S) (read : List ℕ) (old new next : FramerState) (rest : List ℕ) (n : ℕ) (call : CallBytes) (held holds then_ : Option (List ℕ)) → Live m begin mid s read old held holds → Fed old new rest n → IsCall call → new.held ≡ frame call → ((t : S) → mid.holds t → AnswersCall m mid now t call holds then_ true)
+pub fed_answered : {S : Type 0} (m : Machine S) (begin mid now : Sight S) (s : S) (read : List ℕ) (old new next : FramerState) (rest : List ℕ) (n : ℕ) (call : CallBytes) (held holds then_ : Option (List ℕ)) → Live m begin mid s read old held holds → Fed old new rest n → IsCall call → new.held ≡ frame call → (Whole : Type 0) → Whole → ((t : S) → mid.holds t → AnswersCall m mid now t call holds then_ Whole)
     → next ≡ record { past = new.past + length new.held; held = []; fault = None } → IsUnfinished next.held → Live m begin now s (read ++ take n rest) next held then_
-fed_answered {S} m begin mid now s read old new next rest n call held holds then_ h fed good is a e open_ =
+fed_answered {S} m begin mid now s read old new next rest n call held holds then_ h fed good is Whole done a e open_ =
     subst (λ (fr : FramerState). Live m begin now s (read ++ take n rest) fr held then_) (sym e) (record {
       given = h.given ++ new.held;
-      so_far = so_far_push m begin mid now s h.given new.held call held holds then_ h.so_far good is a;
+      so_far = so_far_push m begin mid now s h.given new.held call held holds then_ h.so_far good is Whole done a;
       whole = part_of read h.given old new rest n h.whole fed ∙ sym (append-nil (h.given ++ new.held));
       past = omega (arith, fed.past, h.past, length-append h.given new.held);
       unknown = refl;
@@ -133,7 +133,7 @@ live_ends m begin now s read fr held holds h =
 pub refuse_ends : {S : Type 0} (m : Machine S) (begin now : Sight S) (s : S) (read : List ℕ) (AtEnd : Type 0) (f : FrameFault) (held holds then_ : Option (List ℕ)) (end : RunEnd) → Answered m begin now s read held holds (λ calls. HasFault read calls f.why f.at) [] → (f.why ≡ EndOfInput → AtEnd) → Refuses f holds then_ end → Ended m begin now s read AtEnd held then_ end
 refuse_ends m begin now s read AtEnd f held holds then_ (Malformed g) h at_end r =
     subst (λ (k : FrameFault). Answered m begin now s read held then_ (λ calls. HasFault read calls k.why k.at) (fault_frame k) × (k.why ≡ EndOfInput → AtEnd)) (sym r.0) (answered_then m begin now s read held holds then_ (λ calls. HasFault read calls f.why f.at) (fault_frame f) h r.1, at_end)
-refuse_ends m begin now s read AtEnd f held holds then_ WriteFailed h at_end r = cut_fault m begin now s read held holds then_ f h r
+refuse_ends m begin now s read AtEnd f held holds then_ WriteFailed h at_end r = cut_fault m begin now s read held holds then_ AtEnd f h at_end r
 refuse_ends m begin now s read AtEnd f held holds then_ Done h at_end r = absurd r
 refuse_ends m begin now s read AtEnd f held holds then_ ReadFailed h at_end r = absurd r
 refuse_ends m begin now s read AtEnd f held holds then_ TurnsSpent h at_end r = absurd r

@@ -1,32 +1,51 @@
--- The replies of the identity service are replies of the envelope.
-use Rattle.std.proofs.Common.{◌≢◌, ℕ, ◌≤◌, ◌<◌, ◌^◌, List, [], ◌++◌, length, All, Option, Some, None, Bool, true, false, refl, length-append, arith}
-use Rattle.std.specs.Prelude.{codes, decimal, MatchOption, if◌then◌else◌}
+-- The replies of a machine over requests are replies of the envelope.
+use Rattle.std.proofs.Common.{◌≡◌, ◌≢◌, ℕ, ◌≤◌, ◌<◌, ◌^◌, List, ◌++◌, length, All, Option, Some, None, Bool, true, false, Result, Ok, Err, refl, length-append, arith}
+use Rattle.std.specs.Prelude.{codes, decimal, nat_le, if◌then◌else◌}
+use Rattle.std.proofs.lemmas.Bool.{leb-true}
 use Rattle.std.proofs.lemmas.List.Elements.{All-append, All-nil}
 use Rattle.std.proofs.lemmas.Fmt.{length-decimal-le}
-use Rattle.frames_core.specs.Envelope.{CallBytes, ReplyBytes, IsReply, IsTextByte}
-use Rattle.csi_types.specs.declared.method.Method.TheVariants.{Probe, GetPluginInfo}
+use Rattle.frames_core.specs.declared.fault.FrameFault.{FrameFault}
+use Rattle.frames_core.specs.declared.fault.FrameWhy.{FrameWhy}
+use Rattle.frames_core.specs.declared.fault.FrameWhy.TheVariants.{BadPathLength, BadPath, BadFlag, TooLong, EndOfInput}
+use Rattle.frames_core.specs.Texts.{fault_words}
+use Rattle.frames_core.specs.Envelope.{CallBytes, is_status, IsReply, IsTextByte}
+use Rattle.frames_core.specs.declared.limits.TheConstants.{MAX_MESSAGE_BYTES, MAX_BODY_BYTES}
+use Rattle.csi_types.specs.declared.method.Method.{Method}
+use Rattle.csi_types.specs.declared.code.Code.{Code}
+use Rattle.csi_types.specs.declared.code.Code.TheVariants as code
+use Rattle.csi_types.specs.declared.reason.Reason.{Reason}
 use Rattle.csi_types.specs.declared.reason.Reason.TheVariants as reason
-use Rattle.csi_types.specs.Reasons.{text_of}
-use Rattle.csi_server.specs.Machine.{refusal}
-use Rattle.csi_server.specs.Identity.{identity_reply, checked, malformed_at, is_call_of, ready, names_of}
-use Rattle.csi_server.specs.Places.{IsFieldList, IsPlace}
+use Rattle.csi_types.specs.declared.requests.Request.{Request}
+use Rattle.csi_types.specs.Checks.{checked}
+use Rattle.csi_types.specs.Codes.{number_of}
+use Rattle.csi_types.specs.Reasons.{code_of, text_of}
+use Rattle.csi_codec.specs.Methods.{IsNoRequest}
+use Rattle.csi_codec.specs.Reading.{read_request, IsRead}
+use Rattle.csi_server.specs.Verdicts.{Told, Says, Denies, Outcome, Responds, Refuses, within, told_of}
+use Rattle.csi_server.specs.Machine.{refusal, refused}
+use Rattle.csi_server.specs.Requests.{requests, told, after_check, after_read, after_path}
 use Rattle.csi_server.proofs.Printable.{all_printable}
-use Rattle.csi_server.proofs.Reasons.{reason_printable}
-use Rattle.csi_server.proofs.Stateless.{names_short}
+use Rattle.csi_server.proofs.Reasons.{reason_printable, reason_short, reason_refuses, refusal_number}
 
-formed_body : (body : List ℕ) → length body < 2 ^ 32 → IsReply (record { status = 0; text = []; body = body })
-formed_body body short = record {
-  status_small = omega arith;
-  text_short = omega arith;
-  text_bytes = All-nil IsTextByte;
-  body_short = short;
-  ok = λ e. refl;
-  refused = λ ne. absurd (ne refl);
-}
+-- a body that a reply holds
+abbrev pub IsShort : Told → Type 0
+IsShort (Says body) = length body ≤ MAX_BODY_BYTES
+IsShort (Denies r) = Unit {0}
 
-formed_refusal : (code : ℕ) (text : List ℕ) → code < 256 → code ≢ 0 → length text < 2 ^ 16 → All IsTextByte text → IsReply (refusal code text)
-formed_refusal code text small some short printable = record {
-  status_small = small;
+short_within : (body : List ℕ) → IsShort (within body)
+short_within body = by (nat_le (length body) MAX_BODY_BYTES) refl
+  where
+    by : (b : Bool) → nat_le (length body) MAX_BODY_BYTES ≡ b → IsShort (if b then Says body else Denies reason.ReplyTooLarge)
+    by true e = leb-true (length body) MAX_BODY_BYTES e
+    by false e = tt
+
+pub short_told : (o : Outcome) → IsShort (told_of o)
+short_told (Responds r) = short_within _
+short_told (Refuses r) = tt
+
+formed_refusal : (code : ℕ) (text : List ℕ) → is_status code ≡ true → code ≢ 0 → length text ≤ 1024 → All IsTextByte text → IsReply (refusal code text)
+formed_refusal code text is some short printable = record {
+  status = is;
   text_short = short;
   text_bytes = printable;
   body_short = omega arith;
@@ -34,24 +53,74 @@ formed_refusal code text small some short printable = record {
   refused = λ ne. refl;
 }
 
-formed_checked : (numbers : (n : ℕ) → n < 2 ^ 64 → All IsTextByte (decimal n)) (o : Option ℕ) (message body : List ℕ) → length message ≤ 1048576 → length body < 2 ^ 32 → MatchOption o (IsFieldList message) (IsPlace message) → IsReply (checked o body)
-formed_checked numbers None message body few short fields = formed_body body short
-formed_checked numbers (Some at) message body few short place =
-    let small : at < 2 ^ 64 = omega (arith, place.before) in
-    let words = codes "malformed message in the field at byte " in
-    formed_refusal 3 (words ++ decimal at) (omega arith) (λ e. omega arith)
-    (omega (arith, length-append words (decimal at), length-decimal-le 20 at (omega arith) (omega arith) small))
-    (All-append IsTextByte words (decimal at) (all_printable words refl) (numbers at small))
+-- the number of each code is a status of a reply
+pub code_status : (c : Code) → is_status (number_of c) ≡ true
+code_status code.Ok = refl
+code_status code.InvalidArgument = refl
+code_status code.NotFound = refl
+code_status code.AlreadyExists = refl
+code_status code.ResourceExhausted = refl
+code_status code.FailedPrecondition = refl
+code_status code.Aborted = refl
+code_status code.OutOfRange = refl
+code_status code.Unimplemented = refl
+code_status code.Internal = refl
 
-by_method : (probe info : Bool) (first second third : ReplyBytes) → IsReply first → IsReply second → IsReply third → IsReply (if probe then first else if info then second else third)
-by_method true info first second third a b c = a
-by_method false true first second third a b c = b
-by_method false false first second third a b c = c
+formed_refused : (r : Reason) → IsReply (refused r)
+formed_refused r = let short = reason_short r in formed_refusal (number_of (code_of r)) (text_of r) (code_status (code_of r)) (refusal_number (code_of r) (reason_refuses r)) (omega (arith, short)) (reason_printable r)
 
-pub formed_reply : (places : (bytes : List ℕ) → MatchOption (malformed_at bytes) (IsFieldList bytes) (IsPlace bytes)) (numbers : (n : ℕ) → n < 2 ^ 64 → All IsTextByte (decimal n)) (name version : List ℕ) (call : CallBytes) → length name ≤ 128 → length version ≤ 128 → length call.message ≤ 1048576 → IsReply (identity_reply name version call)
-unfolding identity_reply
-formed_reply places numbers name version call a b few =
-    by_method (is_call_of Probe call) (is_call_of GetPluginInfo call) _ _ _
-    (formed_checked numbers (malformed_at call.message) call.message ready few (omega arith) (places call.message))
-    (formed_checked numbers (malformed_at call.message) call.message (names_of name version) few (omega (arith, names_short name version a b)) (places call.message))
-    (formed_refusal 12 (text_of reason.UnknownMethod) (omega arith) (λ e. omega arith) (omega arith) (reason_printable reason.UnknownMethod))
+formed_told : (v : Told) → IsShort v → IsReply (told v)
+formed_told (Says body) short = record {
+  status = refl;
+  text_short = omega arith;
+  text_bytes = All-nil IsTextByte;
+  body_short = omega (arith, short);
+  ok = λ e. refl;
+  refused = λ ne. absurd (ne refl);
+}
+formed_told (Denies r) short = formed_refused r
+
+module _ {S : Type 0} (answer : S → Request → Told × S) (short : (s : S) (r : Request) → IsShort (answer s r).0) (numbers : (n : ℕ) → n < 2 ^ 64 → All IsTextByte (decimal n)) (reading : (m : Method) (bytes : List ℕ) → IsRead m bytes (read_request m bytes)) where
+  formed_check : (s : S) (r : Request) (o : Option Reason) → IsReply (after_check answer s r o).0
+  formed_check s r None = formed_told (answer s r).0 (short s r)
+  formed_check s r (Some why) = formed_refused why
+
+  formed_read : (s : S) (m : Method) (message : List ℕ) → length message ≤ MAX_MESSAGE_BYTES → (x : Result Request ℕ) → IsRead m message x → IsReply (after_read answer s x).0
+  unfolding IsNoRequest
+  formed_read s m message few (Ok r) is = formed_check s r (checked r)
+  formed_read s m message few (Err at) is =
+      let small : at < 2 ^ 64 = omega (arith, is.0.within) in
+      let words = codes "malformed message in the field at byte " in
+      formed_refusal 3 (words ++ decimal at) refl (λ e. omega arith)
+      (omega (arith, length-append words (decimal at), length-decimal-le 20 at (omega arith) (omega arith) small))
+      (All-append IsTextByte words (decimal at) (all_printable words refl) (numbers at small))
+
+  formed_path : (s : S) (o : Option Method) (message : List ℕ) → length message ≤ MAX_MESSAGE_BYTES → IsReply (after_path answer s o message).0
+  formed_path s None message few = formed_refused reason.UnknownMethod
+  formed_path s (Some m) message few = formed_read s m message few (read_request m message) (reading m message)
+
+  -- each reply is one of the envelope's table
+  pub formed_reply : (method : List ℕ → Option Method) (s : S) (call : CallBytes) → length call.message ≤ MAX_MESSAGE_BYTES → IsReply ((requests method answer).respond s call).0
+  formed_reply method s call few = formed_path s (method call.path) call.message few
+
+-- ---- the reply that answers a malformed frame
+
+fault_printable : (why : FrameWhy) → All IsTextByte (fault_words why)
+fault_printable BadPathLength = all_printable (codes "bad path length at byte ") refl
+fault_printable BadPath = all_printable (codes "bad path at byte ") refl
+fault_printable BadFlag = all_printable (codes "bad flag at byte ") refl
+fault_printable TooLong = all_printable (codes "message too long at byte ") refl
+fault_printable EndOfInput = all_printable (codes "end of input at byte ") refl
+
+fault_short : (why : FrameWhy) → length (fault_words why) ≤ 30
+fault_short BadPathLength = omega arith
+fault_short BadPath = omega arith
+fault_short BadFlag = omega arith
+fault_short TooLong = omega arith
+fault_short EndOfInput = omega arith
+
+pub formed_fault_frame : ((n : ℕ) → n < 2 ^ 64 → All IsTextByte (decimal n)) → (f : FrameFault) → f.at < 2 ^ 64 → IsReply (refusal (number_of code.InvalidArgument) (fault_words f.why ++ decimal f.at))
+formed_fault_frame numbers f small =
+    formed_refusal 3 (fault_words f.why ++ decimal f.at) refl (λ e. omega arith)
+    (omega (arith, fault_short f.why, length-append (fault_words f.why) (decimal f.at), length-decimal-le 20 f.at (omega arith) (omega arith) small))
+    (All-append IsTextByte (fault_words f.why) (decimal f.at) (fault_printable f.why) (numbers f.at small))

@@ -1,9 +1,7 @@
 mod Written
 mod Runs
 mod Feeding
-mod Faults
-mod Stateless
 mod Printable
 mod Reasons
-mod Places
+mod Requesting
 mod Forms

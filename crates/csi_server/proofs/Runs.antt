@@ -1,5 +1,5 @@
 -- A run that goes on by one call.
-use Rattle.std.proofs.Common.{◌≡◌, ◌≢◌, ℕ, ◌+◌, List, [], ◌∷◌, ◌++◌, length, Option, Bool, true, refl, sym, ap, subst, ◌∙◌, append_assoc, append-nil, arith, All, inl, inr, ◌⊎◌}
+use Rattle.std.proofs.Common.{◌≡◌, ◌≢◌, ℕ, ◌+◌, List, [], ◌∷◌, ◌++◌, length, Option, refl, sym, ap, subst, ◌∙◌, append_assoc, append-nil, arith, All, inl, inr, ◌⊎◌}
 use Rattle.std.specs.List.{AllByRecursion}
 use Rattle.std.proofs.lemmas.List.{map-append, length-append}
 use Rattle.std.proofs.lemmas.List.Elements.{All-push, All-nil}
@@ -8,12 +8,12 @@ use Rattle.std.proofs.KnownBytes.{Appends-nil, Appends-trans}
 use Rattle.frames_core.specs.declared.fault.FrameWhy.{FrameWhy}
 use Rattle.frames_core.specs.declared.fault.FrameWhy.TheVariants.{BadPathLength, BadPath, BadFlag, TooLong, EndOfInput}
 use Rattle.frames_core.specs.declared.fault.FrameFault.{FrameFault}
-use Rattle.frames_core.specs.Envelope.{CallBytes, ReplyBytes, IsCall, frame, reply}
+use Rattle.frames_core.specs.Envelope.{CallBytes, ReplyBytes, IsCall, IsReply, frame, reply}
 use Rattle.frames_core.specs.Stream.{Stream, End, Ends, Fault, Open, frames, FaultAt}
-use Rattle.csi_server.specs.Machine.{Machine, Mark, Unmarked, OutOfMemory, StoreRefused, StoreDown, Event, Sight, Runs, Answers, IsDue, Leaves, RoseBy, IsAllowed, done, replies, state_after, store_mark, store_marks, step, calls_of}
+use Rattle.csi_server.specs.Machine.{Machine, Mark, Unmarked, OutOfMemory, StoreRefused, StoreDown, Event, Sight, Runs, Answers, IsDue, Leaves, RoseBy, IsAllowed, done, replies, state_after, store_mark, store_marks, step, calls_of, AreReplies}
 use Rattle.csi_server.proofs.Written.{Appends-kept}
 use Rattle.csi_server.specs.Live.{SoFar}
-use Rattle.csi_server.specs.Serving.{IsFront, WroteFront, Answered, CutOff, HasFault, BeginsWithCalls, AnswersCall, fault_frame}
+use Rattle.csi_server.specs.Serving.{IsPrefix, WrotePrefix, Answered, CutOff, HasFault, BeginsWithCalls, AnswersCall, fault_frame}
 
 pub frames-append : (xs ys : List CallBytes) → frames (xs ++ ys) ≡ frames xs ++ frames ys
 frames-append [] ys = refl
@@ -28,6 +28,11 @@ replies-push m s [] e = append-nil (reply (step m s e).0)
 replies-push m s (x ∷ xs) e =
     ap (λ (b : List ℕ). reply (step m s x).0 ++ b) (replies-push m (step m s x).1 xs e)
     ∙ sym (append_assoc (reply (step m s x).0) (replies m (step m s x).1 xs) (reply (step m (state_after m (step m s x).1 xs) e).0))
+
+formed_push : {S : Type 0} (m : Machine S) (s : S) (es : List Event) (e : Event) → AreReplies m s es → IsReply (step m (state_after m s es) e).0 → AreReplies m s (es ++ e ∷ [])
+unfolding AreReplies state_after
+formed_push m s [] e h k = (k, tt)
+formed_push m s (x ∷ xs) e h k = (h.0, formed_push m (step m s x).1 xs e h.1 k)
 
 pub state_after-push : {S : Type 0} (m : Machine S) (s : S) (es : List Event) (e : Event) → state_after m s (es ++ e ∷ []) ≡ (step m (state_after m s es) e).1
 unfolding state_after
@@ -121,9 +126,10 @@ left_push m s es call StoreRefused old new u l t h = left_marked m s es (record 
 left_push m s es call StoreDown old new u l t h = left_marked m s es (record { call = call; mark = StoreDown }) t (old t) (λ e. absurd cc) (u t) (l t h)
 
 pub runs_start : {S : Type 0} (m : Machine S) (now : Sight S) (s : S) → now.holds s → Runs m now now s []
-unfolding state_after store_marks
+unfolding state_after store_marks AreReplies
 runs_start m now s h = record {
   allowed = tt;
+  formed = tt;
   held = h;
   counted = inl (omega arith);
   survive = λ only t k. inl (only t k);
@@ -131,11 +137,12 @@ runs_start m now s h = record {
 }
 
 -- the run with one call more
-runs_push : {S : Type 0} (m : Machine S) (start mid new : Sight S) (s : S) (es : List Event) (call : CallBytes) (r : ReplyBytes) → Runs m start mid s es → (a : Answers m mid new (state_after m s es) call r) → Runs m start new s (es ++ record { call = call; mark = a.mark } ∷ [])
-runs_push {S} m start mid new s es call r run a =
+runs_push : {S : Type 0} (m : Machine S) (start mid new : Sight S) (s : S) (es : List Event) (call : CallBytes) (r : ReplyBytes) → Runs m start mid s es → (a : Answers m mid new (state_after m s es) call r) → IsReply r → Runs m start new s (es ++ record { call = call; mark = a.mark } ∷ [])
+runs_push {S} m start mid new s es call r run a good =
     let e : Event = record { call = call; mark = a.mark } in
     record {
       allowed = allowed-push m es e run.allowed a.allowed;
+      formed = formed_push m s es e run.formed (subst (λ (x : ReplyBytes). IsReply x) a.reply good);
       held = subst new.holds (sym (state_after-push m s es e)) a.held;
       counted = subst (λ (n : ℕ). RoseBy start.refusals new.refusals n) (sym (marks-push es e)) (rose-more start.refusals mid.refusals new.refusals (store_marks es) (store_mark a.mark) run.counted a.counted);
       survive = λ only t h. left_push m s es call a.mark mid.survivors new.survivors (run.survive only) a.left t h;
@@ -162,32 +169,32 @@ calls_push_good : (es : List Event) (e : Event) → All IsCall (calls_of es) →
 calls_push_good es e each good = subst (λ (cs : List CallBytes). All IsCall cs) (sym (calls_push es e)) (All-push IsCall (calls_of es) e.call each good)
 
 pub so_far_push : {S : Type 0} (m : Machine S) (start mid new : Sight S) (s : S) (bytes more : List ℕ) (call : CallBytes) (held holds then_ : Option (List ℕ)) → SoFar m start mid s bytes held holds → IsCall call → more ≡ frame call
-    → ((t : S) → mid.holds t → AnswersCall m mid new t call holds then_ true) → SoFar m start new s (bytes ++ more) held then_
-so_far_push {S} m start mid new s bytes more call held holds then_ h good is from =
+    → (Whole : Type 0) → Whole → ((t : S) → mid.holds t → AnswersCall m mid new t call holds then_ Whole) → SoFar m start new s (bytes ++ more) held then_
+so_far_push {S} m start mid new s bytes more call held holds then_ h good is Whole done from =
     let a = from (state_after m s h.events) h.run.held in
     let e : Event = record { call = call; mark = a.answers.mark } in
     record {
       events = h.events ++ e ∷ [];
-      run = runs_push m start mid new s h.events call a.r h.run a.answers;
+      run = runs_push m start mid new s h.events call a.r h.run a.answers a.formed;
       each = calls_push_good h.events e h.each good;
       whole = ap (λ (x : List ℕ). x ++ more) h.whole ∙ (ap (λ (x : List ℕ). frames (calls_of h.events) ++ x) is ∙ sym (frames_push h.events e));
-      written = subst (λ (x : List ℕ). Appends held then_ x) (ap (λ (r : ReplyBytes). replies m s h.events ++ reply r) a.answers.reply ∙ sym (replies-push m s h.events e)) (Appends-trans held holds then_ (replies m s h.events) (reply a.r) h.written (a.all refl));
+      written = subst (λ (x : List ℕ). Appends held then_ x) (ap (λ (r : ReplyBytes). replies m s h.events ++ reply r) a.answers.reply ∙ sym (replies-push m s h.events e)) (Appends-trans held holds then_ (replies m s h.events) (reply a.r) h.written (a.all done));
     }
 
-pub cut_call : {S : Type 0} (m : Machine S) (start mid new : Sight S) (s : S) (bytes more rest read : List ℕ) (call : CallBytes) (held holds then_ : Option (List ℕ)) (whole : Bool) → SoFar m start mid s bytes held holds → IsCall call → more ≡ frame call → read ≡ bytes ++ (more ++ rest)
-    → ((t : S) → mid.holds t → AnswersCall m mid new t call holds then_ whole) → CutOff m start new s read held then_
-cut_call {S} m start mid new s bytes more rest read call held holds then_ whole h good is e from =
+pub cut_call : {S : Type 0} (m : Machine S) (start mid new : Sight S) (s : S) (bytes more rest read : List ℕ) (call : CallBytes) (held holds then_ : Option (List ℕ)) (Whole : Type 0) → SoFar m start mid s bytes held holds → IsCall call → more ≡ frame call → read ≡ bytes ++ (more ++ rest)
+    → ((t : S) → mid.holds t → AnswersCall m mid new t call holds then_ Whole) → CutOff m start new s read ⊥ held then_
+cut_call {S} m start mid new s bytes more rest read call held holds then_ Whole h good is e from =
     let a = from (state_after m s h.events) h.run.held in
     let ev : Event = record { call = call; mark = a.answers.mark } in
-    let front : bytes ++ more ≡ frames (calls_of (h.events ++ ev ∷ [])) = ap (λ (x : List ℕ). x ++ more) h.whole ∙ (ap (λ (x : List ℕ). frames (calls_of h.events) ++ x) is ∙ sym (frames_push h.events ev)) in
+    let prefix : bytes ++ more ≡ frames (calls_of (h.events ++ ev ∷ [])) = ap (λ (x : List ℕ). x ++ more) h.whole ∙ (ap (λ (x : List ℕ). frames (calls_of h.events) ++ x) is ∙ sym (frames_push h.events ev)) in
     record {
       events = h.events ++ ev ∷ [];
-      begins = record { rest = rest; whole = e ∙ (sym (append_assoc bytes more rest) ∙ ap (λ (x : List ℕ). x ++ rest) front); each = calls_push_good h.events ev h.each good };
-      run = runs_push m start mid new s h.events call a.r h.run a.answers;
+      begins = record { rest = rest; whole = e ∙ (sym (append_assoc bytes more rest) ∙ ap (λ (x : List ℕ). x ++ rest) prefix); each = calls_push_good h.events ev h.each good };
+      run = runs_push m start mid new s h.events call a.r h.run a.answers a.formed;
       earlier = h.events;
-      part = a.front.0;
-      cut = inl (ev, refl, subst (λ (r : ReplyBytes). IsFront a.front.0 (reply r)) a.answers.reply a.front.1);
-      written = Appends-trans held holds then_ (replies m s h.events) a.front.0 h.written a.front.2;
+      part = a.part.0;
+      cut = inl (ev, refl, subst (λ (r : ReplyBytes). IsPrefix a.part.0 (reply r)) a.answers.reply a.part.1);
+      written = Appends-trans held holds then_ (replies m s h.events) a.part.0 h.written a.part.2;
     }
 
 -- how what is left of the stream ends it
@@ -227,15 +234,27 @@ fault_begins read calls BadPath at h = record { rest = h.rest; whole = h.whole; 
 fault_begins read calls BadFlag at h = record { rest = h.rest; whole = h.whole; each = h.each }
 fault_begins read calls TooLong at h = record { rest = h.rest; whole = h.whole; each = h.each }
 
-pub cut_fault : {S : Type 0} (m : Machine S) (start now : Sight S) (s : S) (read : List ℕ) (held holds then_ : Option (List ℕ)) (f : FrameFault) → Answered m start now s read held holds (λ calls. HasFault read calls f.why f.at) [] → WroteFront holds then_ (fault_frame f) → CutOff m start now s read held then_
-cut_fault m start now s read held holds then_ f h w = record {
+pub cut_fault : {S : Type 0} (m : Machine S) (start now : Sight S) (s : S) (read : List ℕ) (held holds then_ : Option (List ℕ)) (AtEnd : Type 0) (f : FrameFault) → Answered m start now s read held holds (λ calls. HasFault read calls f.why f.at) [] → (f.why ≡ EndOfInput → AtEnd) → WrotePrefix holds then_ (fault_frame f) → CutOff m start now s read AtEnd held then_
+cut_fault m start now s read held holds then_ AtEnd f h at_end w = record {
   events = h.events;
   begins = fault_begins read (calls_of h.events) f.why f.at h.ended;
   run = h.run;
   earlier = h.events;
   part = w.0;
-  cut = inr (f, refl, h.ended, w.1);
+  cut = inr (f, refl, h.ended, at_end, w.1);
   written = subst (λ (x : List ℕ). Appends held then_ x) (ap (λ (x : List ℕ). x ++ w.0) (append-nil (replies m s h.events))) (Appends-trans held holds then_ (replies m s h.events ++ []) w.0 h.written w.2);
+}
+
+-- what a cut says of the end of the input says less where the end is no more known
+pub cut_at : {S : Type 0} (m : Machine S) (start now : Sight S) (s : S) (read : List ℕ) (held holds : Option (List ℕ)) (AtEnd : Type 0) → CutOff m start now s read ⊥ held holds → CutOff m start now s read AtEnd held holds
+cut_at m start now s read held holds AtEnd h = record {
+  events = h.events;
+  begins = h.begins;
+  run = h.run;
+  earlier = h.earlier;
+  part = h.part;
+  cut = elim h.cut [ inl last ↦ inl last | inr fault ↦ inr (fault.0, fault.1, fault.2, (λ e. absurd (fault.3 e)), fault.4) ];
+  written = h.written;
 }
 
 pub answered_then : {S : Type 0} (m : Machine S) (start now : Sight S) (s : S) (read : List ℕ) (held holds then_ : Option (List ℕ)) (IsEnd : List CallBytes → Type 0) (last : List ℕ) → Answered m start now s read held holds IsEnd [] → Appends holds then_ last → Answered m start now s read held then_ IsEnd last

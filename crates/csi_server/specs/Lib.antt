@@ -2,5 +2,6 @@ pub mod Machine
 pub mod Serving
 pub mod Service
 pub mod Live
-pub mod Places
+pub mod Verdicts
+pub mod Requests
 pub mod Identity

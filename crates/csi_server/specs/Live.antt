@@ -9,7 +9,7 @@ use Rattle.frames_core.specs.Envelope.{IsCall}
 use Rattle.frames_core.specs.Stream.{frames, IsUnfinished}
 use Rattle.frames_core.specs.Framer.{FramerState}
 use Rattle.csi_server.specs.Machine.{Machine, Sight, Runs, Event, replies, calls_of}
-use Rattle.csi_server.specs.Serving.{Answered, CutOff, HasFault, WroteFront, fault_frame}
+use Rattle.csi_server.specs.Serving.{Answered, CutOff, HasFault, WrotePrefix, fault_frame}
 use Rattle.csi_server.specs.declared.running.Step.{Step}
 use Rattle.csi_server.specs.declared.running.Step.TheVariants.{Fed, Faulty, Cut}
 
@@ -38,7 +38,7 @@ IsLive m start now s read framer held holds = now.doubt ≡ 0 → Live m start n
 abbrev pub Steps : {S : Type 0} → Machine S → Sight S → Sight S → S → List ℕ → List ℕ → FramerState → Option (List ℕ) → Option (List ℕ) → Step → Type 0
 Steps m start now s read rest framer held holds (Fed n) = Live m start now s (read ++ take n rest) framer held holds
 Steps m start now s read rest framer held holds (Faulty f) = (f.why ≢ EndOfInput) × Answered m start now s (read ++ rest) held holds (λ calls. HasFault (read ++ rest) calls f.why f.at) []
-Steps m start now s read rest framer held holds Cut = CutOff m start now s (read ++ rest) held holds
+Steps m start now s read rest framer held holds Cut = CutOff m start now s (read ++ rest) ⊥ held holds
 
 -- a framer that takes more bytes
 abbrev pub IsReady : FramerState → Type 0
@@ -61,10 +61,10 @@ IsAllFed len (Fed n) = n ≡ len
 IsAllFed len (Faulty f) = Unit {0}
 IsAllFed len Cut = Unit {0}
 
--- The frame of the fault was written, or a beginning of it.
+-- The frame of the fault was written, or a prefix of it.
 abbrev pub Refuses : FrameFault → Option (List ℕ) → Option (List ℕ) → RunEnd → Type 0
 Refuses f held holds (Malformed g) = (g ≡ f) × Appends held holds (fault_frame f)
-Refuses f held holds WriteFailed = WroteFront held holds (fault_frame f)
+Refuses f held holds WriteFailed = WrotePrefix held holds (fault_frame f)
 Refuses f held holds Done = ⊥
 Refuses f held holds ReadFailed = ⊥
 Refuses f held holds TurnsSpent = ⊥

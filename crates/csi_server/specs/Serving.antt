@@ -1,12 +1,12 @@
 -- What a server reads and writes, by the way it ends.
-use Rattle.std.specs.Prelude.{◌≡◌, ℕ, ◌≤◌, ◌^◌, List, [], ◌∷◌, ◌++◌, length, All, Option, ◌⊎◌, decimal, Bool, true}
+use Rattle.std.specs.Prelude.{◌≡◌, ℕ, ◌≤◌, ◌^◌, List, [], ◌∷◌, ◌++◌, length, All, Option, ◌⊎◌, decimal}
 use Rattle.std.specs.Io.KnownBytes.{Appends, Consumes, IsAtEnd, Keeps}
 use Rattle.csi_types.specs.declared.code.Code.TheVariants as code
 use Rattle.csi_types.specs.Codes.{number_of}
 use Rattle.frames_core.specs.declared.fault.FrameFault.{FrameFault}
 use Rattle.frames_core.specs.declared.fault.FrameWhy.{FrameWhy}
 use Rattle.frames_core.specs.declared.fault.FrameWhy.TheVariants.{EndOfInput}
-use Rattle.frames_core.specs.Envelope.{CallBytes, ReplyBytes, IsCall, reply}
+use Rattle.frames_core.specs.Envelope.{CallBytes, ReplyBytes, IsCall, IsReply, reply}
 use Rattle.frames_core.specs.Stream.{Stream, Clean, Fault, Open, frames}
 use Rattle.frames_core.specs.Texts.{fault_words}
 use Rattle.csi_server.specs.declared.end.RunEnd.{RunEnd}
@@ -32,13 +32,13 @@ pub record BeginsWithCalls (read : List ℕ) (calls : List CallBytes) : Type 0 w
 abbrev pub fault_frame : FrameFault → List ℕ
 fault_frame f = reply (refusal (number_of code.InvalidArgument) (fault_words f.why ++ decimal f.at))
 
--- a beginning of the bytes, also all of them
-abbrev pub IsFront : List ℕ → List ℕ → Type 0
-IsFront part whole = (more : List ℕ) × (whole ≡ part ++ more)
+-- a prefix of the bytes, also all of them
+abbrev pub IsPrefix : List ℕ → List ℕ → Type 0
+IsPrefix part whole = (more : List ℕ) × (whole ≡ part ++ more)
 
--- a beginning of these bytes was appended
-abbrev pub WroteFront : Option (List ℕ) → Option (List ℕ) → List ℕ → Type 0
-WroteFront held holds whole = (part : List ℕ) × IsFront part whole × Appends held holds part
+-- a prefix of these bytes was appended
+abbrev pub WrotePrefix : Option (List ℕ) → Option (List ℕ) → List ℕ → Type 0
+WrotePrefix held holds whole = (part : List ℕ) × IsPrefix part whole × Appends held holds part
 
 -- All calls that were read were answered, and then this was written.
 pub record Answered {S : Type 0} (m : Machine S) (old new : Sight S) (s : S) (read : List ℕ) (held holds : Option (List ℕ)) (IsEnd : List CallBytes → Type 0) (last : List ℕ) : Type 0 where
@@ -47,23 +47,24 @@ pub record Answered {S : Type 0} (m : Machine S) (old new : Sight S) (s : S) (re
   pub run : Runs m old new s events
   pub written : Appends held holds (replies m s events ++ last)
 
--- The reply to the last call, or the frame that answers the fault, was written in part or not flushed.
-pub record CutOff {S : Type 0} (m : Machine S) (old new : Sight S) (s : S) (read : List ℕ) (held holds : Option (List ℕ)) : Type 0 where
+-- The reply to the last call, or the frame that answers the fault, was written in part or not flushed. That the input ends inside a frame is a fault only at its end.
+pub record CutOff {S : Type 0} (m : Machine S) (old new : Sight S) (s : S) (read : List ℕ) (AtEnd : Type 0) (held holds : Option (List ℕ)) : Type 0 where
   pub events : List Event
   pub begins : BeginsWithCalls read (calls_of events)
   pub run : Runs m old new s events
   pub earlier : List Event
   pub part : List ℕ
-  pub cut : ((last : Event) × (events ≡ earlier ++ last ∷ []) × IsFront part (reply (step m (state_after m s earlier) last).0))
-      ⊎ ((f : FrameFault) × (events ≡ earlier) × HasFault read (calls_of events) f.why f.at × IsFront part (fault_frame f))
+  pub cut : ((last : Event) × (events ≡ earlier ++ last ∷ []) × IsPrefix part (reply (step m (state_after m s earlier) last).0))
+      ⊎ ((f : FrameFault) × (events ≡ earlier) × HasFault read (calls_of events) f.why f.at × (f.why ≡ EndOfInput → AtEnd) × IsPrefix part (fault_frame f))
   pub written : Appends held holds (replies m s earlier ++ part)
 
--- One call was answered, from the state s: its reply was written, or a beginning of it.
-pub record AnswersCall {S : Type 0} (m : Machine S) (old new : Sight S) (s : S) (call : CallBytes) (held holds : Option (List ℕ)) (whole : Bool) : Type 0 where
+-- One call was answered, from the state s: its reply was written, or a prefix of it.
+pub record AnswersCall {S : Type 0} (m : Machine S) (old new : Sight S) (s : S) (call : CallBytes) (held holds : Option (List ℕ)) (Whole : Type 0) : Type 0 where
   pub r : ReplyBytes
   pub answers : Answers m old new s call r
-  pub all : whole ≡ true → Appends held holds (reply r)
-  pub front : WroteFront held holds (reply r)
+  pub formed : IsReply r
+  pub all : Whole → Appends held holds (reply r)
+  pub part : WrotePrefix held holds (reply r)
 
 -- How a run from the state s ends that read these bytes, and found the end of the input or not.
 abbrev pub Ended : {S : Type 0} → Machine S → Sight S → Sight S → S → List ℕ → Type 0 → Option (List ℕ) → Option (List ℕ) → RunEnd → Type 0
@@ -71,7 +72,7 @@ Ended m old new s read AtEnd held holds Done = Answered m old new s read held ho
 Ended m old new s read AtEnd held holds (Malformed f) = Answered m old new s read held holds (λ calls. HasFault read calls f.why f.at) (fault_frame f) × (f.why ≡ EndOfInput → AtEnd)
 Ended m old new s read AtEnd held holds ReadFailed = Answered m old new s read held holds (HasNoFault read) []
 Ended m old new s read AtEnd held holds TurnsSpent = Answered m old new s read held holds (HasNoFault read) [] × (2 ^ 32 ≤ length read)
-Ended m old new s read AtEnd held holds WriteFailed = CutOff m old new s read held holds
+Ended m old new s read AtEnd held holds WriteFailed = CutOff m old new s read AtEnd held holds
 Ended m old new s read AtEnd held holds NoMemory = Runs m old new s [] × Keeps held holds
 
 -- A run of a service that was clean to its end: from each state that the service may have had, the run ends as the table says.

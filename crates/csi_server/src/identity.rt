@@ -1,19 +1,21 @@
-ghost use Rattle.std.specs.Prelude.{◌≡◌, ◌≤◌, ◌+◌, ◌++◌, ℕ, List, All, length, OnOk, codes, decimal};
+ghost use Rattle.std.specs.Prelude.{◌≡◌, ◌≤◌, ⊤, ℕ, List, length, None, Ok, IfOk};
 ghost use Rattle.std.specs.Io.KnownBytes.{Consumes, IsAtEnd, Keeps};
-ghost use Rattle.csi_server.specs.Identity.{text, ready, names_of, IsAnswered, identity, still};
+ghost use Rattle.csi_types.specs.declared.requests.Request.{Request as AnyRequest};
+ghost use Rattle.csi_types.specs.Methods.{method_at};
+ghost use Rattle.csi_codec.specs.Reading.{read_request};
+ghost use Rattle.csi_server.specs.Verdicts.{told_of, Appended, Tells};
+ghost use Rattle.csi_server.specs.Identity.{said, known, outcome_of, identity, still};
+ghost use Rattle.csi_server.specs.Requests.{after_check, after_read, AnswersBy};
 ghost use Rattle.csi_server.specs.Serving.{Ended};
 ghost use Rattle.csi_server.specs.Service.{reply_of, HoldsBody, room};
-ghost use Rattle.csi_server.specs.Machine.{refused};
-ghost use Rattle.frames_core.specs.Envelope.{IsTextByte};
 
+use crate::body::{Verdict, append_body};
 use crate::end::RunEnd;
-use crate::refused::Refusal;
+use crate::message::{read_message, refuse};
 use crate::running::run_service;
 use crate::service::{Answer, Service, begin_body};
-use crate::wire::fault_place;
-use csi_types::{Code, Method, Reason, method_of};
-use frames_core::{Call, text_and_number};
-use pbwire::put_bytes;
+use csi_types::{Method, Reason, Request, Response, Text, method_of};
+use frames_core::Call;
 use std::alloc::{AllocError, Global};
 use std::io::{Read, Write};
 
@@ -22,98 +24,91 @@ use std::io::{Read, Write};
 struct PluginNames<'a> {
     name: &'a str,
     version: &'a str,
-    ghost short: { (length name.now ≤ 128) × (length version.now ≤ 128) },
 }
 
 // Keeps nothing from call to call.
 #[derive(Drop)]
 struct Identity {}
 
-// A ProbeResponse whose `ready` (1) is a BoolValue with the value (1) true.
-const READY: [u8; 4] = [0x0a, 0x02, 0x08, 0x01];
-
-// Makes the frame that of a ProbeResponse, but for its head.
-fn put_ready(frame: &mut Vec<u8>) -> Result<(), AllocError>
-    ensures { OnOk result (frame.new.items ≡ room ++ ready) }
+// The response to one of the two requests.
+#[tactic(auto, unfolding(crate::specs::Identity::said))]
+fn respond(
+    alloc: Global,
+    names: &PluginNames<'_>,
+    request: &Request,
+) -> Result<Option<Response>, AllocError>
+    ensures { IfOk result (λ o. said names.now.name.now names.now.version.now request.now ≡ outcome_of o) }
 {
-    begin_body(frame)?;
-    frame.extend_from_slice(&READY)
-}
-
-// Appends a text, unless it is empty.
-fn put_text(out: &mut Vec<u8>, number: u32, value: &str) -> Result<(), AllocError>
-    requires number { (1 ≤ number) × (number ≤ 2) }
-    ensures { OnOk result (out.new.items ≡ out.old.items ++ text number value.now) }
-{
-    if value.is_empty() {
-        return Ok(());
-    }
-    put_bytes(out, number, value.as_bytes())
-}
-
-// Makes the frame that of a GetPluginInfoResponse, but for its head: name (1) and vendor_version (2).
-#[tactic(auto, using(crate::proofs::Stateless::on_ok_assoc))]
-fn put_names(frame: &mut Vec<u8>, names: &PluginNames<'_>) -> Result<(), AllocError>
-    ensures { OnOk result (frame.new.items ≡ room ++ names_of names.now.name.now names.now.version.now) }
-{
-    begin_body(frame)?;
-    put_text(frame, 1, names.name)?;
-    put_text(frame, 2, names.version)?;
-    Ok(())
-}
-
-fn malformed(place: u64) -> Refusal
-    ensures code { result.code ≡ Code.InvalidArgument }
-    ensures text { result.text ≡ codes "malformed message in the field at byte " ++ decimal place }
-{
-    Refusal {
-        code: Code::InvalidArgument,
-        text: text_and_number(malformed_start(), place),
+    match request {
+        Request::Probe => Ok(Some(Response::Probe(Some(true)))),
+        Request::PluginInfo => Ok(Some(Response::PluginInfo {
+            name: Text::from_str(alloc, names.name)?,
+            version: Text::from_str(alloc, names.version)?,
+        })),
+        _ => Ok(None),
     }
 }
 
-// The text before the place.
-fn malformed_start() -> &'static [u8]
-    ensures value { result.now ≡ codes "malformed message in the field at byte " }
-    ensures short { length result.now ≤ 120 }
-    ensures printable { All IsTextByte result.now }
+// Makes the frame that of the response to a request.
+fn put_response(
+    alloc: Global,
+    names: &PluginNames<'_>,
+    request: &Request,
+    reply: &mut Vec<u8>,
+) -> Result<Verdict, AllocError>
+    ensures appended { IfOk result (λ v. Appended room reply.new.items result) }
+    ensures told { IfOk result (λ v. Tells (told_of (said names.now.name.now names.now.version.now request.now)) room reply.new.items result) }
 {
-    b"malformed message in the field at byte "
+    begin_body(reply)?;
+    match respond(alloc, names, request)? {
+        Some(response) => append_body(&response, reply),
+        None => Ok(Verdict::Refused(Reason::UnknownMethod)),
+    }
 }
 
-fn unknown_method() -> Answer
-    ensures answered { (frame : List ℕ) → reply_of result frame ≡ refused Reason.UnknownMethod }
-    ensures room { (frame : List ℕ) → HoldsBody result frame }
+// Answers one of the two requests.
+fn answer_request(
+    alloc: Global,
+    names: &PluginNames<'_>,
+    request: &Request,
+    reply: &mut Vec<u8>,
+) -> Answer
+    ensures step { AnswersBy (after_check (λ s r. (told_of (said names.now.name.now names.now.version.now r), s)) tt request.now None) ⊤ still still tt (reply_of result reply.new.items) }
+    ensures room { HoldsBody result reply.new.items }
 {
-    Answer::Refused(Refusal::from(Reason::UnknownMethod))
+    match put_response(alloc, names, request, reply) {
+        Ok(Verdict::Done) => Answer::Body,
+        Ok(Verdict::Refused(reason)) => refuse(reason),
+        Err(_) => refuse(Reason::OutOfMemory),
+    }
 }
 
-// Probe: no field of its message is known, and the plugin is always ready.
-fn answer_probe(message: &[u8], frame: &mut Vec<u8>) -> Answer
-    ensures answered { IsAnswered message.now ready (reply_of result frame.new.items) }
-    ensures room { HoldsBody result frame.new.items }
+// Reads the message of one of the two calls and answers it.
+fn answer_message(
+    alloc: Global,
+    names: &PluginNames<'_>,
+    method: Method,
+    message: &[u8],
+    reply: &mut Vec<u8>,
+) -> Answer
+    ensures step { AnswersBy (after_read (λ s r. (told_of (said names.now.name.now names.now.version.now r), s)) tt (read_request method message.now)) ((r : AnyRequest) × (read_request method message.now ≡ Ok r)) still still tt (reply_of result reply.new.items) }
+    ensures room { HoldsBody result reply.new.items }
 {
-    if let Some(place) = fault_place(message) {
-        return Answer::Refused(malformed(place));
+    match read_message(alloc, method, message) {
+        Ok(request) => answer_request(alloc, names, &request, reply),
+        Err(refusal) => Answer::Refused(refusal),
     }
-    if put_ready(frame).is_err() {
-        return Answer::Refused(Refusal::from(Reason::OutOfMemory));
-    }
-    Answer::Body
 }
 
-// GetPluginInfo: no field of its message is known.
-fn answer_plugin_info(names: &PluginNames<'_>, message: &[u8], frame: &mut Vec<u8>) -> Answer
-    ensures answered { IsAnswered message.now (names_of names.now.name.now names.now.version.now) (reply_of result frame.new.items) }
-    ensures room { HoldsBody result frame.new.items }
+// The method of a path, if it is one of the two.
+fn known_method(path: &[u8]) -> Option<Method>
+    ensures { result ≡ known (method_at path.now) }
 {
-    if let Some(place) = fault_place(message) {
-        return Answer::Refused(malformed(place));
+    match method_of(path) {
+        Some(Method::Probe) => Some(Method::Probe),
+        Some(Method::GetPluginInfo) => Some(Method::GetPluginInfo),
+        _ => None,
     }
-    if put_names(frame, names).is_err() {
-        return Answer::Refused(Refusal::from(Reason::OutOfMemory));
-    }
-    Answer::Body
 }
 
 impl<'a> Service<PluginNames<'a>> for Identity {
@@ -128,17 +123,13 @@ impl<'a> Service<PluginNames<'a>> for Identity {
     fn answer(
         &mut self,
         config: &PluginNames<'a>,
-        _alloc: Global,
+        alloc: Global,
         call: &Call<'_>,
-        frame: &mut Vec<u8>,
+        reply: &mut Vec<u8>,
     ) -> Answer {
-        let Some(method) = method_of(call.path) else {
-            return unknown_method();
-        };
-        match method {
-            Method::Probe => answer_probe(call.message, frame),
-            Method::GetPluginInfo => answer_plugin_info(config, call.message, frame),
-            _ => unknown_method(),
+        match known_method(call.path) {
+            Some(method) => answer_message(alloc, config, method, call.message, reply),
+            None => refuse(Reason::UnknownMethod),
         }
     }
 }

@@ -1,15 +1,19 @@
 //! Laws of the definitions and of the machines that are served.
 
-ghost use Rattle.std.specs.Prelude.{◌≡◌, ◌≤◌, ℕ, List, length, MatchOption};
+ghost use Rattle.std.specs.Prelude.{◌≡◌, ◌≤◌, ◌<◌, ◌^◌, ◌++◌, ℕ, List, length, decimal};
 ghost use Rattle.std.specs.List.{AllByRecursion};
+ghost use Rattle.frames_core.specs.declared.fault.FrameFault.{FrameFault};
+ghost use Rattle.frames_core.specs.declared.limits.TheConstants.{MAX_MESSAGE_BYTES};
 ghost use Rattle.frames_core.specs.Envelope.{CallBytes, IsReply};
-ghost use Rattle.csi_server.specs.Machine.{Unmarked, Event, Runs, state_after};
-ghost use Rattle.csi_server.specs.Identity.{malformed_at, identity_reply};
-ghost use Rattle.csi_server.specs.Places.{IsFieldList, IsPlace};
+ghost use Rattle.frames_core.specs.Texts.{fault_words};
+ghost use Rattle.csi_types.specs.declared.code.Code.TheVariants as Code;
+ghost use Rattle.csi_types.specs.Codes.{number_of};
+ghost use Rattle.csi_server.specs.Machine.{Unmarked, Event, Runs, AreReplies, refusal, state_after};
+ghost use Rattle.csi_server.specs.Identity.{identity};
 
 use crate::service::Service;
+use csi_codec::laws::reading;
 use frames_core::laws::decimal_is_text;
-use pbwire::laws::{listed, spelled};
 
 /// After a run in which no call is marked, what a stop may leave is the state after the run.
 pub fn settled<C, S: Service<C>>(config: &C)
@@ -19,19 +23,24 @@ pub fn settled<C, S: Service<C>>(config: &C)
         → (t : S.State) → (S.sight config.now new).survivors t → t ≡ state_after (S.machine config.now) s events }
 {}
 
-/// The place at which a message is said to be malformed is the end of its longest front that is a list of fields, and a message
-/// that has none is a list of fields.
-pub fn malformed_place()
-    ensures { (bytes : List ℕ) → MatchOption (malformed_at bytes) (IsFieldList bytes) (IsPlace bytes) }
+/// Each reply of a run of any service is one of the envelope's table: one of its status codes, with a text and no body or, with
+/// status 0, with a body and no text. So are the refusals of the calls that are marked.
+pub fn formed<C, S: Service<C>>(config: &C)
+    ensures { (old new : S) (s : S.State) (events : List Event) → Runs (S.machine config.now) (S.sight config.now old) (S.sight config.now new) s events
+        → AreReplies (S.machine config.now) s events }
+{}
+
+/// The reply that answers a malformed frame is one of the envelope's table.
+pub fn formed_fault()
+    ensures { (fault : FrameFault) → fault.at < 2 ^ 64 → IsReply (refusal (number_of Code.InvalidArgument) (fault_words fault.why ++ decimal fault.at)) }
 {
-    spelled();
-    listed();
+    decimal_is_text();
 }
 
-/// Each reply of the identity service is one of the envelope's.
-pub fn formed_replies()
-    ensures { (name version : List ℕ) (call : CallBytes) → length name ≤ 128 → length version ≤ 128 → length call.message ≤ 1048576 → IsReply (identity_reply name version call) }
+/// Each reply that the identity service has to any call, in a run or not, is one of the envelope's table.
+pub fn formed_identity()
+    ensures { (name version : List ℕ) (call : CallBytes) → length call.message ≤ MAX_MESSAGE_BYTES → IsReply ((identity name version).respond tt call).0 }
 {
-    malformed_place();
     decimal_is_text();
+    reading();
 }

@@ -5,15 +5,16 @@
 #![tactic(auto)]
 
 mod answering;
+mod body;
 mod end;
 mod identity;
 pub mod laws;
+mod message;
 mod refused;
 mod running;
 mod service;
 #[cfg(test)]
 mod tests;
-mod wire;
 mod writing;
 
 pub use end::RunEnd;

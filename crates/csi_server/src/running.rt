@@ -12,7 +12,10 @@ use std::alloc::Global;
 use std::io::{Read, Write};
 
 // At most this many reads are made in one run.
-const READS: u64 = 4_294_967_296;
+const MAX_READS: u64 = 1 << 32;
+
+// The most bytes of one read.
+const PIECE_BYTES: usize = 4096;
 
 // What came of feeding some bytes.
 #[derive(Clone, Copy)]
@@ -29,7 +32,7 @@ fn answer_next<C, S: Service<C>, W: Write>(
     service: &mut S,
     framer: &mut Framer,
     rest: &[u8],
-    frame: &mut Vec<u8>,
+    reply: &mut Vec<u8>,
     writer: &mut W,
 ) -> Step
     requires room { framer.old.past + length framer.old.held + length rest.now < 2 ^ 63 }
@@ -48,11 +51,13 @@ fn answer_next<C, S: Service<C>, W: Write>(
     let Some(call) = framer.frame() else {
         return Step::Fed(count);
     };
-    if !answer_call(alloc, config, service, &call, frame, writer) {
-        return Step::Cut;
+    match answer_call(alloc, config, service, &call, reply, writer) {
+        Err(_) => Step::Cut,
+        Ok(()) => {
+            framer.next_frame();
+            Step::Fed(count)
+        }
     }
-    framer.next_frame();
-    Step::Fed(count)
 }
 
 // Feeds the piece and answers all its frames.
@@ -62,7 +67,7 @@ fn answer_piece<C, S: Service<C>, W: Write>(
     service: &mut S,
     framer: &mut Framer,
     piece: &[u8],
-    frame: &mut Vec<u8>,
+    reply: &mut Vec<u8>,
     writer: &mut W,
 ) -> Step
     requires room { framer.old.past + length framer.old.held + length piece.now < 2 ^ 63 }
@@ -78,7 +83,7 @@ fn answer_piece<C, S: Service<C>, W: Write>(
     let mut at = 0;
     while at < piece.len() {
         let (_, rest) = piece.split_at(at);
-        match answer_next(alloc, config, service, framer, rest, frame, writer) {
+        match answer_next(alloc, config, service, framer, rest, reply, writer) {
             Step::Fed(count) => at += count,
             Step::Faulty(fault) => return Step::Faulty(fault),
             Step::Cut => return Step::Cut,
@@ -107,9 +112,9 @@ pub fn run_service<C, S: Service<C>, R: Read, W: Write>(
     let Ok(mut framer) = Framer::new(alloc) else {
         return RunEnd::NoMemory;
     };
-    let mut frame = Vec::new(alloc);
-    let mut piece = [0; 4096];
-    for turn in 0..READS {
+    let mut reply = Vec::new(alloc);
+    let mut piece = [0; PIECE_BYTES];
+    for turn in 0..MAX_READS {
         match reader.read(&mut piece) {
             Err(_) => return RunEnd::ReadFailed,
             Ok(count) => {
@@ -123,7 +128,7 @@ pub fn run_service<C, S: Service<C>, R: Read, W: Write>(
                     service,
                     &mut framer,
                     bytes,
-                    &mut frame,
+                    &mut reply,
                     writer,
                 ) {
                     Step::Fed(_) => {}
@@ -140,10 +145,9 @@ pub fn run_service<C, S: Service<C>, R: Read, W: Write>(
 fn refuse<W: Write>(fault: &FrameFault, writer: &mut W) -> RunEnd
     ensures { Refuses fault.now (W.contents writer.old) (W.contents writer.new) result }
 {
-    if put_fault(writer, fault) {
-        RunEnd::Malformed(*fault)
-    } else {
-        RunEnd::WriteFailed
+    match put_fault(writer, fault) {
+        Ok(()) => RunEnd::Malformed(*fault),
+        Err(_) => RunEnd::WriteFailed,
     }
 }
 

@@ -1,16 +1,16 @@
-ghost use Rattle.std.specs.Prelude.{◌≡◌, ◌≤◌, OnOk};
+ghost use Rattle.std.specs.Prelude.{◌≡◌, ◌≤◌, [], OnOk, OnErr};
 ghost use Rattle.frames_core.specs.Envelope.{bytes_of};
 ghost use Rattle.csi_server.specs.Machine.{Machine, Sight, Answers};
 ghost use Rattle.csi_server.specs.Service.{room};
 
 use crate::refused::Refusal;
-use frames_core::Call;
+use frames_core::{Call, REPLY_HEAD_BYTES};
 use std::alloc::{AllocError, Global};
 
 /// What a call is answered.
 #[derive(Drop)]
 pub enum Answer {
-    /// Status 0, with the body that stands in the frame.
+    /// Status 0, with the body that stands behind the room for a head.
     Body,
     /// Another status.
     Refused(Refusal),
@@ -29,18 +29,24 @@ pub trait Service<C> {
 
     ghost use Rattle.csi_server.specs.Service.{reply_of, HoldsBody};
 
-    /// Answers one call. With [`Answer::Body`] the frame has room for a reply's head, 8 bytes, and then the body.
-    fn answer(&mut self, config: &C, alloc: Global, call: &Call<'_>, frame: &mut Vec<u8>) -> Answer
+    /// Answers one call. With [`Answer::Body`] `reply` has room for a reply's head, [`REPLY_HEAD_BYTES`], and then the body, of
+    /// at most [`MAX_BODY_BYTES`](frames_core::MAX_BODY_BYTES).
+    fn answer(&mut self, config: &C, alloc: Global, call: &Call<'_>, reply: &mut Vec<u8>) -> Answer
         ensures clean { (sight config.now self.old).doubt ≤ (sight config.now self.new).doubt }
         ensures step { (sight config.now self.new).doubt ≡ 0 → (s : State) → (sight config.now self.old).holds s
-            → Answers (machine config.now) (sight config.now self.old) (sight config.now self.new) s (bytes_of call.now) (reply_of result frame.new.items) }
-        ensures room { HoldsBody result frame.new.items };
+            → Answers (machine config.now) (sight config.now self.old) (sight config.now self.new) s (bytes_of call.now) (reply_of result reply.new.items) }
+        ensures room { HoldsBody result reply.new.items };
 }
 
-/// Empties the frame and leaves room for a reply's head in it, behind which the body goes.
-pub fn begin_body(frame: &mut Vec<u8>) -> Result<(), AllocError>
-    ensures { OnOk result (frame.new.items ≡ room) }
+/// Empties `reply` and leaves room for a reply's head in it, behind which the body goes.
+///
+/// # Errors
+///
+/// Where memory is refused, `reply` is empty.
+pub fn begin_body(reply: &mut Vec<u8>) -> Result<(), AllocError>
+    ensures ok { OnOk result (reply.new.items ≡ room) }
+    ensures err { OnErr result (reply.new.items ≡ []) }
 {
-    frame.clear();
-    frame.extend_from_slice(&[0; 8])
+    reply.clear();
+    reply.extend_from_slice(&[0; REPLY_HEAD_BYTES])
 }

@@ -27,8 +27,8 @@ impl Read for Pieces<'_> {
         }
         self.reads_left -= 1;
         let count = self.bytes.len().min(self.size.max(1)).min(buf.len());
-        let (front, rest) = self.bytes.split_at(count);
-        buf[..count].copy_from_slice(front);
+        let (prefix, rest) = self.bytes.split_at(count);
+        buf[..count].copy_from_slice(prefix);
         self.bytes = rest;
         Ok(count)
     }
@@ -51,8 +51,8 @@ impl Write for Slow {
         }
         self.writes_left -= 1;
         let count = self.size.min(buf.len());
-        let (front, _) = buf.split_at(count);
-        self.bytes.extend_from_slice(front)?;
+        let (prefix, _) = buf.split_at(count);
+        self.bytes.extend_from_slice(prefix)?;
         Ok(count)
     }
 
@@ -147,7 +147,7 @@ fn refusal_of<R: AllocGlobal>(rt: &R, text: &str) -> Result<Vec<u8>, Fail> {
 }
 
 #[test]
-fn refuses_each_front(rt: HostRuntime) -> Result<(), Fail> {
+fn refuses_each_prefix(rt: HostRuntime) -> Result<(), Fail> {
     for n in 1..29usize {
         let text = format!(in rt.alloc(); "end of input at byte {n}")?;
         expect_run(
@@ -244,6 +244,156 @@ fn leaves_out_empty_names(rt: HostRuntime) -> Result<(), Fail> {
     Ok(())
 }
 
+// Gives its bytes in pieces, fails once, at a set read, and notes how long each read may be.
+#[derive(Drop)]
+struct FailsOnce<'a> {
+    bytes: &'a [u8],
+    reads: u64,
+    fails_at: u64,
+    longest: usize,
+}
+
+impl Read for FailsOnce<'_> {
+    ghost remaining = { λ s. Some s.bytes.now };
+
+    fn read(&mut self, buf: &mut [u8]) -> io::Result<usize> {
+        self.longest = self.longest.max(buf.len());
+        self.reads = self.reads.saturating_add(1);
+        if self.reads == self.fails_at {
+            return Err(io::Error::from(ErrorKind::Interrupted));
+        }
+        let count = self.bytes.len().min(buf.len());
+        let (prefix, rest) = self.bytes.split_at(count);
+        buf[..count].copy_from_slice(prefix);
+        self.bytes = rest;
+        Ok(count)
+    }
+}
+
+// Fails once, at a set write or flush, takes nothing at a set write, and notes what was written at each flush.
+#[derive(Drop)]
+struct Notes {
+    bytes: Vec<u8>,
+    calls: u64,
+    fails_at: u64,
+    takes_nothing_at: u64,
+    flushes: Vec<usize>,
+}
+
+impl Write for Notes {
+    ghost contents = { λ s. Some s.bytes.items };
+
+    fn write(&mut self, buf: &[u8]) -> io::Result<usize> {
+        self.calls = self.calls.saturating_add(1);
+        if self.calls == self.fails_at {
+            return Err(io::Error::from(ErrorKind::Interrupted));
+        }
+        if self.calls == self.takes_nothing_at {
+            return Ok(0);
+        }
+        self.bytes.extend_from_slice(buf)?;
+        Ok(buf.len())
+    }
+
+    fn flush(&mut self) -> io::Result<()> {
+        self.calls = self.calls.saturating_add(1);
+        if self.calls == self.fails_at {
+            return Err(io::Error::from(ErrorKind::Interrupted));
+        }
+        self.flushes.push(self.bytes.len())?;
+        Ok(())
+    }
+}
+
+// Probe (29 bytes), an unknown method (8), a malformed message (30) and a frame with a bad flag, its fourth byte.
+const FOUR: &[u8] =
+    b"\x00\x16/csi.v1.Identity/Probe\x00\x00\x00\x00\x00\x00\x01x\x00\x00\x00\x00\x00\x00\x16/csi.v1.Identity/Probe\x00\x00\x00\x00\x01\x00\x00\x01x\x01\x00\x00\x00\x00";
+
+// How many bytes are written after each of their replies: 12, 22, 48 and 27 bytes long.
+const AFTER_EACH: [usize; 4] = [12, 34, 82, 109];
+
+fn serve_four<R: AllocGlobal>(
+    rt: &R,
+    fails_at: u64,
+    takes_nothing_at: u64,
+) -> Result<(RunEnd, Notes), Fail> {
+    let mut reader = FOUR;
+    let mut writer = Notes {
+        bytes: room(rt)?,
+        calls: 0,
+        fails_at,
+        takes_nothing_at,
+        flushes: Vec::new(rt.alloc()),
+    };
+    let end = serve_identity(rt.alloc(), "", "", &mut reader, &mut writer);
+    Ok((end, writer))
+}
+
+#[test]
+fn flushes_each_reply_in_its_turn(rt: HostRuntime) -> Result<(), Fail> {
+    let (end, writer) = serve_four(&rt, 0, 0)?;
+    assert_eq!(rt; end, malformed(FrameWhy::BadFlag, 70));
+    assert_eq!(rt; writer.flushes.as_slice(), AFTER_EACH.as_slice());
+    // One write and one flush a reply.
+    assert_eq!(rt; writer.calls, 8);
+    Ok(())
+}
+
+#[test]
+fn ends_at_a_write_or_flush_that_fails_once(rt: HostRuntime) -> Result<(), Fail> {
+    // Writes are the odd calls, flushes the even ones.
+    let written = [0usize, 12, 12, 34, 34, 82, 82, 109];
+    for at in 1..9usize {
+        let (end, writer) = serve_four(&rt, at as u64, 0)?;
+        assert_eq!(rt; end, RunEnd::WriteFailed, "call {at}");
+        assert_eq!(rt; writer.bytes.len(), written[at - 1], "call {at}");
+        assert_eq!(rt; writer.calls, at as u64, "call {at}");
+    }
+    Ok(())
+}
+
+#[test]
+fn ends_at_a_write_that_takes_nothing(rt: HostRuntime) -> Result<(), Fail> {
+    for at in [1usize, 3, 5, 7] {
+        let (end, writer) = serve_four(&rt, 0, at as u64)?;
+        assert_eq!(rt; end, RunEnd::WriteFailed, "call {at}");
+        assert_eq!(rt; writer.calls, at as u64, "call {at}");
+    }
+    Ok(())
+}
+
+#[test]
+fn reads_pieces_of_4096_bytes_and_none_after_a_fault(rt: HostRuntime) -> Result<(), Fail> {
+    let mut writer = room(&rt)?;
+    let mut reader = FailsOnce {
+        bytes: FOUR,
+        reads: 0,
+        fails_at: 0,
+        longest: 0,
+    };
+    let end = serve_identity(rt.alloc(), "", "", &mut reader, &mut writer);
+    assert_eq!(rt; end, malformed(FrameWhy::BadFlag, 70));
+    assert_eq!(rt; reader.reads, 1);
+    assert_eq!(rt; reader.longest, 4096);
+    Ok(())
+}
+
+#[test]
+fn ends_at_a_read_that_fails_once(rt: HostRuntime) -> Result<(), Fail> {
+    let mut writer = room(&rt)?;
+    let mut reader = FailsOnce {
+        bytes: PROBE,
+        reads: 0,
+        fails_at: 1,
+        longest: 0,
+    };
+    let end = serve_identity(rt.alloc(), "", "", &mut reader, &mut writer);
+    assert_eq!(rt; end, RunEnd::ReadFailed);
+    assert_eq!(rt; reader.reads, 1);
+    assert!(rt; writer.is_empty());
+    Ok(())
+}
+
 #[test]
 fn ends_where_a_read_fails(rt: HostRuntime) -> Result<(), Fail> {
     let mut input = Vec::from_slice(rt.alloc(), PROBE)?;
@@ -337,8 +487,8 @@ impl Read for Waiting<'_> {
         }
         self.waits = true;
         let count = self.bytes.len().min(29).min(buf.len());
-        let (front, rest) = self.bytes.split_at(count);
-        buf[..count].copy_from_slice(front);
+        let (prefix, rest) = self.bytes.split_at(count);
+        buf[..count].copy_from_slice(prefix);
         self.bytes = rest;
         Ok(count)
     }

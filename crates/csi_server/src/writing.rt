@@ -1,70 +1,71 @@
-ghost use Rattle.std.specs.Prelude.{◌≡◌, ◌≤◌, ◌+◌, [], length, drop, true};
+ghost use Rattle.std.specs.Prelude.{◌≡◌, ◌≤◌, ◌+◌, [], length, drop, OnOk};
 ghost use Rattle.std.specs.Io.KnownBytes.{Appends};
-ghost use Rattle.frames_core.specs.Envelope.{reply};
-ghost use Rattle.csi_server.specs.Serving.{WroteFront, fault_frame};
+ghost use Rattle.frames_core.specs.Envelope.{IsReply};
+ghost use Rattle.frames_core.specs.Envelope.{reply as reply_frame};
+ghost use Rattle.csi_server.specs.Serving.{WrotePrefix, fault_frame};
 ghost use Rattle.csi_server.specs.Service.{reply_of, HoldsBody};
 
 use crate::service::Answer;
 use csi_types::Code;
-use frames_core::{FrameFault, fault_text, refusal_frame};
-use std::io::Write;
+use frames_core::{
+    FrameFault, MAX_BODY_BYTES, REPLY_HEAD_BYTES, fault_text, refusal_frame, reply_head,
+};
+use std::io;
+use std::io::{ErrorKind, Write};
 
-// Writes all of the bytes, or says that it failed after a front of them.
-fn put<W: Write>(writer: &mut W, bytes: &[u8]) -> bool
-    ensures all { result ≡ true → Appends (W.contents writer.old) (W.contents writer.new) bytes.now }
-    ensures front { WroteFront (W.contents writer.old) (W.contents writer.new) bytes.now }
+// Writes all of the bytes, or fails after a prefix of them. A write that takes nothing is a failure.
+fn put<W: Write>(writer: &mut W, bytes: &[u8]) -> io::Result<()>
+    ensures all { OnOk result (Appends (W.contents writer.old) (W.contents writer.new) bytes.now) }
+    ensures part { WrotePrefix (W.contents writer.old) (W.contents writer.new) bytes.now }
 {
     let mut at = 0;
     while at < bytes.len() {
         let (_, rest) = bytes.split_at(at);
-        match writer.write(rest) {
-            Ok(n) => {
-                if n == 0 {
-                    return false;
-                }
-                at += n;
-            }
-            Err(_) => return false,
+        let count = writer.write(rest)?;
+        if count == 0 {
+            return Err(io::Error::from(ErrorKind::WriteZero));
         }
+        at += count;
     }
-    true
+    Ok(())
 }
 
 // Writes all of the bytes and flushes.
-fn put_flushed<W: Write>(writer: &mut W, bytes: &[u8]) -> bool
-    ensures all { result ≡ true → Appends (W.contents writer.old) (W.contents writer.new) bytes.now }
-    ensures front { WroteFront (W.contents writer.old) (W.contents writer.new) bytes.now }
+fn put_flushed<W: Write>(writer: &mut W, bytes: &[u8]) -> io::Result<()>
+    ensures all { OnOk result (Appends (W.contents writer.old) (W.contents writer.new) bytes.now) }
+    ensures part { WrotePrefix (W.contents writer.old) (W.contents writer.new) bytes.now }
 {
-    if !put(writer, bytes) {
-        return false;
-    }
-    writer.flush().is_ok()
+    put(writer, bytes)?;
+    writer.flush()
 }
 
-// How many bytes a reply with status 0 has before its body.
-const REPLY_HEAD: usize = 8;
-
 // Writes the head of a reply with status 0 over the bytes before its body.
-fn set_head(frame: &mut Vec<u8>)
-    requires head { 8 ≤ length frame.old.items }
-    requires small { length frame.old.items ≤ 8 + 4194304 }
-    ensures { frame.new.items ≡ reply (record { status = 0; text = []; body = drop 8 frame.old.items }) }
+fn set_head(reply: &mut Vec<u8>)
+    requires head { REPLY_HEAD_BYTES ≤ length reply.old.items }
+    requires small { length reply.old.items ≤ REPLY_HEAD_BYTES + MAX_BODY_BYTES }
+    ensures { reply.new.items ≡ reply_frame (record { status = 0; text = []; body = drop REPLY_HEAD_BYTES reply.old.items }) }
 {
-    let length = ((frame.len() - REPLY_HEAD) as u32).to_be_bytes();
-    let head = [0, 0, 0, 0, length[0], length[1], length[2], length[3]];
-    frame.slice_mut(..REPLY_HEAD).copy_from_slice(&head);
+    let head = reply_head((reply.len() - REPLY_HEAD_BYTES) as u32);
+    reply
+        .slice_mut(..REPLY_HEAD_BYTES)
+        .copy_from_slice(head.bytes());
 }
 
 /// Writes the reply of an answer and flushes. The body goes out with its head in one write, where the writer takes it whole.
-pub(crate) fn put_reply<W: Write>(writer: &mut W, answer: &Answer, frame: &mut Vec<u8>) -> bool
-    requires { HoldsBody answer.now frame.old.items }
-    ensures all { result ≡ true → Appends (W.contents writer.old) (W.contents writer.new) (reply (reply_of answer.now frame.old.items)) }
-    ensures front { WroteFront (W.contents writer.old) (W.contents writer.new) (reply (reply_of answer.now frame.old.items)) }
+pub(crate) fn put_reply<W: Write>(
+    writer: &mut W,
+    answer: &Answer,
+    reply: &mut Vec<u8>,
+) -> io::Result<()>
+    requires { HoldsBody answer.now reply.old.items }
+    ensures all { OnOk result (Appends (W.contents writer.old) (W.contents writer.new) (reply_frame (reply_of answer.now reply.old.items))) }
+    ensures part { WrotePrefix (W.contents writer.old) (W.contents writer.new) (reply_frame (reply_of answer.now reply.old.items)) }
+    ensures formed { IsReply (reply_of answer.now reply.old.items) }
 {
     match answer {
         Answer::Body => {
-            set_head(frame);
-            put_flushed(writer, frame.as_slice())
+            set_head(reply);
+            put_flushed(writer, reply.as_slice())
         }
         Answer::Refused(refusal) => put_flushed(
             writer,
@@ -74,9 +75,9 @@ pub(crate) fn put_reply<W: Write>(writer: &mut W, answer: &Answer, frame: &mut V
 }
 
 /// Writes the frame that answers a fault and flushes.
-pub(crate) fn put_fault<W: Write>(writer: &mut W, fault: &FrameFault) -> bool
-    ensures all { result ≡ true → Appends (W.contents writer.old) (W.contents writer.new) (fault_frame fault.now) }
-    ensures front { WroteFront (W.contents writer.old) (W.contents writer.new) (fault_frame fault.now) }
+pub(crate) fn put_fault<W: Write>(writer: &mut W, fault: &FrameFault) -> io::Result<()>
+    ensures all { OnOk result (Appends (W.contents writer.old) (W.contents writer.new) (fault_frame fault.now)) }
+    ensures part { WrotePrefix (W.contents writer.old) (W.contents writer.new) (fault_frame fault.now) }
 {
     put_flushed(
         writer,

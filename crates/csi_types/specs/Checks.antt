@@ -8,11 +8,11 @@ use Rattle.csi_types.specs.declared.capability.Access.TheVariants as access
 use Rattle.csi_types.specs.declared.capability.Capability.{Capability}
 use Rattle.csi_types.specs.declared.capability.Mount.{Mount}
 use Rattle.csi_types.specs.declared.capacity.CapacityRange.{CapacityRange}
-use Rattle.csi_types.specs.declared.limits.TheConstants.{MAX_TEXT_BYTES, MAX_NODE_ID_BYTES, MAX_MOUNT_FLAGS_BYTES, MAX_MAP_BYTES}
+use Rattle.csi_types.specs.declared.limits.TheConstants.{MAX_ACCESS_MODE, MAX_MOUNT_MODE, MAX_TEXT_BYTES, MAX_NODE_ID_BYTES, MAX_MOUNT_FLAGS_BYTES, MAX_MAP_BYTES}
 use Rattle.csi_types.specs.declared.reason.Reason.{Reason}
 use Rattle.csi_types.specs.declared.reason.Reason.TheVariants.{NameMissing, NameTooLong, NameBanned, CapabilityMissing, AccessTypeMissing, AccessModeUnknown, CapabilityNotSupported, CapacityNegative, MapTooLarge, TextTooLong, SourceNotSupported, TopologyKeysAlike, PreferredNotRequisite, VolumeIdMissing, NodeIdMissing, MaxEntriesNegative}
 use Rattle.csi_types.specs.declared.requests.Request.{Request}
-use Rattle.csi_types.specs.declared.requests.Request.TheVariants.{Create, Delete, Publish, Unpublish, Validate, List as Listing, Capacity}
+use Rattle.csi_types.specs.declared.requests.Request.TheVariants.{PluginInfo, PluginCapabilities, Probe, ControllerCapabilities, Create, Delete, Publish, Unpublish, Validate, List as Listing, Capacity}
 use Rattle.csi_types.specs.declared.topology.Requirement.{Requirement}
 use Rattle.csi_types.specs.Lines.{first_line}
 use Rattle.csi_types.specs.Maps.{TextMap}
@@ -30,13 +30,13 @@ is_mode_to most (Some (negsuc n)) = false
 -- SINGLE_NODE_WRITER 1, SINGLE_NODE_READER_ONLY 2, MULTI_NODE_READER_ONLY 3,
 -- MULTI_NODE_SINGLE_WRITER 4, MULTI_NODE_MULTI_WRITER 5
 abbrev pub is_known_mode : Option ℤ → Bool
-is_known_mode = is_mode_to 5
+is_known_mode = is_mode_to MAX_ACCESS_MODE
 
 -- supported: block with each known mode, mount with those in which no node writes beside others
 abbrev pub is_supported_access : Access → Option ℤ → Bool
 is_supported_access access.Missing mode = false
-is_supported_access access.Block mode = is_mode_to 5 mode
-is_supported_access (access.Mount m) mode = is_mode_to 3 mode
+is_supported_access access.Block mode = is_mode_to MAX_ACCESS_MODE mode
+is_supported_access (access.Mount m) mode = is_mode_to MAX_MOUNT_MODE mode
 
 abbrev pub is_supported : Capability → Bool
 is_supported c = is_supported_access c.access c.mode
@@ -81,110 +81,117 @@ terms (Some r) = r.requisite ++ r.preferred
 abbrev pub prefers_another : Requirement → Bool
 prefers_another r = not (is_empty r.requisite) && list_any (λ p. not (list_any (same_topology p) r.requisite)) r.preferred
 
--- The parts of a request that a line speaks of. A method that isn't named has none.
+-- The parts of a request that the lines speak of.
 
-abbrev pub names : Request → List (List ℕ)
-names (Create r) = r.name ∷ []
-names _ = []
+pub record Parts : Type 0 where
+  pub names : List (List ℕ)
+  -- the list of capabilities, of the calls that have to give one
+  pub required_capabilities : List (List Capability)
+  pub capabilities : List Capability
+  -- the capabilities of a volume that is to be made
+  pub created_capabilities : List Capability
+  pub ranges : List CapacityRange
+  pub requirements : List Requirement
+  pub topologies : List TextMap
+  -- all maps: parameters, secrets, contexts and topologies
+  pub maps : List TextMap
+  pub volume_ids : List (List ℕ)
+  pub node_ids : List (List ℕ)
+  -- the node id, of the call that has to give one
+  pub required_node_ids : List (List ℕ)
+  pub tokens : List (List ℕ)
+  pub most_entries : List ℤ
+  pub has_source : Bool
 
--- the list of capabilities, of the calls that have to give one
-abbrev pub required_capabilities : Request → List (List Capability)
-required_capabilities (Create r) = r.capabilities ∷ []
-required_capabilities (Publish r) = option_to_list r.capability ∷ []
-required_capabilities (Validate r) = r.capabilities ∷ []
-required_capabilities _ = []
+abbrev pub no_parts : Parts
+no_parts = record {
+  names = [];
+  required_capabilities = [];
+  capabilities = [];
+  created_capabilities = [];
+  ranges = [];
+  requirements = [];
+  topologies = [];
+  maps = [];
+  volume_ids = [];
+  node_ids = [];
+  required_node_ids = [];
+  tokens = [];
+  most_entries = [];
+  has_source = false;
+}
 
-abbrev pub capabilities : Request → List Capability
-capabilities (Create r) = r.capabilities
-capabilities (Publish r) = option_to_list r.capability
-capabilities (Validate r) = r.capabilities
-capabilities (Capacity r) = r.capabilities
-capabilities _ = []
-
--- the capabilities of a volume that is to be made
-abbrev pub created_capabilities : Request → List Capability
-created_capabilities (Create r) = r.capabilities
-created_capabilities _ = []
-
-abbrev pub ranges : Request → List CapacityRange
-ranges (Create r) = option_to_list r.range
-ranges _ = []
-
-abbrev pub requirements : Request → List Requirement
-requirements (Create r) = option_to_list r.topology
-requirements _ = []
-
-abbrev pub topologies : Request → List TextMap
-topologies (Create r) = terms r.topology
-topologies (Capacity r) = option_to_list r.topology
-topologies _ = []
-
-abbrev pub maps : Request → List TextMap
-maps (Create r) = r.parameters ∷ r.secrets ∷ topologies (Create r)
-maps (Delete r) = r.secrets ∷ []
-maps (Publish r) = r.secrets ∷ r.context ∷ []
-maps (Unpublish r) = r.secrets ∷ []
-maps (Validate r) = r.context ∷ r.parameters ∷ r.secrets ∷ []
-maps (Capacity r) = r.parameters ∷ topologies (Capacity r)
-maps _ = []
-
-abbrev pub volume_ids : Request → List (List ℕ)
-volume_ids (Delete r) = r.volume_id ∷ []
-volume_ids (Publish r) = r.volume_id ∷ []
-volume_ids (Unpublish r) = r.volume_id ∷ []
-volume_ids (Validate r) = r.volume_id ∷ []
-volume_ids _ = []
-
-abbrev pub tokens : Request → List (List ℕ)
-tokens (Listing r) = r.token ∷ []
-tokens _ = []
-
-abbrev pub node_ids : Request → List (List ℕ)
-node_ids (Publish r) = r.node_id ∷ []
-node_ids (Unpublish r) = r.node_id ∷ []
-node_ids _ = []
-
--- the node id, of the call that has to give one
-abbrev pub required_node_ids : Request → List (List ℕ)
-required_node_ids (Publish r) = r.node_id ∷ []
-required_node_ids _ = []
-
-abbrev pub most_entries : Request → List ℤ
-most_entries (Listing r) = r.max_entries ∷ []
-most_entries _ = []
-
-abbrev pub has_source : Request → Bool
-has_source (Create r) = r.source
-has_source _ = false
+abbrev pub parts : Request → Parts
+parts PluginInfo = no_parts
+parts PluginCapabilities = no_parts
+parts Probe = no_parts
+parts ControllerCapabilities = no_parts
+parts (Create r) = record no_parts {
+  names = r.name ∷ [];
+  required_capabilities = r.capabilities ∷ [];
+  capabilities = r.capabilities;
+  created_capabilities = r.capabilities;
+  ranges = option_to_list r.range;
+  requirements = option_to_list r.topology;
+  topologies = terms r.topology;
+  maps = r.parameters ∷ r.secrets ∷ terms r.topology;
+  has_source = r.source;
+}
+parts (Delete r) = record no_parts { volume_ids = r.volume_id ∷ []; maps = r.secrets ∷ [] }
+parts (Publish r) = record no_parts {
+  required_capabilities = option_to_list r.capability ∷ [];
+  capabilities = option_to_list r.capability;
+  maps = r.secrets ∷ r.context ∷ [];
+  volume_ids = r.volume_id ∷ [];
+  node_ids = r.node_id ∷ [];
+  required_node_ids = r.node_id ∷ [];
+}
+parts (Unpublish r) = record no_parts {
+  maps = r.secrets ∷ [];
+  volume_ids = r.volume_id ∷ [];
+  node_ids = r.node_id ∷ [];
+}
+parts (Validate r) = record no_parts {
+  required_capabilities = r.capabilities ∷ [];
+  capabilities = r.capabilities;
+  maps = r.context ∷ r.parameters ∷ r.secrets ∷ [];
+  volume_ids = r.volume_id ∷ [];
+}
+parts (Listing r) = record no_parts { tokens = r.token ∷ []; most_entries = r.max_entries ∷ [] }
+parts (Capacity r) = record no_parts {
+  capabilities = r.capabilities;
+  topologies = option_to_list r.topology;
+  maps = r.parameters ∷ option_to_list r.topology;
+}
 
 -- The table, in the order in which its lines are answered.
 
-abbrev pub lines : List (Reason × (Request → Bool))
+abbrev pub lines : List (Reason × (Parts → Bool))
 lines =
-    (NameMissing, λ r. list_any is_empty (names r))
-    ∷ (NameTooLong, λ r. list_any (longer_than MAX_TEXT_BYTES) (names r))
-    ∷ (NameBanned, λ r. list_any holds_banned (names r))
-    ∷ (CapabilityMissing, λ r. list_any is_empty (required_capabilities r))
-    ∷ (AccessTypeMissing, λ r. list_any (λ c. is_missing c.access) (capabilities r))
-    ∷ (AccessModeUnknown, λ r. list_any (λ c. not (is_known_mode c.mode)) (capabilities r))
-    ∷ (CapabilityNotSupported, λ r. list_any (λ c. not (is_supported c)) (created_capabilities r))
-    ∷ (CapacityNegative, λ r. list_any is_negative_range (ranges r))
-    ∷ (MapTooLarge, λ r. list_any (λ m. nat_lt MAX_MAP_BYTES (map_bytes m)) (maps r))
+    (NameMissing, λ p. list_any is_empty p.names)
+    ∷ (NameTooLong, λ p. list_any (longer_than MAX_TEXT_BYTES) p.names)
+    ∷ (NameBanned, λ p. list_any holds_banned p.names)
+    ∷ (CapabilityMissing, λ p. list_any is_empty p.required_capabilities)
+    ∷ (AccessTypeMissing, λ p. list_any (λ c. is_missing c.access) p.capabilities)
+    ∷ (AccessModeUnknown, λ p. list_any (λ c. not (is_known_mode c.mode)) p.capabilities)
+    ∷ (CapabilityNotSupported, λ p. list_any (λ c. not (is_supported c)) p.created_capabilities)
+    ∷ (CapacityNegative, λ p. list_any is_negative_range p.ranges)
+    ∷ (MapTooLarge, λ p. list_any (λ m. nat_lt MAX_MAP_BYTES (map_bytes m)) p.maps)
     ∷ (
       TextTooLong,
-      λ r.
-          list_any (longer_than MAX_TEXT_BYTES) (volume_ids r ++ tokens r)
-          || list_any (longer_than MAX_NODE_ID_BYTES) (node_ids r)
-          || list_any (λ c. is_long_access c.access) (capabilities r),
+      λ p.
+          list_any (longer_than MAX_TEXT_BYTES) (p.volume_ids ++ p.tokens)
+          || list_any (longer_than MAX_NODE_ID_BYTES) p.node_ids
+          || list_any (λ c. is_long_access c.access) p.capabilities,
     )
-    ∷ (SourceNotSupported, has_source)
-    ∷ (TopologyKeysAlike, λ r. list_any has_alike_keys (topologies r))
-    ∷ (PreferredNotRequisite, λ r. list_any prefers_another (requirements r))
-    ∷ (VolumeIdMissing, λ r. list_any is_empty (volume_ids r))
-    ∷ (NodeIdMissing, λ r. list_any is_empty (required_node_ids r))
-    ∷ (MaxEntriesNegative, λ r. list_any is_negative (most_entries r))
+    ∷ (SourceNotSupported, λ p. p.has_source)
+    ∷ (TopologyKeysAlike, λ p. list_any has_alike_keys p.topologies)
+    ∷ (PreferredNotRequisite, λ p. list_any prefers_another p.requirements)
+    ∷ (VolumeIdMissing, λ p. list_any is_empty p.volume_ids)
+    ∷ (NodeIdMissing, λ p. list_any is_empty p.required_node_ids)
+    ∷ (MaxEntriesNegative, λ p. list_any is_negative p.most_entries)
     ∷ []
 
 -- what a request is refused for, if for anything
 unfoldable pub checked : Request → Option Reason
-checked request = first_line lines request
+checked request = first_line lines (parts request)

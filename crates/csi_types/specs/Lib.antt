@@ -5,4 +5,5 @@ pub mod Maps
 pub mod Methods
 pub mod Names
 pub mod Reasons
+pub mod Segments
 pub mod Topology

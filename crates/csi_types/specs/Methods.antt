@@ -1,5 +1,6 @@
 -- The paths of the methods (gRPC over HTTP2, 'Requests': a path is the service and the method).
-use Rattle.std.specs.Prelude.{ℕ, List, codes}
+use Rattle.std.specs.Prelude.{ℕ, List, [], ◌∷◌, Option, codes, find}
+use Rattle.std.specs.Str.{bytes_eq}
 use Rattle.csi_types.specs.declared.method.Method.{Method}
 use Rattle.csi_types.specs.declared.method.Method.TheVariants.{GetPluginInfo, GetPluginCapabilities, Probe, CreateVolume, DeleteVolume, ControllerPublishVolume, ControllerUnpublishVolume, ValidateVolumeCapabilities, ListVolumes, GetCapacity, ControllerGetCapabilities}
 
@@ -16,3 +17,23 @@ path_of ValidateVolumeCapabilities = codes "/csi.v1.Controller/ValidateVolumeCap
 path_of ListVolumes = codes "/csi.v1.Controller/ListVolumes"
 path_of GetCapacity = codes "/csi.v1.Controller/GetCapacity"
 path_of ControllerGetCapabilities = codes "/csi.v1.Controller/ControllerGetCapabilities"
+
+-- all methods
+abbrev pub methods : List Method
+methods =
+    GetPluginInfo
+    ∷ GetPluginCapabilities
+    ∷ Probe
+    ∷ CreateVolume
+    ∷ DeleteVolume
+    ∷ ControllerPublishVolume
+    ∷ ControllerUnpublishVolume
+    ∷ ValidateVolumeCapabilities
+    ∷ ListVolumes
+    ∷ GetCapacity
+    ∷ ControllerGetCapabilities
+    ∷ []
+
+-- the method of a path, where one has it
+unfoldable pub method_at : List ℕ → Option Method
+method_at path = find (λ method. bytes_eq path (path_of method)) methods

@@ -1,8 +1,8 @@
 -- Topologies (CSI specification, 'CreateVolume', the message Topology). Keys are case-insensitive:
 -- they are compared with their ASCII letters folded. Values are compared by bytes.
-use Rattle.std.specs.Prelude.{ℕ, Bool, false, ◌||◌, List, [], ◌∷◌, map}
+use Rattle.std.specs.Prelude.{ℕ, Bool, false, ◌||◌, ◌&&◌, List, [], ◌∷◌, map}
 use Rattle.std.specs.FinMap.{entries, from_entries}
-use Rattle.std.specs.List.{list_any}
+use Rattle.std.specs.List.{list_any, list_all}
 use Rattle.std.specs.Str.{str_to_ascii_lowercase}
 use Rattle.csi_types.specs.Maps.{TextMap, same_text, same_map}
 
@@ -26,3 +26,8 @@ folded m = from_entries (map (λ e. (str_to_ascii_lowercase e.0, e.1)) (entries 
 -- the topologies are equal when their keys are folded
 abbrev pub same_topology : TextMap → TextMap → Bool
 same_topology m n = same_map (folded m) (folded n)
+
+-- each segment of the inner topology is one of the outer
+abbrev pub is_within : TextMap → TextMap → Bool
+is_within inner outer =
+    list_all (λ e. list_any (λ f. alike e.0 f.0 && same_text e.1 f.1) (entries outer)) (entries inner)

@@ -20,7 +20,7 @@ pub fn copy_map(alloc: Global, map: &Map) -> Result<Map, AllocError>
     ensures { IfOk result (λ copy. copy ≡ map.now) }
 {
     let mut copy = Map::new(alloc);
-    for (key, value) in map.iter() {
+    for (key, value) in map {
         copy.insert(
             copy_text(alloc, key.as_str())?,
             copy_text(alloc, value.as_str())?,

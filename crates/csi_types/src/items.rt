@@ -95,6 +95,18 @@ impl<T> Items<T> {
     }
 }
 
+impl<'a, T> IntoIterator for &'a Items<T> {
+    type Item = &'a T;
+
+    type IntoIter = Iter<'a, T>;
+
+    ghost into_iter_gives = { λ items it. iter_rest it ≡ items.now };
+
+    fn into_iter(self) -> Iter<'a, T> {
+        self.iter()
+    }
+}
+
 impl<T: PartialEq> PartialEq for Items<T> {
     ghost use Rattle.std.specs.Cmp.Lexicographic.{pointwise, lists_per};
 

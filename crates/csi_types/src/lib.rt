@@ -6,6 +6,7 @@ mod capacity;
 mod code;
 mod copies;
 mod items;
+pub mod laws;
 mod limits;
 mod map;
 mod method;
@@ -25,8 +26,8 @@ pub use code::Code;
 pub use copies::{copy_capability, copy_map, copy_text};
 pub use items::Items;
 pub use limits::{
-    MAX_MAP_BYTES, MAX_MOUNT_FLAGS_BYTES, MAX_NODE_ID_BYTES, MAX_NODES, MAX_NUMBER, MAX_POOL_BYTES,
-    MAX_POOLS, MAX_SEGMENTS, MAX_TEXT_BYTES, MAX_VOLUMES,
+    MAX_ACCESS_MODE, MAX_MAP_BYTES, MAX_MOUNT_FLAGS_BYTES, MAX_MOUNT_MODE, MAX_NODE_ID_BYTES,
+    MAX_NODES, MAX_NUMBER, MAX_POOL_BYTES, MAX_POOLS, MAX_SEGMENTS, MAX_TEXT_BYTES, MAX_VOLUMES,
 };
 pub use map::Map;
 pub use method::{Method, method_of};
@@ -37,5 +38,5 @@ pub use requests::{
 };
 pub use responses::Response;
 pub use text::Text;
-pub use topology::Requirement;
+pub use topology::{Requirement, has_alike_keys, is_within, same_topology};
 pub use volume::{Confirmed, Entry, VolumeInfo};

@@ -102,6 +102,18 @@ impl Map {
     }
 }
 
+impl<'a> IntoIterator for &'a Map {
+    type Item = (&'a Text, &'a Text);
+
+    type IntoIter = Iter<'a, Text, Text>;
+
+    ghost into_iter_gives = { λ m it. it ≡ map.entries m.now };
+
+    fn into_iter(self) -> Iter<'a, Text, Text> {
+        self.iter()
+    }
+}
+
 impl PartialEq for Map {
     ghost use Rattle.csi_types.specs.Maps.{same_map, same_map_per};
 

@@ -1,7 +1,7 @@
 //! The methods of the Identity and the Controller service.
 
 ghost use Rattle.std.specs.Prelude.{◌≡◌, ◌↔◌};
-ghost use Rattle.csi_types.specs.Methods.{path_of};
+ghost use Rattle.csi_types.specs.Methods.{method_at, path_of};
 ghost use Rattle.csi_types.specs.declared.method.Method.{Method};
 
 /// A method (CSI specification, 'RPC Interface').
@@ -54,7 +54,8 @@ impl Method {
 
 /// The method of a path, or `None` where no method has that path.
 pub fn method_of(path: &[u8]) -> Option<Method>
-    ensures { (method : Method) → (result ≡ Some method) ↔ (path.now ≡ path_of method) }
+    ensures at { result ≡ method_at path.now }
+    ensures by_path { (method : Method) → (result ≡ Some method) ↔ (path.now ≡ path_of method) }
 {
     let method = likely_method(path)?;
     (path == method.path().as_bytes()).then_some(method)

@@ -1,4 +1,6 @@
 //! Requests.
+//!
+//! `Debug` shows no secrets: the requests that have some write it by hand, and leave them out.
 
 use crate::capability::Capability;
 use crate::capacity::CapacityRange;
@@ -6,9 +8,10 @@ use crate::items::Items;
 use crate::map::Map;
 use crate::text::Text;
 use crate::topology::Requirement;
+use std::fmt;
 
 /// `CreateVolumeRequest` (CSI specification, 'CreateVolume').
-#[derive(Debug, PartialEq, Eq, Drop)]
+#[derive(PartialEq, Eq, Drop)]
 pub struct CreateVolume {
     /// `name`, field 1.
     pub name: Text,
@@ -26,8 +29,21 @@ pub struct CreateVolume {
     pub topology: Option<Requirement>,
 }
 
+impl fmt::Debug for CreateVolume {
+    fn fmt<W: fmt::Write>(&self, f: &mut fmt::Formatter<W>) -> fmt::Result {
+        f.debug_struct("CreateVolume")
+            .field("name", &self.name)
+            .field("range", &self.range)
+            .field("capabilities", &self.capabilities)
+            .field("parameters", &self.parameters)
+            .field("source", &self.source)
+            .field("topology", &self.topology)
+            .finish_non_exhaustive()
+    }
+}
+
 /// `DeleteVolumeRequest` (CSI specification, 'DeleteVolume').
-#[derive(Debug, PartialEq, Eq, Drop)]
+#[derive(PartialEq, Eq, Drop)]
 pub struct DeleteVolume {
     /// `volume_id`, field 1.
     pub volume_id: Text,
@@ -35,8 +51,16 @@ pub struct DeleteVolume {
     pub secrets: Map,
 }
 
+impl fmt::Debug for DeleteVolume {
+    fn fmt<W: fmt::Write>(&self, f: &mut fmt::Formatter<W>) -> fmt::Result {
+        f.debug_struct("DeleteVolume")
+            .field("volume_id", &self.volume_id)
+            .finish_non_exhaustive()
+    }
+}
+
 /// `ControllerPublishVolumeRequest` (CSI specification, 'ControllerPublishVolume').
-#[derive(Debug, PartialEq, Eq, Drop)]
+#[derive(PartialEq, Eq, Drop)]
 pub struct Publish {
     /// `volume_id`, field 1.
     pub volume_id: Text,
@@ -52,8 +76,20 @@ pub struct Publish {
     pub context: Map,
 }
 
+impl fmt::Debug for Publish {
+    fn fmt<W: fmt::Write>(&self, f: &mut fmt::Formatter<W>) -> fmt::Result {
+        f.debug_struct("Publish")
+            .field("volume_id", &self.volume_id)
+            .field("node_id", &self.node_id)
+            .field("capability", &self.capability)
+            .field("readonly", &self.readonly)
+            .field("context", &self.context)
+            .finish_non_exhaustive()
+    }
+}
+
 /// `ControllerUnpublishVolumeRequest` (CSI specification, 'ControllerUnpublishVolume').
-#[derive(Debug, PartialEq, Eq, Drop)]
+#[derive(PartialEq, Eq, Drop)]
 pub struct Unpublish {
     /// `volume_id`, field 1.
     pub volume_id: Text,
@@ -63,8 +99,17 @@ pub struct Unpublish {
     pub secrets: Map,
 }
 
+impl fmt::Debug for Unpublish {
+    fn fmt<W: fmt::Write>(&self, f: &mut fmt::Formatter<W>) -> fmt::Result {
+        f.debug_struct("Unpublish")
+            .field("volume_id", &self.volume_id)
+            .field("node_id", &self.node_id)
+            .finish_non_exhaustive()
+    }
+}
+
 /// `ValidateVolumeCapabilitiesRequest` (CSI specification, 'ValidateVolumeCapabilities').
-#[derive(Debug, PartialEq, Eq, Drop)]
+#[derive(PartialEq, Eq, Drop)]
 pub struct Validate {
     /// `volume_id`, field 1.
     pub volume_id: Text,
@@ -76,6 +121,17 @@ pub struct Validate {
     pub parameters: Map,
     /// `secrets`, field 5.
     pub secrets: Map,
+}
+
+impl fmt::Debug for Validate {
+    fn fmt<W: fmt::Write>(&self, f: &mut fmt::Formatter<W>) -> fmt::Result {
+        f.debug_struct("Validate")
+            .field("volume_id", &self.volume_id)
+            .field("context", &self.context)
+            .field("capabilities", &self.capabilities)
+            .field("parameters", &self.parameters)
+            .finish_non_exhaustive()
+    }
 }
 
 /// `ListVolumesRequest` (CSI specification, 'ListVolumes').

@@ -1,5 +1,7 @@
 use super::*;
+use std::alloc::Global;
 use std::collections::BTreeMap;
+use std::convert::AsStr;
 use std::test::Fail;
 
 const CODES: &[(Code, u8, &str)] = &[
@@ -181,6 +183,10 @@ fn names(rt: HostRuntime) -> Result<(), Fail> {
     Ok(())
 }
 
+fn bytes_behind<T: AsStr>(text: &T) -> usize {
+    text.as_str().len()
+}
+
 #[test]
 fn texts(rt: HostRuntime) -> Result<(), Fail> {
     let alloc = rt.alloc();
@@ -193,6 +199,7 @@ fn texts(rt: HostRuntime) -> Result<(), Fail> {
     assert_eq!(rt; format!(in alloc; "{text:>8}")?.as_str(), "  zone \u{e9}");
     assert_eq!(rt; copy_text(alloc, "zone \u{e9}")?, text);
     assert!(rt; Text::from_str(alloc, "Z")? < Text::from_str(alloc, "a")?);
+    assert_eq!(rt; bytes_behind(&text), 7);
     assert_eq!(rt; text.into_string().as_str(), "zone \u{e9}");
     Ok(())
 }
@@ -210,6 +217,9 @@ fn lists(rt: HostRuntime) -> Result<(), Fail> {
     assert_eq!(rt; modes.iter().copied().count(), 2);
     assert_eq!(rt; modes, Items::from_vec([Some(1), None].to_vec(alloc)?));
     assert_eq!(rt; modes.as_slice(), [Some(1), None].as_slice());
+    for mode in &modes {
+        assert!(rt; *mode != Some(2));
+    }
     assert_eq!(rt; modes.into_vec().len(), 2);
     Ok(())
 }
@@ -272,6 +282,68 @@ fn requests(rt: HostRuntime) {
     assert!(rt; listing(&rt, 1) != listing(&rt, -1));
 }
 
+fn secrets(alloc: Global) -> Result<Map, Fail> {
+    let mut secrets = Map::new(alloc);
+    secrets.insert(copy_text(alloc, "password")?, copy_text(alloc, "open")?)?;
+    Ok(secrets)
+}
+
+// A request of each kind that has secrets.
+fn secret_requests(alloc: Global) -> Result<[Request; 5], Fail> {
+    Ok([
+        Request::Create(CreateVolume {
+            name: Text::new(alloc),
+            range: None,
+            capabilities: Items::new(alloc),
+            parameters: Map::new(alloc),
+            secrets: secrets(alloc)?,
+            source: false,
+            topology: None,
+        }),
+        Request::Delete(DeleteVolume {
+            volume_id: Text::new(alloc),
+            secrets: secrets(alloc)?,
+        }),
+        Request::Publish(Publish {
+            volume_id: Text::new(alloc),
+            node_id: Text::new(alloc),
+            capability: None,
+            readonly: false,
+            secrets: secrets(alloc)?,
+            context: Map::new(alloc),
+        }),
+        Request::Unpublish(Unpublish {
+            volume_id: Text::new(alloc),
+            node_id: Text::new(alloc),
+            secrets: secrets(alloc)?,
+        }),
+        Request::Validate(Validate {
+            volume_id: Text::new(alloc),
+            context: Map::new(alloc),
+            capabilities: Items::new(alloc),
+            parameters: Map::new(alloc),
+            secrets: secrets(alloc)?,
+        }),
+    ])
+}
+
+const WITHOUT_SECRETS: [&str; 5] = [
+    "Create(CreateVolume { name: Text { string: \"\" }, range: None, capabilities: Items { vec: [] }, parameters: Map { tree: {} }, source: false, topology: None, .. })",
+    "Delete(DeleteVolume { volume_id: Text { string: \"\" }, .. })",
+    "Publish(Publish { volume_id: Text { string: \"\" }, node_id: Text { string: \"\" }, capability: None, readonly: false, context: Map { tree: {} }, .. })",
+    "Unpublish(Unpublish { volume_id: Text { string: \"\" }, node_id: Text { string: \"\" }, .. })",
+    "Validate(Validate { volume_id: Text { string: \"\" }, context: Map { tree: {} }, capabilities: Items { vec: [] }, parameters: Map { tree: {} }, .. })",
+];
+
+#[test]
+fn hidden_secrets(rt: HostRuntime) -> Result<(), Fail> {
+    let alloc = rt.alloc();
+    for (request, text) in secret_requests(alloc)?.iter().zip(&WITHOUT_SECRETS) {
+        assert_eq!(rt; format!(in alloc; "{request:?}")?.as_str(), *text);
+    }
+    Ok(())
+}
+
 #[test]
 fn responses(rt: HostRuntime) {
     assert!(rt; Response::Probe(None) != Response::Probe(Some(false)));
@@ -283,4 +355,37 @@ fn repeated(rt: &HostRuntime, part: &str, times: u8) -> Result<String, Fail> {
         text.push_str(part)?;
     }
     Ok(text)
+}
+
+// Segments `a0=0`, `a1=1` and so on, and one more.
+fn topology(rt: &HostRuntime, count: u8, key: &str, value: &str) -> Result<Map, Fail> {
+    let alloc = rt.alloc();
+    let mut map = Map::new(alloc);
+    for number in 0..count {
+        map.insert(
+            Text::from_string(format!(in alloc; "a{number}")?),
+            Text::from_string(format!(in alloc; "{number}")?),
+        )?;
+    }
+    map.insert(copy_text(alloc, key)?, copy_text(alloc, value)?)?;
+    Ok(map)
+}
+
+// Whether topologies, neither with keys that are alike, are equal.
+fn are_equal(one: &Map, other: &Map) -> bool {
+    !has_alike_keys(one) && !has_alike_keys(other) && same_topology(one, other)
+}
+
+#[test]
+fn topologies(rt: HostRuntime) -> Result<(), Fail> {
+    for count in [1, 32, 33, 200] {
+        let zone = topology(&rt, count, "zone", "b")?;
+        assert!(rt; has_alike_keys(&topology(&rt, count, "A0", "0")?));
+        assert!(rt; are_equal(&zone, &topology(&rt, count, "ZONE", "b")?));
+        assert!(rt; !are_equal(&zone, &topology(&rt, count, "zone", "B")?));
+        let fewer = topology(&rt, count - 1, "Zone", "b")?;
+        assert!(rt; is_within(&fewer, &zone));
+        assert!(rt; !is_within(&zone, &fewer));
+    }
+    Ok(())
 }

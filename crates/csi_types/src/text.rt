@@ -5,6 +5,7 @@ ghost use Rattle.std.specs.String.{string_bytes};
 
 use std::alloc::{AllocError, Global};
 use std::cmp::Ordering;
+use std::convert::AsStr;
 use std::fmt;
 use std::marker::Model;
 
@@ -93,6 +94,14 @@ impl Text {
 impl fmt::Display for Text {
     fn fmt<W: fmt::Write>(&self, f: &mut fmt::Formatter<W>) -> fmt::Result {
         fmt::Display::fmt(self.as_str(), f)
+    }
+}
+
+impl AsStr for Text {
+    ghost text = { λ a. a };
+
+    fn as_str(&self) -> &str {
+        Text::as_str(self)
     }
 }
 

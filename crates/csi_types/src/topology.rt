@@ -1,7 +1,27 @@
-//! Where a volume may stand.
+//! Where a volume may stand, and topologies compared.
+//!
+//! Keys are compared with their ASCII letters folded, values by bytes. No function here takes
+//! memory. Each takes time little more than linear for topologies of 4,096 bytes and less; for
+//! larger ones it is right, and may compare all pairs of their segments.
+
+mod segments;
+
+ghost use Rattle.std.specs.Prelude.{◌≡◌, ◌&&◌, IsPermutation, IsSorted, false, map, true, take};
+ghost use Rattle.std.specs.FinMap.{entries};
+ghost use Rattle.std.specs.List.{list_any};
+ghost use Rattle.std.specs.Ordering.{nat_cmp, on};
+ghost use Rattle.std.specs.Cmp.Lexicographic.{slice_cmp};
+ghost use Rattle.csi_types.specs.Maps.{same_text};
+ghost use Rattle.csi_types.specs.Segments.{entry_of, folded_key};
+ghost use Rattle.csi_types.specs.Topology.{alike, some_two, has_alike_keys, is_within, same_topology};
 
 use crate::items::Items;
 use crate::map::Map;
+use crate::text::Text;
+use segments::{MOST_SEGMENTS, Segment, sort_segments};
+
+// Segments that are compared pair by pair.
+const FEW_SEGMENTS: usize = 32;
 
 /// `TopologyRequirement` (CSI specification, 'CreateVolume').
 ///
@@ -12,4 +32,137 @@ pub struct Requirement {
     pub requisite: Items<Map>,
     /// `preferred`, field 2: the first of these that can be served is taken.
     pub preferred: Items<Map>,
+}
+
+/// Whether two keys of a topology are equal when their ASCII letters are folded.
+pub fn has_alike_keys(topology: &Map) -> bool
+    ensures { result ≡ has_alike_keys topology.now }
+{
+    if topology.len() <= FEW_SEGMENTS {
+        has_alike_pair(topology)
+    } else {
+        has_alike_neighbours(topology)
+    }
+}
+
+// Compares each key with each before it.
+fn has_alike_pair(topology: &Map) -> bool
+    ensures { result ≡ has_alike_keys topology.now }
+{
+    topology.iter().enumerate().any(|(index, (key, _))| is_key_alike_before(topology, index, key))
+}
+
+// Whether one of the first `count` keys is like this one.
+fn is_key_alike_before(topology: &Map, count: usize, key: &Text) -> bool
+    ensures { result ≡ list_any (λ e. alike e.0 key.now) (take count (entries topology.now)) }
+{
+    topology
+        .iter()
+        .take(count)
+        .any(|(earlier, _)| are_alike(earlier, key))
+}
+
+// Compares each key with the next in order. The segments in order are a large local.
+#[inline(never)]
+fn has_alike_neighbours(topology: &Map) -> bool
+    ensures { result ≡ has_alike_keys topology.now }
+{
+    let Some((key, value)) = topology.iter().next() else {
+        return has_alike_pair(topology);
+    };
+    let mut room = [Segment { key, value }; MOST_SEGMENTS];
+    let Some(segments) = room.get_mut(..topology.len()) else {
+        return has_alike_pair(topology);
+    };
+    sort_segments(segments, topology);
+    has_tied_neighbours(segments)
+}
+
+// Whether two segments in order have keys that are alike: then two neighbours have.
+fn has_tied_neighbours(segments: &[Segment<'_>]) -> bool
+    requires { IsSorted (on folded_key (slice_cmp nat_cmp)) segments.now }
+    ensures { result ≡ some_two (λ e f. alike e.0 f.0) (map entry_of segments.now) }
+{
+    !segments.is_sorted_by(|one, other| one < other)
+}
+
+/// Whether each segment of the one topology is one of the other.
+pub fn is_within(inner: &Map, outer: &Map) -> bool
+    ensures { result ≡ is_within inner.now outer.now }
+{
+    if outer.len() <= FEW_SEGMENTS {
+        is_within_few(inner, outer)
+    } else {
+        is_within_many(inner, outer)
+    }
+}
+
+// Compares each segment with each.
+fn is_within_few(inner: &Map, outer: &Map) -> bool
+    ensures { result ≡ is_within inner.now outer.now }
+{
+    inner
+        .iter()
+        .all(|(key, value)| has_segment(outer, key, value))
+}
+
+// Looks for each segment among those in order, which are a large local.
+#[inline(never)]
+fn is_within_many(inner: &Map, outer: &Map) -> bool
+    ensures { result ≡ is_within inner.now outer.now }
+{
+    let Some((key, value)) = outer.iter().next() else {
+        return is_within_few(inner, outer);
+    };
+    let mut room = [Segment { key, value }; MOST_SEGMENTS];
+    let Some(segments) = room.get_mut(..outer.len()) else {
+        return is_within_few(inner, outer);
+    };
+    sort_segments(segments, outer);
+    let segments: &[Segment<'_>] = segments;
+    inner
+        .iter()
+        .all(|(key, value)| is_found(outer, segments, key, value))
+}
+
+// Whether a segment is one of the topology, whose segments stand in order besides. Where the one
+// that is found has another value, there may be others with such a key.
+fn is_found(topology: &Map, segments: &[Segment<'_>], key: &Text, value: &Text) -> bool
+    requires { IsPermutation (entries topology.now) (map entry_of segments.now) }
+    ensures { result ≡ list_any (λ f. alike key.now f.0 && same_text value.now f.1) (entries topology.now) }
+{
+    is_among(segments, key, value) || has_segment(topology, key, value)
+}
+
+// Whether bisection finds a segment; it may miss one whose key is like another's.
+fn is_among(segments: &[Segment<'_>], key: &Text, value: &Text) -> bool
+    ensures { result ≡ true → list_any (λ f. alike key.now f.0 && same_text value.now f.1) (map entry_of segments.now) ≡ true }
+{
+    match segments.binary_search(&Segment { key, value }) {
+        Ok(place) => value == segments[place].value,
+        Err(_) => false,
+    }
+}
+
+fn has_segment(topology: &Map, key: &Text, value: &Text) -> bool
+    ensures { result ≡ list_any (λ f. alike key.now f.0 && same_text value.now f.1) (entries topology.now) }
+{
+    topology
+        .iter()
+        .any(|(other, set)| are_alike(key, other) && value == set)
+}
+
+/// Whether topologies are equal when their keys are folded. Neither has two keys that are alike.
+pub fn same_topology(one: &Map, other: &Map) -> bool
+    requires one { has_alike_keys one.now ≡ false }
+    requires other { has_alike_keys other.now ≡ false }
+    ensures { result ≡ same_topology one.now other.now }
+{
+    is_within(one, other) && is_within(other, one)
+}
+
+fn are_alike(one: &Text, other: &Text) -> bool
+    ensures { result ≡ alike one.now other.now }
+{
+    one.as_str().eq_ignore_ascii_case(other.as_str())
 }

@@ -1,4 +1,4 @@
--- What breaks a front of a stream breaks the longer stream, and the other way round once it is seen.
+-- What breaks a prefix of a stream breaks the longer stream, and the other way round once it is seen.
 use Rattle.std.proofs.Common.{◌≡◌, ℕ, ◌+◌, ◌-◌, ◌<◌, ◌≤◌, List, [], ◌++◌, length, take, drop, get_or, refl, sym, arith, length-append, inl, inr}
 use Rattle.std.proofs.lemmas.List.{get_or_append_left, take-append-drop, length-take}
 use Rattle.std.proofs.lemmas.Bool.{cases_lt}
@@ -71,17 +71,17 @@ Breaks-shorter bytes more TooLong at h s =
     (omega (arith, h.0), s, omega (arith, h.2))
 Breaks-shorter bytes more EndOfInput at h s = absurd h
 
--- a break that the front doesn't have is seen with the last byte
+-- a break that the prefix doesn't have is seen with the last byte
 pub Breaks_last : (bytes : List ℕ) (why : FrameWhy) (at : ℕ) → 0 < length bytes → IsUnbroken (take (length bytes - 1) bytes) → Breaks bytes why at → seen why at ≡ length bytes
 unfolding IsUnbroken
-Breaks_last bytes why at some front h =
+Breaks_last bytes why at some prefix h =
     let cut = length bytes - 1 in
     let le = Breaks-seen bytes why at h in
     let len : length (take cut bytes) ≡ cut = omega (arith, length-take cut bytes) in
     let whole = take-append-drop cut bytes in
     elim (cases_lt cut (seen why at)) [
       | inl later ↦ omega arith
-      | inr within ↦ absurd (front why at (Breaks-shorter (take cut bytes) (drop cut bytes) why at (rw whole h) (omega arith)))
+      | inr within ↦ absurd (prefix why at (Breaks-shorter (take cut bytes) (drop cut bytes) why at (rw whole h) (omega arith)))
     ]
 
 -- of two breaks that are seen with the same byte, neither has the lesser place
@@ -104,9 +104,9 @@ seen_alike bytes TooLong at BadFlag place h g s t = omega (arith, h.0, g.0)
 seen_alike bytes TooLong at TooLong place h g s t = omega arith
 
 pub BreaksFirst_last : (bytes : List ℕ) (why : FrameWhy) (at : ℕ) → 0 < length bytes → IsUnbroken (take (length bytes - 1) bytes) → Breaks bytes why at → BreaksFirst bytes why at
-BreaksFirst_last bytes why at some front h = record {
+BreaksFirst_last bytes why at some prefix h = record {
   breaks = h;
-  least = λ other place g. seen_alike bytes why at other place h g (Breaks_last bytes why at some front h) (Breaks_last bytes other place some front g);
+  least = λ other place g. seen_alike bytes why at other place h g (Breaks_last bytes why at some prefix h) (Breaks_last bytes other place some prefix g);
 }
 
 pub record LastIsRight (bytes : List ℕ) : Type 0 where
@@ -131,7 +131,7 @@ right_not_broken bytes EndOfInput at right s h = h
 
 pub IsUnbroken_last : (bytes : List ℕ) → 0 < length bytes → IsUnbroken (take (length bytes - 1) bytes) → LastIsRight bytes → IsUnbroken bytes
 unfolding IsUnbroken
-IsUnbroken_last bytes some front right why at h = right_not_broken bytes why at right (Breaks_last bytes why at some front h) h
+IsUnbroken_last bytes some prefix right why at h = right_not_broken bytes why at right (Breaks_last bytes why at some prefix h) h
 
 pub nil_unbroken : IsUnbroken []
 unfolding IsUnbroken Breaks

@@ -5,11 +5,11 @@ use Rattle.std.proofs.lemmas.Bool.{cases_lt}
 use Rattle.frames_core.specs.declared.fault.FrameWhy.{FrameWhy}
 use Rattle.frames_core.specs.declared.fault.FrameWhy.TheVariants.{BadPathLength, BadPath, BadFlag, TooLong}
 use Rattle.frames_core.specs.Envelope.{CallBytes, IsCall, IsPathByte, frame}
-use Rattle.frames_core.specs.Header.{IsWhole, IsShort, call_in}
+use Rattle.frames_core.specs.Head.{IsWhole, IsShort, call_in}
 use Rattle.frames_core.specs.Stream.{Breaks, BreaksFirst, BeginsFrame, IsUnbroken, End, Clean, Fault, Open, Ends, HasReading, frames, path_length, message_length}
 use Rattle.frames_core.proofs.Breaking.{nil_unbroken, BreaksFirst_last, BreaksFirst-longer, LastIsRight, IsUnbroken_last, path_length-append, message_length-append}
 use Rattle.frames_core.proofs.Frames.{IsBytes, IsBytes-take, IsBytes-drop, whole_is_frame, is_unfinished, length-frame}
-use Rattle.frames_core.proofs.Looking.{front_unbroken}
+use Rattle.frames_core.proofs.Looking.{prefix_unbroken}
 
 same_or_not : (a b : ℕ) → (a ≡ b) ⊎ (a ≢ b)
 same_or_not a b =
@@ -102,27 +102,27 @@ abbrev BreaksOrNot : List ℕ → Type 0
 BreaksOrNot bytes = ((why : FrameWhy) × (at : ℕ) × BreaksFirst bytes why at) ⊎ IsUnbroken bytes
 
 one_more : (bytes : List ℕ) → 0 < length bytes → IsUnbroken (take (length bytes - 1) bytes) → BreaksOrNot bytes
-one_more bytes some front =
+one_more bytes some prefix =
     elim (last_or_not bytes) [
-      | inl broken ↦ inl (broken.0, broken.1, BreaksFirst_last bytes broken.0 broken.1 some front broken.2)
-      | inr right ↦ inr (IsUnbroken_last bytes some front right)
+      | inl broken ↦ inl (broken.0, broken.1, BreaksFirst_last bytes broken.0 broken.1 some prefix broken.2)
+      | inr right ↦ inr (IsUnbroken_last bytes some prefix right)
     ]
 
-front_breaks_or_not : (n : ℕ) (bytes : List ℕ) → n ≤ length bytes → BreaksOrNot (take n bytes)
-front_breaks_or_not zero bytes within = inr nil_unbroken
-front_breaks_or_not (suc n) bytes within =
+prefix_breaks_or_not : (n : ℕ) (bytes : List ℕ) → n ≤ length bytes → BreaksOrNot (take n bytes)
+prefix_breaks_or_not zero bytes within = inr nil_unbroken
+prefix_breaks_or_not (suc n) bytes within =
     let next : suc n ≡ n + 1 = omega arith in
     let whole : take (suc n) bytes ≡ take n bytes ++ get_or bytes n 0 ∷ [] = ap (λ (k : ℕ). take k bytes) next ∙ take_more bytes n 0 (omega arith) in
     let len : length (take (suc n) bytes) ≡ suc n = omega (arith, length-take (suc n) bytes) in
     let cut : length (take (suc n) bytes) - 1 ≡ n = omega arith in
-    let front : take (length (take (suc n) bytes) - 1) (take (suc n) bytes) ≡ take n bytes = ap (λ (k : ℕ). take k (take (suc n) bytes)) cut ∙ take-take n (suc n) bytes (omega arith) in
-    elim (front_breaks_or_not n bytes (omega arith)) [
+    let prefix : take (length (take (suc n) bytes) - 1) (take (suc n) bytes) ≡ take n bytes = ap (λ (k : ℕ). take k (take (suc n) bytes)) cut ∙ take-take n (suc n) bytes (omega arith) in
+    elim (prefix_breaks_or_not n bytes (omega arith)) [
       | inl broken ↦ inl (broken.0, broken.1, subst (λ (x : List ℕ). BreaksFirst x broken.0 broken.1) (sym whole) (BreaksFirst-longer (take n bytes) (get_or bytes n 0 ∷ []) broken.0 broken.1 broken.2))
-      | inr unbroken ↦ one_more (take (suc n) bytes) (omega arith) (subst IsUnbroken (sym front) unbroken)
+      | inr unbroken ↦ one_more (take (suc n) bytes) (omega arith) (subst IsUnbroken (sym prefix) unbroken)
     ]
 
 breaks_or_not : (bytes : List ℕ) → BreaksOrNot bytes
-breaks_or_not bytes = subst BreaksOrNot (take_all (length bytes) bytes (omega arith)) (front_breaks_or_not (length bytes) bytes (omega arith))
+breaks_or_not bytes = subst BreaksOrNot (take_all (length bytes) bytes (omega arith)) (prefix_breaks_or_not (length bytes) bytes (omega arith))
 
 -- ---- what stands first
 
@@ -130,14 +130,14 @@ unbroken_begins : (bytes : List ℕ) → IsBytes bytes → IsUnbroken bytes → 
 unfolding IsWhole
 unbroken_begins bytes fits unbroken head all =
     let n = 7 + path_length bytes + message_length bytes in
-    let front = take n bytes in
-    let whole : front ++ drop n bytes ≡ bytes = take-append-drop n bytes in
-    let len : length front ≡ n = omega (arith, length-take n bytes) in
-    let p : path_length bytes ≡ path_length front = ap path_length (sym whole) ∙ path_length-append front (drop n bytes) (omega arith) in
-    let m : message_length bytes ≡ message_length front = ap message_length (sym whole) ∙ message_length-append front (drop n bytes) (omega arith) (omega arith) in
-    let is : IsWhole front = (omega arith, omega arith) in
-    let call = whole_is_frame front (IsBytes-take n bytes fits) (front_unbroken front (drop n bytes) (subst IsUnbroken (sym whole) unbroken)) is in
-    (call_in front, drop n bytes, call.0, sym whole ∙ ap (λ (x : List ℕ). x ++ drop n bytes) call.1)
+    let prefix = take n bytes in
+    let whole : prefix ++ drop n bytes ≡ bytes = take-append-drop n bytes in
+    let len : length prefix ≡ n = omega (arith, length-take n bytes) in
+    let p : path_length bytes ≡ path_length prefix = ap path_length (sym whole) ∙ path_length-append prefix (drop n bytes) (omega arith) in
+    let m : message_length bytes ≡ message_length prefix = ap message_length (sym whole) ∙ message_length-append prefix (drop n bytes) (omega arith) (omega arith) in
+    let is : IsWhole prefix = (omega arith, omega arith) in
+    let call = whole_is_frame prefix (IsBytes-take n bytes fits) (prefix_unbroken prefix (drop n bytes) (subst IsUnbroken (sym whole) unbroken)) is in
+    (call_in prefix, drop n bytes, call.0, sym whole ∙ ap (λ (x : List ℕ). x ++ drop n bytes) call.1)
 
 short_or_begins : (bytes : List ℕ) → IsBytes bytes → IsUnbroken bytes → IsShort bytes ⊎ BeginsFrame bytes
 unfolding IsShort

@@ -8,7 +8,7 @@ use Rattle.frames_core.specs.declared.fault.FrameWhy.{FrameWhy}
 use Rattle.frames_core.specs.declared.fault.FrameWhy.TheVariants.{BadPathLength, BadPath, BadFlag, TooLong, EndOfInput}
 use Rattle.frames_core.specs.Envelope.{CallBytes, IsPathByte, IsCall, frame}
 use Rattle.frames_core.specs.Stream.{path_length, message_length, Breaks, IsUnbroken, BreaksFirst, IsUnfinished, BeginsFrame, FaultAt}
-use Rattle.frames_core.specs.Header.{IsWhole, IsShort, call_in}
+use Rattle.frames_core.specs.Head.{IsWhole, IsShort, call_in}
 
 abbrev pub IsBytes : List ℕ → Type 0
 IsBytes bytes = (i : ℕ) → get_or bytes i 0 < 256
@@ -122,7 +122,7 @@ whole_is_frame bytes fits unbroken whole =
     let spelled : bytes ≡ frame call = sym (frame_is call n m (take 2 bytes) (take 4 (drop (3 + n) bytes)) path-len message-len first third ∙ cut_in_five bytes n all parts.flag_zero) in
     subst (λ (c : CallBytes). IsCall c × (bytes ≡ frame c)) (sym same) (good, spelled)
 
--- ---- what a frame of a call is, as a front of a stream
+-- ---- what a frame of a call is, as a prefix of a stream
 
 pub frame-append : (call : CallBytes) (more : List ℕ) → frame call ++ more ≡ to_be_bytes w16 (length call.path) ++ (call.path ++ (0 ∷ (to_be_bytes w32 (length call.message) ++ (call.message ++ more))))
 unfolding frame
@@ -193,7 +193,7 @@ broken_no_frame bytes call BadFlag at good begins h =
 broken_no_frame bytes call TooLong at good begins h = omega (arith, h.2, begins.message_is, good.message_short)
 broken_no_frame bytes call EndOfInput at good begins h = h
 
--- where bytes are short of a frame, no front of them is one
+-- where bytes are short of a frame, no prefix of them is one
 pub short_no_frame : (bytes : List ℕ) (call : CallBytes) (more : List ℕ) → IsShort bytes → IsCall call → bytes ≡ frame call ++ more → ⊥
 unfolding IsShort
 short_no_frame bytes call more short good e =

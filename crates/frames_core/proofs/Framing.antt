@@ -1,5 +1,5 @@
 -- What a framer's invariant says.
-use Rattle.std.proofs.Common.{◌≤◌, ◌-◌, ◌++◌, ◌≡◌, ℕ, ◌+◌, ◌<◌, ◌^◌, List, [], length, take, Option, Some, None, refl, sym, ap, subst, ◌∙◌, arith, inl}
+use Rattle.std.proofs.Common.{◌≤◌, ◌-◌, ◌++◌, ◌≡◌, ℕ, ◌+◌, ◌<◌, ◌^◌, List, [], length, Option, Some, None, refl, sym, subst, arith, inl}
 use Rattle.std.specs.Prelude.{IsNone, MatchOption}
 use Rattle.std.specs.Prelude.{IfSome, is_some, true}
 use Rattle.frames_core.specs.declared.call.Call.{Call}
@@ -7,10 +7,10 @@ use Rattle.frames_core.specs.declared.fault.FrameFault.{FrameFault}
 use Rattle.frames_core.specs.declared.fault.FrameWhy.{FrameWhy}
 use Rattle.frames_core.specs.Envelope.{IsCall, bytes_of, frame}
 use Rattle.frames_core.specs.Stream.{BreaksFirst, FaultAt, IsUnbroken, IsUnfinished, BeginsFrame}
-use Rattle.frames_core.specs.Header.{IsShort}
+use Rattle.frames_core.specs.Head.{IsShort}
 use Rattle.frames_core.specs.Framer.{FramerState, IsFrame, IsFramer}
 use Rattle.frames_core.proofs.Breaking.{BreaksFirst-longer, nil_unbroken}
-use Rattle.frames_core.proofs.Frames.{fault_of_break, fault_no_frame, frame_begins, is_unfinished, short_room, nil_short}
+use Rattle.frames_core.proofs.Frames.{fault_of_break, fault_no_frame, frame_begins, is_unfinished, nil_short}
 
 pub empty_framer : (past : ℕ) → past < 2 ^ 63 → IsFramer past [] None
 empty_framer past few = record { few = omega arith; faults = (nil_unbroken, inl nil_short) }
@@ -54,33 +54,6 @@ pub given_up : (s : FramerState) → IsGood s → IsFrame s.held → IsFramer (s
 given_up s h f =
     let e = known_none s.past s.held s.fault h (frame_of s.held f) in
     (rw e (empty_framer (s.past + length s.held) h.few), e)
-
--- the parts of a framer that takes a byte
-pub record Opened (s : FramerState) (items : List ℕ) (filled past : ℕ) (known : Option FrameFault) : Type 0 where
-  pub held_is : take filled items ≡ s.held
-  pub held_long : length s.held ≡ filled
-  pub past_is : past ≡ s.past
-  pub known_is : known ≡ None
-  pub room : filled < length items
-  pub unbroken : IsUnbroken s.held
-
-abbrev state : ℕ → List ℕ → Option FrameFault → FramerState
-state past held known = record { past = past; held = held; fault = known }
-
-pub opened : (s : FramerState) (items : List ℕ) (filled past : ℕ) (known : Option FrameFault) → state past (take filled items) known ≡ s → length items ≡ 1048711 → length (take filled items) ≡ filled → IsFramer past (take filled items) known → s.fault ≡ None → IsShort s.held → Opened s items filled past known
-opened s items filled past known is long filled-is h unknown short =
-    let good : IsGood s = subst (λ (s : FramerState). IsGood s) is h in
-    let unbroken : IsUnbroken s.held = unbroken_unknown s.past s.held s.fault good unknown in
-    let few = short_room s.held unbroken short in
-    let len : length s.held ≡ filled = ap (λ (s : FramerState). length s.held) (sym is) ∙ filled-is in
-    record {
-      held_is = ap (λ (s : FramerState). s.held) is;
-      held_long = len;
-      past_is = ap (λ (s : FramerState). s.past) is;
-      known_is = ap (λ (s : FramerState). s.fault) is ∙ unknown;
-      room = omega arith;
-      unbroken = unbroken;
-    }
 
 pub none_unfinished : (held : List ℕ) → held ≡ [] → IsUnfinished held
 none_unfinished held none = subst IsUnfinished (sym none) (is_unfinished [] nil_unbroken nil_short)

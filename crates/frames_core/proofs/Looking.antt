@@ -1,4 +1,4 @@
--- What is known of a front whose head was looked at.
+-- What is known of a prefix whose head was looked at.
 use Rattle.std.proofs.Common.{◌≡◌, ℕ, ◌+◌, ◌-◌, ◌<◌, ◌≤◌, List, [], ◌++◌, length, take, drop, get_or, Some, None, refl, sym, ap, subst, ◌∙◌, arith, length-append, append_assoc, inl, inr, ◌⊎◌}
 use Rattle.std.specs.Prelude.{min}
 use Rattle.std.proofs.lemmas.List.{take-append-drop, length-take, length-drop, take_all, take-take, take_at, append-nil}
@@ -9,10 +9,10 @@ use Rattle.frames_core.specs.declared.fault.FrameWhy.TheVariants.{BadPathLength,
 use Rattle.frames_core.specs.declared.fault.FrameFault.{FrameFault}
 use Rattle.frames_core.specs.Envelope.{IsPathByte, IsCall, CallBytes, frame}
 use Rattle.frames_core.specs.Stream.{path_length, message_length, Breaks, IsUnbroken, BreaksFirst, IsUnfinished, BeginsFrame}
-use Rattle.frames_core.specs.Header.{IsWhole, IsShort, ArePathBytes, BrokenFront, WholeFront}
+use Rattle.frames_core.specs.Head.{IsWhole, IsShort, ArePathBytes, BrokenPrefix, WholePrefix}
 use Rattle.frames_core.proofs.Breaking.{seen, Breaks-seen, Breaks-longer, Breaks-shorter, BreaksFirst_last, path_length-append, message_length-append}
 use Rattle.frames_core.proofs.Frames.{path_byte_of_not, begins_with, BeginsWith, length-frame, broken_rest, is_unfinished, Parts_of, short_room, path_short_of}
-use Rattle.frames_core.specs.Front.{TakesFront, Misses}
+use Rattle.frames_core.specs.Prefix.{TakesPrefix, Misses}
 
 -- the first bytes of a rest, as far as they were looked at
 pub record CheckedTo (bytes : List ℕ) (n : ℕ) : Type 0 where
@@ -59,23 +59,23 @@ path_checked bytes n end to within unbroken is later k two inside lt =
     ]
 
 -- where all before the break is right, the break is the first
-pub broken_front : (bytes : List ℕ) (why : FrameWhy) (at n : ℕ) (f : FrameFault) → f ≡ record { why = why; at = at } → 0 < n → n ≤ length bytes → seen why at ≤ n → CheckedTo bytes (n - 1) → Breaks bytes why at → BrokenFront bytes f n
-broken_front bytes why at n f is some within s c h =
+pub broken_prefix : (bytes : List ℕ) (why : FrameWhy) (at n : ℕ) (f : FrameFault) → f ≡ record { why = why; at = at } → 0 < n → n ≤ length bytes → seen why at ≤ n → CheckedTo bytes (n - 1) → Breaks bytes why at → BrokenPrefix bytes f n
+broken_prefix bytes why at n f is some within s c h =
     let len : length (take n bytes) ≡ n = omega (arith, length-take n bytes) in
     let cut : length (take n bytes) - 1 ≡ n - 1 = omega arith in
     let before = unbroken_to bytes (n - 1) c in
     let same : take (length (take n bytes) - 1) (take n bytes) ≡ take (n - 1) bytes = ap (λ (k : ℕ). take k (take n bytes)) cut ∙ take-take (n - 1) n bytes (omega arith) in
-    let front : Breaks (take n bytes) why at = Breaks-shorter (take n bytes) (drop n bytes) why at (subst (λ (x : List ℕ). Breaks x why at) (sym (take-append-drop n bytes)) h) (omega arith) in
+    let prefix : Breaks (take n bytes) why at = Breaks-shorter (take n bytes) (drop n bytes) why at (subst (λ (x : List ℕ). Breaks x why at) (sym (take-append-drop n bytes)) h) (omega arith) in
     record {
       some = some;
       within = within;
       before = before;
-      breaks = rw is (BreaksFirst_last (take n bytes) why at (omega arith) (subst IsUnbroken (sym same) before) front);
+      breaks = rw is (BreaksFirst_last (take n bytes) why at (omega arith) (subst IsUnbroken (sym same) before) prefix);
     }
 
-pub whole_front : (bytes : List ℕ) (n p m : ℕ) → p ≡ path_length bytes → m ≡ message_length bytes → n ≡ 7 + p + m → n ≤ length bytes → CheckedTo bytes n → WholeFront bytes n
+pub whole_prefix : (bytes : List ℕ) (n p m : ℕ) → p ≡ path_length bytes → m ≡ message_length bytes → n ≡ 7 + p + m → n ≤ length bytes → CheckedTo bytes n → WholePrefix bytes n
 unfolding IsWhole
-whole_front bytes n p m pe me is within c =
+whole_prefix bytes n p m pe me is within c =
     let len : length (take n bytes) ≡ n = omega (arith, length-take n bytes) in
     let whole = take-append-drop n bytes in
     let pl : path_length bytes ≡ path_length (take n bytes) = ap path_length (sym whole) ∙ path_length-append (take n bytes) (drop n bytes) (omega arith) in
@@ -84,15 +84,15 @@ whole_front bytes n p m pe me is within c =
 
 -- ---- fronts of fronts
 
-pub front_unbroken : (front back : List ℕ) → IsUnbroken (front ++ back) → IsUnbroken front
+pub prefix_unbroken : (prefix back : List ℕ) → IsUnbroken (prefix ++ back) → IsUnbroken prefix
 unfolding IsUnbroken
-front_unbroken front back h why at b = h why at (Breaks-longer front back why at b)
+prefix_unbroken prefix back h why at b = h why at (Breaks-longer prefix back why at b)
 
-front_begins : (front back : List ℕ) → BeginsFrame front → BeginsFrame (front ++ back)
-front_begins front back b = (b.0, b.1 ++ back, b.2, ap (λ (x : List ℕ). x ++ back) b.3 ∙ append_assoc (frame b.0) b.1 back)
+front_begins : (prefix back : List ℕ) → BeginsFrame prefix → BeginsFrame (prefix ++ back)
+front_begins prefix back b = (b.0, b.1 ++ back, b.2, ap (λ (x : List ℕ). x ++ back) b.3 ∙ append_assoc (frame b.0) b.1 back)
 
-pub front_unfinished : (front back : List ℕ) → IsUnfinished (front ++ back) → IsUnfinished front
-front_unfinished front back h = record { unbroken = front_unbroken front back h.unbroken; frameless = λ b. h.frameless (front_begins front back b) }
+pub front_unfinished : (prefix back : List ℕ) → IsUnfinished (prefix ++ back) → IsUnfinished prefix
+front_unfinished prefix back h = record { unbroken = prefix_unbroken prefix back h.unbroken; frameless = λ b. h.frameless (front_begins prefix back b) }
 
 whole_no_less : (bytes : List ℕ) (call : CallBytes) (more : List ℕ) → IsWhole bytes → IsCall call → bytes ≡ frame call ++ more → length bytes ≡ length (frame call)
 unfolding IsWhole
@@ -100,25 +100,25 @@ whole_no_less bytes call more whole good e =
     let b : BeginsWith bytes call = rw e (begins_with call more good) in
     omega (arith, whole.1, b.path_is, b.message_is, length-frame call)
 
-pub whole_unfinished : (front back : List ℕ) → 0 < length back → IsUnbroken (front ++ back) → IsWhole (front ++ back) → IsUnfinished front
+pub whole_unfinished : (prefix back : List ℕ) → 0 < length back → IsUnbroken (prefix ++ back) → IsWhole (prefix ++ back) → IsUnfinished prefix
 unfolding front_begins
-whole_unfinished front back some unbroken whole = record {
-  unbroken = front_unbroken front back unbroken;
+whole_unfinished prefix back some unbroken whole = record {
+  unbroken = prefix_unbroken prefix back unbroken;
   frameless = λ b.
-      let e = (front_begins front back b).3 in
-      let n = whole_no_less (front ++ back) b.0 (b.1 ++ back) whole b.2 e in
-      omega (arith, n, length-append front back, ap length b.3, length-append (frame b.0) b.1);
+      let e = (front_begins prefix back b).3 in
+      let n = whole_no_less (prefix ++ back) b.0 (b.1 ++ back) whole b.2 e in
+      omega (arith, n, length-append prefix back, ap length b.3, length-append (frame b.0) b.1);
 }
 
-pub broken_unfinished : (front back : List ℕ) (why : FrameWhy) (at : ℕ) → IsUnbroken front → BreaksFirst (front ++ back) why at → IsUnfinished front
-broken_unfinished front back why at unbroken h = record {
+pub broken_unfinished : (prefix back : List ℕ) (why : FrameWhy) (at : ℕ) → IsUnbroken prefix → BreaksFirst (prefix ++ back) why at → IsUnfinished prefix
+broken_unfinished prefix back why at unbroken h = record {
   unbroken = unbroken;
-  frameless = λ b. broken_rest (front ++ back) why at h (front_begins front back b);
+  frameless = λ b. broken_rest (prefix ++ back) why at h (front_begins prefix back b);
 }
 
 -- ---- what a framer takes of a piece
 
--- a front of the bytes that were held and the piece
+-- a prefix of the bytes that were held and the piece
 front_of : (old piece : List ℕ) (k n : ℕ) → k ≤ n → old ++ take n piece ≡ (old ++ take k piece) ++ drop k (take n piece)
 front_of old piece k n le =
     let e : take k (take n piece) ++ drop k (take n piece) ≡ take n piece = take-append-drop k (take n piece) in
@@ -136,42 +136,42 @@ least_whole old piece n within unbroken whole k lt =
     let e = front_of old piece k n (omega arith) in
     whole_unfinished (old ++ take k piece) (drop k (take n piece)) (back_some piece k n lt within) (subst IsUnbroken e unbroken) (subst IsWhole e whole)
 
--- the front that was seen to be right ends one byte before the front that is broken
+-- the prefix that was seen to be right ends one byte before the prefix that is broken
 pub least_broken : (old piece : List ℕ) (n : ℕ) (why : FrameWhy) (at : ℕ) → 0 < n → n ≤ length piece → IsUnbroken (old ++ take (n - 1) piece) → BreaksFirst (old ++ take n piece) why at → (k : ℕ) → k < n → IsUnfinished (old ++ take k piece)
 least_broken old piece n why at some within before h k lt =
     let e = front_of old piece k n (omega arith) in
     let f = front_of old piece k (n - 1) (omega arith) in
     broken_unfinished (old ++ take k piece) (drop k (take n piece)) why at
-    (front_unbroken (old ++ take k piece) (drop k (take (n - 1) piece)) (subst IsUnbroken f before))
+    (prefix_unbroken (old ++ take k piece) (drop k (take (n - 1) piece)) (subst IsUnbroken f before))
     (subst (λ (x : List ℕ). BreaksFirst x why at) e h)
 
--- a front of what was held and the head of the piece, as what was held and a front of the piece
+-- a prefix of what was held and the head of the piece, as what was held and a prefix of the piece
 pub cut_piece : (old piece : List ℕ) (h n : ℕ) → length old ≤ n → n ≤ length (old ++ take h piece) → take n (old ++ take h piece) ≡ old ++ take (n - length old) piece
 cut_piece old piece h n above within =
     let e : n ≡ length old + (n - length old) = omega arith in
     let small : n - length old ≤ h = omega (arith, length-append old (take h piece), length-take h piece) in
     ap (λ (k : ℕ). take k (old ++ take h piece)) e ∙ (take-append-add old (take h piece) (n - length old) ∙ ap (λ (x : List ℕ). old ++ x) (take-take (n - length old) h piece small))
 
--- a break isn't within the front that is right
-pub broken_later : (old all : List ℕ) (f : FrameFault) (n : ℕ) → take (length old) all ≡ old → length old ≤ length all → IsUnbroken old → BrokenFront all f n → length old < n
+-- a break isn't within the prefix that is right
+pub broken_later : (old all : List ℕ) (f : FrameFault) (n : ℕ) → take (length old) all ≡ old → length old ≤ length all → IsUnbroken old → BrokenPrefix all f n → length old < n
 unfolding IsUnbroken
-broken_later old all f n front fits unbroken b =
+broken_later old all f n prefix fits unbroken b =
     elim (cases_lt (length old) n) [
       | inl lt ↦ lt
       | inr le ↦
-          let e : take n all ≡ take n old = sym (take-take n (length old) all le) ∙ ap (λ (x : List ℕ). take n x) front in
+          let e : take n all ≡ take n old = sym (take-take n (length old) all le) ∙ ap (λ (x : List ℕ). take n x) prefix in
           let h : Breaks (take n old) f.why f.at = subst (λ (x : List ℕ). Breaks x f.why f.at) e b.breaks.breaks in
           absurd (unbroken f.why f.at (subst (λ (x : List ℕ). Breaks x f.why f.at) (take-append-drop n old) (Breaks-longer (take n old) (drop n old) f.why f.at h)))
     ]
 
--- nor is a whole frame within a front that is short of one
-pub whole_later : (old all : List ℕ) (n : ℕ) → take (length old) all ≡ old → IsShort old → WholeFront all n → length old < n
+-- nor is a whole frame within a prefix that is short of one
+pub whole_later : (old all : List ℕ) (n : ℕ) → take (length old) all ≡ old → IsShort old → WholePrefix all n → length old < n
 unfolding IsShort IsWhole
-whole_later old all n front short w =
+whole_later old all n prefix short w =
     elim (cases_lt (length old) n) [
       | inl lt ↦ lt
       | inr le ↦
-          let e : take n all ≡ take n old = sym (take-take n (length old) all le) ∙ ap (λ (x : List ℕ). take n x) front in
+          let e : take n all ≡ take n old = sym (take-take n (length old) all le) ∙ ap (λ (x : List ℕ). take n x) prefix in
           let len : length (take n all) ≡ n = omega (arith, length-take n all, w.within) in
           let whole : IsWhole (take n old) = subst IsWhole e w.whole in
           let joined = take-append-drop n old in
@@ -181,12 +181,12 @@ whole_later old all n front short w =
           absurd (short (omega (arith, whole.0)) (omega (arith, whole.1)))
     ]
 
-pub takes_broken : (old piece all new : List ℕ) (h n count : ℕ) (f : FrameFault) → all ≡ old ++ take h piece → IsUnbroken old → BrokenFront all f n → new ≡ take n all → count ≡ n - length old → TakesFront old piece new (record { count = count; fault = Some f })
+pub takes_broken : (old piece all new : List ℕ) (h n count : ℕ) (f : FrameFault) → all ≡ old ++ take h piece → IsUnbroken old → BrokenPrefix all f n → new ≡ take n all → count ≡ n - length old → TakesPrefix old piece new (record { count = count; fault = Some f })
 takes_broken old piece all new h n count f is unbroken b new-is count-is =
-    let front : take (length old) all ≡ old = ap (λ (x : List ℕ). take (length old) x) is ∙ take_at old (take h piece) (length old) refl in
+    let prefix : take (length old) all ≡ old = ap (λ (x : List ℕ). take (length old) x) is ∙ take_at old (take h piece) (length old) refl in
     let len : length all ≡ length old + length (take h piece) = ap length is ∙ length-append old (take h piece) in
-    let later = broken_later old all f n front (omega arith) unbroken b in
-    let b2 : BrokenFront (old ++ take h piece) f n = rw is at b in
+    let later = broken_later old all f n prefix (omega arith) unbroken b in
+    let b2 : BrokenPrefix (old ++ take h piece) f n = rw is at b in
     let there : n ≤ length (old ++ take h piece) = b2.within in
     let cut : take n (old ++ take h piece) ≡ old ++ take count piece = cut_piece old piece h n (omega arith) there ∙ ap (λ (k : ℕ). old ++ take k piece) (sym count-is) in
     let same : n - 1 - length old ≡ count - 1 = omega arith in
@@ -203,12 +203,12 @@ takes_broken old piece all new h n count f is unbroken b new-is count-is =
       idle = λ none. absurd (omega arith);
     }
 
-pub takes_whole : (old piece all new : List ℕ) (h n count : ℕ) → all ≡ old ++ take h piece → IsShort old → WholeFront all n → new ≡ take n all → count ≡ n - length old → TakesFront old piece new (record { count = count; fault = None })
+pub takes_whole : (old piece all new : List ℕ) (h n count : ℕ) → all ≡ old ++ take h piece → IsShort old → WholePrefix all n → new ≡ take n all → count ≡ n - length old → TakesPrefix old piece new (record { count = count; fault = None })
 takes_whole old piece all new h n count is short w new-is count-is =
-    let front : take (length old) all ≡ old = ap (λ (x : List ℕ). take (length old) x) is ∙ take_at old (take h piece) (length old) refl in
+    let prefix : take (length old) all ≡ old = ap (λ (x : List ℕ). take (length old) x) is ∙ take_at old (take h piece) (length old) refl in
     let len : length all ≡ length old + length (take h piece) = ap length is ∙ length-append old (take h piece) in
-    let later = whole_later old all n front short w in
-    let w2 : WholeFront (old ++ take h piece) n = rw is at w in
+    let later = whole_later old all n prefix short w in
+    let w2 : WholePrefix (old ++ take h piece) n = rw is at w in
     let there : n ≤ length (old ++ take h piece) = w2.within in
     let cut : take n (old ++ take h piece) ≡ old ++ take count piece = cut_piece old piece h n (omega arith) there ∙ ap (λ (k : ℕ). old ++ take k piece) (sym count-is) in
     let within : count ≤ length piece = omega (arith, w.within, length-take h piece) in
@@ -278,7 +278,7 @@ least_longer old piece n within unbroken or k lt =
       | inr whole ↦ least_whole old piece n within unbroken whole k lt
     ]
 
-pub takes_short : (old piece all new : List ℕ) (h j miss count : ℕ) → all ≡ old ++ take h piece → h ≡ min (length piece) (135 - length old) → IsUnbroken all → IsShort all → Misses all miss → j ≡ min (length (drop h piece)) miss → new ≡ all ++ take j (drop h piece) → count ≡ h + j → TakesFront old piece new (record { count = count; fault = None })
+pub takes_short : (old piece all new : List ℕ) (h j miss count : ℕ) → all ≡ old ++ take h piece → h ≡ min (length piece) (135 - length old) → IsUnbroken all → IsShort all → Misses all miss → j ≡ min (length (drop h piece)) miss → new ≡ all ++ take j (drop h piece) → count ≡ h + j → TakesPrefix old piece new (record { count = count; fault = None })
 takes_short old piece all new h j miss count is h-is unbroken short misses j-is new-is count-is =
     let more = take j (drop h piece) in
     let long : length more ≡ j = omega (arith, length-take j (drop h piece)) in

@@ -4,7 +4,7 @@ use Rattle.frames_core.specs.declared.fault.FrameFault.{FrameFault}
 use Rattle.frames_core.specs.declared.fault.FrameWhy.TheVariants.{EndOfInput}
 use Rattle.frames_core.specs.Envelope.{CallBytes, IsCall, frame}
 use Rattle.frames_core.specs.Stream.{FaultAt, BreaksFirst, IsUnbroken}
-use Rattle.frames_core.specs.Header.{IsShort, IsWhole}
+use Rattle.frames_core.specs.Head.{IsShort, IsWhole}
 
 -- how many bytes the frames that were given up have, the bytes since then, and the fault that is known
 pub record FramerState : Type 0 where

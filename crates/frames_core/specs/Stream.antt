@@ -3,6 +3,7 @@ use Rattle.std.specs.Prelude.{◌≡◌, ◌≢◌, ℕ, ◌+◌, ◌*◌, ◌<�
 use Rattle.std.specs.List.{flat_map}
 use Rattle.frames_core.specs.declared.fault.FrameWhy.{FrameWhy}
 use Rattle.frames_core.specs.declared.fault.FrameWhy.TheVariants.{BadPathLength, BadPath, BadFlag, TooLong, EndOfInput}
+use Rattle.frames_core.specs.declared.limits.TheConstants.{MAX_PATH_BYTES, MAX_MESSAGE_BYTES}
 use Rattle.frames_core.specs.Envelope.{CallBytes, IsPathByte, IsCall, frame}
 
 -- the length that the first two bytes give
@@ -17,10 +18,10 @@ message_length bytes =
 
 -- the byte at this place breaks the table of a frame, for this reason
 unfoldable pub Breaks : List ℕ → FrameWhy → ℕ → Type 0
-Breaks bytes BadPathLength at = (at ≡ 0) × (2 ≤ length bytes) × ((path_length bytes ≡ 0) ⊎ (128 < path_length bytes))
+Breaks bytes BadPathLength at = (at ≡ 0) × (2 ≤ length bytes) × ((path_length bytes ≡ 0) ⊎ (MAX_PATH_BYTES < path_length bytes))
 Breaks bytes BadPath at = (2 ≤ at) × (at < 2 + path_length bytes) × (at < length bytes) × ¬ IsPathByte (slice_index bytes at)
 Breaks bytes BadFlag at = (at ≡ 2 + path_length bytes) × (at < length bytes) × (slice_index bytes at ≢ 0)
-Breaks bytes TooLong at = (at ≡ 3 + path_length bytes) × (at + 4 ≤ length bytes) × (1048576 < message_length bytes)
+Breaks bytes TooLong at = (at ≡ 3 + path_length bytes) × (at + 4 ≤ length bytes) × (MAX_MESSAGE_BYTES < message_length bytes)
 Breaks bytes EndOfInput at = ⊥
 
 -- the rest of a stream breaks the table nowhere
@@ -32,7 +33,7 @@ pub record BreaksFirst (bytes : List ℕ) (why : FrameWhy) (at : ℕ) : Type 0 w
   pub breaks : Breaks bytes why at
   pub least : (other : FrameWhy) (place : ℕ) → Breaks bytes other place → at ≤ place
 
--- a front of it is a frame
+-- a prefix of it is a frame
 abbrev pub BeginsFrame : List ℕ → Type 0
 BeginsFrame bytes = (call : CallBytes) × (more : List ℕ) × IsCall call × (bytes ≡ frame call ++ more)
 

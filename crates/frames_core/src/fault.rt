@@ -1,28 +1,44 @@
+ghost use Rattle.std.specs.Prelude.{◌≡◌, ◌≤◌, length, All};
+ghost use Rattle.frames_core.specs.Envelope.{IsTextByte};
+ghost use Rattle.frames_core.specs.Texts.{fault_words};
+
 use thiserror::Error;
 
 /// Why bytes are not a request frame, in the order in which a frame's bytes show it.
-#[derive(Clone, Copy, Debug, PartialEq, Eq, Error)]
+#[derive(Clone, Copy, Debug, PartialEq, Eq)]
 pub enum FrameWhy {
     /// The two length bytes give 0 or more than 128. The place is the frame's first byte.
-    #[error("bad path length")]
     BadPathLength,
     /// A byte of the path is not 0x21 to 0x7E. The place is that byte.
-    #[error("bad path")]
     BadPath,
     /// The flag is not 0 (compression is not supported). The place is the flag.
-    #[error("bad flag")]
     BadFlag,
     /// The four length bytes give more than 1,048,576. The place is the first of the four.
-    #[error("message too long")]
     TooLong,
     /// The input ends inside a frame. The place is the input's length.
-    #[error("end of input")]
     EndOfInput,
+}
+
+impl FrameWhy {
+    /// What a fault's text says before its place.
+    pub fn text(self) -> &'static str
+        ensures value { result.now ≡ fault_words self }
+        ensures short { length result.now ≤ 120 }
+        ensures printable { All IsTextByte result.now }
+    {
+        match self {
+            FrameWhy::BadPathLength => "bad path length at byte ",
+            FrameWhy::BadPath => "bad path at byte ",
+            FrameWhy::BadFlag => "bad flag at byte ",
+            FrameWhy::TooLong => "message too long at byte ",
+            FrameWhy::EndOfInput => "end of input at byte ",
+        }
+    }
 }
 
 /// A malformed frame. It ends its stream.
 #[derive(Clone, Copy, Debug, PartialEq, Eq, Error)]
-#[error("{why} at byte {at}")]
+#[error("{}{}", self.why.text(), self.at)]
 pub struct FrameFault {
     /// What is wrong.
     pub why: FrameWhy,

@@ -1,8 +1,9 @@
-ghost use Rattle.std.specs.Prelude.{◌≡◌, ◌≢◌, ℕ, ◌+◌, ◌<◌, ◌≤◌, [], ◌∷◌, ◌++◌, List, length, take, decimal, All};
-ghost use Rattle.frames_core.specs.Envelope.{reply, IsReply, IsTextByte};
+ghost use Rattle.std.specs.Prelude.{◌≡◌, ◌≢◌, true, ℕ, ◌+◌, ◌<◌, ◌≤◌, [], ◌∷◌, ◌++◌, List, length, take, decimal, All};
+ghost use Rattle.frames_core.specs.Envelope.{reply, is_status, IsReply, IsTextByte};
 ghost use Rattle.frames_core.specs.Texts.{fault_words};
 
-use crate::fault::{FrameFault, FrameWhy};
+use crate::fault::FrameFault;
+use crate::limits::{MAX_REFUSAL_TEXT_BYTES, REPLY_HEAD_BYTES};
 use itoa::Buffer;
 use std::marker::Model;
 
@@ -63,10 +64,11 @@ impl<const N: usize> Fixed<N> {
     }
 }
 
-/// All that stands before the body in the frame of a reply with status 0, for a body of so many bytes.
+/// All that stands before the body in the frame of a reply with status 0, for a body of so many bytes: [`REPLY_HEAD_BYTES`].
 #[tactic(auto, unfolding(crate::specs::Envelope::reply))]
 pub fn reply_head(body_len: u32) -> FixedFrame
-    ensures { (body : List ℕ) → length body ≡ body_len → result ++ body ≡ reply (record { status = 0; text = []; body = body }) }
+    ensures spelled { (body : List ℕ) → length body ≡ body_len → result ++ body ≡ reply (record { status = 0; text = []; body = body }) }
+    ensures long { length result ≡ REPLY_HEAD_BYTES }
 {
     let mut frame = FixedFrame::new();
     frame.extend(&[0, 0, 0, 0]);
@@ -76,14 +78,15 @@ pub fn reply_head(body_len: u32) -> FixedFrame
 
 /// The frame of the reply that refuses a call, with this status code and text.
 ///
-/// The code is not 0. The text has at most 160 bytes, each 0x20 to 0x7E.
+/// The code is not 0. The text has at most [`MAX_REFUSAL_TEXT_BYTES`], each 0x20 to 0x7E. With one of the
+/// status codes of docs/PROTOCOL.md the frame is a reply of the envelope.
 #[tactic(auto, unfolding(crate::specs::Envelope::reply))]
 pub fn refusal_frame(code: u8, text: &[u8]) -> FixedFrame
     requires refusal { code ≢ 0 }
-    requires short { length text.now ≤ 160 }
+    requires short { length text.now ≤ MAX_REFUSAL_TEXT_BYTES }
     requires printable { All IsTextByte text.now }
     ensures spelled { result ≡ reply (record { status = code; text = text.now; body = [] }) }
-    ensures formed { IsReply (record { status = code; text = text.now; body = [] }) }
+    ensures formed { is_status code ≡ true → IsReply (record { status = code; text = text.now; body = [] }) }
 {
     let mut frame = FixedFrame::new();
     frame.push(code);
@@ -116,22 +119,7 @@ pub fn fault_text(fault: &FrameFault) -> FixedText
     ensures short { length result ≤ 140 }
     ensures printable { All IsTextByte result }
 {
-    text_and_number(fault_start(fault.why), fault.at)
-}
-
-// The text before the place.
-fn fault_start(why: FrameWhy) -> &'static [u8]
-    ensures value { result.now ≡ fault_words why }
-    ensures short { length result.now ≤ 120 }
-    ensures printable { All IsTextByte result.now }
-{
-    match why {
-        FrameWhy::BadPathLength => b"bad path length at byte ",
-        FrameWhy::BadPath => b"bad path at byte ",
-        FrameWhy::BadFlag => b"bad flag at byte ",
-        FrameWhy::TooLong => b"message too long at byte ",
-        FrameWhy::EndOfInput => b"end of input at byte ",
-    }
+    text_and_number(fault.why.text().as_bytes(), fault.at)
 }
 
 /// The text as it is: at most 140 bytes.

@@ -1,22 +1,20 @@
 ghost use Rattle.std.specs.Prelude.{◌≡◌, ℕ, ◌+◌, ◌^◌, ◌<◌, ◌≤◌, [], ◌++◌, length, take, slice_index, min, vec_len, vec_capacity, None, Some, IfOk, MatchOption, IsTrue, IsNone, IfSome, false};
 ghost use Rattle.frames_core.specs.Envelope.{IsCall, bytes_of, frame};
 ghost use Rattle.frames_core.specs.Stream.{BeginsFrame, IsUnbroken, IsUnfinished};
-ghost use Rattle.frames_core.specs.Header.{IsShort};
+ghost use Rattle.frames_core.specs.Head.{IsShort};
 ghost use Rattle.frames_core.specs.Framer.{FramerState, start, IsFrame, IsSettled, IsFaultOf, IsBreakOf, IsCutShort, cut_short};
 
 use crate::call::Call;
 use crate::fault::{FrameFault, FrameWhy};
-use crate::front::{each_fits, take_front};
-use crate::header::{call_of, is_whole};
+use crate::head::{call_of, is_whole};
+use crate::limits::MAX_FRAME_BYTES;
+use crate::prefix::{each_fits, take_prefix};
 use std::alloc::{AllocError, Global};
 use std::marker::Model;
 
-/// The bytes of the longest frame: 7 of lengths and flag, a path of 128 and a message of 1,048,576.
-pub const LONGEST_FRAME: usize = 1_048_711;
-
 /// Cuts a stream of bytes that comes in any pieces into its frames.
 ///
-/// One buffer of [`LONGEST_FRAME`] bytes is reserved by `new`, and no later call takes memory.
+/// One buffer of [`MAX_FRAME_BYTES`] bytes is reserved by `new`, and no later call takes memory.
 /// Contracts see a framer as three things: how many bytes the frames have that were given up (`past`), the bytes
 /// taken since then (`held`), and the fault, once it is known (`fault`). A fault stays for good.
 #[derive(Drop)]
@@ -29,12 +27,13 @@ pub struct Framer {
 impl Model for Framer {
     ghost use Rattle.std.specs.Prelude.{◌≤◌, vec_capacity};
     ghost use Rattle.frames_core.specs.Framer.{FramerState, IsFramer};
+    ghost use Rattle.frames_core.specs.declared.limits.TheConstants.{MAX_FRAME_BYTES};
 
     ghost Value = { FramerState };
 
     ghost view = { λ f. record { past = f.past; held = f.buffer.items; fault = f.known } };
 
-    ghost invariant = { λ f. (1048711 ≤ vec_capacity f.buffer) × IsFramer f.past f.buffer.items f.known };
+    ghost invariant = { λ f. (MAX_FRAME_BYTES ≤ vec_capacity f.buffer) × IsFramer f.past f.buffer.items f.known };
 }
 
 impl Framer {
@@ -43,7 +42,7 @@ impl Framer {
         ensures empty { IfOk result (λ f. f ≡ start) }
         ensures open { IfOk result (λ f. IsUnfinished f.held) }
     {
-        let buffer = Vec::with_capacity(alloc, LONGEST_FRAME)?;
+        let buffer = Vec::with_capacity(alloc, MAX_FRAME_BYTES)?;
         Ok(Framer {
             buffer,
             past: 0,
@@ -131,7 +130,7 @@ impl Framer {
         ensures within { result ≤ length piece.now }
         ensures past { self.new.past ≡ self.old.past }
         ensures held { self.new.held ≡ self.old.held ++ take result piece.now }
-        // It takes the least front of the piece that completes a frame or makes a fault known, else all of it.
+        // It takes the least prefix of the piece that completes a frame or makes a fault known, else all of it.
         ensures least { (k : ℕ) → k < result → IsUnfinished (self.old.held ++ take k piece.now) }
         ensures all { result < length piece.now → IsSettled self.new }
         // A fault that it makes known is of the bytes, and not of an end of the input.
@@ -143,14 +142,14 @@ impl Framer {
         if self.is_settled() {
             return 0;
         }
-        let front = take_front(&mut self.buffer, piece);
+        let prefix = take_prefix(&mut self.buffer, piece);
         each_fits(self.buffer.as_slice());
-        if let Some(fault) = front.fault {
+        if let Some(fault) = prefix.fault {
             self.known = Some(FrameFault {
                 why: fault.why,
                 at: self.past + fault.at,
             });
         }
-        front.count
+        prefix.count
     }
 }

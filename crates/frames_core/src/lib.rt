@@ -8,9 +8,10 @@ mod call;
 mod fault;
 mod fixed;
 mod framer;
-mod front;
-mod header;
+mod head;
 pub mod laws;
+mod limits;
+mod prefix;
 mod taken;
 #[cfg(test)]
 mod tests;
@@ -21,5 +22,9 @@ pub use fixed::{
     Fixed, FixedFrame, FixedText, fault_text, fixed_text, refusal_frame, reply_head,
     text_and_number,
 };
-pub use framer::{Framer, LONGEST_FRAME};
+pub use framer::Framer;
+pub use limits::{
+    MAX_BODY_BYTES, MAX_FRAME_BYTES, MAX_HEAD_BYTES, MAX_MESSAGE_BYTES, MAX_PATH_BYTES,
+    MAX_REFUSAL_TEXT_BYTES, MAX_TEXT_BYTES, REPLY_HEAD_BYTES,
+};
 pub use taken::{Taken, take_frame};

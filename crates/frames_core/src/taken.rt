@@ -2,7 +2,7 @@ ghost use Rattle.frames_core.specs.Taken.{TakesFirst};
 
 use crate::call::Call;
 use crate::fault::{FrameFault, FrameWhy};
-use crate::header::{Look, call_of, look_at};
+use crate::head::{Look, call_of, look_at};
 
 /// What stands first in the whole rest of a stream.
 #[derive(Clone, Copy, Debug)]
@@ -27,8 +27,8 @@ pub fn take_frame(bytes: &[u8]) -> Taken<'_>
     }
     match look_at(bytes, 0) {
         Look::Whole(size) => {
-            let (front, _) = bytes.split_at(size);
-            Taken::Frame(call_of(front), size)
+            let (prefix, _) = bytes.split_at(size);
+            Taken::Frame(call_of(prefix), size)
         }
         Look::Broken(fault, _) => Taken::Fault(fault),
         Look::Short => Taken::Fault(FrameFault {

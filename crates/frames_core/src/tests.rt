@@ -1,8 +1,9 @@
 //! What the contracts leave open, and the worked bytes of docs/PROTOCOL.md.
 
 use crate::{
-    Call, FrameFault, FrameWhy, Framer, Taken, fault_text, fixed_text, refusal_frame, reply_head,
-    take_frame, text_and_number,
+    Call, FrameFault, FrameWhy, Framer, MAX_BODY_BYTES, MAX_FRAME_BYTES, MAX_HEAD_BYTES,
+    MAX_MESSAGE_BYTES, MAX_PATH_BYTES, MAX_REFUSAL_TEXT_BYTES, MAX_TEXT_BYTES, REPLY_HEAD_BYTES,
+    Taken, fault_text, fixed_text, refusal_frame, reply_head, take_frame, text_and_number,
 };
 use std::process::Abort;
 use std::test::Fail;
@@ -38,7 +39,7 @@ fn takes_a_frame(rt: HostRuntime) {
 }
 
 #[test]
-fn refuses_each_front(rt: HostRuntime) {
+fn refuses_each_prefix(rt: HostRuntime) {
     for size in 1..29usize {
         expect_fault(&rt, &PROBE[..size], FrameWhy::EndOfInput, size as u64);
     }
@@ -187,4 +188,16 @@ fn says_faults(rt: HostRuntime) -> Result<(), Fail> {
         "bad flag at byte 53"
     );
     Ok(())
+}
+
+#[test]
+fn has_the_limits_of_the_envelope(rt: HostRuntime) {
+    assert_eq!(rt; MAX_PATH_BYTES, 128);
+    assert_eq!(rt; MAX_MESSAGE_BYTES, 1_048_576);
+    assert_eq!(rt; MAX_HEAD_BYTES, 135);
+    assert_eq!(rt; MAX_FRAME_BYTES, 1_048_711);
+    assert_eq!(rt; MAX_TEXT_BYTES, 1_024);
+    assert_eq!(rt; MAX_BODY_BYTES, 4_194_304);
+    assert_eq!(rt; REPLY_HEAD_BYTES, 8);
+    assert_eq!(rt; MAX_REFUSAL_TEXT_BYTES, 160);
 }

@@ -1,7 +1,9 @@
-pub mod Groups
-pub mod Varints
-pub mod Fronts
-pub mod Spelled
-pub mod Faults
-pub mod Again
-pub mod Lists
+pub mod GroupLemmas
+pub mod VarintLemmas
+pub mod PrefixLemmas
+pub mod WireLemmas
+pub mod FaultLemmas
+pub mod WritingLemmas
+pub mod ListLemmas
+pub mod MapEntryLemmas
+pub mod CloseLemmas

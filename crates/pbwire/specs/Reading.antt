@@ -1,5 +1,5 @@
--- The field at the front of the bytes, or the first fault that a reader meets from the left
--- (encoding guide, "Base 128 Varints" and "Message Structure"). `laws` ties `entry_at` to what bytes
+-- The field at the start of the bytes, or the first fault that a reader meets from the left
+-- (encoding guide, "Base 128 Varints" and "Message Structure"). `laws` ties `field_at` to what bytes
 -- spell (`Wire`) and to the table of faults (`Faults`); `next_of` is what a list of fields gives.
 use Rattle.std.specs.Prelude.{ℕ, zero, suc, ◌+◌, ◌-◌, ◌*◌, ◌/◌, ◌%◌, ◌^◌, List, [], ◌∷◌, length, take, drop, Option, Some, None, Result, Ok, Err, nat_lt, nat_le, ◌==◌, ◌||◌, if◌then◌else◌, Bool, true, false}
 use Rattle.pbwire.specs.declared.field.WireWhy.{WireWhy}
@@ -8,7 +8,7 @@ use Rattle.pbwire.specs.declared.field.Value.{Value}
 use Rattle.pbwire.specs.declared.field.Value.TheVariants.{Varint, Fixed64, Bytes, Fixed32}
 use Rattle.pbwire.specs.declared.field.Field.{Field}
 use Rattle.pbwire.specs.declared.field.WireFault.{WireFault}
-use Rattle.pbwire.specs.Wire.{Entry, Part, Number, Eight, Payload, Four}
+use Rattle.pbwire.specs.Wire.{WireField, Part, Number, Eight, Payload, Four}
 
 infixl 10 ◌>>=◌
 abbrev pub ◌>>=◌ : {A B : Type 0} → Result A WireWhy → (A → Result B WireWhy) → Result B WireWhy
@@ -22,8 +22,8 @@ part_of (Fixed64 bytes) = Eight bytes
 part_of (Bytes bytes) = Payload bytes.now
 part_of (Fixed32 bytes) = Four bytes
 
-abbrev pub entry_of : Field → Entry
-entry_of f = record { number = f.number; part = part_of f.value }
+abbrev pub wire_field_of : Field → WireField
+wire_field_of f = record { number = f.number; part = part_of f.value }
 
 -- what a function returned, seen by view
 abbrev pub seen : {X Y : Type 0} → (X → Y) → Result X WireWhy → Result Y WireWhy
@@ -65,8 +65,8 @@ part_at wire_type bytes =
     else Err why.WireType
 
 -- one field, and what follows it
-unfoldable pub entry_at : List ℕ → Result (Entry × List ℕ) WireWhy
-entry_at bytes = do
+unfoldable pub field_at : List ℕ → Result (WireField × List ℕ) WireWhy
+field_at bytes = do
   tag ← tag_at bytes
   part ← part_at (tag.0 % 8) tag.1
   Ok (record { number = tag.0 / 8; part = part.0 }, part.1)
@@ -78,18 +78,18 @@ pub record Cursor : Type 0 where
   pub failed : Bool
 
 -- where a field, or a fault in its place, leaves the cursor
-abbrev pub moved : Cursor → Result (Entry × List ℕ) WireWhy → Option (Result Entry WireFault) × Cursor
+abbrev pub moved : Cursor → Result (WireField × List ℕ) WireWhy → Option (Result WireField WireFault) × Cursor
 moved c (Ok x) = (Some (Ok x.0), record { at = c.at + (length c.rest - length x.1); rest = x.1; failed = false })
 moved c (Err e) = (Some (Err (record { why = e; at = c.at })), record { at = c.at; rest = c.rest; failed = true })
 
 -- what comes next: nothing at the end of the message and after a fault
-abbrev pub next_of : Cursor → Option (Result Entry WireFault) × Cursor
-next_of c = if c.failed || (length c.rest == 0) then (None, c) else moved c (entry_at c.rest)
+abbrev pub next_of : Cursor → Option (Result WireField WireFault) × Cursor
+next_of c = if c.failed || (length c.rest == 0) then (None, c) else moved c (field_at c.rest)
 
-abbrev pub seen_field : Result Field WireFault → Result Entry WireFault
-seen_field (Ok f) = Ok (entry_of f)
+abbrev pub seen_field : Result Field WireFault → Result WireField WireFault
+seen_field (Ok f) = Ok (wire_field_of f)
 seen_field (Err e) = Err e
 
-abbrev pub seen_next : Option (Result Field WireFault) → Option (Result Entry WireFault)
+abbrev pub seen_next : Option (Result Field WireFault) → Option (Result WireField WireFault)
 seen_next None = None
 seen_next (Some r) = Some (seen_field r)

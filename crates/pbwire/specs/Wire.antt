@@ -31,7 +31,7 @@ pub data Part : Type 0 where
   Four : List ℕ → Part
 
 -- one field: its number, and what it holds
-pub record Entry : Type 0 where
+pub record WireField : Type 0 where
   pub number : ℕ
   pub part : Part
 
@@ -51,7 +51,7 @@ SpellsPart (Four p) bytes = (length p ≡ 4) × (bytes ≡ p)
 
 -- The bytes spell the field: a tag, which is a varint of eight times the number plus the wire type,
 -- and then what it holds. Numbers begin at 1, and a tag is below 2 ^ 32.
-pub record Spells (e : Entry) (bytes : List ℕ) : Type 0 where
+pub record Spells (e : WireField) (bytes : List ℕ) : Type 0 where
   pub tag : List ℕ
   pub payload : List ℕ
   pub is_tag : IsVarint tag (e.number * 8 + kind_of e.part)
@@ -61,7 +61,7 @@ pub record Spells (e : Entry) (bytes : List ℕ) : Type 0 where
   pub whole : bytes ≡ tag ++ payload
 
 -- a message: the spellings of its fields, one after the other
-abbrev pub AreFields : List Entry → List ℕ → Type 0
+abbrev pub AreFields : List WireField → List ℕ → Type 0
 AreFields [] bytes = bytes ≡ []
 AreFields (e ∷ es) bytes = (first : List ℕ) × (rest : List ℕ) × Spells e first × AreFields es rest × (bytes ≡ first ++ rest)
 
@@ -73,7 +73,7 @@ FitsPart (Eight p) = length p ≡ 8
 FitsPart (Payload p) = length p < 2 ^ 64
 FitsPart (Four p) = length p ≡ 4
 
-pub record FitsEntry (e : Entry) : Type 0 where
+pub record FitsField (e : WireField) : Type 0 where
   pub positive : 1 ≤ e.number
   pub low : e.number < 2 ^ 29
   pub part : FitsPart e.part

@@ -3,7 +3,7 @@
 use Rattle.std.specs.Prelude.{ℕ, zero, suc, ◌+◌, ◌*◌, ◌/◌, ◌%◌, List, [], ◌∷◌, ◌++◌, length, map, nat_lt, if◌then◌else◌}
 use Rattle.std.specs.List.{flat_map}
 use denote.Ref.{Bor}
-use Rattle.pbwire.specs.Wire.{Entry, Part, Number, Eight, Payload, Four, kind_of}
+use Rattle.pbwire.specs.Wire.{WireField, Part, Number, Eight, Payload, Four, kind_of}
 
 -- a number in as few groups of seven bits as it takes, of at most so many and one more
 unfoldable pub minimal : ℕ → ℕ → List ℕ
@@ -19,20 +19,20 @@ part (Eight p) = p
 part (Payload p) = varint (length p) ++ p
 part (Four p) = p
 
-abbrev pub spelling : Entry → List ℕ
+abbrev pub spelling : WireField → List ℕ
 spelling e = varint (e.number * 8 + kind_of e.part) ++ part e.part
 
-abbrev pub spellings : List Entry → List ℕ
+abbrev pub spellings : List WireField → List ℕ
 spellings es = flat_map spelling es
 
 -- an entry of a map of texts, its key and its value: an embedded message with the key as field 1 and
 -- the value as field 2, both always there (encoding guide, "Maps")
-abbrev pub map_entry : ℕ → List ℕ × List ℕ → Entry
+abbrev pub map_entry : ℕ → List ℕ × List ℕ → WireField
 map_entry number kv = record { number = number; part = Payload (spelling (record { number = 1; part = Payload kv.0 }) ++ spelling (record { number = 2; part = Payload kv.1 })) }
 
 -- the bytes of a key and a value that are lent
 abbrev pub bytes_of : Bor (List ℕ) × Bor (List ℕ) → List ℕ × List ℕ
 bytes_of kv = (kv.0.now, kv.1.now)
 
-abbrev pub map_entries : ℕ → List (List ℕ × List ℕ) → List Entry
+abbrev pub map_entries : ℕ → List (List ℕ × List ℕ) → List WireField
 map_entries number kvs = map (map_entry number) kvs

@@ -1,4 +1,4 @@
-//! Fields, and what can be wrong with the bytes in a field's place.
+//! Fields, and what can be wrong with the bytes where one should stand.
 
 use thiserror::Error;
 
@@ -24,7 +24,7 @@ pub struct Field<'a> {
     pub value: Value<'a>,
 }
 
-/// Why no field stands in a place. One reason holds: a tag's goes before its payload's, and the tag's
+/// Why no field stands at an offset. One reason holds: a tag's goes before its payload's, and the tag's
 /// number before its wire type.
 #[derive(Clone, Copy, Debug, PartialEq, Eq, Error)]
 pub enum WireWhy {
@@ -43,7 +43,7 @@ pub enum WireWhy {
     CutShort,
 }
 
-/// A place of a message where a field should stand, and none does.
+/// An offset of a message at which a field should stand, and none does.
 #[derive(Clone, Copy, Debug, PartialEq, Eq, Error)]
 #[error("{why} at byte {at}")]
 pub struct WireFault {

@@ -2,8 +2,9 @@
 //! bytes.
 //!
 //! [`Fields`] goes over a message from the left and lends each payload out of it, without memory.
-//! [`put_varint`], [`put_bytes`], [`close_bytes`] and [`put_entry`] append one field in its shortest
-//! spelling, and [`put_map`] one for each entry of a map, or leave the vector as it was.
+//! [`put_varint`], [`put_bytes`] and [`put_entry`] append one field in its shortest spelling, and
+//! [`put_map`] one for each entry of a map, or leave the vector as it was. [`close_bytes`] ends a
+//! field whose payload was appended behind it.
 //!
 //! What a field spells is in `specs/Wire.antt`, after the Protocol Buffers encoding guide; the
 //! functions of [`laws`] tie it to the reading and the writing.

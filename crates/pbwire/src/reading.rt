@@ -1,14 +1,14 @@
-//! Reading fields from the left. Each function takes a front of the bytes, and gives the rest.
+//! Reading fields from the left. Each function takes a prefix of the bytes, and gives the rest.
 
 ghost use Rattle.std.specs.Prelude.{◌≡◌, ◌*◌, ◌^◌, nat_le, if◌then◌else◌, Ok, Err, IsTrue, IsNone};
 ghost use Rattle.pbwire.specs.declared.field.WireWhy.TheVariants as why;
-ghost use Rattle.pbwire.specs.Reading.{seen, varint_at, tag_at, bytes_at, part_at, part_of, entry_at, entry_of, next_of, seen_next};
+ghost use Rattle.pbwire.specs.Reading.{seen, varint_at, tag_at, bytes_at, part_at, part_of, field_at, wire_field_of, next_of, seen_next};
 
 use crate::field::{Field, Value, WireFault, WireWhy};
 use std::marker::Model;
 
 // Most varints have one byte.
-#[inline]
+#[inline(always)]
 #[tactic(auto, unfolding(crate::specs::Reading::varint_at, crate::specs::Reading::groups_at))]
 fn read_varint(bytes: &[u8]) -> Result<(u64, &[u8]), WireWhy>
     ensures { seen (λ x. (x.0, x.1.now)) result ≡ varint_at bytes.now }
@@ -54,6 +54,7 @@ fn read_long_varint(bytes: &[u8]) -> Result<(u64, &[u8]), WireWhy>
     Ok((value + high, &bytes[10..]))
 }
 
+#[inline(always)]
 #[tactic(auto, unfolding(crate::specs::Reading::tag_at))]
 fn read_tag(bytes: &[u8]) -> Result<(u32, &[u8]), WireWhy>
     ensures { seen (λ x. (x.0, x.1.now)) result ≡ tag_at bytes.now }
@@ -65,6 +66,7 @@ fn read_tag(bytes: &[u8]) -> Result<(u32, &[u8]), WireWhy>
     Ok((tag as u32, rest))
 }
 
+#[inline(always)]
 fn read_array<const N: usize>(bytes: &[u8]) -> Result<([u8; N], &[u8]), WireWhy>
     ensures { seen (λ x. (x.0, x.1.now)) result ≡ bytes_at N bytes.now }
 {
@@ -74,6 +76,7 @@ fn read_array<const N: usize>(bytes: &[u8]) -> Result<([u8; N], &[u8]), WireWhy>
     Ok((*array, rest))
 }
 
+#[inline(always)]
 fn read_bytes(count: u64, bytes: &[u8]) -> Result<(&[u8], &[u8]), WireWhy>
     ensures { seen (λ x. (x.0.now, x.1.now)) result ≡ bytes_at count bytes.now }
 {
@@ -83,6 +86,7 @@ fn read_bytes(count: u64, bytes: &[u8]) -> Result<(&[u8], &[u8]), WireWhy>
     Ok(bytes.split_at(count as usize))
 }
 
+#[inline(always)]
 #[tactic(auto, unfolding(crate::specs::Reading::part_at))]
 fn read_value(wire_type: u32, bytes: &[u8]) -> Result<(Value<'_>, &[u8]), WireWhy>
     ensures { seen (λ x. (part_of x.0, x.1.now)) result ≡ part_at wire_type bytes.now }
@@ -109,9 +113,10 @@ fn read_value(wire_type: u32, bytes: &[u8]) -> Result<(Value<'_>, &[u8]), WireWh
     }
 }
 
-#[tactic(auto, unfolding(crate::specs::Reading::entry_at))]
+#[inline(always)]
+#[tactic(auto, unfolding(crate::specs::Reading::field_at))]
 fn read_field(bytes: &[u8]) -> Result<(Field<'_>, &[u8]), WireWhy>
-    ensures { seen (λ x. (entry_of x.0, x.1.now)) result ≡ entry_at bytes.now }
+    ensures { seen (λ x. (wire_field_of x.0, x.1.now)) result ≡ field_at bytes.now }
 {
     let (tag, rest) = read_tag(bytes)?;
     let (value, rest) = read_value(tag % 8, rest)?;
@@ -158,7 +163,7 @@ impl<'a> Fields<'a> {
         }
     }
 
-    /// How many bytes the fields that were given up took. After a fault it is the fault's place.
+    /// How many bytes the fields that were given up took. After a fault it is the fault's offset.
     pub fn at(&self) -> usize
         ensures { result ≡ self.now.at }
     {
@@ -167,6 +172,7 @@ impl<'a> Fields<'a> {
 
     /// The next field, in the order of the message, whether or not its spelling is the shortest; or
     /// what is wrong in its place. `None` at the end of the message, and for good after a fault.
+    #[inline(always)]
     pub fn next_field(&mut self) -> Option<Result<Field<'a>, WireFault>>
         ensures given { seen_next result ≡ (next_of self.old).0 }
         ensures moved { self.new ≡ (next_of self.old).1 }

@@ -142,6 +142,13 @@ fn is_written(rt: &impl Abort, out: &[u8], expected: &[u8]) {
     assert_eq!(rt; out, expected);
 }
 
+// Ends a field that has begun.
+fn close(rt: &impl Abort, out: &mut Vec<u8>, from: usize) -> Result<(), Fail> {
+    assert!(rt; from >= 1);
+    assert!(rt; from <= out.len());
+    Ok(close_bytes(out, from)?)
+}
+
 #[test]
 fn writes(rt: HostRuntime) -> Result<(), Fail> {
     let mut out = Vec::new(rt.alloc());
@@ -157,9 +164,10 @@ fn writes(rt: HostRuntime) -> Result<(), Fail> {
     // an embedded message, written in place after another field
     out.clear();
     put_varint(&mut out, 1, 150)?;
+    put_bytes(&mut out, 3, &[])?;
     let from = out.len();
     put_varint(&mut out, 1, 150)?;
-    close_bytes(&mut out, from, 3)?;
+    close(&rt, &mut out, from)?;
     is_written(&rt, &out, &[0x08, 0x96, 0x01, 0x1a, 0x03, 0x08, 0x96, 0x01]);
     out.clear();
     put_varint(&mut out, 536_870_911, u64::MAX)?;

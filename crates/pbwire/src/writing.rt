@@ -1,6 +1,7 @@
 //! Writing fields, each in its shortest spelling.
 
-ghost use Rattle.std.specs.Prelude.{◌-◌, ◌≡◌, ◌≤◌, ◌<◌, ◌^◌, ◌+◌, ◌*◌, ◌++◌, OnOk, OnErr, length, map, take, drop};
+ghost use Rattle.std.specs.Prelude.{◌-◌, ◌≡◌, ◌≤◌, ◌<◌, ◌^◌, ◌+◌, ◌*◌, ◌∷◌, ◌++◌, OnOk, OnErr, length, map, take, drop};
+ghost use Rattle.std.specs.Option.{IfSome};
 ghost use Rattle.std.specs.Iterator.{IsFinite};
 ghost use Rattle.std.specs.Iterator.Runs.{WholeRun};
 ghost use Rattle.pbwire.specs.Wire.{Number, Payload};
@@ -32,6 +33,17 @@ fn head_of(number: u32, wire_type: u64, after: u64) -> ArrayVec<u8, 20>
     head
 }
 
+// The head of a field of wire type 2 where its tag and its length take a byte each, as they mostly do.
+#[inline(always)]
+fn short_head(number: u32, len: usize) -> Option<[u8; 2]>
+    ensures { IfSome result (λ head. head ≡ varint (number * 8 + 2) ++ varint len) }
+{
+    if number >= 16 || len >= 128 {
+        return None;
+    }
+    Some([number as u8 * 8 + 2, len as u8])
+}
+
 /// Appends a field that holds a number (wire type 0). After an `Err` the vector is as it was.
 pub fn put_varint(out: &mut Vec<u8>, number: u32, value: u64) -> Result<(), AllocError>
     requires { (1 ≤ number) × (number < 2 ^ 29) }
@@ -41,43 +53,117 @@ pub fn put_varint(out: &mut Vec<u8>, number: u32, value: u64) -> Result<(), Allo
     out.extend_from_slice(head_of(number, 0, value).as_slice())
 }
 
-/// Appends a field that holds bytes (wire type 2): a text, or the bytes of an embedded message. The
-/// vector grows at most once. After an `Err` it is as it was.
-pub fn put_bytes(out: &mut Vec<u8>, number: u32, bytes: &[u8]) -> Result<(), AllocError>
+// Appends both, or neither.
+#[inline(always)]
+fn append_both(out: &mut Vec<u8>, head: &[u8], bytes: &[u8]) -> Result<(), AllocError>
+    ensures ok { OnOk result (out.new.items ≡ out.old.items ++ (head.now ++ bytes.now)) }
+    ensures err { OnErr result (out.new.items ≡ out.old.items) }
+{
+    out.reserve(head.len() + bytes.len())?;
+    out.extend_from_slice(head)?;
+    out.extend_from_slice(bytes)
+}
+
+// `put_bytes`, with a head of any length.
+#[inline(never)]
+fn put_long_bytes(out: &mut Vec<u8>, number: u32, bytes: &[u8]) -> Result<(), AllocError>
     requires { (1 ≤ number) × (number < 2 ^ 29) }
     ensures ok { OnOk result (out.new.items ≡ out.old.items ++ spelling (record { number = number; part = Payload bytes.now })) }
     ensures err { OnErr result (out.new.items ≡ out.old.items) }
 {
     let head = head_of(number, 2, bytes.len() as u64);
-    out.reserve(head.len() + bytes.len())?;
-    out.extend_from_slice(head.as_slice())?;
-    out.extend_from_slice(bytes)
+    append_both(out, head.as_slice(), bytes)
+}
+
+/// Appends a field that holds bytes (wire type 2): a text, or the bytes of an embedded message. The
+/// vector grows at most once. After an `Err` it is as it was.
+#[inline(always)]
+pub fn put_bytes(out: &mut Vec<u8>, number: u32, bytes: &[u8]) -> Result<(), AllocError>
+    requires { (1 ≤ number) × (number < 2 ^ 29) }
+    ensures ok { OnOk result (out.new.items ≡ out.old.items ++ spelling (record { number = number; part = Payload bytes.now })) }
+    ensures err { OnErr result (out.new.items ≡ out.old.items) }
+{
+    match short_head(number, bytes.len()) {
+        Some(head) => append_both(out, &head, bytes),
+        None => put_long_bytes(out, number, bytes),
+    }
 }
 
 // Moves the bytes back, over as many at their end, and writes the head before them.
+#[inline(always)]
 fn put_before(bytes: &mut [u8], head: &[u8])
     requires { length head.now ≤ length bytes.old }
     ensures { bytes.new ≡ head.now ++ take (length bytes.old - length head.now) bytes.old }
 {
     let kept = bytes.len() - head.len();
     bytes.copy_within(..kept, head.len());
-    let (front, _) = bytes.split_at_mut(head.len());
-    front.copy_from_slice(head);
+    let (prefix, _) = bytes.split_at_mut(head.len());
+    prefix.copy_from_slice(head);
 }
 
-/// Makes the bytes from `from` on the payload of a field (wire type 2): its tag and length go before
-/// them. So an embedded message is written in place, and its length need not be known before. After
-/// an `Err` the vector is as it was.
-pub fn close_bytes(out: &mut Vec<u8>, from: usize, number: u32) -> Result<(), AllocError>
-    requires number { (1 ≤ number) × (number < 2 ^ 29) }
-    requires within { from ≤ length out.old.items }
-    ensures ok { OnOk result (out.new.items ≡ take from out.old.items ++ spelling (record { number = number; part = Payload (drop from out.old.items) })) }
+#[inline(always)]
+fn insert_before(out: &mut Vec<u8>, from: usize, head: &[u8]) -> Result<(), AllocError>
+    requires { from ≤ length out.old.items }
+    ensures ok { OnOk result (out.new.items ≡ take from out.old.items ++ (head.now ++ drop from out.old.items)) }
     ensures err { OnErr result (out.new.items ≡ out.old.items) }
 {
-    let head = head_of(number, 2, (out.len() - from) as u64);
-    out.extend_from_slice(head.as_slice())?;
-    put_before(out.slice_mut(from..), head.as_slice());
+    out.extend_from_slice(head)?;
+    put_before(out.slice_mut(from..), head);
     Ok(())
+}
+
+// `close_bytes`, where the length takes more than the byte that was kept for it.
+#[inline(never)]
+fn close_long_bytes(out: &mut Vec<u8>, from: usize, len: usize) -> Result<(), AllocError>
+    requires within { (1 ≤ from) × (from + len ≡ length out.old.items) }
+    ensures ok { OnOk result (out.new.items ≡ take (from - 1) out.old.items ++ (varint len ++ drop from out.old.items)) }
+    ensures err { OnErr result (out.new.items ≡ out.old.items) }
+{
+    let mut head = ArrayVec::<u8, 20>::new();
+    push_varint(&mut head, len as u64);
+    let [first, others @ ..] = head.as_slice() else {
+        unreachable!()
+    };
+    insert_before(out, from, others)?;
+    out[from - 1] = *first;
+    Ok(())
+}
+
+/// Ends a field whose payload was appended behind it (wire type 2): the field was put with an empty payload, and all
+/// bytes from `from` on, where it ended, become its payload. So an embedded message is written in place, and its
+/// length need not be known before; it moves only where the length takes more than one byte. After an `Err` the
+/// vector is as it was.
+#[inline(always)]
+pub fn close_bytes(out: &mut Vec<u8>, from: usize) -> Result<(), AllocError>
+    requires { (1 ≤ from) × (from ≤ length out.old.items) }
+    ensures ok { OnOk result (out.new.items ≡ take (from - 1) out.old.items ++ (varint (length out.old.items - from) ++ drop from out.old.items)) }
+    ensures err { OnErr result (out.new.items ≡ out.old.items) }
+{
+    let len = out.len() - from;
+    if len >= 128 {
+        return close_long_bytes(out, from, len);
+    }
+    out[from - 1] = len as u8;
+    Ok(())
+}
+
+// An entry of less than 128 bytes after its head: the vector grows at most once, and nothing moves.
+fn append_short_entry(
+    out: &mut Vec<u8>,
+    head: &[u8],
+    key: &[u8],
+    value: &[u8],
+) -> Result<(), AllocError>
+    requires { length key.now + length value.now + 4 < 128 }
+    ensures ok { OnOk result (out.new.items ≡ out.old.items ++ (head.now ++ ((10 ∷ length key.now ∷ key.now) ++ (18 ∷ length value.now ∷ value.now)))) }
+    ensures err { OnErr result (out.new.items ≡ out.old.items) }
+{
+    out.reserve(head.len() + key.len() + value.len() + 4)?;
+    out.extend_from_slice(head)?;
+    out.extend_from_slice(&[10, key.len() as u8])?;
+    out.extend_from_slice(key)?;
+    out.extend_from_slice(&[18, value.len() as u8])?;
+    out.extend_from_slice(value)
 }
 
 // As `put_entry`, but what is written before an `Err` stays.
@@ -86,10 +172,11 @@ fn append_entry(out: &mut Vec<u8>, number: u32, key: &[u8], value: &[u8]) -> Res
     ensures ok { OnOk result (out.new.items ≡ out.old.items ++ spelling (map_entry number (key.now, value.now))) }
     ensures err { OnErr result (take (length out.old.items) out.new.items ≡ out.old.items) }
 {
+    put_bytes(out, number, &[])?;
     let from = out.len();
     put_bytes(out, 1, key)?;
     put_bytes(out, 2, value)?;
-    close_bytes(out, from, number)
+    close_bytes(out, from)
 }
 
 /// Appends one entry of a map of texts: an embedded message with the key as field 1 and the value as
@@ -99,6 +186,11 @@ pub fn put_entry(out: &mut Vec<u8>, number: u32, key: &[u8], value: &[u8]) -> Re
     ensures ok { OnOk result (out.new.items ≡ out.old.items ++ spelling (map_entry number (key.now, value.now))) }
     ensures err { OnErr result (out.new.items ≡ out.old.items) }
 {
+    if key.len() < 64 && value.len() < 60 {
+        if let Some(head) = short_head(number, key.len() + value.len() + 4) {
+            return append_short_entry(out, &head, key, value);
+        }
+    }
     let from = out.len();
     let written = append_entry(out, number, key, value);
     if written.is_err() {

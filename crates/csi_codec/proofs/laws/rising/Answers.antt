@@ -1,5 +1,4 @@
-use Rattle.csi_codec.specs.AgainRequests.{request_rises}
-use Rattle.csi_codec.specs.AgainResponses.{response_rises}
+use Rattle.csi_codec.proofs.MethodsLemmas.{request_rises, response_rises}
 use Rattle.csi_codec.proofs.laws.rising.Goals as goal
 
 pub returns-clause-requests : goal.returns-clause-requests

@@ -1,13 +1,13 @@
 use Rattle.std.proofs.Common.{◌≡◌, false, length}
-use Rattle.csi_codec.proofs.Loops.{Looking}
-use Rattle.csi_codec.specs.Views.{GoodEntry}
+use Rattle.csi_codec.specs.Schema.{GoodField, Good}
+use Rattle.csi_codec.proofs.MessageLemmas.{Looking}
 use Rattle.csi_codec.proofs.message.first_fault.Given as goal
 
 abbrev pub invariant-loop-next : goal.invariant-loop-next
 invariant-loop-next g l = record {
-  looking : Looking (GoodEntry g.M.Message.good) l.bytes l.fields.rest l.place;
+  looking : Looking (GoodField (Good g.M.Message.schema)) l.bytes l.fields.rest l.offset;
   sound : l.fields.failed ≡ false;
-  here : l.fields.at ≡ l.place;
+  here : l.fields.at ≡ l.offset;
 }
 
 abbrev pub decreases-loop-next : goal.decreases-loop-next

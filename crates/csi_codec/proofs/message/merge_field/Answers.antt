@@ -1,7 +1,7 @@
 use Rattle.std.proofs.Common.{◌∙◌, inl, inr}
 use Rattle.pbwire.specs.declared.field.Value.TheVariants.{Varint, Fixed64, Bytes, Fixed32}
 use Rattle.csi_codec.specs.Views.{views}
-use Rattle.csi_codec.proofs.Steps.{after_field}
+use Rattle.csi_codec.proofs.ViewLemmas.{after_field}
 use Rattle.csi_codec.proofs.message.merge_field.Goals as goal
 
 pub returns-in-Varint : goal.returns-in-Varint

@@ -1,5 +1,5 @@
 use Rattle.std.proofs.Common.{ap, ◌∙◌, sym, []}
-use Rattle.csi_codec.proofs.Steps.{no_entries}
+use Rattle.csi_codec.proofs.ViewLemmas.{no_entries}
 use Rattle.csi_codec.proofs.message.read.Goals as goal
 
 pub returns : goal.returns

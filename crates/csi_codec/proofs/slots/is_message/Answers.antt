@@ -1,6 +1,6 @@
-use Rattle.csi_codec.specs.Views.{GoodEntry}
-use Rattle.csi_codec.proofs.Loops.{none_is_good}
+use Rattle.csi_codec.specs.Schema.{GoodField, Good}
+use Rattle.csi_codec.proofs.MessageLemmas.{none_is_good}
 use Rattle.csi_codec.proofs.slots.is_message.Goals as goal
 
 pub returns : goal.returns
-returns g c = none_is_good (GoodEntry g.M.Message.good) c.args.payload.now c.first_fault.result c.is_none.result c.first_fault.ensures c.is_none.ensures
+returns g c = none_is_good (GoodField (Good g.M.Message.schema)) c.args.payload.now c.first_fault.result c.is_none.result c.first_fault.ensures c.is_none.ensures

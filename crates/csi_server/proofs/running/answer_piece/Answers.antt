@@ -28,6 +28,6 @@ returns-in-Faulty-clause-steps g c start s read held live clean =
 
 pub returns-in-Cut-clause-steps : goal.returns-in-Cut-clause-steps
 returns-in-Cut-clause-steps g c start s read held live clean =
-    subst (λ (x : List ℕ). CutOff (g.S.Service.machine c.args.config.now) (g.S.Service.sight c.args.config.now start) (g.S.Service.sight c.args.config.now c.answer_next.new.service) s x held (g.W.Write.contents c.answer_next.new.writer))
+    subst (λ (x : List ℕ). CutOff (g.S.Service.machine c.args.config.now) (g.S.Service.sight c.args.config.now start) (g.S.Service.sight c.args.config.now c.answer_next.new.service) s x ⊥ held (g.W.Write.contents c.answer_next.new.writer))
     (whole_piece read c.args.piece.now c.loop-at.at c.split_at.result.1.now c.split_at.ensures.back)
     (c.in-Cut.ensures.steps start s (read ++ take c.loop-at.at c.args.piece.now) held (c.loop-at.invariant.live start s read held live) clean)

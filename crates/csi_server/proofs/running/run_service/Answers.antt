@@ -3,6 +3,7 @@ use Rattle.std.specs.Io.KnownBytes.{Consumes, IsAtEnd}
 use Rattle.std.proofs.KnownBytes.{Consumes-nil, Consumes-trans, Consumes-kept}
 use Rattle.frames_core.specs.Framer.{FramerState}
 use Rattle.csi_server.proofs.Feeding.{nothing_ends, live_start, ready_start, live_ends, live_whole, finish_ends, refuse_ends, consumes_none, consumes_same}
+use Rattle.csi_server.proofs.Runs.{cut_at}
 use Rattle.csi_server.proofs.running.run_service.Goals as goal
 
 pub loop-turn-init : goal.loop-turn-init
@@ -57,7 +58,7 @@ returns-in-Cut-clause-serves g c =
     let run = c.loop-turn.invariant.run in (
       run.0 ++ c.split_at.result.0.now,
       Consumes-trans (r c.args.reader.now) (r c.loop-turn.reader) (r c.read.new.self) run.0 c.split_at.result.0.now run.2 (subst (λ (x : List ℕ). Consumes (r c.loop-turn.reader) (r c.read.new.self) x) (sym c.split_at.ensures.front) c.in-Ok-read.ensures.bytes.0),
-      λ clean s h. c.in-Cut.ensures.steps c.args.service.now s run.0 (w c.args.writer.now) (run.3 s h) clean,
+      λ clean s h. cut_at (g.S.Service.machine c.args.config.now) (g.S.Service.sight c.args.config.now c.args.service.now) (g.S.Service.sight c.args.config.now c.answer_piece.new.service) s (run.0 ++ c.split_at.result.0.now) (w c.args.writer.now) (w c.answer_piece.new.writer) (IsAtEnd (r c.read.new.self)) (c.in-Cut.ensures.steps c.args.service.now s run.0 (w c.args.writer.now) (run.3 s h) clean),
     )
 
 pub loop-turn-preserved : goal.loop-turn-preserved

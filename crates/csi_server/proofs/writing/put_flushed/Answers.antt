@@ -1,7 +1,7 @@
 use Rattle.csi_server.proofs.Written.{wrote_kept}
 use Rattle.csi_server.proofs.writing.put_flushed.Goals as goal
 
-pub returns-clause-front : goal.returns-clause-front
-returns-clause-front g c =
+pub returns-clause-part : goal.returns-clause-part
+returns-clause-part g c =
     let w = g.W.Write.contents in
-    wrote_kept (w c.args.writer.now) (w c.put.new.writer) (w c.flush.new.self) _ c.put.ensures.front c.flush.ensures.bytes
+    wrote_kept (w c.args.writer.now) (w c.put.new.writer) (w c.flush.new.self) _ c.put.ensures.part c.flush.ensures.bytes

@@ -6,8 +6,8 @@ use Rattle.frames_core.proofs.Breaking.{nil_unbroken, BreaksFirst-longer}
 use Rattle.frames_core.proofs.Frames.{is_unfinished, fault_of_break}
 use Rattle.frames_core.proofs.taken.take_frame.Goals as goal
 
-pub look_at-requires-clause-front : goal.look_at-requires-clause-front
-look_at-requires-clause-front c = nil_unbroken
+pub look_at-requires-clause-prefix : goal.look_at-requires-clause-prefix
+look_at-requires-clause-prefix c = nil_unbroken
 
 pub returns-in-Broken : goal.returns-in-Broken
 returns-in-Broken c =

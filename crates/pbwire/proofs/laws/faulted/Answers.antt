@@ -1,4 +1,4 @@
-use Rattle.pbwire.proofs.Faults.{entry_fault, fault_entry, one_fault, nothing_spelled}
+use Rattle.pbwire.proofs.FaultLemmas.{entry_fault, fault_entry, one_fault, nothing_spelled}
 use Rattle.pbwire.proofs.laws.faulted.Goals as goal
 
 pub returns-clause-reason : goal.returns-clause-reason

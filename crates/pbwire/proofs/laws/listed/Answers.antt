@@ -1,4 +1,4 @@
-use Rattle.pbwire.proofs.Lists.{one_list, first_of, with_first}
+use Rattle.pbwire.proofs.ListLemmas.{one_list, first_of, with_first}
 use Rattle.pbwire.proofs.laws.listed.Goals as goal
 
 pub returns-clause-one : goal.returns-clause-one

@@ -1,4 +1,4 @@
-use Rattle.pbwire.proofs.Again.{entry_again, are_fields, spelling_is, spelled_fits, spelling_shortest}
+use Rattle.pbwire.proofs.WritingLemmas.{entry_again, are_fields, spelling_is, spelled_fits, spelling_shortest}
 use Rattle.pbwire.proofs.laws.written.Goals as goal
 
 pub returns-clause-again : goal.returns-clause-again

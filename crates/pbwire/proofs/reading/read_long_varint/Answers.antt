@@ -1,7 +1,7 @@
 use Rattle.std.proofs.Common.{◌≡◌, ◌<◌, ◌≤◌, ◌-◌, ◌*◌, ◌^◌, drop, length, subst, sym, ◌∙◌, arith, Ok, Err, sym, rules}
 use Rattle.std.proofs.lemmas.List.{take_rest}
 use Rattle.pbwire.specs.Reading.{varint_at, groups_at}
-use Rattle.pbwire.proofs.Varints.{with_low, here_is, reads_more, low_more, reads_last, reads_tenth, ends_short}
+use Rattle.pbwire.proofs.VarintLemmas.{with_low, here_is, reads_more, low_more, reads_last, reads_tenth, ends_short}
 use Rattle.pbwire.proofs.reading.read_long_varint.Goals as goal
 
 pub returns-in_default : goal.returns-in_default

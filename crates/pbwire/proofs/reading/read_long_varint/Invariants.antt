@@ -1,6 +1,6 @@
 use Rattle.std.proofs.Common.{◌-◌, ◌≡◌, ◌<◌, ◌*◌, ◌^◌, drop}
 use Rattle.pbwire.specs.Reading.{groups_at}
-use Rattle.pbwire.proofs.Varints.{with_low}
+use Rattle.pbwire.proofs.VarintLemmas.{with_low}
 use Rattle.pbwire.proofs.reading.read_long_varint.Given as goal
 
 abbrev pub invariant-loop-count : goal.invariant-loop-count

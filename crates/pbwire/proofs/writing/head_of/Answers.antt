@@ -1,5 +1,5 @@
 use Rattle.std.proofs.Common.{arith, ◌*◌, ◌+◌}
-use Rattle.pbwire.proofs.Varints.{length-minimal}
+use Rattle.pbwire.proofs.VarintLemmas.{length-minimal}
 use Rattle.pbwire.proofs.writing.head_of.Goals as goal
 
 pub push_varint-requires-2 : goal.push_varint-requires-2

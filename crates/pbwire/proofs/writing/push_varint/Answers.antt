@@ -1,6 +1,6 @@
 use Rattle.std.proofs.Common.{ap, ◌∙◌, ◌++◌, sym, ◌-◌, length}
 use Rattle.pbwire.specs.Writing.{minimal}
-use Rattle.pbwire.proofs.Varints.{writes_more, minimal_last}
+use Rattle.pbwire.proofs.VarintLemmas.{writes_more, minimal_last}
 use Rattle.pbwire.proofs.writing.push_varint.Goals as goal
 
 pub loop-rest-preserved : goal.loop-rest-preserved

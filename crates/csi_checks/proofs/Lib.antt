@@ -1,3 +1,0 @@
-mod Folding
-mod Marked
-mod Pairs

@@ -1,0 +1,54 @@
+//! Marks that a peer cannot choose.
+//!
+//! The hasher of a list begins with the digest of the whole list. So another list has other marks,
+//! and a peer can only try lists, of which each has marks as if they were drawn anew.
+
+use csi_types::{Map, Text};
+use sha2::{Digest, Sha256};
+use std::hash::{DefaultHasher, Hasher};
+
+/// A hasher that has begun with the digest of the topologies.
+pub(crate) fn begun_by(topologies: &[Map]) -> DefaultHasher {
+    let mut digest = Sha256::new();
+    for topology in topologies {
+        put_length(&mut digest, topology.len());
+        for (key, value) in topology.iter() {
+            put_text(&mut digest, key);
+            put_text(&mut digest, value);
+        }
+    }
+    let mut hasher = DefaultHasher::new();
+    hasher.write(&digest.finalize());
+    hasher
+}
+
+fn put_text(digest: &mut Sha256, text: &Text) {
+    put_length(digest, text.len());
+    digest.update(text.as_bytes());
+}
+
+// Lengths go before what they count, so different lists are different bytes.
+fn put_length(digest: &mut Sha256, length: usize) {
+    digest.update(&length.to_le_bytes());
+}
+
+/// The mark of a topology, which those share that are equal when their keys are folded.
+pub(crate) fn mark_of_topology(begun: DefaultHasher, topology: &Map) -> u64 {
+    // The entries may come in any order, so their marks are added.
+    let mut mark: u64 = 0;
+    for (key, value) in topology.iter() {
+        mark = mark.wrapping_add(mark_of_entry(begun, key, value));
+    }
+    mark
+}
+
+// The hash of the folded key, a byte that no text has, and the value.
+fn mark_of_entry(begun: DefaultHasher, key: &Text, value: &Text) -> u64 {
+    let mut hasher = begun;
+    for byte in key.as_bytes() {
+        hasher.write(&[byte.to_ascii_lowercase()]);
+    }
+    hasher.write(&[0xff]);
+    hasher.write(value.as_bytes());
+    hasher.finish()
+}

@@ -1,0 +1,17 @@
+-- One piece after the other.
+use Rattle.std.proofs.Common.{◌≡◌, ℕ, List, ◌++◌, Result, Ok, Err, OnOk, OnErr, sym, ap, subst, ◌∙◌, append_assoc}
+use Rattle.std.proofs.lemmas.Grind.{flat_map-append}
+use Rattle.pbwire.specs.Wire.{WireField}
+use Rattle.pbwire.specs.Writing.{spelling, spellings}
+use Rattle.csi_codec.specs.Kept.{Keeps}
+
+pub wrote_two : (old : List ℕ) (es fs : List WireField) → (old ++ spellings es) ++ spellings fs ≡ old ++ spellings (es ++ fs)
+wrote_two old es fs = append_assoc old (spellings es) (spellings fs) ∙ ap (λ (bs : List ℕ). old ++ bs) (sym (flat_map-append spelling es fs))
+
+pub keeps_on : (old mid new : List ℕ) → Keeps mid new → Keeps old mid → Keeps old new
+keeps_on old mid new b a = record { tail = a.tail ++ b.tail; is = b.is ∙ ap (λ (l : List ℕ). l ++ b.tail) a.is ∙ append_assoc old a.tail b.tail }
+
+-- what a closed field keeps, whether or not it could be closed
+pub closed_keeps : {A E : Type 0} (r : Result A E) (old mid new closed tail : List ℕ) → closed ≡ old ++ tail → Keeps old mid → OnOk r (new ≡ closed) → OnErr r (new ≡ mid) → Keeps old new
+closed_keeps (Ok x) old mid new closed tail is kept done undone = record { tail = tail; is = done ∙ is }
+closed_keeps (Err e) old mid new closed tail is kept done undone = subst (λ (bs : List ℕ). Keeps old bs) (sym undone) kept

@@ -1,0 +1,78 @@
+-- What the bytes of a message mean, as a function: its fields are read from the left for as long as they are good. A
+-- law ties it to the relations of `Methods`, which speak of what bytes spell and of no order of reading.
+use Rattle.std.specs.Prelude.{◌≡◌, ℕ, zero, suc, ◌-◌, Bool, true, List, [], ◌∷◌, length, Result, Ok, Err, MatchResult, ◌==◌, if◌then◌else◌}
+use Rattle.std.specs.Option.{option_map_or}
+use Rattle.std.specs.Result.{IsOk}
+use Rattle.std.specs.Str.{is_utf8}
+use Rattle.csi_types.specs.declared.method.Method.{Method}
+use Rattle.csi_types.specs.declared.requests.Request.{Request}
+use Rattle.csi_types.specs.declared.responses.Response.{Response}
+use Rattle.pbwire.specs.declared.field.WireWhy.{WireWhy}
+use Rattle.pbwire.specs.Wire.{WireField}
+use Rattle.pbwire.specs.Reading.{field_at}
+use Rattle.csi_codec.specs.declared.message.DecodeFault.{DecodeFault}
+use Rattle.csi_codec.specs.declared.message.DecodeFault.TheVariants as fault
+use Rattle.csi_codec.specs.Views.{Views, payload, value_of}
+use Rattle.csi_codec.specs.Schema.{Schema, AnyPayload, TextAt, MessageAt}
+use Rattle.csi_codec.specs.Methods.{request_schema, request_in, MeansRequest, IsNoRequest, response_schema, response_in, MeansResponse, IsNoResponse}
+
+-- ---- the prefix of fields that pass a test
+
+-- the fields that were read, and the bytes behind them
+abbrev pub Scan : Type 0
+Scan = List WireField × List ℕ
+
+-- a field that passes stands before the others; one that does not, and bytes that are no field, end the scan
+abbrev pub scan_from : (WireField → Bool) → (List ℕ → Scan) → List ℕ → Result (WireField × List ℕ) WireWhy → Scan
+scan_from passes others bytes (Ok x) = if passes x.0 then (x.0 ∷ (others x.1).0, (others x.1).1) else ([], bytes)
+scan_from passes others bytes (Err why) = ([], bytes)
+
+-- at most so many fields
+unfoldable pub scan : (WireField → Bool) → ℕ → List ℕ → Scan
+scan passes zero bytes = ([], bytes)
+scan passes (suc k) bytes = scan_from passes (λ rest. scan passes k rest) bytes (field_at bytes)
+
+-- ---- good fields, as a test
+
+-- all of the bytes were read
+abbrev pub is_whole : Scan → Bool
+is_whole s = length s.1 == 0
+
+abbrev pub passes_field : (ℕ → List ℕ → Bool) → WireField → Bool
+passes_field passes e = option_map_or (passes e.number) (payload e.part) true
+
+-- the payload is good under the number
+unfoldable pub passes : Schema → ℕ → List ℕ → Bool
+passes AnyPayload k p = true
+passes (TextAt n others) k p = if k == n then is_utf8 p else passes others k p
+passes (MessageAt n inner others) k p = if k == n then is_whole (scan (passes_field (passes inner)) (length p) p) else passes others k p
+
+-- ---- messages
+
+-- the value of the fields where all of the bytes were read, and else the length of the prefix that was
+abbrev pub value_or_offset : {V : Type 0} → (Views → V) → ℕ → Scan → Result V ℕ
+value_or_offset of len s = if is_whole s then Ok (value_of of s.0) else Err (len - length s.1)
+
+unfoldable pub read_message : {V : Type 0} → Schema → (Views → V) → List ℕ → Result V ℕ
+read_message schema of bytes = value_or_offset of (length bytes) (scan (passes_field (passes schema)) (length bytes) bytes)
+
+-- the request of this method that the bytes mean, or else the offset at which they are refused
+unfoldable pub read_request : Method → List ℕ → Result Request ℕ
+read_request m bytes = read_message (request_schema m) (request_in m) bytes
+
+-- the same for the response of this method
+unfoldable pub read_response : Method → List ℕ → Result Response ℕ
+read_response m bytes = read_message (response_schema m) (response_in m) bytes
+
+-- the bytes mean this request, or they mean none and this is the offset
+abbrev pub IsRead : Method → List ℕ → Result Request ℕ → Type 0
+IsRead m bytes r = MatchResult r (MeansRequest m bytes) (IsNoRequest m bytes)
+
+abbrev pub IsReadResponse : Method → List ℕ → Result Response ℕ → Type 0
+IsReadResponse m bytes r = MatchResult r (MeansResponse m bytes) (IsNoResponse m bytes)
+
+-- What decoding answers, by what is read: want of memory comes only where the bytes mean a value.
+abbrev pub Decodes : {V : Type 0} → Result V ℕ → Result V DecodeFault → Type 0
+Decodes read (Ok v) = read ≡ Ok v
+Decodes read (Err (fault.Malformed at)) = read ≡ Err at
+Decodes read (Err fault.NoMemory) = IsOk read

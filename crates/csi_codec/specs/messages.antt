@@ -1,0 +1,9 @@
+pub mod Single
+pub mod Capacity
+pub mod Capability
+pub mod Topology
+pub mod Volume
+pub mod VolumeRequests
+pub mod PublishRequests
+pub mod QueryRequests
+pub mod ResponseParts

@@ -1,0 +1,313 @@
+//! Messages of one field, or of none.
+
+ghost use Rattle.std.specs.Prelude.{◌≡◌, ◌%◌, ◌^◌};
+ghost use Rattle.std.specs.Int.{cast_signed, w32};
+ghost use Rattle.csi_codec.specs.Schema.{AnyPayload, map_entry_schema};
+ghost use Rattle.csi_codec.specs.Views.{map_entry_in};
+ghost use Rattle.csi_codec.specs.messages.Single.{nothing_in, bool_value_in, canon_bool_value, FitsBoolValue, int64_value_in, enum_value_in, canon_number, only_in, only_schema, canon_only, types_in, types_schema, canon_types, FitsTypes};
+ghost use Rattle.csi_codec.specs.Canon.{FitsI64, FitsI32, FitsOption};
+
+use crate::message::Message;
+use crate::slots::{is_message, is_text, merge_message, push_message, text};
+use crate::writing::{Written, put_flag, put_messages, put_option, put_signed};
+use csi_types::{Items, Text};
+use std::alloc::{AllocError, Global};
+
+/// A message without known fields: its fields are looked through and skipped.
+#[derive(Clone, Copy)]
+pub struct NoFields;
+
+impl Message for NoFields {
+    ghost schema = { AnyPayload };
+
+    ghost of = { nothing_in };
+
+    fn empty(_alloc: Global) -> NoFields {
+        NoFields
+    }
+
+    fn is_good(_number: u32, _payload: &[u8]) -> bool {
+        true
+    }
+
+    fn merge_number(&mut self, _number: u32, _value: u64) {}
+
+    fn merge_payload(
+        &mut self,
+        _alloc: Global,
+        _number: u32,
+        _payload: &[u8],
+    ) -> Result<(), AllocError> {
+        Ok(())
+    }
+}
+
+/// `google.protobuf.BoolValue`: `value`, field 1.
+pub type BoolValue = bool;
+
+#[tactic(auto, using(crate::proofs::ViewLemmas::last_after))]
+impl Message for BoolValue {
+    ghost schema = { AnyPayload };
+
+    ghost of = { bool_value_in };
+
+    fn empty(_alloc: Global) -> BoolValue {
+        false
+    }
+
+    fn is_good(_number: u32, _payload: &[u8]) -> bool {
+        true
+    }
+
+    fn merge_number(&mut self, number: u32, value: u64) {
+        if number == 1 {
+            *self = value != 0;
+        }
+    }
+
+    fn merge_payload(
+        &mut self,
+        _alloc: Global,
+        _number: u32,
+        _payload: &[u8],
+    ) -> Result<(), AllocError> {
+        Ok(())
+    }
+}
+
+/// `google.protobuf.Int64Value`: `value`, field 1.
+pub type Int64Value = i64;
+
+#[tactic(auto, using(crate::proofs::ViewLemmas::last_after, crate::proofs::ViewLemmas::signed_kept))]
+impl Message for Int64Value {
+    ghost schema = { AnyPayload };
+
+    ghost of = { int64_value_in };
+
+    fn empty(_alloc: Global) -> Int64Value {
+        0
+    }
+
+    fn is_good(_number: u32, _payload: &[u8]) -> bool {
+        true
+    }
+
+    fn merge_number(&mut self, number: u32, value: u64) {
+        if number == 1 {
+            *self = value.cast_signed();
+        }
+    }
+
+    fn merge_payload(
+        &mut self,
+        _alloc: Global,
+        _number: u32,
+        _payload: &[u8],
+    ) -> Result<(), AllocError> {
+        Ok(())
+    }
+}
+
+/// A message of one enum, field 1: `AccessMode`, `PluginCapability.Service` or `ControllerServiceCapability.RPC`.
+pub type EnumValue = i32;
+
+#[tactic(auto, using(crate::proofs::ViewLemmas::last_after, crate::proofs::ViewLemmas::signed_kept_32))]
+impl Message for EnumValue {
+    ghost schema = { AnyPayload };
+
+    ghost of = { enum_value_in };
+
+    fn empty(_alloc: Global) -> EnumValue {
+        0
+    }
+
+    fn is_good(_number: u32, _payload: &[u8]) -> bool {
+        true
+    }
+
+    fn merge_number(&mut self, number: u32, value: u64) {
+        if number == 1 {
+            *self = low_half(value);
+        }
+    }
+
+    fn merge_payload(
+        &mut self,
+        _alloc: Global,
+        _number: u32,
+        _payload: &[u8],
+    ) -> Result<(), AllocError> {
+        Ok(())
+    }
+}
+
+/// An entry of a map of texts: key 1 and value 2 (Protocol Buffers encoding guide, 'Maps').
+pub type MapEntry = (Text, Text);
+
+#[tactic(auto, using(crate::proofs::ViewLemmas::last_after))]
+impl Message for MapEntry {
+    ghost schema = { map_entry_schema };
+
+    ghost of = { map_entry_in };
+
+    fn empty(alloc: Global) -> MapEntry {
+        (Text::new(alloc), Text::new(alloc))
+    }
+
+    fn is_good(number: u32, payload: &[u8]) -> bool {
+        match number {
+            1 | 2 => is_text(payload),
+            _ => true,
+        }
+    }
+
+    fn merge_number(&mut self, _number: u32, _value: u64) {}
+
+    fn merge_payload(
+        &mut self,
+        alloc: Global,
+        number: u32,
+        payload: &[u8],
+    ) -> Result<(), AllocError> {
+        match number {
+            1 => self.0 = text(alloc, payload)?,
+            2 => self.1 = text(alloc, payload)?,
+            _ => {}
+        }
+        Ok(())
+    }
+}
+
+/// A message of one embedded message, field 1.
+impl<M: Message> Message for Option<M> {
+    ghost schema = { only_schema M.schema };
+
+    ghost of = { only_in M.of };
+
+    fn empty(_alloc: Global) -> Option<M> {
+        None
+    }
+
+    fn is_good(number: u32, payload: &[u8]) -> bool {
+        match number {
+            1 => is_message::<M>(payload),
+            _ => true,
+        }
+    }
+
+    fn merge_number(&mut self, _number: u32, _value: u64) {}
+
+    fn merge_payload(
+        &mut self,
+        alloc: Global,
+        number: u32,
+        payload: &[u8],
+    ) -> Result<(), AllocError> {
+        match number {
+            1 => merge_message(self, alloc, payload),
+            _ => Ok(()),
+        }
+    }
+}
+
+/// The low 32 bits, in two's complement.
+pub fn low_half(value: u64) -> i32
+    ensures { result ≡ cast_signed w32 (value % 2 ^ 32) }
+{
+    ((value % (1 << 32)) as u32).cast_signed()
+}
+
+/// `PluginCapability` or `ControllerServiceCapability`: the enum's message, field 1.
+pub type ServiceCapability = Option<EnumValue>;
+
+/// A message of one list, field 1: the capabilities of a service.
+impl Message for Items<ServiceCapability> {
+    ghost schema = { types_schema };
+
+    ghost of = { types_in };
+
+    fn empty(alloc: Global) -> Items<ServiceCapability> {
+        Items::new(alloc)
+    }
+
+    fn is_good(number: u32, payload: &[u8]) -> bool {
+        match number {
+            1 => is_message::<ServiceCapability>(payload),
+            _ => true,
+        }
+    }
+
+    fn merge_number(&mut self, _number: u32, _value: u64) {}
+
+    fn merge_payload(
+        &mut self,
+        alloc: Global,
+        number: u32,
+        payload: &[u8],
+    ) -> Result<(), AllocError> {
+        match number {
+            1 => push_message(self, alloc, payload)?,
+            _ => {}
+        }
+        Ok(())
+    }
+}
+
+#[tactic(auto, using(crate::proofs::WritingLemmas::wrote_two, crate::proofs::WritingLemmas::keeps_on))]
+impl Written for BoolValue {
+    ghost canon = { canon_bool_value };
+
+    ghost fits = { FitsBoolValue };
+
+    fn write(&self, out: &mut Vec<u8>) -> Result<(), AllocError> {
+        put_flag(out, 1, *self)?;
+        Ok(())
+    }
+}
+
+#[tactic(auto, using(crate::proofs::WritingLemmas::wrote_two, crate::proofs::WritingLemmas::keeps_on))]
+impl Written for Int64Value {
+    ghost canon = { canon_number };
+
+    ghost fits = { FitsI64 };
+
+    fn write(&self, out: &mut Vec<u8>) -> Result<(), AllocError> {
+        put_signed(out, 1, *self)?;
+        Ok(())
+    }
+}
+
+#[tactic(auto, using(crate::proofs::WritingLemmas::wrote_two, crate::proofs::WritingLemmas::keeps_on))]
+impl Written for EnumValue {
+    ghost canon = { canon_number };
+
+    ghost fits = { FitsI32 };
+
+    fn write(&self, out: &mut Vec<u8>) -> Result<(), AllocError> {
+        put_signed(out, 1, i64::from(*self))?;
+        Ok(())
+    }
+}
+
+impl<M: Written> Written for Option<M> {
+    ghost canon = { canon_only M.canon };
+
+    ghost fits = { FitsOption M.fits M.canon };
+
+    fn write(&self, out: &mut Vec<u8>) -> Result<(), AllocError> {
+        put_option(out, 1, self)?;
+        Ok(())
+    }
+}
+
+#[tactic(auto, using(crate::proofs::WritingLemmas::wrote_two, crate::proofs::WritingLemmas::keeps_on))]
+impl Written for Items<ServiceCapability> {
+    ghost canon = { canon_types };
+
+    ghost fits = { FitsTypes };
+
+    fn write(&self, out: &mut Vec<u8>) -> Result<(), AllocError> {
+        put_messages(out, 1, self)?;
+        Ok(())
+    }
+}

@@ -1,0 +1,68 @@
+-- A machine that answers requests: the path of a call names a method, its message is read, its arguments are checked, and then it is answered.
+use Rattle.std.specs.Prelude.{◌≡◌, ◌≢◌, ◌⊎◌, ℕ, List, [], ◌++◌, Option, Some, None, Result, Ok, Err, codes, decimal}
+use Rattle.csi_types.specs.declared.method.Method.{Method}
+use Rattle.csi_types.specs.declared.reason.Reason.{Reason}
+use Rattle.csi_types.specs.declared.reason.Reason.TheVariants as reason
+use Rattle.csi_types.specs.declared.code.Code.TheVariants as code
+use Rattle.csi_types.specs.declared.requests.Request.{Request}
+use Rattle.csi_types.specs.Checks.{checked}
+use Rattle.csi_types.specs.Codes.{number_of}
+use Rattle.frames_core.specs.Envelope.{ReplyBytes}
+use Rattle.csi_codec.specs.Reading.{read_request}
+use Rattle.csi_server.specs.Verdicts.{Told, Says, Denies}
+use Rattle.csi_server.specs.Machine.{Machine, Mark, Unmarked, OutOfMemory, StoreRefused, StoreDown, Sight, RoseBy, refusal, refused, marked, store_mark}
+
+-- the reply to a message that is refused at this place
+abbrev pub malformed : ℕ → ReplyBytes
+malformed at = refusal (number_of code.InvalidArgument) (codes "malformed message in the field at byte " ++ decimal at)
+
+-- the reply that tells it
+abbrev pub told : Told → ReplyBytes
+told (Says body) = record { status = 0; text = []; body = body }
+told (Denies reason) = refused reason
+
+module _ {S : Type 0} (answer : S → Request → Told × S) where
+  abbrev pub after_check : S → Request → Option Reason → ReplyBytes × S
+  after_check s r None = (told (answer s r).0, (answer s r).1)
+  after_check s r (Some reason) = (refused reason, s)
+
+  abbrev pub after_read : S → Result Request ℕ → ReplyBytes × S
+  after_read s (Ok r) = after_check s r (checked r)
+  after_read s (Err at) = (malformed at, s)
+
+  abbrev pub after_path : S → Option Method → List ℕ → ReplyBytes × S
+  after_path s None message = (refused reason.UnknownMethod, s)
+  after_path s (Some m) message = after_read s (read_request m message)
+
+-- how a message that is not answered is refused: it is malformed, its arguments are refused, or memory was
+abbrev pub IsUnread : Method → List ℕ → ReplyBytes → Type 0
+IsUnread m message r =
+    ((at : ℕ) × (read_request m message ≡ Err at) × (r ≡ malformed at))
+    ⊎ ((q : Request) × (why : Reason) × (read_request m message ≡ Ok q) × (checked q ≡ Some why) × (r ≡ refused why))
+    ⊎ ((q : Request) × (read_request m message ≡ Ok q) × (r ≡ refused reason.OutOfMemory))
+
+-- a call may be refused for memory or by the store where its path names a method and its message means a request
+abbrev pub IsRequest : Option Method → List ℕ → Type 0
+IsRequest None message = ⊥
+IsRequest (Some m) message = (r : Request) × (read_request m message ≡ Ok r)
+
+-- the machine that knows these paths
+abbrev pub requests : {S : Type 0} → (List ℕ → Option Method) → (S → Request → Told × S) → Machine S
+requests method answer = record { respond = λ s call. after_path answer s (method call.path) call.message; may_fail = λ call. IsRequest (method call.path) call.message }
+
+-- what a call may leave behind a stop, beside s: as `Leaves`, over what it responds
+abbrev pub LeavesBy : {S : Type 0} → ReplyBytes × S → (S → Type 0) → (S → Type 0) → S → Mark → Type 0
+LeavesBy {S} x old new s Unmarked = ((x.1 ≡ s) × ((t : S) → new t → old t ⊎ (t ≡ s))) ⊎ ((t : S) → new t → t ≡ x.1)
+LeavesBy {S} x old new s OutOfMemory = (t : S) → new t → old t ⊎ (t ≡ s) ⊎ (t ≡ x.1)
+LeavesBy {S} x old new s StoreRefused = (t : S) → new t → old t ⊎ (t ≡ s) ⊎ (t ≡ x.1)
+LeavesBy {S} x old new s StoreDown = (t : S) → new t → old t ⊎ (t ≡ s) ⊎ (t ≡ x.1)
+
+-- One answer from the state s to what would respond x, with the reply r.
+pub record AnswersBy {S : Type 0} (x : ReplyBytes × S) (MayFail : Type 0) (old new : Sight S) (s : S) (r : ReplyBytes) : Type 0 where
+  pub mark : Mark
+  pub allowed : mark ≢ Unmarked → MayFail
+  pub reply : r ≡ (marked s x mark).0
+  pub held : new.holds (marked s x mark).1
+  pub counted : RoseBy old.refusals new.refusals (store_mark mark)
+  pub left : LeavesBy x old.survivors new.survivors s mark
+  pub ties : old.tied → new.tied
