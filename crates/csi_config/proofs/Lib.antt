@@ -1,0 +1,3 @@
+pub mod ConfigLemmas
+pub mod GoodLemmas
+pub mod SampleLemmas

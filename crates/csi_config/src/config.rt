@@ -1,0 +1,81 @@
+//! The configuration.
+
+ghost use Rattle.std.specs.Prelude.{◌≡◌, IfOk, IfErr, OnOk, Some, None};
+ghost use Rattle.csi_config.specs.Faults.{fault_of};
+
+use crate::fault::ConfigFault;
+use crate::nodes::{Node, check_ids, check_volumes};
+use crate::plugin::{Plugin, check_plugin};
+use crate::pools::{Pool, check_bytes, check_names, check_segments};
+use crate::sizes::{Sizes, check_sizes};
+use csi_types::Items;
+
+/// A configuration, which has none of the faults of [`ConfigFault`].
+#[derive(Debug, Drop)]
+pub struct Config {
+    plugin: Plugin,
+    sizes: Sizes,
+    pools: Items<Pool>,
+    nodes: Items<Node>,
+    ghost faultless: { fault_of plugin sizes pools nodes ≡ None },
+}
+
+impl Config {
+    /// A configuration of these parts. It takes no memory.
+    ///
+    /// # Errors
+    ///
+    /// The first fault, in the order of docs/OPERATING.md, 'Configuration'; the parts are dropped.
+    pub fn new(
+        plugin: Plugin,
+        sizes: Sizes,
+        pools: Vec<Pool>,
+        nodes: Vec<Node>,
+    ) -> Result<Self, ConfigFault>
+        ensures plugin { IfOk result (λ config. config.plugin ≡ plugin) }
+        ensures sizes { IfOk result (λ config. config.sizes ≡ sizes) }
+        ensures pools { IfOk result (λ config. config.pools ≡ pools.items) }
+        ensures nodes { IfOk result (λ config. config.nodes ≡ nodes.items) }
+        ensures faultless { OnOk result (fault_of plugin sizes pools.items nodes.items ≡ None) }
+        ensures fault { IfErr result (λ fault. fault_of plugin sizes pools.items nodes.items ≡ Some fault) }
+    {
+        let plugin = check_plugin(plugin)?;
+        check_sizes(&sizes)?;
+        let pools = check_segments(check_bytes(check_names(pools)?)?)?;
+        let nodes = check_volumes(check_ids(nodes)?)?;
+        Ok(Config {
+            plugin,
+            sizes,
+            pools: Items::from_vec(pools),
+            nodes: Items::from_vec(nodes),
+        })
+    }
+
+    /// Who the plugin is.
+    pub fn plugin(&self) -> &Plugin
+        ensures { result.now ≡ self.now.plugin }
+    {
+        &self.plugin
+    }
+
+    /// The sizes of volumes.
+    pub fn sizes(&self) -> &Sizes
+        ensures { result.now ≡ self.now.sizes }
+    {
+        &self.sizes
+    }
+
+    /// The pools, in the order in which they are tried.
+    pub fn pools(&self) -> &[Pool]
+        ensures { result.now ≡ self.now.pools }
+    {
+        self.pools.as_slice()
+    }
+
+    /// The nodes.
+    pub fn nodes(&self) -> &[Node]
+        ensures { result.now ≡ self.now.nodes }
+    {
+        self.nodes.as_slice()
+    }
+}

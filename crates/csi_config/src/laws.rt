@@ -1,0 +1,83 @@
+//! What a configuration has, as it has none of the faults: each law is the contract of a function that
+//! does nothing.
+
+ghost use Rattle.std.specs.Prelude.{◌≡◌, ◌≤◌, ◌<◌, ◌^◌, false, true, length};
+ghost use Rattle.std.specs.FinMap.{len};
+ghost use Rattle.csi_types.specs.Topology.{has_alike_keys};
+ghost use Rattle.csi_types.specs.declared.limits.TheConstants.{MAX_NODES, MAX_POOLS, MAX_SEGMENTS, MAX_TEXT_BYTES, MAX_VOLUMES};
+ghost use Rattle.csi_config.specs.Faults.{all_bytes, is_plugin_name, is_pool_name, is_whole};
+ghost use Rattle.csi_config.specs.Values.{Has};
+ghost use Rattle.csi_config.specs.declared.nodes.Node.{Node};
+ghost use Rattle.csi_config.specs.declared.plugin.TheConstants.{MAX_NAME_BYTES};
+ghost use Rattle.csi_config.specs.declared.pools.Pool.{Pool};
+
+use crate::config::Config;
+use crate::nodes::Node;
+use crate::pools::Pool;
+use csi_types::laws::pairs;
+
+/// The plugin's name and version are within their limits.
+#[inline(always)]
+pub fn plugin_named(config: &Config)
+    ensures name { is_plugin_name config.now.plugin.name ≡ true }
+    ensures name_given { 0 < length config.now.plugin.name }
+    ensures name_short { length config.now.plugin.name ≤ MAX_NAME_BYTES }
+    ensures version_given { 0 < length config.now.plugin.version }
+    ensures version_short { length config.now.plugin.version ≤ MAX_TEXT_BYTES }
+{}
+
+/// Sizes are positive multiples of 1 MiB, the default at most the greatest, and that at most 2^62.
+#[inline(always)]
+pub fn sizes_whole(config: &Config)
+    ensures default { is_whole config.now.sizes.default_bytes ≡ true }
+    ensures greatest { is_whole config.now.sizes.greatest_bytes ≡ true }
+    ensures order { config.now.sizes.default_bytes ≤ config.now.sizes.greatest_bytes }
+    ensures limit { config.now.sizes.greatest_bytes ≤ 2 ^ 62 }
+{}
+
+/// There are 1 to 16 pools, each with a name within its limits.
+#[inline(always)]
+pub fn pools_named(config: &Config)
+    ensures some { 0 < length config.now.pools }
+    ensures few { length config.now.pools ≤ MAX_POOLS }
+    ensures names { (p : Pool) → Has config.now.pools p → is_pool_name p.name ≡ true }
+{}
+
+/// No two pools have one name.
+#[inline(always)]
+pub fn pool_names_differ(config: &Config)
+    ensures { (p q : Pool) → Has config.now.pools p → Has config.now.pools q → p.name ≡ q.name → p ≡ q }
+{
+    pairs::<Pool>();
+}
+
+/// Each pool's bytes are a positive multiple of 1 MiB, and all together at most 2^62.
+#[inline(always)]
+pub fn pool_bytes_whole(config: &Config)
+    ensures whole { (p : Pool) → Has config.now.pools p → is_whole p.bytes ≡ true }
+    ensures each { (p : Pool) → Has config.now.pools p → p.bytes ≤ 2 ^ 62 }
+    ensures all { all_bytes config.now.pools ≤ 2 ^ 62 }
+{}
+
+/// Each pool has at most 8 segments, and no two keys that are equal when their ASCII letters are folded.
+#[inline(always)]
+pub fn pool_keys_differ(config: &Config)
+    ensures few { (p : Pool) → Has config.now.pools p → len p.segments ≤ MAX_SEGMENTS }
+    ensures differ { (p : Pool) → Has config.now.pools p → has_alike_keys p.segments ≡ false }
+{}
+
+/// There are at most 64 nodes, and no two have one id.
+#[inline(always)]
+pub fn node_ids_differ(config: &Config)
+    ensures few { length config.now.nodes ≤ MAX_NODES }
+    ensures differ { (m n : Node) → Has config.now.nodes m → Has config.now.nodes n → m.id ≡ n.id → m ≡ n }
+{
+    pairs::<Node>();
+}
+
+/// Each node's greatest number of volumes is 1 to 100,000.
+#[inline(always)]
+pub fn node_volumes_few(config: &Config)
+    ensures some { (n : Node) → Has config.now.nodes n → 0 < n.max_volumes }
+    ensures few { (n : Node) → Has config.now.nodes n → n.max_volumes ≤ MAX_VOLUMES }
+{}

@@ -1,0 +1,111 @@
+//! The nodes of a configuration.
+
+ghost use Rattle.std.specs.Prelude.{◌≡◌, ◌<◌, take, None, OnOk, IfOk, IfErr, IfSome, Some, length};
+ghost use Rattle.std.specs.List.{list_any};
+ghost use Rattle.csi_types.specs.Maps.{same_text};
+ghost use Rattle.csi_config.specs.Faults.{breaks_node, id_at, is_bad_byte, is_bad_id, node_fault, node_ids_fault, node_volumes_fault, place_of_node};
+
+use crate::fault::{ConfigFault, NodeRule};
+use csi_types::{MAX_NODE_ID_BYTES, MAX_NODES, MAX_VOLUMES, Text};
+
+/// A node, at which volumes are published (CSI specification, 'ControllerPublishVolume').
+#[derive(Debug, Drop)]
+pub struct Node {
+    /// Its id: 1 to 256 bytes, none below 0x20 or 0x7F.
+    pub id: Text,
+    /// How many volumes can be published there at once: 1 to 100,000.
+    pub max_volumes: u64,
+}
+
+#[tactic(auto, unfolding(crate::specs::Faults::is_bad_byte))]
+fn is_bad_byte(byte: u8) -> bool
+    ensures { result ≡ is_bad_byte byte }
+{
+    byte < 0x20 || byte == 0x7f
+}
+
+fn has_bad_byte(id: &[u8]) -> bool
+    ensures { result ≡ list_any is_bad_byte id.now }
+{
+    id.iter().any(|byte| is_bad_byte(*byte))
+}
+
+fn is_bad_id(id: &[u8]) -> bool
+    ensures { result ≡ is_bad_id id.now }
+{
+    id.is_empty() || id.len() > MAX_NODE_ID_BYTES || has_bad_byte(id)
+}
+
+// Whether one of the first `count` nodes has the id.
+fn has_id_before(nodes: &[Node], count: usize, id: &Text) -> bool
+    ensures { result ≡ list_any (λ n. same_text n.id id.now) (take count nodes.now) }
+{
+    nodes.iter().take(count).any(|earlier| earlier.id == *id)
+}
+
+// Whether a node, which stands behind the first `count`, breaks a rule.
+fn breaks(rule: NodeRule, nodes: &[Node], count: usize, node: &Node) -> bool
+    ensures { result ≡ breaks_node rule (take count nodes.now) node.now }
+{
+    match rule {
+        NodeRule::Id => is_bad_id(node.id.as_bytes()),
+        NodeRule::IdTwice => has_id_before(nodes, count, &node.id),
+        NodeRule::Volumes => node.max_volumes == 0 || node.max_volumes > MAX_VOLUMES,
+    }
+}
+
+// The place of the first node that breaks a rule.
+fn place_of(rule: NodeRule, nodes: &[Node]) -> Option<usize>
+    ensures value { result ≡ place_of_node rule nodes.now }
+    ensures within { IfSome result (λ place. place < length nodes.now) }
+{
+    nodes
+        .iter()
+        .enumerate()
+        .position(|(place, node)| breaks(rule, nodes, place, node))
+}
+
+fn take_id(mut nodes: Vec<Node>, place: usize) -> Text
+    requires { place < length nodes.items }
+    ensures { result ≡ id_at nodes.items place }
+{
+    let Node { id, .. } = nodes.swap_remove(place);
+    id
+}
+
+// Gives the nodes back, or the first of them that breaks a rule.
+fn check_rule(rule: NodeRule, nodes: Vec<Node>) -> Result<Vec<Node>, ConfigFault>
+    ensures same { IfOk result (λ same. same.items ≡ nodes.items) }
+    ensures passed { OnOk result (node_fault rule nodes.items ≡ None) }
+    ensures refused { IfErr result (λ fault. node_fault rule nodes.items ≡ Some fault) }
+{
+    match place_of(rule, nodes.as_slice()) {
+        Some(place) => Err(ConfigFault::Node {
+            id: take_id(nodes, place),
+            rule,
+        }),
+        None => Ok(nodes),
+    }
+}
+
+/// Gives the nodes back, or the first fault of their number and their ids.
+pub(crate) fn check_ids(nodes: Vec<Node>) -> Result<Vec<Node>, ConfigFault>
+    ensures same { IfOk result (λ same. same.items ≡ nodes.items) }
+    ensures passed { OnOk result (node_ids_fault nodes.items ≡ None) }
+    ensures refused { IfErr result (λ fault. node_ids_fault nodes.items ≡ Some fault) }
+{
+    if nodes.len() > MAX_NODES {
+        return Err(ConfigFault::TooManyNodes);
+    }
+    let known = check_rule(NodeRule::Id, nodes)?;
+    check_rule(NodeRule::IdTwice, known)
+}
+
+/// Gives the nodes back, or the first fault of their greatest numbers of volumes.
+pub(crate) fn check_volumes(nodes: Vec<Node>) -> Result<Vec<Node>, ConfigFault>
+    ensures same { IfOk result (λ same. same.items ≡ nodes.items) }
+    ensures passed { OnOk result (node_volumes_fault nodes.items ≡ None) }
+    ensures refused { IfErr result (λ fault. node_volumes_fault nodes.items ≡ Some fault) }
+{
+    check_rule(NodeRule::Volumes, nodes)
+}

@@ -1,0 +1,67 @@
+//! Who the plugin is.
+
+ghost use Rattle.std.specs.Prelude.{◌≡◌, None, OnOk, IfOk, IfErr, Some};
+ghost use Rattle.std.specs.List.{list_all};
+ghost use Rattle.csi_config.specs.Faults.{is_alphanumeric, is_plugin_byte, is_plugin_name, plugin_fault};
+
+use crate::fault::ConfigFault;
+use csi_types::{MAX_TEXT_BYTES, Text};
+
+/// The most bytes of the name of the plugin and of a pool (CSI specification, 'GetPluginInfo': at
+/// most 63 characters, after the form of a domain name).
+pub const MAX_NAME_BYTES: usize = 63;
+
+const _: () = prove!(MAX_NAME_BYTES == 63);
+
+/// Who the plugin is (CSI specification, 'GetPluginInfo').
+#[derive(Debug, Drop)]
+pub struct Plugin {
+    /// `name`: 1 to 63 ASCII letters, digits, `-` and `.`, the first and the last a letter or digit.
+    pub name: Text,
+    /// `vendor_version`: 1 to 128 bytes.
+    pub version: Text,
+}
+
+#[tactic(auto, unfolding(crate::specs::Faults::is_alphanumeric))]
+pub(crate) fn is_alphanumeric(byte: u8) -> bool
+    ensures { result ≡ is_alphanumeric byte }
+{
+    matches!(byte, b'0'..=b'9' | b'A'..=b'Z' | b'a'..=b'z')
+}
+
+#[tactic(auto, unfolding(crate::specs::Faults::is_plugin_byte))]
+fn is_plugin_byte(byte: u8) -> bool
+    ensures { result ≡ is_plugin_byte byte }
+{
+    is_alphanumeric(byte) || byte == b'-' || byte == b'.'
+}
+
+fn are_plugin_bytes(name: &[u8]) -> bool
+    ensures { result ≡ list_all is_plugin_byte name.now }
+{
+    name.iter().all(|byte| is_plugin_byte(*byte))
+}
+
+fn is_plugin_name(name: &[u8]) -> bool
+    ensures { result ≡ is_plugin_name name.now }
+{
+    if name.is_empty() || name.len() > MAX_NAME_BYTES || !are_plugin_bytes(name) {
+        return false;
+    }
+    is_alphanumeric(name[0]) && is_alphanumeric(name[name.len() - 1])
+}
+
+/// Gives the plugin back, or its first fault.
+pub(crate) fn check_plugin(plugin: Plugin) -> Result<Plugin, ConfigFault>
+    ensures same { IfOk result (λ same. same ≡ plugin) }
+    ensures passed { OnOk result (plugin_fault plugin ≡ None) }
+    ensures refused { IfErr result (λ fault. plugin_fault plugin ≡ Some fault) }
+{
+    if !is_plugin_name(plugin.name.as_bytes()) {
+        return Err(ConfigFault::PluginName { name: plugin.name });
+    }
+    if plugin.version.is_empty() || plugin.version.len() > MAX_TEXT_BYTES {
+        return Err(ConfigFault::PluginVersion);
+    }
+    Ok(plugin)
+}

@@ -1,0 +1,180 @@
+//! The pools of a configuration.
+
+ghost use Rattle.std.specs.Prelude.{◌≡◌, ◌<◌, ◌-◌, ◌^◌, min, take, None, OnOk, IfOk, IfErr, IfSome, Some, length};
+ghost use Rattle.std.specs.FinMap.{entries};
+ghost use Rattle.std.specs.List.{list_all, list_any};
+ghost use Rattle.csi_types.specs.Maps.{same_text};
+ghost use Rattle.csi_types.specs.Names.{is_empty, longer_than};
+ghost use Rattle.csi_config.specs.Faults.{all_bytes, breaks_pool, is_pool_byte, is_pool_name, name_at, pool_bytes_fault, pool_fault, pool_names_fault, place_of_pool, segments_fault};
+
+use crate::fault::{ConfigFault, PoolRule};
+use crate::plugin::{MAX_NAME_BYTES, is_alphanumeric};
+use crate::sizes::is_whole;
+use csi_types::{
+    MAX_POOL_BYTES, MAX_POOLS, MAX_SEGMENTS, MAX_TEXT_BYTES, Map, Text, has_alike_keys,
+};
+
+/// A pool of bytes, from which volumes are made.
+#[derive(Debug, Drop)]
+pub struct Pool {
+    /// Its name: 1 to 63 ASCII letters, digits, `-`, `_` and `.`.
+    pub name: Text,
+    /// How many bytes it has: a positive multiple of 1 MiB, and at most 2^62 in all pools together.
+    pub bytes: u64,
+    /// The topology from which its volumes are reached, at most 8 segments; without any they are
+    /// reached from everywhere (CSI specification, 'CreateVolume', `Topology`). Keys have 1 to 128
+    /// bytes and differ when their ASCII letters are folded, values have at most 128.
+    pub segments: Map,
+}
+
+#[tactic(auto, unfolding(crate::specs::Faults::is_pool_byte))]
+fn is_pool_byte(byte: u8) -> bool
+    ensures { result ≡ is_pool_byte byte }
+{
+    is_alphanumeric(byte) || byte == b'-' || byte == b'_' || byte == b'.'
+}
+
+fn are_pool_bytes(name: &[u8]) -> bool
+    ensures { result ≡ list_all is_pool_byte name.now }
+{
+    name.iter().all(|byte| is_pool_byte(*byte))
+}
+
+fn is_pool_name(name: &[u8]) -> bool
+    ensures { result ≡ is_pool_name name.now }
+{
+    !name.is_empty() && name.len() <= MAX_NAME_BYTES && are_pool_bytes(name)
+}
+
+// Whether one of the first `count` pools has the name.
+fn is_named_before(pools: &[Pool], count: usize, name: &Text) -> bool
+    ensures { result ≡ list_any (λ p. same_text p.name name.now) (take count pools.now) }
+{
+    pools
+        .iter()
+        .take(count)
+        .any(|earlier| earlier.name == *name)
+}
+
+fn has_empty_key(segments: &Map) -> bool
+    ensures { result ≡ list_any (λ e. is_empty e.0) (entries segments.now) }
+{
+    segments.iter().any(|(key, _)| key.is_empty())
+}
+
+fn has_long_key(segments: &Map) -> bool
+    ensures { result ≡ list_any (λ e. longer_than MAX_TEXT_BYTES e.0) (entries segments.now) }
+{
+    segments.iter().any(|(key, _)| key.len() > MAX_TEXT_BYTES)
+}
+
+fn has_long_value(segments: &Map) -> bool
+    ensures { result ≡ list_any (λ e. longer_than MAX_TEXT_BYTES e.1) (entries segments.now) }
+{
+    segments
+        .iter()
+        .any(|(_, value)| value.len() > MAX_TEXT_BYTES)
+}
+
+// Whether a pool, which stands behind the first `count`, breaks a rule.
+fn breaks(rule: PoolRule, pools: &[Pool], count: usize, pool: &Pool) -> bool
+    ensures { result ≡ breaks_pool rule (take count pools.now) pool.now }
+{
+    match rule {
+        PoolRule::Name => !is_pool_name(pool.name.as_bytes()),
+        PoolRule::NameTwice => is_named_before(pools, count, &pool.name),
+        PoolRule::Bytes => !is_whole(pool.bytes),
+        PoolRule::Segments => pool.segments.len() > MAX_SEGMENTS,
+        PoolRule::KeyEmpty => has_empty_key(&pool.segments),
+        PoolRule::KeyTooLong => has_long_key(&pool.segments),
+        PoolRule::ValueTooLong => has_long_value(&pool.segments),
+        PoolRule::KeysAlike => has_alike_keys(&pool.segments),
+    }
+}
+
+// The place of the first pool that breaks a rule.
+fn place_of(rule: PoolRule, pools: &[Pool]) -> Option<usize>
+    ensures value { result ≡ place_of_pool rule pools.now }
+    ensures within { IfSome result (λ place. place < length pools.now) }
+{
+    pools
+        .iter()
+        .enumerate()
+        .position(|(place, pool)| breaks(rule, pools, place, pool))
+}
+
+fn take_name(mut pools: Vec<Pool>, place: usize) -> Text
+    requires { place < length pools.items }
+    ensures { result ≡ name_at pools.items place }
+{
+    let Pool { name, .. } = pools.swap_remove(place);
+    name
+}
+
+// Gives the pools back, or the first of them that breaks a rule.
+fn check_rule(rule: PoolRule, pools: Vec<Pool>) -> Result<Vec<Pool>, ConfigFault>
+    ensures same { IfOk result (λ same. same.items ≡ pools.items) }
+    ensures passed { OnOk result (pool_fault rule pools.items ≡ None) }
+    ensures refused { IfErr result (λ fault. pool_fault rule pools.items ≡ Some fault) }
+{
+    match place_of(rule, pools.as_slice()) {
+        Some(place) => Err(ConfigFault::Pool {
+            name: take_name(pools, place),
+            rule,
+        }),
+        None => Ok(pools),
+    }
+}
+
+/// Gives the pools back, or the first fault of their number and their names.
+pub(crate) fn check_names(pools: Vec<Pool>) -> Result<Vec<Pool>, ConfigFault>
+    ensures same { IfOk result (λ same. same.items ≡ pools.items) }
+    ensures passed { OnOk result (pool_names_fault pools.items ≡ None) }
+    ensures refused { IfErr result (λ fault. pool_names_fault pools.items ≡ Some fault) }
+{
+    if pools.is_empty() {
+        return Err(ConfigFault::NoPool);
+    }
+    if pools.len() > MAX_POOLS {
+        return Err(ConfigFault::TooManyPools);
+    }
+    let named = check_rule(PoolRule::Name, pools)?;
+    check_rule(PoolRule::NameTwice, named)
+}
+
+// The bytes of all pools, up to the greatest number of 64 bits.
+fn all_bytes(pools: &[Pool]) -> u64
+    ensures { result ≡ min (all_bytes pools.now) (2 ^ 64 - 1) }
+{
+    let mut sum: u64 = 0;
+    for pool in pools {
+        sum = sum.saturating_add(pool.bytes);
+    }
+    sum
+}
+
+/// Gives the pools back, or the first fault of their bytes.
+pub(crate) fn check_bytes(pools: Vec<Pool>) -> Result<Vec<Pool>, ConfigFault>
+    ensures same { IfOk result (λ same. same.items ≡ pools.items) }
+    ensures passed { OnOk result (pool_bytes_fault pools.items ≡ None) }
+    ensures refused { IfErr result (λ fault. pool_bytes_fault pools.items ≡ Some fault) }
+{
+    let whole = check_rule(PoolRule::Bytes, pools)?;
+    if all_bytes(whole.as_slice()) > MAX_POOL_BYTES {
+        return Err(ConfigFault::AllBytes);
+    }
+    Ok(whole)
+}
+
+/// Gives the pools back, or the first fault of their segments.
+pub(crate) fn check_segments(pools: Vec<Pool>) -> Result<Vec<Pool>, ConfigFault>
+    ensures same { IfOk result (λ same. same.items ≡ pools.items) }
+    ensures passed { OnOk result (segments_fault pools.items ≡ None) }
+    ensures refused { IfErr result (λ fault. segments_fault pools.items ≡ Some fault) }
+{
+    let few = check_rule(PoolRule::Segments, pools)?;
+    let keyed = check_rule(PoolRule::KeyEmpty, few)?;
+    let short = check_rule(PoolRule::KeyTooLong, keyed)?;
+    let measured = check_rule(PoolRule::ValueTooLong, short)?;
+    check_rule(PoolRule::KeysAlike, measured)
+}

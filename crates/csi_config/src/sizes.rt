@@ -1,0 +1,55 @@
+//! The sizes of volumes.
+
+ghost use Rattle.std.specs.Prelude.{◌≡◌, None, OnOk, IfErr, Some};
+ghost use Rattle.csi_config.specs.Faults.{broken_sizes, is_whole, sizes_fault};
+
+use crate::fault::{ConfigFault, SizeRule};
+use csi_types::MAX_POOL_BYTES;
+
+/// 1 MiB: each size is a multiple of this many bytes.
+pub const GRANULE_BYTES: u64 = 1_048_576;
+
+const _: () = prove!(GRANULE_BYTES == 1_048_576);
+
+/// The sizes of volumes: positive multiples of 1 MiB.
+#[derive(Clone, Copy, Debug, PartialEq, Eq)]
+pub struct Sizes {
+    /// The size of a volume for which none is asked, in bytes.
+    pub default_bytes: u64,
+    /// The greatest size of a volume, in bytes: at least the default, and at most 2^62.
+    pub greatest_bytes: u64,
+}
+
+/// Whether a size is a positive multiple of 1 MiB.
+pub(crate) fn is_whole(bytes: u64) -> bool
+    ensures { result ≡ is_whole bytes }
+{
+    bytes > 0 && bytes % GRANULE_BYTES == 0
+}
+
+fn broken_rule(sizes: &Sizes) -> Option<SizeRule>
+    ensures { result ≡ broken_sizes sizes.now }
+{
+    if !is_whole(sizes.default_bytes) {
+        Some(SizeRule::Default)
+    } else if !is_whole(sizes.greatest_bytes) {
+        Some(SizeRule::Greatest)
+    } else if sizes.default_bytes > sizes.greatest_bytes {
+        Some(SizeRule::Order)
+    } else if sizes.greatest_bytes > MAX_POOL_BYTES {
+        Some(SizeRule::Limit)
+    } else {
+        None
+    }
+}
+
+/// The first fault of the sizes, or `Ok` where they have none.
+pub(crate) fn check_sizes(sizes: &Sizes) -> Result<(), ConfigFault>
+    ensures passed { OnOk result (sizes_fault sizes.now ≡ None) }
+    ensures refused { IfErr result (λ fault. sizes_fault sizes.now ≡ Some fault) }
+{
+    match broken_rule(sizes) {
+        Some(rule) => Err(ConfigFault::Sizes(rule)),
+        None => Ok(()),
+    }
+}
