@@ -1,5 +1,4 @@
 use super::*;
-use std::alloc::Global;
 use std::collections::BTreeMap;
 use std::convert::AsStr;
 use std::test::Fail;
@@ -280,68 +279,6 @@ fn listing(rt: &HostRuntime, max_entries: i32) -> ListVolumes {
 fn requests(rt: HostRuntime) {
     assert_eq!(rt; listing(&rt, 1), listing(&rt, 1));
     assert!(rt; listing(&rt, 1) != listing(&rt, -1));
-}
-
-fn secrets(alloc: Global) -> Result<Map, Fail> {
-    let mut secrets = Map::new(alloc);
-    secrets.insert(copy_text(alloc, "password")?, copy_text(alloc, "open")?)?;
-    Ok(secrets)
-}
-
-// A request of each kind that has secrets.
-fn secret_requests(alloc: Global) -> Result<[Request; 5], Fail> {
-    Ok([
-        Request::Create(CreateVolume {
-            name: Text::new(alloc),
-            range: None,
-            capabilities: Items::new(alloc),
-            parameters: Map::new(alloc),
-            secrets: secrets(alloc)?,
-            source: false,
-            topology: None,
-        }),
-        Request::Delete(DeleteVolume {
-            volume_id: Text::new(alloc),
-            secrets: secrets(alloc)?,
-        }),
-        Request::Publish(Publish {
-            volume_id: Text::new(alloc),
-            node_id: Text::new(alloc),
-            capability: None,
-            readonly: false,
-            secrets: secrets(alloc)?,
-            context: Map::new(alloc),
-        }),
-        Request::Unpublish(Unpublish {
-            volume_id: Text::new(alloc),
-            node_id: Text::new(alloc),
-            secrets: secrets(alloc)?,
-        }),
-        Request::Validate(Validate {
-            volume_id: Text::new(alloc),
-            context: Map::new(alloc),
-            capabilities: Items::new(alloc),
-            parameters: Map::new(alloc),
-            secrets: secrets(alloc)?,
-        }),
-    ])
-}
-
-const WITHOUT_SECRETS: [&str; 5] = [
-    "Create(CreateVolume { name: Text { string: \"\" }, range: None, capabilities: Items { vec: [] }, parameters: Map { tree: {} }, source: false, topology: None, .. })",
-    "Delete(DeleteVolume { volume_id: Text { string: \"\" }, .. })",
-    "Publish(Publish { volume_id: Text { string: \"\" }, node_id: Text { string: \"\" }, capability: None, readonly: false, context: Map { tree: {} }, .. })",
-    "Unpublish(Unpublish { volume_id: Text { string: \"\" }, node_id: Text { string: \"\" }, .. })",
-    "Validate(Validate { volume_id: Text { string: \"\" }, context: Map { tree: {} }, capabilities: Items { vec: [] }, parameters: Map { tree: {} }, .. })",
-];
-
-#[test]
-fn hidden_secrets(rt: HostRuntime) -> Result<(), Fail> {
-    let alloc = rt.alloc();
-    for (request, text) in secret_requests(alloc)?.iter().zip(&WITHOUT_SECRETS) {
-        assert_eq!(rt; format!(in alloc; "{request:?}")?.as_str(), *text);
-    }
-    Ok(())
 }
 
 #[test]

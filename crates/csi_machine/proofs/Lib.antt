@@ -1,0 +1,13 @@
+mod CapabilityLemmas
+mod ChangeLemmas
+mod DetachLemmas
+mod FiniteLemmas
+mod KeeperLemmas
+mod KeptLemmas
+mod ListingLemmas
+mod NamesLemmas
+mod NobodyLemmas
+mod OrderLemmas
+mod ReadLemmas
+mod SumLemmas
+mod TreeLemmas

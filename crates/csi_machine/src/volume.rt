@@ -1,0 +1,32 @@
+//! Volumes and their attachments, as they are kept.
+
+use crate::capability::CapKey;
+use csi_types::{Items, Map, Text};
+
+/// A volume as it is kept (CSI 1.x, `Volume` and the request that made it).
+#[derive(Debug, Drop)]
+pub struct Volume {
+    /// The number, 1 to 2^62 - 1. No other volume ever has it, also after this one is deleted.
+    pub number: u64,
+    /// The name that it was created under. No other volume has it while this one stands.
+    pub name: Text,
+    /// The size in bytes, at most 2^62.
+    pub bytes: u64,
+    /// The name of the pool that it takes its bytes from.
+    pub pool: Text,
+    /// What it may be used as, in the order of keys and without doubles.
+    pub caps: Items<CapKey>,
+    /// The parameters that it was created with (`CreateVolumeRequest.parameters`).
+    pub params: Map,
+}
+
+/// A volume's being published at a node (CSI 1.x, `ControllerPublishVolume`).
+#[derive(Debug, Drop)]
+pub struct Attachment {
+    /// The id of the node, at most 256 bytes.
+    pub node: Text,
+    /// What the volume is used as there.
+    pub cap: CapKey,
+    /// Whether it is only read there.
+    pub readonly: bool,
+}
