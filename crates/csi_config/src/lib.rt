@@ -9,8 +9,6 @@ mod plugin;
 mod pools;
 mod sample;
 mod sizes;
-#[cfg(test)]
-mod tests;
 
 pub use config::Config;
 pub use fault::{ConfigFault, NodeRule, PoolRule, SizeRule};

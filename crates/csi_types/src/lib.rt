@@ -14,8 +14,6 @@ mod name;
 mod reason;
 mod requests;
 mod responses;
-#[cfg(test)]
-mod tests;
 mod text;
 mod topology;
 mod volume;
