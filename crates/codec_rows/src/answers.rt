@@ -1,29 +1,14 @@
 //! What a row is answered.
 
-use crate::notation::{NotationFault, bytes_of};
 use csi_checks::check;
 use csi_codec::{DecodeFault, decode, decode_response, encode_request, encode_response};
 use csi_types::{
     MAX_MAP_BYTES, MAX_MOUNT_FLAGS_BYTES, MAX_NODE_ID_BYTES, MAX_NODES, MAX_NUMBER, MAX_POOL_BYTES,
     MAX_POOLS, MAX_SEGMENTS, MAX_TEXT_BYTES, MAX_VOLUMES, Method, Request,
 };
+use row_notation::{NotationFault, bytes_of, method_named};
 use std::alloc::{AllocError, Global};
 use thiserror::Error;
-
-// All methods.
-const METHODS: [Method; 11] = [
-    Method::GetPluginInfo,
-    Method::GetPluginCapabilities,
-    Method::Probe,
-    Method::CreateVolume,
-    Method::DeleteVolume,
-    Method::ControllerPublishVolume,
-    Method::ControllerUnpublishVolume,
-    Method::ValidateVolumeCapabilities,
-    Method::ListVolumes,
-    Method::GetCapacity,
-    Method::ControllerGetCapabilities,
-];
 
 /// Why a row has no value.
 #[derive(Debug, Drop, Error)]
@@ -144,16 +129,6 @@ fn request_value(alloc: Global, method: Method, bytes: &[u8]) -> Result<String, 
 fn response_value(alloc: Global, method: Method, bytes: &[u8]) -> Result<String, RowFault> {
     let response = decode_response(alloc, method, bytes)?;
     Ok(format!(in alloc; "{response:?}")?)
-}
-
-// The method whose path ends in this name.
-fn method_named(name: &str) -> Option<Method> {
-    METHODS.iter().copied().find(|method| {
-        method
-            .path()
-            .rsplit_once('/')
-            .is_some_and(|(_, last)| last == name)
-    })
 }
 
 fn request_answer(alloc: Global, method: Method, bytes: &[u8]) -> Result<String, RowFault> {

@@ -3,7 +3,6 @@
 #![tactic(auto)]
 
 mod answers;
-mod notation;
 
 use answers::answer;
 use std::io::{Read, Write};

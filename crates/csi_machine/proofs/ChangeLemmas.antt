@@ -14,7 +14,7 @@ use Rattle.csi_machine.specs.declared.change.Change.TheVariants.{AddVolume, Remo
 use Rattle.csi_machine.specs.declared.volume.Volume.{Volume}
 use Rattle.csi_machine.specs.declared.totals.Total.{Total}
 use Rattle.csi_machine.specs.declared.totals.Totals.{Totals}
-use Rattle.csi_machine.specs.Memory.{IsKept, volumes_of}
+use Rattle.csi_machine.specs.Memory.{Spot, IsKept, volumes_of}
 use Rattle.csi_machine.specs.Totals.{total_of, more, less, HasRoom}
 use Rattle.csi_machine.specs.State.{State, Place, changed, Allows}
 use Rattle.csi_machine.specs.Texts.{Text, text_cmp}
@@ -55,9 +55,9 @@ sum_most (e ∷ es) pool a =
       | false ↦ λ o t. omega (arith, o, t, more)
     ] one two
 
-module _ (next : ℕ) (volumes : List (ℕ × Volume)) (names : List (Text × ℕ)) (pools : Totals) (attachments : List (Place × Attachment)) (s : State) where
+module _ (next : ℕ) (volumes : List (ℕ × Volume)) (names : List (Text × ℕ)) (pools : Totals) (attachments : List (Place × Attachment)) (spots : List (Spot × Unit {0})) (s : State) where
   -- the totals have room for one more
-  pub room : (v : Volume) → IsKept next volumes names pools attachments s → Allows s (AddVolume v) → v.number < 2 ^ 62 → v.bytes ≤ 2 ^ 62
+  pub room : (v : Volume) → IsKept next volumes names pools attachments spots s → Allows s (AddVolume v) → v.number < 2 ^ 62 → v.bytes ≤ 2 ^ 62
       → HasRoom (total_of pools v.pool) v.bytes
   room v k allows number bytes =
       let n = ap (λ (t : Total). t.volumes) (k.totals v.pool) in
@@ -71,9 +71,9 @@ module _ (next : ℕ) (volumes : List (ℕ × Volume)) (names : List (Text × �
       (omega (arith, n, most, len, few, first, number), omega (arith, m, most, len, few, first, number, sums, bytes))
 
   -- the index is ahead of a volume that was not added
-  pub kept_name : (index : List (Text × ℕ)) (v : Volume) → IsKept next volumes names pools attachments s → Allows s (AddVolume v)
+  pub kept_name : (index : List (Text × ℕ)) (v : Volume) → IsKept next volumes names pools attachments spots s → Allows s (AddVolume v)
       → ((q : Text) → lookup (is_at (text_cmp q)) index ≡ cond (same_text v.name q) (Some v.number) (lookup (is_at (text_cmp q)) names))
-      → IsKept next volumes index pools attachments s
+      → IsKept next volumes index pools attachments spots s
   kept_name index v k allows is_index = record {
     next_is = k.next_is;
     volumes_are = k.volumes_are;
@@ -82,6 +82,7 @@ module _ (next : ℕ) (volumes : List (ℕ × Volume)) (names : List (Text × �
     totals = k.totals;
     few = k.few;
     small = k.small;
+    spotted = k.spotted;
   }
     where
       other : (n : ℕ) (w : Volume) → fin.get s.volumes n ≡ Some w → (b : Bool) → same_text v.name w.name ≡ b → cond b (Some v.number) (lookup (is_at (text_cmp w.name)) names) ≡ Some n
@@ -89,7 +90,7 @@ module _ (next : ℕ) (volumes : List (ℕ × Volume)) (names : List (Text × �
       other n w e false t = k.named n w e
 
   -- other rows of the same volumes
-  pub kept_rows : (rows : List (ℕ × Volume)) → IsKept next volumes names pools attachments s → volumes_of rows ≡ volumes_of volumes → IsKept next rows names pools attachments s
+  pub kept_rows : (rows : List (ℕ × Volume)) → IsKept next volumes names pools attachments spots s → volumes_of rows ≡ volumes_of volumes → IsKept next rows names pools attachments spots s
   kept_rows rows k same = record {
     next_is = k.next_is;
     volumes_are = k.volumes_are ∙ sym same;
@@ -98,10 +99,11 @@ module _ (next : ℕ) (volumes : List (ℕ × Volume)) (names : List (Text × �
     totals = k.totals;
     few = k.few;
     small = k.small;
+    spotted = k.spotted;
   }
 
   -- a volume that was added is taken away again
-  pub taken_back : (v : Volume) → IsKept next volumes names pools attachments s → Allows s (AddVolume v) → fin.remove (fin.insert (volumes_of volumes) v.number v) v.number ≡ volumes_of volumes
+  pub taken_back : (v : Volume) → IsKept next volumes names pools attachments spots s → Allows s (AddVolume v) → fin.remove (fin.insert (volumes_of volumes) v.number v) v.number ≡ volumes_of volumes
   taken_back v k allows = fin.same_map nat_cmp_total fin.nat_cmp-IsAntisymmetric _ _ (λ q.
       fin.get-remove nat_cmp_total (fin.insert (volumes_of volumes) v.number v) v.number q
       ∙ ap (cond (eq_by_cmp nat_cmp q v.number) None) (fin.get-insert nat_cmp_total (volumes_of volumes) v.number v q)
@@ -113,25 +115,25 @@ module _ (next : ℕ) (volumes : List (ℕ × Volume)) (names : List (Text × �
       go q false t = refl
 
   -- no volume to take away
-  pub kept_none : (rows : List (ℕ × Volume)) (n : ℕ) → IsKept next volumes names pools attachments s → fin.get (volumes_of volumes) n ≡ None → volumes_of rows ≡ fin.remove (volumes_of volumes) n
-      → IsKept next rows names pools attachments (changed s (RemoveVolume n))
+  pub kept_none : (rows : List (ℕ × Volume)) (n : ℕ) → IsKept next volumes names pools attachments spots s → fin.get (volumes_of volumes) n ≡ None → volumes_of rows ≡ fin.remove (volumes_of volumes) n
+      → IsKept next rows names pools attachments spots (changed s (RemoveVolume n))
   kept_none rows n k none is_rows =
       let same : fin.remove (volumes_of volumes) n ≡ volumes_of volumes = not_there nat_cmp_total fin.nat_cmp-IsAntisymmetric (volumes_of volumes) n none in
       let same_state : fin.remove s.volumes n ≡ s.volumes = not_there nat_cmp_total fin.nat_cmp-IsAntisymmetric s.volumes n (ap (λ (m : fin.FinMap nat_cmp Volume). fin.get m n) k.volumes_are ∙ none) in
-      subst (λ (m : fin.FinMap nat_cmp Volume). IsKept next rows names pools attachments (record s { volumes = m })) (sym same_state) (kept_rows rows k (is_rows ∙ same))
+      subst (λ (m : fin.FinMap nat_cmp Volume). IsKept next rows names pools attachments spots (record s { volumes = m })) (sym same_state) (kept_rows rows k (is_rows ∙ same))
 
   -- the name was set, a refused growth left the rows, and the name was taken out
-  pub refused_rows : (rows : List (ℕ × Volume)) (index back : List (Text × ℕ)) (v : Volume) (name : Text) → name ≡ v.name → IsKept next volumes names pools attachments s → Allows s (AddVolume v)
+  pub refused_rows : (rows : List (ℕ × Volume)) (index back : List (Text × ℕ)) (v : Volume) (name : Text) → name ≡ v.name → IsKept next volumes names pools attachments spots s → Allows s (AddVolume v)
       → ((q : Text) → lookup (is_at (text_cmp q)) index ≡ cond (same_text name q) (Some v.number) (lookup (is_at (text_cmp q)) names))
       → ((q : Text) → lookup (is_at (text_cmp q)) back ≡ cond (same_text v.name q) None (lookup (is_at (text_cmp q)) index))
-      → volumes_of rows ≡ volumes_of volumes → IsKept next rows back pools attachments s
+      → volumes_of rows ≡ volumes_of volumes → IsKept next rows back pools attachments spots s
   refused_rows rows index back v name is k allows is_index is_back same =
-      let ahead : IsKept next volumes index pools attachments s = kept_name index v k allows (λ q. is_index q ∙ ap (λ (t : Text). cond (same_text t q) (Some v.number) (lookup (is_at (text_cmp q)) names)) is) in
+      let ahead : IsKept next volumes index pools attachments spots s = kept_name index v k allows (λ q. is_index q ∙ ap (λ (t : Text). cond (same_text t q) (Some v.number) (lookup (is_at (text_cmp q)) names)) is) in
       nameless rows index back v (kept_rows rows k same) allows ahead is_back same
     where
-      nameless : (rows : List (ℕ × Volume)) (index back : List (Text × ℕ)) (v : Volume) → IsKept next rows names pools attachments s → Allows s (AddVolume v) → IsKept next volumes index pools attachments s
+      nameless : (rows : List (ℕ × Volume)) (index back : List (Text × ℕ)) (v : Volume) → IsKept next rows names pools attachments spots s → Allows s (AddVolume v) → IsKept next volumes index pools attachments spots s
           → ((q : Text) → lookup (is_at (text_cmp q)) back ≡ cond (same_text v.name q) None (lookup (is_at (text_cmp q)) index))
-          → volumes_of rows ≡ volumes_of volumes → IsKept next rows back pools attachments s
+          → volumes_of rows ≡ volumes_of volumes → IsKept next rows back pools attachments spots s
       nameless rows index back v k allows ahead is_back same = record {
         next_is = k.next_is;
         volumes_are = k.volumes_are;
@@ -140,19 +142,20 @@ module _ (next : ℕ) (volumes : List (ℕ × Volume)) (names : List (Text × �
         totals = k.totals;
         few = k.few;
         small = k.small;
+        spotted = ahead.spotted;
       }
         where
-          other : IsKept next volumes index pools attachments s → (n : ℕ) (w : Volume) → fin.get s.volumes n ≡ Some w → (b : Bool) → same_text v.name w.name ≡ b → cond b None (lookup (is_at (text_cmp w.name)) index) ≡ Some n
+          other : IsKept next volumes index pools attachments spots s → (n : ℕ) (w : Volume) → fin.get s.volumes n ≡ Some w → (b : Bool) → same_text v.name w.name ≡ b → cond b None (lookup (is_at (text_cmp w.name)) index) ≡ Some n
           other ahead n w e true t = absurd (nobody s v.name n w allows.2 e (sym ((bytes_decides v.name w.name).0 t)))
           other ahead n w e false t = ahead.named n w e
 
   -- the volume was added, and taken back with its name
-  pub refused_total : (taken rows : List (ℕ × Volume)) (index back : List (Text × ℕ)) (kept : Totals) (v copy : Volume) (name : Text) → copy ≡ v → name ≡ v.name → IsKept next volumes names pools attachments s → Allows s (AddVolume v)
+  pub refused_total : (taken rows : List (ℕ × Volume)) (index back : List (Text × ℕ)) (kept : Totals) (v copy : Volume) (name : Text) → copy ≡ v → name ≡ v.name → IsKept next volumes names pools attachments spots s → Allows s (AddVolume v)
       → ((q : Text) → lookup (is_at (text_cmp q)) index ≡ cond (same_text name q) (Some v.number) (lookup (is_at (text_cmp q)) names))
       → ((q : Text) → lookup (is_at (text_cmp q)) back ≡ cond (same_text v.name q) None (lookup (is_at (text_cmp q)) index))
       → volumes_of rows ≡ fin.insert (volumes_of volumes) copy.number copy
       → volumes_of taken ≡ fin.remove (volumes_of rows) v.number
-      → ((q : Text) → total_of kept q ≡ total_of pools q) → IsKept next taken back kept attachments s
+      → ((q : Text) → total_of kept q ≡ total_of pools q) → IsKept next taken back kept attachments spots s
   refused_total taken rows index back kept v copy name one is k allows is_index is_back added less same =
       let same_rows : volumes_of taken ≡ volumes_of volumes =
       less ∙ ap (λ (m : fin.FinMap nat_cmp Volume). fin.remove m v.number) (added ∙ ap (λ (w : Volume). fin.insert (volumes_of volumes) w.number w) one) ∙ taken_back v k allows in
@@ -165,30 +168,31 @@ module _ (next : ℕ) (volumes : List (ℕ × Volume)) (names : List (Text × �
         totals = λ pool. same pool ∙ rest.totals pool;
         few = rest.few;
         small = rest.small;
+        spotted = rest.spotted;
       }
 
   -- the volume was added
-  pub added : (rows : List (ℕ × Volume)) (index : List (Text × ℕ)) (kept : Totals) (v copy : Volume) (name pool : Text) → copy ≡ v → name ≡ v.name → pool ≡ v.pool → IsKept next volumes names pools attachments s → Allows s (AddVolume v)
+  pub added : (rows : List (ℕ × Volume)) (index : List (Text × ℕ)) (kept : Totals) (v copy : Volume) (name pool : Text) → copy ≡ v → name ≡ v.name → pool ≡ v.pool → IsKept next volumes names pools attachments spots s → Allows s (AddVolume v)
       → v.number < 2 ^ 62 → v.bytes ≤ 2 ^ 62
       → ((q : Text) → lookup (is_at (text_cmp q)) index ≡ cond (same_text name q) (Some v.number) (lookup (is_at (text_cmp q)) names))
       → volumes_of rows ≡ fin.insert (volumes_of volumes) copy.number copy
       → (HasRoom (total_of pools pool) v.bytes → (q : Text) → total_of kept q ≡ cond (same_text pool q) (more (total_of pools pool) v.bytes) (total_of pools q))
-      → IsKept (v.number + 1) rows index kept attachments (changed s (AddVolume v))
+      → IsKept (v.number + 1) rows index kept attachments spots (changed s (AddVolume v))
   added rows index kept v copy name pool one is in_pool k allows number bytes is_index add counted =
       let fits : HasRoom (total_of pools pool) v.bytes = subst (λ (p : Text). HasRoom (total_of pools p) v.bytes) (sym in_pool) (room v k allows number bytes) in
-      subst (λ (n : ℕ). IsKept (n + 1) rows index kept attachments (changed s (AddVolume v))) (sym k.next_is ∙ sym allows.0)
-      (kept_add next volumes rows names pools kept attachments s index v k allows bytes
+      subst (λ (n : ℕ). IsKept (n + 1) rows index kept attachments spots (changed s (AddVolume v))) (sym k.next_is ∙ sym allows.0)
+      (kept_add next volumes rows names pools kept attachments spots s index v k allows bytes
       (add ∙ ap (λ (w : Volume). fin.insert (volumes_of volumes) w.number w) one)
       (λ q. is_index q ∙ ap (λ (t : Text). cond (same_text t q) (Some v.number) (lookup (is_at (text_cmp q)) names)) is)
       (λ q. counted fits q ∙ ap (λ (p : Text). cond (same_text p q) (more (total_of pools p) v.bytes) (total_of pools q)) in_pool))
 
   -- the volume was taken away, out of its pool's total, and its name out of the index
-  pub taken : (rows : List (ℕ × Volume)) (index : List (Text × ℕ)) (kept : Totals) (n : ℕ) (v : Volume) → IsKept next volumes names pools attachments s
+  pub taken : (rows : List (ℕ × Volume)) (index : List (Text × ℕ)) (kept : Totals) (n : ℕ) (v : Volume) → IsKept next volumes names pools attachments spots s
       → fin.get (volumes_of volumes) n ≡ Some v
       → volumes_of rows ≡ fin.remove (volumes_of volumes) n
       → ((q : Text) → total_of kept q ≡ cond (same_text v.pool q) (less (total_of pools v.pool) v.bytes) (total_of pools q))
       → ((q : Text) → lookup (is_at (text_cmp q)) index ≡ cond (same_text v.name q) None (lookup (is_at (text_cmp q)) names))
-      → IsKept next rows index kept attachments (changed s (RemoveVolume n))
+      → IsKept next rows index kept attachments spots (changed s (RemoveVolume n))
   taken rows index kept n v k some is_rows is_totals is_index = record {
     next_is = new.next_is;
     volumes_are = new.volumes_are;
@@ -197,13 +201,14 @@ module _ (next : ℕ) (volumes : List (ℕ × Volume)) (names : List (Text × �
     totals = new.totals;
     few = new.few;
     small = new.small;
+    spotted = new.spotted;
   }
     where
       stands : fin.get s.volumes n ≡ Some v
       stands = ap (λ (m : fin.FinMap nat_cmp Volume). fin.get m n) k.volumes_are ∙ some
 
-      new : IsKept next rows names kept attachments (changed s (RemoveVolume n))
-      new = kept_remove next volumes rows names pools kept attachments s n v k stands is_rows is_totals
+      new : IsKept next rows names kept attachments spots (changed s (RemoveVolume n))
+      new = kept_remove next volumes rows names pools kept attachments spots s n v k stands is_rows is_totals
 
       other : (m : ℕ) (w : Volume) → (m ≡ n → ⊥) × (fin.get s.volumes m ≡ Some w) → (b : Bool) → same_text v.name w.name ≡ b → cond b None (lookup (is_at (text_cmp w.name)) names) ≡ Some m
       other m w old true t =

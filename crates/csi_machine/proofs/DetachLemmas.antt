@@ -1,5 +1,5 @@
 -- The attachments of a number taken away one by one.
-use Rattle.std.proofs.Common.{◌≡◌, ◌∙◌, ap, sym, cond, refl, ℕ, ◌==◌, not, List, [], ◌∷◌, map, filter, Bool, true, false, ◌||◌, Option, Some, None}
+use Rattle.std.proofs.Common.{◌≡◌, ◌∙◌, ap, sym, cond, refl, ℕ, ◌==◌, not, List, [], ◌∷◌, ◌++◌, map, filter, Bool, true, false, ◌||◌, Option, Some, None}
 use Rattle.std.specs.BTreeMap.Range.{entries_between}
 use Rattle.std.specs.FinMap as fin
 use Rattle.std.specs.Ordering.{eq_by_cmp}
@@ -26,6 +26,11 @@ get_each m (p ∷ ps) q = get_each (fin.remove m p) ps q ∙ ap (cond (among q p
     go true true = refl
     go true false = refl
     go false b = refl
+
+-- one more taken away
+pub each_more : (m : fin.FinMap place_cmp Attachment) (ps : List Place) (p : Place) → removed_each m (ps ++ p ∷ []) ≡ fin.remove (removed_each m ps) p
+each_more m [] p = refl
+each_more m (q ∷ ps) p = each_more (fin.remove m q) ps p
 
 abbrev keys_at : ℕ → List (Place × Attachment) → List Place
 keys_at n es = map (λ e. e.0) (filter (λ e. e.0.0 == n) es)

@@ -30,6 +30,13 @@ module _ {K X : Type 0} {R : K → K → Ordering} (o : IsTotalOrder R) (exact :
     | false ↦ λ t h. inr h
   ] refl (sym (fin.get-insert o m k x q) ∙ e)
 
+  -- another key keeps what it has
+  pub insert_other : (m : fin.FinMap R X) (k : K) (x : X) (q : K) → (q ≡ k → ⊥) → fin.get (fin.insert m k x) q ≡ fin.get m q
+  insert_other m k x q far = fin.get-insert o m k x q ∙ elim (eq_by_cmp R q k) as (λ b. eq_by_cmp R q k ≡ b → cond b (Some x) (fin.get m q) ≡ fin.get m q) [
+    | true ↦ λ t. absurd (far (exact q k (tied _ t)))
+    | false ↦ λ t. refl
+  ] refl
+
   -- what stands after one less
   pub removed : (m : fin.FinMap R X) (k q : K) (v : X) → fin.get (fin.remove m k) q ≡ Some v → (q ≡ k → ⊥) × (fin.get m q ≡ Some v)
   removed m k q v e = elim (eq_by_cmp R q k) as (λ b. eq_by_cmp R q k ≡ b → cond b None (fin.get m q) ≡ Some v → (q ≡ k → ⊥) × (fin.get m q ≡ Some v)) [

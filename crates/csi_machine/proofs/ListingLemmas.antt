@@ -38,7 +38,7 @@ filter_same p q h [] = refl
 filter_same p q h (x ∷ xs) = ap (λ b. cond b (x ∷ filter p xs) (filter p xs)) (h x) ∙ ap (λ ys. cond (q x) (x ∷ ys) ys) (filter_same p q h xs)
 
 -- a later test that passes only what an earlier one does
-filter_after : {A : Type 0} (p q : A → Bool) → ((x : A) → p x ≡ true → q x ≡ true) → (xs : List A) → filter p (filter q xs) ≡ filter p xs
+pub filter_after : {A : Type 0} (p q : A → Bool) → ((x : A) → p x ≡ true → q x ≡ true) → (xs : List A) → filter p (filter q xs) ≡ filter p xs
 filter_after p q h [] = refl
 filter_after p q h (x ∷ xs) = go (filter_after p q h xs) (q x) refl (p x) refl
   where

@@ -11,7 +11,7 @@ use Rattle.csi_types.specs.Maps.{same_text}
 use Rattle.csi_machine.specs.declared.volume.Attachment.{Attachment}
 use Rattle.csi_machine.specs.declared.volume.Volume.{Volume}
 use Rattle.csi_machine.specs.declared.totals.Totals.{Totals}
-use Rattle.csi_machine.specs.Memory.{IsKept, volumes_of, named_by, at_number, if_named}
+use Rattle.csi_machine.specs.Memory.{Spot, IsKept, volumes_of, named_by, at_number, if_named}
 use Rattle.csi_machine.specs.State.{State, Place, named}
 use Rattle.csi_machine.specs.Texts.{Text, text_cmp}
 use Rattle.csi_machine.proofs.NobodyLemmas.{nobody}
@@ -27,9 +27,9 @@ found_number m p (e ∷ es) v a f = go (found_number m p es v a.1) (p e.1) refl 
     go next true t h = let same = same_some e.1 v h in (e.0, a.0 ∙ ap Some same, subst (λ (w : Volume). p w ≡ true) same t)
     go next false t h = next h
 
-module _ (next : ℕ) (volumes : List (ℕ × Volume)) (names : List (Text × ℕ)) (pools : Totals) (attachments : List (Place × Attachment)) (s : State) where
+module _ (next : ℕ) (volumes : List (ℕ × Volume)) (names : List (Text × ℕ)) (pools : Totals) (attachments : List (Place × Attachment)) (spots : List (Spot × Unit {0})) (s : State) where
   -- the index finds the volume of a name
-  pub named_kept : (name : Text) → IsKept next volumes names pools attachments s → named_by names (volumes_of volumes) name ≡ named s name
+  pub named_kept : (name : Text) → IsKept next volumes names pools attachments spots s → named_by names (volumes_of volumes) name ≡ named s name
   named_kept name k = subst (λ (m : fin.FinMap nat_cmp Volume). named_by names m name ≡ named s name) k.volumes_are (go (named s name) refl)
     where
       no_one : (o : Option ℕ) → named s name ≡ None → at_number s.volumes name o ≡ None

@@ -17,7 +17,7 @@ use Rattle.csi_machine.specs.Texts.{Text, text_cmp}
 use Rattle.csi_machine.proofs.OrderLemmas.{place_total, place_exact}
 
 module _ {K X : Type 0} {R : K → K → Rattle.std.specs.declared.cmp.Ordering.Ordering} (o : IsTotalOrder R) (exact : fin.IsAntisymmetric R) where
-  find_lookup : (es : List (K × X)) (q : K) → fin.find R q es ≡ lookup (is_at (R q)) es
+  pub find_lookup : (es : List (K × X)) (q : K) → fin.find R q es ≡ lookup (is_at (R q)) es
   find_lookup [] q = refl
   find_lookup (e ∷ es) q = ap (cond (is_at (R q) e.0) (Some e.1)) (find_lookup es q)
 

@@ -60,6 +60,14 @@ beyond s after = map (λ e. e.1) (filter (λ e. nat_lt after e.0) (entries s.vol
 abbrev pub page : State → ℕ → ℕ → List Volume
 page s after count = take count (beyond s after)
 
+-- the nodes that a volume is published at, in their order
+abbrev pub published : State → ℕ → List Text
+published s number = map (λ a. a.node) (attached s number)
+
+-- those of each volume of a page
+abbrev pub published_of_page : State → ℕ → ℕ → List (List Text)
+published_of_page s after count = map (λ v. published s v.number) (page s after count)
+
 -- the State after a change
 abbrev pub changed : State → Change → State
 changed s (AddVolume v) = record s { next = s.next + 1; volumes = insert s.volumes v.number v }

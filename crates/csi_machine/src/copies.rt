@@ -7,7 +7,8 @@ use crate::volume::{Attachment, Volume};
 use csi_types::{Items, copy_map, copy_text};
 use std::alloc::{AllocError, Global};
 
-fn copy_key(alloc: Global, key: &CapKey) -> Result<CapKey, AllocError>
+/// A key equal to this one.
+pub(crate) fn copy_key(alloc: Global, key: &CapKey) -> Result<CapKey, AllocError>
     ensures { IfOk result (λ copy. copy ≡ key.now) }
 {
     let kind = match &key.kind {
@@ -20,7 +21,8 @@ fn copy_key(alloc: Global, key: &CapKey) -> Result<CapKey, AllocError>
     })
 }
 
-fn copy_keys(alloc: Global, keys: &Items<CapKey>) -> Result<Items<CapKey>, AllocError>
+/// A key equal to this one.
+pub(crate) fn copy_keys(alloc: Global, keys: &Items<CapKey>) -> Result<Items<CapKey>, AllocError>
     ensures { IfOk result (λ copy. copy ≡ keys.now) }
 {
     let mut copy = Items::new(alloc);

@@ -2,7 +2,7 @@
 
 ghost use Rattle.std.specs.Prelude.{◌≡◌, ℕ, Bool, Some, None, Err, IfOk, IsTrue, ◌↔◌};
 ghost use Rattle.std.specs.FinMap.{get};
-ghost use Rattle.csi_machine.specs.State.{State, IsBounded, named, used, sizes, attached, attached_at, page};
+ghost use Rattle.csi_machine.specs.State.{State, IsBounded, named, used, sizes, attached, attached_at, page, published_of_page};
 ghost use Rattle.csi_machine.specs.Keeper.{count_after, IsQuiet, Tells, Applies};
 ghost use Rattle.csi_machine.specs.declared.change.StoreFault.TheVariants.{Down};
 
@@ -108,6 +108,20 @@ pub trait Keeper {
     /// them, and then what it answers.
     fn page(&mut self, alloc: Global, after: u64, count: u32) -> Result<Items<Volume>, StoreFault>
         ensures value { IfOk result (λ xs. Tells holds doubt self.old self.new (λ s. xs ≡ page s after count)) }
+        ensures quiet { IsQuiet holds doubt survivors tied is_down self.old self.new }
+        ensures count { refused self.new ≡ count_after (refused self.old) result }
+        ensures down { (result ≡ Err Down) ↔ IsTrue (is_down self.old) };
+
+    /// The nodes that each volume of a page is published at, in byte order of their ids: the page of
+    /// `page`, volume by volume (CSI 1.x, `ListVolumesResponse.VolumeStatus.published_node_ids`). It
+    /// is one read for the whole page.
+    fn published_nodes(
+        &mut self,
+        alloc: Global,
+        after: u64,
+        count: u32,
+    ) -> Result<Items<Items<Text>>, StoreFault>
+        ensures value { IfOk result (λ xs. Tells holds doubt self.old self.new (λ s. xs ≡ published_of_page s after count)) }
         ensures quiet { IsQuiet holds doubt survivors tied is_down self.old self.new }
         ensures count { refused self.new ≡ count_after (refused self.old) result }
         ensures down { (result ≡ Err Down) ↔ IsTrue (is_down self.old) };

@@ -2,6 +2,7 @@
 
 mod attachments;
 mod names;
+mod nodes;
 mod rows;
 
 ghost use Rattle.std.specs.Prelude.{◌≡◌, ◌≤◌, ◌<◌, ◌^◌, IfOk, OnOk, OnErr};
@@ -13,9 +14,10 @@ ghost use Rattle.csi_machine.specs.Memory.{first_state};
 use crate::change::{Change, StoreFault, Usage};
 use crate::copies::{copy_attachment, copy_volume};
 use crate::keeper::Keeper;
-use crate::mem::attachments::{attached_to, numbers_at, put_place, take_place, take_places};
+use crate::mem::attachments::{attached_to, put_place, take_attachment, take_places};
 use crate::mem::names::{drop_name, set_name, volume_named};
-use crate::mem::rows::{put_volume, sizes_of, take_volume, volume_at, volumes_after};
+use crate::mem::nodes::{numbers_at, put_spot};
+use crate::mem::rows::{nodes_after, put_volume, sizes_of, take_volume, volume_at, volumes_after};
 use crate::totals::Totals;
 use crate::volume::{Attachment, Volume};
 use csi_types::{Items, Text, copy_text};
@@ -27,8 +29,8 @@ use std::collections::BTreeMap;
 ///
 /// Each volume is there once. For n volumes and m attachments a volume is found by its number or
 /// name in O(log n), the attachments of a volume in O(log m) and their number, and a page in
-/// O(log n) and its entries; what a pool has used costs O(log p) for p pools. `sizes_in` looks
-/// through all volumes, and `attached_at` through all attachments. A change costs O(log n + log m),
+/// O(log n) and its entries, for its nodes O(log m) more an entry; what a pool has used costs O(log p) for p pools. What is attached at
+/// a node costs O(log m) for each of its numbers; `sizes_in` looks through all volumes. A change costs O(log n + log m),
 /// and `DetachAll` the attachments that it takes away. What is answered is a copy.
 #[derive(Drop)]
 pub struct MemKeeper {
@@ -38,6 +40,8 @@ pub struct MemKeeper {
     names: BTreeMap<Text, u64>,
     pools: Totals,
     attachments: BTreeMap<(u64, Text), Attachment>,
+    // Where an attachment stands, by node. The attachment is asked for before its number is answered.
+    nodes: BTreeMap<(Text, u64), ()>,
 }
 
 impl MemKeeper {
@@ -54,6 +58,7 @@ impl MemKeeper {
             names: BTreeMap::new(alloc),
             pools: Totals::new(alloc),
             attachments: BTreeMap::new(alloc),
+            nodes: BTreeMap::new(alloc),
         })
     }
 
@@ -100,7 +105,10 @@ impl MemKeeper {
     {
         let copy = copy_attachment(alloc, attachment)?;
         let place = (number, copy_text(alloc, attachment.node.as_str())?);
-        put_place(&mut self.attachments, place, copy)
+        let spot = copy_text(alloc, attachment.node.as_str())?;
+        put_spot(&mut self.nodes, (spot, number))?;
+        put_place(&mut self.attachments, place, copy)?;
+        Ok(())
     }
 
     fn detach(&mut self, alloc: Global, number: u64, node: &Text) -> Result<(), AllocError>
@@ -108,7 +116,7 @@ impl MemKeeper {
         ensures same { OnErr result ((s : State) → Holds self.old s → Allows s (Detach number node.now) → Holds self.new s) }
     {
         let place = (number, copy_text(alloc, node.as_str())?);
-        take_place(&mut self.attachments, &place);
+        take_attachment(&mut self.attachments, &mut self.nodes, place);
         Ok(())
     }
 
@@ -116,7 +124,7 @@ impl MemKeeper {
         ensures made { OnOk result ((s : State) → Holds self.old s → Allows s (DetachAll number) → Holds self.new (changed s (DetachAll number))) }
         ensures same { OnErr result ((s : State) → Holds self.old s → Allows s (DetachAll number) → Holds self.new s) }
     {
-        take_places(alloc, &mut self.attachments, number)
+        take_places(alloc, &mut self.attachments, &mut self.nodes, number)
     }
 }
 
@@ -164,7 +172,7 @@ impl Keeper for MemKeeper {
 
     #[tactic(auto, using(crate::proofs::KeeperLemmas::quiet_same, crate::proofs::ReadLemmas::held_at))]
     fn attached_at(&mut self, alloc: Global, node: &str) -> Result<Items<u64>, StoreFault> {
-        Ok(Items::from_vec(numbers_at(alloc, &self.attachments, node)?))
+        Ok(numbers_at(alloc, &self.nodes, &self.attachments, node)?)
     }
 
     #[tactic(auto, using(crate::proofs::KeeperLemmas::quiet_same, crate::proofs::ReadLemmas::held_sizes))]
@@ -180,6 +188,16 @@ impl Keeper for MemKeeper {
     #[tactic(auto, using(crate::proofs::KeeperLemmas::quiet_same, crate::proofs::ReadLemmas::held_page))]
     fn page(&mut self, alloc: Global, after: u64, count: u32) -> Result<Items<Volume>, StoreFault> {
         Ok(volumes_after(alloc, &self.volumes, after, count)?)
+    }
+
+    #[tactic(auto, using(crate::proofs::KeeperLemmas::quiet_same, crate::proofs::ReadLemmas::held_nodes))]
+    fn published_nodes(
+        &mut self,
+        alloc: Global,
+        after: u64,
+        count: u32,
+    ) -> Result<Items<Items<Text>>, StoreFault> {
+        Ok(nodes_after(alloc, &self.volumes, &self.attachments, after, count)?)
     }
 
     fn apply(&mut self, alloc: Global, change: &Change) -> Result<(), StoreFault> {

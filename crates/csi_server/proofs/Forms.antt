@@ -21,7 +21,9 @@ use Rattle.csi_types.specs.Codes.{number_of}
 use Rattle.csi_types.specs.Reasons.{code_of, text_of}
 use Rattle.csi_codec.specs.Methods.{IsNoRequest}
 use Rattle.csi_codec.specs.Reading.{read_request, IsRead}
-use Rattle.csi_server.specs.Verdicts.{Told, Says, Denies, Outcome, Responds, Refuses, within, told_of}
+use Rattle.csi_machine.specs.Verdicts.{Told, Says, Denies, within, told_of}
+use Rattle.csi_machine.specs.declared.plan.Outcome.{Outcome}
+use Rattle.csi_machine.specs.declared.plan.Outcome.TheVariants as outcome
 use Rattle.csi_server.specs.Machine.{refusal, refused}
 use Rattle.csi_server.specs.Requests.{requests, told, after_check, after_read, after_path}
 use Rattle.csi_server.proofs.Printable.{all_printable}
@@ -40,8 +42,8 @@ short_within body = by (nat_le (length body) MAX_BODY_BYTES) refl
     by false e = tt
 
 pub short_told : (o : Outcome) → IsShort (told_of o)
-short_told (Responds r) = short_within _
-short_told (Refuses r) = tt
+short_told (outcome.Done r) = short_within _
+short_told (outcome.Refused r) = tt
 
 formed_refusal : (code : ℕ) (text : List ℕ) → is_status code ≡ true → code ≢ 0 → length text ≤ 1024 → All IsTextByte text → IsReply (refusal code text)
 formed_refusal code text is some short printable = record {

@@ -5,3 +5,5 @@ mod Printable
 mod Reasons
 mod Requesting
 mod Forms
+mod VolumeLemmas
+mod PendingLemmas

@@ -8,9 +8,9 @@ use Rattle.csi_types.specs.Checks.{checked}
 use Rattle.frames_core.specs.Envelope.{CallBytes, ReplyBytes}
 use Rattle.frames_core.specs.declared.limits.TheConstants.{REPLY_HEAD_BYTES}
 use Rattle.csi_codec.specs.Reading.{read_request}
-use Rattle.csi_server.specs.declared.body.Verdict.{Verdict}
-use Rattle.csi_server.specs.declared.body.Verdict.TheVariants as verdict
-use Rattle.csi_server.specs.Verdicts.{Told, told_of, Tells}
+use Rattle.csi_machine.specs.declared.body.Verdict.{Verdict}
+use Rattle.csi_machine.specs.declared.body.Verdict.TheVariants as verdict
+use Rattle.csi_machine.specs.Verdicts.{Told, told_of, IsTold}
 use Rattle.csi_server.specs.Machine.{Machine, Mark, Unmarked, OutOfMemory, StoreRefused, StoreDown, Sight, Answers, Leaves, refused}
 use Rattle.csi_server.specs.Requests.{AnswersBy, LeavesBy, IsUnread, IsRequest, requests, after_check, after_read, after_path, told}
 use Rattle.csi_server.specs.Identity.{said, still}
@@ -103,7 +103,7 @@ SaysIn out r (Ok (verdict.Refused q)) = r ≡ refused q
 SaysIn out r (Err e) = r ≡ refused reason.OutOfMemory
 
 -- the identity service's answer
-pub said_by : {E : Type 0} (name version : List ℕ) (q : Request) (v : Result Verdict E) (out : List ℕ) (r : ReplyBytes) → Tells (told_of (said name version q)) room out v → SaysIn out r v
+pub said_by : {E : Type 0} (name version : List ℕ) (q : Request) (v : Result Verdict E) (out : List ℕ) (r : ReplyBytes) → IsTold (told_of (said name version q)) room out v → SaysIn out r v
     → AnswersBy (after_check (λ (s : ⊤) (p : Request). (told_of (said name version p), s)) tt q None) ⊤ still still tt r
 said_by name version q (Ok verdict.Done) out r tells e =
     kept_by _ ⊤ still tt r (ap (λ (t : Told). (told t, tt)) tells.1 ∙ ap (λ (o : List ℕ). (record { status = 0; text = []; body = drop REPLY_HEAD_BYTES o }, tt)) (sym tells.2) ∙ ap (λ (b : ReplyBytes). (b, tt)) (sym e)) tt

@@ -84,7 +84,7 @@ unfolding state_after
 after_refused {S} m s e es marked still = ap (λ (t : S). state_after m t es) (marked_keeps m s e.call e.mark marked) ∙ stays_all m s es still
 
 -- the state after the run is the one that the refused call met
-due_state : {S : Type 0} (m : Machine S) (s : S) (es : List Event) (t : S) (d : IsDue m s es t) → state_after m s es ≡ state_after m s d.before
+pub due_state : {S : Type 0} (m : Machine S) (s : S) (es : List Event) (t : S) (d : IsDue m s es t) → state_after m s es ≡ state_after m s d.before
 due_state m s es t d =
     ap (λ (xs : List Event). state_after m s xs) d.whole
     ∙ (state_after-append m s d.before (d.refused ∷ d.after) ∙ after_refused m (state_after m s d.before) d.refused d.after d.is_marked d.still)

@@ -8,7 +8,9 @@ use Rattle.csi_types.specs.declared.requests.Request.TheVariants as request
 use Rattle.csi_types.specs.declared.responses.Response.{Response}
 use Rattle.csi_types.specs.declared.responses.Response.TheVariants as response
 use Rattle.csi_types.specs.Methods.{method_at}
-use Rattle.csi_server.specs.Verdicts.{Outcome, Responds, Refuses, told_of}
+use Rattle.csi_machine.specs.declared.plan.Outcome.{Outcome}
+use Rattle.csi_machine.specs.declared.plan.Outcome.TheVariants.{Done, Refused}
+use Rattle.csi_machine.specs.Verdicts.{told_of}
 use Rattle.csi_server.specs.Machine.{Machine, Sight}
 use Rattle.csi_server.specs.Requests.{requests}
 
@@ -29,21 +31,21 @@ known (Some method.ControllerGetCapabilities) = None
 
 -- ready, and the name and the version
 unfoldable pub said : List ℕ → List ℕ → Request → Outcome
-said name version request.Probe = Responds (response.Probe (Some true))
-said name version request.PluginInfo = Responds (response.PluginInfo name version)
-said name version request.PluginCapabilities = Refuses UnknownMethod
-said name version request.ControllerCapabilities = Refuses UnknownMethod
-said name version (request.Create r) = Refuses UnknownMethod
-said name version (request.Delete r) = Refuses UnknownMethod
-said name version (request.Publish r) = Refuses UnknownMethod
-said name version (request.Unpublish r) = Refuses UnknownMethod
-said name version (request.Validate r) = Refuses UnknownMethod
-said name version (request.List r) = Refuses UnknownMethod
-said name version (request.Capacity r) = Refuses UnknownMethod
+said name version request.Probe = Done (response.Probe (Some true))
+said name version request.PluginInfo = Done (response.PluginInfo name version)
+said name version request.PluginCapabilities = Refused UnknownMethod
+said name version request.ControllerCapabilities = Refused UnknownMethod
+said name version (request.Create r) = Refused UnknownMethod
+said name version (request.Delete r) = Refused UnknownMethod
+said name version (request.Publish r) = Refused UnknownMethod
+said name version (request.Unpublish r) = Refused UnknownMethod
+said name version (request.Validate r) = Refused UnknownMethod
+said name version (request.List r) = Refused UnknownMethod
+said name version (request.Capacity r) = Refused UnknownMethod
 
 abbrev pub outcome_of : Option Response → Outcome
-outcome_of None = Refuses UnknownMethod
-outcome_of (Some r) = Responds r
+outcome_of None = Refused UnknownMethod
+outcome_of (Some r) = Done r
 
 -- its state says nothing
 abbrev pub identity : List ℕ → List ℕ → Machine ⊤

@@ -2,6 +2,7 @@ pub mod Machine
 pub mod Serving
 pub mod Service
 pub mod Live
-pub mod Verdicts
 pub mod Requests
 pub mod Identity
+pub mod Volumes
+pub mod ConfigFile

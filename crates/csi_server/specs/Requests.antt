@@ -9,7 +9,7 @@ use Rattle.csi_types.specs.Checks.{checked}
 use Rattle.csi_types.specs.Codes.{number_of}
 use Rattle.frames_core.specs.Envelope.{ReplyBytes}
 use Rattle.csi_codec.specs.Reading.{read_request}
-use Rattle.csi_server.specs.Verdicts.{Told, Says, Denies}
+use Rattle.csi_machine.specs.Verdicts.{Told, Says, Denies}
 use Rattle.csi_server.specs.Machine.{Machine, Mark, Unmarked, OutOfMemory, StoreRefused, StoreDown, Sight, RoseBy, refusal, refused, marked, store_mark}
 
 -- the reply to a message that is refused at this place

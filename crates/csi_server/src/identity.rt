@@ -3,17 +3,17 @@ ghost use Rattle.std.specs.Io.KnownBytes.{Consumes, IsAtEnd, Keeps};
 ghost use Rattle.csi_types.specs.declared.requests.Request.{Request as AnyRequest};
 ghost use Rattle.csi_types.specs.Methods.{method_at};
 ghost use Rattle.csi_codec.specs.Reading.{read_request};
-ghost use Rattle.csi_server.specs.Verdicts.{told_of, Appended, Tells};
+ghost use Rattle.csi_machine.specs.Verdicts.{told_of, Appended, IsTold};
 ghost use Rattle.csi_server.specs.Identity.{said, known, outcome_of, identity, still};
 ghost use Rattle.csi_server.specs.Requests.{after_check, after_read, AnswersBy};
 ghost use Rattle.csi_server.specs.Serving.{Ended};
 ghost use Rattle.csi_server.specs.Service.{reply_of, HoldsBody, room};
 
-use crate::body::{Verdict, append_body};
 use crate::end::RunEnd;
 use crate::message::{read_message, refuse};
 use crate::running::run_service;
 use crate::service::{Answer, Service, begin_body};
+use csi_machine::{Verdict, append_body};
 use csi_types::{Method, Reason, Request, Response, Text, method_of};
 use frames_core::Call;
 use std::alloc::{AllocError, Global};
@@ -57,7 +57,7 @@ fn put_response(
     reply: &mut Vec<u8>,
 ) -> Result<Verdict, AllocError>
     ensures appended { IfOk result (λ v. Appended room reply.new.items result) }
-    ensures told { IfOk result (λ v. Tells (told_of (said names.now.name.now names.now.version.now request.now)) room reply.new.items result) }
+    ensures told { IfOk result (λ v. IsTold (told_of (said names.now.name.now names.now.version.now request.now)) room reply.new.items result) }
 {
     begin_body(reply)?;
     match respond(alloc, names, request)? {

@@ -1,6 +1,6 @@
 //! Laws of the definitions and of the machines that are served.
 
-ghost use Rattle.std.specs.Prelude.{◌≡◌, ◌≤◌, ◌<◌, ◌^◌, ◌++◌, ℕ, List, length, decimal};
+ghost use Rattle.std.specs.Prelude.{◌≡◌, ◌⊎◌, ◌≤◌, ◌<◌, ◌^◌, ◌++◌, ℕ, List, length, decimal};
 ghost use Rattle.std.specs.List.{AllByRecursion};
 ghost use Rattle.frames_core.specs.declared.fault.FrameFault.{FrameFault};
 ghost use Rattle.frames_core.specs.declared.limits.TheConstants.{MAX_MESSAGE_BYTES};
@@ -10,9 +10,14 @@ ghost use Rattle.csi_types.specs.declared.code.Code.TheVariants as Code;
 ghost use Rattle.csi_types.specs.Codes.{number_of};
 ghost use Rattle.csi_server.specs.Machine.{Unmarked, Event, Runs, AreReplies, refusal, state_after};
 ghost use Rattle.csi_server.specs.Identity.{identity};
+ghost use Rattle.csi_server.specs.Volumes.{volumes, seen, IsPending};
+ghost use Rattle.csi_config.specs.declared.config.Config.{Config as AnyConfig};
+ghost use Rattle.csi_machine.specs.State.{State as MachineState};
 
 use crate::service::Service;
 use csi_codec::laws::reading;
+use csi_config::Config;
+use csi_machine::Keeper;
 use frames_core::laws::decimal_is_text;
 
 /// After a run in which no call is marked, what a stop may leave is the state after the run.
@@ -44,3 +49,21 @@ pub fn formed_identity()
     decimal_is_text();
     reading();
 }
+
+/// Each reply that the volume machine has to any call from any State, in a run or not, is one of the
+/// envelope's table.
+pub fn formed_volumes()
+    ensures { (config : AnyConfig) (s : MachineState) (call : CallBytes) → length call.message ≤ MAX_MESSAGE_BYTES → IsReply ((volumes config).respond s call).0 }
+{
+    decimal_is_text();
+    reading();
+}
+
+/// After a run of the volume machine from a State that alone would have been left by a stop, a stop leaves
+/// the State after the run, or what a call would have made that was refused for memory or by the store, whose
+/// request was read and passed the checks, and after which no call moved the State.
+pub fn pending<K: Keeper>(config: &Config)
+    ensures { (old new : K) (s : MachineState) (events : List Event) → Runs (volumes config.now) (seen K.holds K.doubt K.refused K.survivors K.tied config.now old) (seen K.holds K.doubt K.refused K.survivors K.tied config.now new) s events
+        → ((t : MachineState) → K.survivors old t → t ≡ s)
+        → (t : MachineState) → K.survivors new t → (t ≡ state_after (volumes config.now) s events) ⊎ IsPending config.now s events t }
+{}

@@ -5,7 +5,7 @@
 #![tactic(auto)]
 
 mod answering;
-mod body;
+mod config_file;
 mod end;
 mod identity;
 pub mod laws;
@@ -15,10 +15,13 @@ mod running;
 mod service;
 #[cfg(test)]
 mod tests;
+mod volumes;
 mod writing;
 
+pub use config_file::{ConfigError, Key, KeyRule, Section, read_config};
 pub use end::RunEnd;
 pub use identity::serve_identity;
 pub use refused::Refusal;
 pub use running::run_service;
 pub use service::{Answer, Service, begin_body};
+pub use volumes::serve;

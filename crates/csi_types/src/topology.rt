@@ -16,6 +16,7 @@ ghost use Rattle.csi_types.specs.Segments.{entry_of, folded_key};
 ghost use Rattle.csi_types.specs.Topology.{alike, some_two, has_alike_keys, is_within, same_topology};
 
 use crate::items::Items;
+use crate::limits::MAX_SEGMENTS;
 use crate::map::Map;
 use crate::text::Text;
 use segments::{MOST_SEGMENTS, Segment, sort_segments};
@@ -90,7 +91,8 @@ fn has_tied_neighbours(segments: &[Segment<'_>]) -> bool
 pub fn is_within(inner: &Map, outer: &Map) -> bool
     ensures { result ≡ is_within inner.now outer.now }
 {
-    if outer.len() <= FEW_SEGMENTS {
+    // As many segments as a pool has are found among the others sooner than these are put in order.
+    if inner.len() <= MAX_SEGMENTS || outer.len() <= FEW_SEGMENTS {
         is_within_few(inner, outer)
     } else {
         is_within_many(inner, outer)

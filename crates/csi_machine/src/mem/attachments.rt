@@ -6,11 +6,11 @@ ghost use Rattle.std.specs.Map.Iter.{ShowsInOrder, deref_pair};
 ghost use Rattle.csi_machine.specs.declared.volume.Attachment.{Attachment as Row};
 ghost use Rattle.std.specs.FinMap.{insert, remove, entries, retain_keys};
 ghost use Rattle.std.specs.declared.ops.Bound.TheVariants.{Included};
-ghost use Rattle.csi_types.specs.Maps.{same_text};
-ghost use Rattle.csi_machine.specs.Memory.{places_of, place_end, removed_each};
+ghost use Rattle.csi_machine.specs.Memory.{places_of, place_end, nodes_in, removed_each, AreSpotted};
 ghost use Rattle.csi_machine.specs.State.{Place, place_cmp};
 
 use crate::copies::copy_attachment;
+use crate::mem::nodes::drop_spot;
 use crate::volume::Attachment;
 use csi_types::{Items, Text, copy_text};
 use std::alloc::{AllocError, Global};
@@ -73,27 +73,34 @@ pub(crate) fn attached_to(
     Ok(copies)
 }
 
-fn is_at(place: &(u64, Text), node: &str) -> bool
-    ensures { result ≡ same_text place.now.1 node.now }
+fn push_node(
+    alloc: Global,
+    nodes: &mut Items<Text>,
+    number: u64,
+    place: &(u64, Text),
+    attachment: &Attachment,
+) -> Result<(), AllocError>
+    ensures { OnOk result (nodes.new ≡ nodes.old ++ (if place.now.0 == number then attachment.now.node ∷ [] else [])) }
 {
-    place.1.as_str() == node
+    if place.0 == number {
+        nodes.push(copy_text(alloc, attachment.node.as_str())?)?;
+    }
+    Ok(())
 }
 
-/// The numbers of the volumes that are attached at a node, in rising order.
-#[tactic(auto, using(crate::proofs::ListingLemmas::places_are))]
-pub(crate) fn numbers_at(
+/// The nodes of the attachments of a number, in byte order.
+pub(crate) fn nodes_of(
     alloc: Global,
     attachments: &BTreeMap<(u64, Text), Attachment>,
-    node: &str,
-) -> Result<Vec<u64>, AllocError>
-    ensures value { IfOk result (λ xs. xs.items ≡ map (λ e. e.0.0) (filter (λ e. same_text e.0.1 node.now) attachments.now.entries)) }
-    ensures ordered { entries (places_of attachments.now.entries) ≡ attachments.now.entries }
+    number: u64,
+) -> Result<Items<Text>, AllocError>
+    ensures { IfOk result (λ xs. xs ≡ nodes_in attachments.now.entries number) }
 {
-    attachments
-        .iter()
-        .filter(|(place, _)| is_at(place, node))
-        .map(|(place, _)| place.0)
-        .collect(alloc)
+    let mut nodes = Items::new(alloc);
+    for (place, attachment) in places_of_one(alloc, attachments, number) {
+        push_node(alloc, &mut nodes, number, place, attachment)?;
+    }
+    Ok(nodes)
 }
 
 /// Adds an attachment. Where memory is refused the rows stay.
@@ -110,9 +117,8 @@ pub(crate) fn put_place(
     Ok(())
 }
 
-/// Takes the attachment at a place away.
 #[tactic(auto, using(crate::proofs::TreeLemmas::no_place))]
-pub(crate) fn take_place(attachments: &mut BTreeMap<(u64, Text), Attachment>, place: &(u64, Text))
+fn take_place(attachments: &mut BTreeMap<(u64, Text), Attachment>, place: &(u64, Text))
     ensures { places_of attachments.new.entries ≡ remove (places_of attachments.old.entries) place.now }
 {
     attachments.remove(place);
@@ -148,11 +154,30 @@ fn places_to(
     Ok(copies)
 }
 
-fn take_each(attachments: &mut BTreeMap<(u64, Text), Attachment>, places: &[(u64, Text)])
-    ensures { places_of attachments.new.entries ≡ removed_each (places_of attachments.old.entries) places.now }
+/// Takes the attachment at a place away, and its spot out of the index.
+pub(crate) fn take_attachment(
+    attachments: &mut BTreeMap<(u64, Text), Attachment>,
+    nodes: &mut BTreeMap<(Text, u64), ()>,
+    place: (u64, Text),
+)
+    ensures rows { places_of attachments.new.entries ≡ remove (places_of attachments.old.entries) place }
+    ensures spotted { AreSpotted attachments.old.entries nodes.old.entries → AreSpotted attachments.new.entries nodes.new.entries }
 {
-    for place in places {
-        take_place(attachments, place);
+    take_place(attachments, &place);
+    let (number, node) = place;
+    drop_spot(nodes, &(node, number));
+}
+
+fn take_each(
+    attachments: &mut BTreeMap<(u64, Text), Attachment>,
+    nodes: &mut BTreeMap<(Text, u64), ()>,
+    places: Items<(u64, Text)>,
+)
+    ensures rows { places_of attachments.new.entries ≡ removed_each (places_of attachments.old.entries) places }
+    ensures spotted { AreSpotted attachments.old.entries nodes.old.entries → AreSpotted attachments.new.entries nodes.new.entries }
+{
+    for place in places.into_vec() {
+        take_attachment(attachments, nodes, place);
     }
 }
 
@@ -161,12 +186,15 @@ fn take_each(attachments: &mut BTreeMap<(u64, Text), Attachment>, places: &[(u64
 pub(crate) fn take_places(
     alloc: Global,
     attachments: &mut BTreeMap<(u64, Text), Attachment>,
+    nodes: &mut BTreeMap<(Text, u64), ()>,
     number: u64,
 ) -> Result<(), AllocError>
     ensures ok { OnOk result (places_of attachments.new.entries ≡ retain_keys (places_of attachments.old.entries) (λ p. not (p.0 == number))) }
+    ensures spotted { AreSpotted attachments.old.entries nodes.old.entries → AreSpotted attachments.new.entries nodes.new.entries }
     ensures err { OnErr result (attachments.new.entries ≡ attachments.old.entries) }
+    ensures same { OnErr result (nodes.new.entries ≡ nodes.old.entries) }
 {
     let places = places_to(alloc, attachments, number)?;
-    take_each(attachments, places.as_slice());
+    take_each(attachments, nodes, places);
     Ok(())
 }

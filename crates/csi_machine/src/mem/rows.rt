@@ -9,11 +9,12 @@ ghost use Rattle.std.specs.FinMap.{get, insert, remove, entries};
 ghost use Rattle.std.specs.Ordering.{nat_cmp};
 ghost use Rattle.std.specs.declared.ops.Bound.TheVariants.{Excluded, Unbounded};
 ghost use Rattle.csi_types.specs.Maps.{same_text};
-ghost use Rattle.csi_machine.specs.Memory.{volumes_of};
+ghost use Rattle.csi_machine.specs.Memory.{volumes_of, nodes_in};
 
 use crate::copies::copy_volume;
-use crate::volume::Volume;
-use csi_types::Items;
+use crate::mem::attachments::nodes_of;
+use crate::volume::{Attachment, Volume};
+use csi_types::{Items, Text};
 use std::alloc::{AllocError, Global};
 use std::collections::BTreeMap;
 use std::collections::btree_map::Range;
@@ -84,6 +85,27 @@ pub(crate) fn volumes_after(
         copies.push(copy_volume(alloc, volume)?)?;
     }
     Ok(copies)
+}
+
+/// The nodes of the volumes with greater numbers, of at most that many volumes.
+pub(crate) fn nodes_after(
+    alloc: Global,
+    volumes: &BTreeMap<u64, Volume>,
+    attachments: &BTreeMap<(u64, Text), Attachment>,
+    after: u64,
+    count: u32,
+) -> Result<Items<Items<Text>>, AllocError>
+    ensures value { IfOk result (λ xs. xs ≡ take count (map (λ e. nodes_in attachments.now.entries e.1.number) (entries_between nat_cmp (Excluded after) Unbounded volumes.now.entries))) }
+    ensures ordered { entries (volumes_of volumes.now.entries) ≡ volumes.now.entries }
+{
+    let mut nodes = Items::new(alloc);
+    for (_, volume) in beyond(volumes, after) {
+        if nodes.len() >= count as usize {
+            return Ok(nodes);
+        }
+        nodes.push(nodes_of(alloc, attachments, volume.number)?)?;
+    }
+    Ok(nodes)
 }
 
 /// Adds a volume. Where memory is refused the rows stay.

@@ -1,0 +1,229 @@
+-- The answer to a request: reads that make a plan, the body of its response, its change, and what a keeper has then.
+use Rattle.std.proofs.Common.{◌≡◌, ◌∙◌, ◌⊎◌, inl, inr, ap, sym, subst, arith, refl, ℕ, ◌≤◌, ◌==◌, ◌&&◌, ◌||◌, ◌++◌, ◌∷◌, [], List, length, sum_by, nat_le, Bool, true, false, cond, Option, Some, None, Result, Ok, Err, IfSome, IsSome, OnOk, OnErr}
+use Rattle.std.specs.FinMap as fin
+use Rattle.std.specs.List.{list_all}
+use Rattle.csi_codec.specs.Methods.{response_bytes}
+use Rattle.csi_types.specs.Checks.{checked, is_supported}
+use Rattle.csi_types.specs.Maps.{same_map}
+use Rattle.csi_types.specs.declared.reason.Reason.TheVariants.{ReplyTooLarge}
+use Rattle.csi_types.specs.declared.requests.GetCapacity.{GetCapacity}
+use Rattle.csi_types.specs.declared.requests.Request.{Request}
+use Rattle.csi_types.specs.declared.requests.Request.TheVariants as request
+use Rattle.csi_types.specs.declared.requests.Validate.{Validate}
+use Rattle.csi_config.specs.declared.config.Config.{Config}
+use Rattle.frames_core.specs.declared.limits.TheConstants.{MAX_BODY_BYTES}
+use Rattle.csi_machine.specs.declared.body.Verdict.{Verdict}
+use Rattle.csi_machine.specs.declared.body.Verdict.TheVariants as verdict
+use Rattle.csi_machine.specs.declared.change.Change.{Change}
+use Rattle.csi_machine.specs.declared.change.StoreFault.{StoreFault}
+use Rattle.csi_machine.specs.declared.plan.Outcome.{Outcome}
+use Rattle.csi_machine.specs.declared.plan.Outcome.TheVariants as outcome
+use Rattle.csi_machine.specs.declared.plan.Plan.{Plan}
+use Rattle.csi_machine.specs.declared.volume.Volume.{Volume}
+use Rattle.csi_machine.specs.Answering.{Answered, Carries, state_after, Leaves, Promises, verdict_of, body_of}
+use Rattle.csi_machine.specs.Capability.{have_keys}
+use Rattle.csi_machine.specs.Choice.{Room, rooms, free}
+use Rattle.csi_machine.specs.Configured.{IsConfigured}
+use Rattle.csi_machine.specs.Ids.{number_of_id}
+use Rattle.csi_machine.specs.Invariant.{IsInvariant}
+use Rattle.csi_machine.specs.Keeper.{IsQuiet, Tells, count_after}
+use Rattle.csi_machine.specs.Plan.{after, refuse}
+use Rattle.csi_machine.specs.Size.{whole}
+use Rattle.csi_machine.specs.State.{State, Allows}
+use Rattle.csi_machine.specs.Step.{plan, limited, limited_by, settled_plan, moved, step}
+use Rattle.csi_machine.specs.Verdicts.{Told, Says, Denies, told_of, Appended, IsTold}
+use Rattle.csi_machine.specs.calls.Capacity.{capacity_of, served, greatest_size, tell_capacity}
+use Rattle.csi_machine.specs.calls.Listing.{list_after, start_of}
+use Rattle.csi_machine.specs.calls.Publish.{publish}
+use Rattle.csi_machine.specs.calls.Unpublish.{unpublish}
+use Rattle.csi_machine.specs.calls.Validate.{validate_number, validate_volume, confirm, deny}
+use Rattle.csi_machine.proofs.CheckedLemmas.{asked}
+use Rattle.csi_machine.proofs.CreateLemmas.{create_sound}
+use Rattle.csi_machine.proofs.DeleteLemmas.{delete_sound}
+use Rattle.csi_machine.proofs.FiniteLemmas.{none_some}
+use Rattle.csi_machine.proofs.PlanLemmas.{IsSound, sound_by, sound_still}
+use Rattle.csi_machine.proofs.PublishLemmas.{publish_fits}
+use Rattle.csi_machine.proofs.UnpublishLemmas.{unpublish_fits}
+
+-- no change, as the body found no memory
+pub kept_back : {K : Type 0} {holds : K → State → Type 0} {doubt : K → ℕ} {survivors : K → State → Type 0} {tied : K → Type 0} (plan : Plan) (a : K) (e : StoreFault) → Carries holds doubt survivors tied plan a a (Err e)
+kept_back plan a e = record { clean = omega arith; verdict = tt; state = λ d. tt; same = λ d s h may. h; crash = λ d s h may t u. inl u; settled = λ d. tt; ties = λ d s h may t. t }
+
+no_more : (xs : List ℕ) → xs ++ [] ≡ xs
+no_more [] = refl
+no_more (x ∷ xs) = ap (λ l. x ∷ l) (no_more xs)
+
+-- the body that is told is appended
+pub appended_by : (x y : List ℕ) (o : Outcome) (v : Verdict) → v ≡ verdict_of o → y ≡ x ++ body_of o → length (body_of o) ≤ MAX_BODY_BYTES → Appended {E = StoreFault} x y (Ok v)
+appended_by x y (outcome.Done r) verdict.Done e b l = (response_bytes r, b, l)
+appended_by x y (outcome.Done r) (verdict.Refused q) e b l = absurd (cc)
+appended_by x y (outcome.Refused q) verdict.Done e b l = absurd (cc)
+appended_by x y (outcome.Refused q) (verdict.Refused p) e b l = b ∙ no_more x
+
+module _ {K : Type 0} {holds : K → State → Type 0} {doubt : K → ℕ} {refused : K → ℕ} {survivors : K → State → Type 0} {tied : K → Type 0} {is_down : K → Bool} where
+  -- it was given up before the change
+  pub gave_up : (config : Config) (plan : State → Plan) (a b : K) (x y : List ℕ) (e : StoreFault) → IsQuiet holds doubt survivors tied is_down a b → y ≡ x → refused b ≡ count_after {X = Verdict} (refused a) (Err e)
+      → Answered holds doubt refused survivors tied config plan a b x y (Err e)
+  gave_up config plan a b x y e q empty count = record {
+    clean = q.clean;
+    verdict = tt;
+    appended = empty;
+    state = tt;
+    kept = tt;
+    settled = tt;
+    count = count;
+    same = λ d s h inv. q.state d s h;
+    crash = λ d s h inv t u. inl (q.crash d t u);
+    ties = λ d s h inv t. q.ties d t;
+  }
+
+  pub carried : (config : Config) (plan : State → Plan) (a b c : K) (p : Plan) (x y : List ℕ) (result : Result Verdict StoreFault) → IsSound config plan
+      → IsQuiet holds doubt survivors tied is_down a b → Tells holds doubt a b (λ s. p ≡ plan s) → Carries holds doubt survivors tied p b c result
+      → refused b ≡ refused a → refused c ≡ count_after (refused b) result → OnOk result (y ≡ x ++ body_of p.outcome) → OnErr result (y ≡ x) → OnOk result (length (body_of p.outcome) ≤ MAX_BODY_BYTES)
+      → Answered holds doubt refused survivors tied config plan a c x y result
+  carried config plan a b c p x y (Err e) sound q tells k before count ok err small =
+      let mid : doubt c ≡ 0 → doubt b ≡ 0 = λ d. omega (arith, k.clean) in
+      let may : (d : doubt c ≡ 0) (s : State) → holds a s → IsInvariant config s → IfSome p.change (Allows s) = λ d s h inv. subst (λ (x : Plan). IfSome x.change (Allows s)) (sym (tells (mid d) s h)) (sound.allows s inv) in
+      record {
+        clean = omega (arith, q.clean, k.clean);
+        verdict = tt;
+        appended = err;
+        state = tt;
+        kept = tt;
+        settled = tt;
+        count = subst (λ n. refused c ≡ count_after {X = Verdict} n (Err e)) before count;
+        same = λ d s h inv. k.same d s (q.state (mid d) s h) (may d s h inv);
+        crash = λ d s h inv t u. elim (k.crash d s (q.state (mid d) s h) (may d s h inv) t u) as (λ _. survivors a t ⊎ (t ≡ after s (plan s).change)) [
+          | inl v ↦ inl (q.crash (mid d) t v)
+          | inr e ↦ inr (e ∙ ap (λ (x : Plan). after s x.change) (tells (mid d) s h))
+        ];
+        ties = λ d s h inv t. k.ties d s (q.state (mid d) s h) (may d s h inv) (q.ties (mid d) t);
+      }
+  carried config plan a b c p x y (Ok v) sound q tells k before count ok err small =
+      let mid : doubt c ≡ 0 → doubt b ≡ 0 = λ d. omega (arith, k.clean) in
+      let may : (d : doubt c ≡ 0) (s : State) → holds a s → IsInvariant config s → IfSome p.change (Allows s) = λ d s h inv. subst (λ (x : Plan). IfSome x.change (Allows s)) (sym (tells (mid d) s h)) (sound.allows s inv) in
+      record {
+        clean = omega (arith, q.clean, k.clean);
+        verdict = λ d s h inv. (k.verdict ∙ ap (λ (x : Plan). verdict_of x.outcome) (tells (mid d) s h), ok ∙ ap (λ (w : Plan). x ++ body_of w.outcome) (tells (mid d) s h));
+        appended = appended_by x y p.outcome v k.verdict ok small;
+        state = λ d s h inv. subst (λ (x : Plan). holds c (after s x.change)) (tells (mid d) s h) (k.state d s (q.state (mid d) s h) (may d s h inv));
+        kept = λ s inv. sound.keeps s inv;
+        same = tt;
+        count = count ∙ before;
+        crash = λ d s h inv t u. elim (k.crash d s (q.state (mid d) s h) (may d s h inv) t u) as (λ _. survivors a t ⊎ (t ≡ after s (plan s).change)) [
+          | inl v ↦ inl (q.crash (mid d) t v)
+          | inr e ↦ inr (e ∙ ap (λ (x : Plan). after s x.change) (tells (mid d) s h))
+        ];
+        settled = λ d s h inv some t u. k.settled d s (q.state (mid d) s h) (may d s h inv) (subst (λ (x : Plan). IsSome x.change) (sym (tells (mid d) s h)) some) t u ∙ ap (λ (x : Plan). after s x.change) (tells (mid d) s h);
+        ties = λ d s h inv t. k.ties d s (q.state (mid d) s h) (may d s h inv) (q.ties (mid d) t);
+      }
+
+-- a plan whose body may be too large changes no more
+limited_change : (p : Plan) (o : Outcome) (c : Change) → (limited_by p o).change ≡ Some c → p.change ≡ Some c
+limited_change p (outcome.Refused q) c e = absurd (none_some c e)
+limited_change p (outcome.Done r) c e = go (nat_le (length (response_bytes r)) MAX_BODY_BYTES) e
+  where
+    go : (b : Bool) → (cond b p (refuse ReplyTooLarge)).change ≡ Some c → p.change ≡ Some c
+    go false h = absurd (none_some c h)
+    go true h = h
+
+pub limited_sound : (config : Config) (plan : State → Plan) → IsSound config plan → IsSound config (λ s. limited (plan s))
+limited_sound config plan sound = sound_by config (λ s. limited (plan s)) (λ s c inv e.
+    let is = limited_change (plan s) (plan s).outcome c e in
+    (subst (λ (o : Option Change). IfSome o (Allows s)) is (sound.allows s inv), subst (λ (o : Option Change). IsInvariant config (after s o)) is (sound.keeps s inv)))
+
+-- the State after a reply is the one after the step
+moved_by : (s : State) (p : Plan) (o : Outcome) → after s (limited_by p o).change ≡ moved s (after s p.change) (told_of o)
+moved_by s p (outcome.Refused q) = refl
+moved_by s p (outcome.Done r) = go (nat_le (length (response_bytes r)) MAX_BODY_BYTES)
+  where
+    go : (b : Bool) → after s (cond b p (refuse ReplyTooLarge)).change ≡ moved s (after s p.change) (cond b (Says (response_bytes r)) (Denies ReplyTooLarge))
+    go true = refl
+    go false = refl
+
+pub moved_is : (config : Config) (s : State) (r : Request) → after s (settled_plan config s r).change ≡ (step config s r).1
+moved_is config s r = moved_by s (plan config s r) (plan config s r).outcome
+
+said : Outcome → Told
+said (outcome.Done r) = Says (response_bytes r)
+said (outcome.Refused q) = Denies q
+
+said_by : (p : Plan) (o : Outcome) → p.outcome ≡ o → told_of o ≡ said (limited_by p o).outcome
+unfolding said
+said_by p (outcome.Refused q) e = refl
+said_by p (outcome.Done r) e = go (nat_le (length (response_bytes r)) MAX_BODY_BYTES)
+  where
+    go : (b : Bool) → cond b (Says (response_bytes r)) (Denies ReplyTooLarge) ≡ said (cond b p (refuse ReplyTooLarge)).outcome
+    go true = sym (ap said e)
+    go false = refl
+
+said_is : (config : Config) (s : State) (r : Request) → (step config s r).0 ≡ said (settled_plan config s r).outcome
+said_is config s r = said_by (plan config s r) (plan config s r).outcome refl
+
+told_by : (o : Outcome) (w : Told) (v : Verdict) (x y : List ℕ) → w ≡ said o → v ≡ verdict_of o → y ≡ x ++ body_of o → IsTold {E = StoreFault} w x y (Ok v)
+unfolding said
+told_by (outcome.Done r) w verdict.Done x y e f b = (response_bytes r, e, b)
+told_by (outcome.Done r) w (verdict.Refused q) x y e f b = absurd (cc)
+told_by (outcome.Refused q) w verdict.Done x y e f b = absurd (cc)
+told_by (outcome.Refused q) w (verdict.Refused t) x y e f b = e ∙ ap Denies (sym (same t q f))
+  where
+    same : (a b : _) → verdict.Refused a ≡ verdict.Refused b → a ≡ b
+    same a b h = cc
+
+leaves_by : (old new : State → Type 0) (s : State) (c : Option Change) → ((u : State) → new u → old u ⊎ (u ≡ after s c)) → (IsSome c → (u : State) → new u → u ≡ after s c)
+    → ((after s c ≡ s) × ((u : State) → new u → old u ⊎ (u ≡ s))) ⊎ ((u : State) → new u → u ≡ after s c)
+leaves_by old new s None crash settled = inl (refl, crash)
+leaves_by old new s (Some c) crash settled = inr (settled refl)
+
+module _ {K : Type 0} {holds : K → State → Type 0} {doubt : K → ℕ} {refused : K → ℕ} {survivors : K → State → Type 0} {tied : K → Type 0} where
+  pub tells : (config : Config) (r : Request) (a b : K) (x y : List ℕ) (result : Result Verdict StoreFault) → Answered holds doubt refused survivors tied config (λ s. settled_plan config s r) a b x y result
+      → Promises holds doubt config a b (λ s. IsTold (step config s r).0 x y result)
+  tells config r a b x y (Err e) did d s h inv = tt
+  tells config r a b x y (Ok v) did d s h inv = let is = did.verdict d s h inv in told_by (settled_plan config s r).outcome (step config s r).0 v x y (said_is config s r) is.0 is.1
+
+  pub state : (config : Config) (r : Request) (a b : K) (x y : List ℕ) (result : Result Verdict StoreFault) → Answered holds doubt refused survivors tied config (λ s. settled_plan config s r) a b x y result
+      → Promises holds doubt config a b (λ s. holds b (state_after s (step config s r).1 result))
+  state config r a b x y (Err e) did d s h inv = did.same d s h inv
+  state config r a b x y (Ok v) did d s h inv = subst (holds b) (moved_is config s r) (did.state d s h inv)
+
+  pub left : (config : Config) (r : Request) (a b : K) (x y : List ℕ) (result : Result Verdict StoreFault) → Answered holds doubt refused survivors tied config (λ s. settled_plan config s r) a b x y result
+      → Promises holds doubt config a b (λ s. Leaves (survivors a) (survivors b) s (step config s r).1 result)
+  left config r a b x y (Err e) did d s h inv = λ u v. elim (did.crash d s h inv u v) as (λ _. survivors a u ⊎ (u ≡ s) ⊎ (u ≡ (step config s r).1)) [ inl o ↦ inl o | inr n ↦ inr (inr (n ∙ moved_is config s r)) ]
+  left config r a b x y (Ok w) did d s h inv =
+      subst (λ (t : State). ((t ≡ s) × ((u : State) → survivors b u → survivors a u ⊎ (u ≡ s))) ⊎ ((u : State) → survivors b u → u ≡ t)) (moved_is config s r)
+      (leaves_by (survivors a) (survivors b) s (settled_plan config s r).change (did.crash d s h inv) (did.settled d s h inv))
+
+pub keeps : (config : Config) (r : Request) → IsSound config (λ s. settled_plan config s r) → (s : State) → IsInvariant config s → IsInvariant config (step config s r).1
+keeps config r sound s inv = subst (IsInvariant config) (moved_is config s r) (sound.keeps s inv)
+
+validate_still : (s : State) (r : Validate) (o : Option ℕ) → (validate_number s r o).change ≡ None
+validate_still s r None = refl
+validate_still s r (Some n) = by_volume (fin.get s.volumes n)
+  where
+    by_volume : (o : Option Volume) → (validate_volume r o).change ≡ None
+    by_volume None = refl
+    by_volume (Some v) = elim (have_keys v.caps r.capabilities && ((fin.len r.parameters == 0) || same_map v.params r.parameters)) as (λ b. (cond b (confirm r) deny).change ≡ None) [ true ↦ refl | false ↦ refl ]
+
+list_still : (config : Config) (s : State) (most : ℕ) (o : Option ℕ) → (list_after config s most o).change ≡ None
+list_still config s most None = refl
+list_still config s most (Some n) = refl
+
+capacity_still : (config : Config) (rs : List Room) (r : GetCapacity) → (capacity_of config rs r).change ≡ None
+capacity_still config rs r = elim (list_all is_supported r.capabilities) as (λ b. (cond b (tell_capacity (sum_by free (served rs r.topology)) (greatest_size config (served rs r.topology))) (tell_capacity 0 0)).change ≡ None) [ true ↦ refl | false ↦ refl ]
+
+-- the plan of each request is sound
+plan_sound : (config : Config) → IsConfigured config → (r : Request) → checked r ≡ None → IsSound config (λ s. plan config s r)
+plan_sound config good request.PluginInfo e = sound_still config _ (λ s. refl)
+plan_sound config good request.PluginCapabilities e = sound_still config _ (λ s. refl)
+plan_sound config good request.Probe e = sound_still config _ (λ s. refl)
+plan_sound config good request.ControllerCapabilities e = sound_still config _ (λ s. refl)
+plan_sound config good (request.Create r) e = create_sound config r good (asked r e)
+plan_sound config good (request.Delete r) e = delete_sound config r
+plan_sound config good (request.Publish r) e = sound_by config (λ s. publish config s r) (publish_fits config good.nodes r)
+plan_sound config good (request.Unpublish r) e = sound_by config (λ s. unpublish s r) (unpublish_fits config r)
+plan_sound config good (request.Validate r) e = sound_still config _ (λ s. validate_still s r (number_of_id r.volume_id))
+plan_sound config good (request.List r) e = sound_still config _ (λ s. list_still config s (whole r.max_entries) (start_of s.next r.token))
+plan_sound config good (request.Capacity r) e = sound_still config _ (λ s. capacity_still config (rooms config s) r)
+
+pub settled_sound : (config : Config) → IsConfigured config → (r : Request) → checked r ≡ None → IsSound config (λ s. settled_plan config s r)
+settled_sound config good r e = limited_sound config (λ s. plan config s r) (plan_sound config good r e)

@@ -1,0 +1,198 @@
+-- A maximum that GetCapacity tells can be had.
+use Rattle.std.proofs.Common.{◌≡◌, ◌≢◌, ◌∙◌, inl, inr, ap, sym, subst, cond, arith, refl, ℕ, ◌+◌, ◌-◌, ◌*◌, ◌/◌, ◌%◌, ◌==◌, ◌<◌, ◌≤◌, ◌^◌, max, min, nat_lt, nat_le, List, [], ◌∷◌, map, find, fold, sum, sum_by, Bool, true, false, ◌&&◌, ◌||◌, Option, Some, None, option_map, eqb-true}
+use Rattle.std.specs.FinMap as fin
+use Rattle.std.specs.Cmp.{nat_cmp_total}
+use Rattle.std.specs.Cmp.Lexicographic.{slice_cmp, nat_list_cmp_total}
+use Rattle.std.specs.List.{list_all, list_any, AllByRecursion}
+use Rattle.std.specs.Ordering.{nat_cmp}
+use Rattle.std.proofs.lemmas.Bool.{and_parts, and_from, le-leb}
+use Rattle.std.proofs.lemmas.Bool.Decides.{leb_tells}
+use Rattle.std.proofs.lemmas.Nat.{div-mul-add, div-add-mod'}
+use Rattle.csi_types.specs.Checks.{is_supported}
+use Rattle.csi_types.specs.Maps.{TextMap, same_text}
+use Rattle.csi_types.specs.Topology.{is_within, alike}
+use Rattle.csi_types.specs.declared.limits.TheConstants.{MAX_NUMBER, MAX_VOLUMES}
+use Rattle.csi_types.specs.declared.reason.Reason.TheVariants.{TooManyVolumes, NumbersUsedUp}
+use Rattle.csi_types.specs.declared.requests.CreateVolume.{CreateVolume}
+use Rattle.csi_types.specs.declared.requests.GetCapacity.{GetCapacity}
+use Rattle.csi_config.specs.Faults.{is_whole}
+use Rattle.csi_config.specs.Values.{Has}
+use Rattle.csi_config.specs.declared.config.Config.{Config}
+use Rattle.csi_config.specs.declared.pools.Pool.{Pool}
+use Rattle.csi_config.specs.declared.sizes.Sizes.{Sizes}
+use Rattle.csi_config.specs.declared.sizes.TheConstants.{GRANULE_BYTES}
+use Rattle.csi_machine.specs.declared.volume.Volume.{Volume}
+use Rattle.csi_machine.specs.Choice.{Room, rooms, free, choice, count}
+use Rattle.csi_machine.specs.Configured.{IsConfigured}
+use Rattle.csi_machine.specs.Invariant.{IsInvariant}
+use Rattle.csi_machine.specs.Offer.{term_of, exactly, AsksFor, IsNew}
+use Rattle.csi_machine.specs.Plan.{refuse}
+use Rattle.csi_machine.specs.Size.{size, within, asked, rounded_up, rounded_down}
+use Rattle.csi_machine.specs.State.{State, used, sizes}
+use Rattle.csi_machine.specs.Texts.{Text}
+use Rattle.csi_machine.specs.Topology.{serves, terms}
+use Rattle.csi_machine.specs.calls.Capacity.{capacity, served, is_served, greatest, greatest_size, tell_capacity}
+use Rattle.csi_machine.specs.calls.Create.{create, create_named, place, place_in}
+use Rattle.csi_machine.proofs.ChoiceLemmas.{or_else, choice_one, choice_cons}
+use Rattle.csi_machine.proofs.CreateLemmas.{chosen, has_map}
+use Rattle.csi_machine.proofs.FiniteLemmas.{all_entries}
+use Rattle.csi_machine.proofs.ListingLemmas.{none_listed}
+use Rattle.csi_machine.proofs.SumLemmas.{in_order, total_cons}
+
+-- What is free is a multiple of 1 MiB.
+
+abbrev IsTimes : ℕ → Type 0
+IsTimes n = (k : ℕ) × (n ≡ k * GRANULE_BYTES)
+
+times_of : (n : ℕ) → is_whole n ≡ true → IsTimes n
+times_of n e =
+    let none : n % GRANULE_BYTES ≡ 0 = eqb-true _ _ (and_parts (nat_lt 0 n) (n % GRANULE_BYTES == 0) e).1 in
+    let parts = div-add-mod' n GRANULE_BYTES in
+    (n / GRANULE_BYTES, omega (arith, none, parts))
+
+times_sum : (es : List (ℕ × Volume)) (pool : Text) → AllByRecursion (λ e. is_whole e.1.bytes ≡ true) es → IsTimes (sum (in_order es pool))
+times_sum [] pool a = (0, omega arith)
+times_sum (e ∷ es) pool a = go (times_of e.1.bytes a.0) (times_sum es pool a.1) (total_cons e es pool)
+  where
+    go : IsTimes e.1.bytes → IsTimes (sum (in_order es pool)) → sum (in_order (e ∷ es) pool) ≡ cond (same_text e.1.pool pool) e.1.bytes 0 + sum (in_order es pool) → IsTimes (sum (in_order (e ∷ es) pool))
+    go (j, one) (k, more) t = elim (same_text e.1.pool pool) as (λ b. sum (in_order (e ∷ es) pool) ≡ cond b e.1.bytes 0 + sum (in_order es pool) → IsTimes (sum (in_order (e ∷ es) pool))) [
+      | true ↦ λ h. (j + k, omega (arith, h, one, more))
+      | false ↦ λ h. (k, omega (arith, h, more))
+    ] t
+
+times_max : (a b : ℕ) → IsTimes a → IsTimes b → IsTimes (max a b)
+times_max a b (j, d) (k, e) = elim (leb_tells a b) as (λ _. IsTimes (max a b)) [ inl x ↦ (k, omega (arith, x.1, e)) | inr x ↦ (j, omega (arith, x.1, d)) ]
+
+times_min : (a b : ℕ) → IsTimes a → IsTimes b → IsTimes (min a b)
+times_min a b (j, d) (k, e) = elim (leb_tells a b) as (λ _. IsTimes (min a b)) [ inl x ↦ (j, omega (arith, x.1, d)) | inr x ↦ (k, omega (arith, x.1, e)) ]
+
+times_free : (config : Config) (s : State) → IsConfigured config → IsInvariant config s → (p : Pool) → Has config.pools p → IsTimes (free (p, used s p.name))
+times_free config s good inv p h =
+    let all : AllByRecursion (λ e. is_whole e.1.bytes ≡ true) (fin.entries s.volumes) = all_entries nat_cmp_total fin.nat_cmp-IsAntisymmetric (λ n (v : Volume). is_whole v.bytes ≡ true) s.volumes (λ n v e. (inv.volumes n v e).bytes) in
+    go (times_of p.bytes (good.wholes p h)) (times_sum (fin.entries s.volumes) p.name all) (good.small p h) (inv.rooms p h)
+  where
+    go : IsTimes p.bytes → IsTimes (sum (sizes s p.name)) → p.bytes ≤ 2 ^ 62 → sum (sizes s p.name) ≤ p.bytes → IsTimes (free (p, used s p.name))
+    go (j, d) (k, e) most fits = (j - k, omega (arith, d, e, most, fits))
+
+all_rooms : (s : State) (ps : List Pool) → ((p : Pool) → Has ps p → IsTimes (free (p, used s p.name))) → AllByRecursion (λ r. IsTimes (free r)) (map (λ p. (p, used s p.name)) ps)
+all_rooms s [] h = tt
+all_rooms s (p ∷ ps) h = (h p (inl refl), all_rooms s ps (λ q k. h q (inr k)))
+
+times_most : (rs : List Room) (t : Option TextMap) (a : ℕ) → IsTimes a → AllByRecursion (λ r. IsTimes (free r)) rs → IsTimes (fold max a (map free (served rs t)))
+times_most [] t a i all = i
+times_most (r ∷ rs) t a i all = elim (is_served t r) as (λ b. IsTimes (fold max a (map free (cond b (r ∷ served rs t) (served rs t))))) [
+  | true ↦ times_most rs t (max a (free r)) (times_max a (free r) i all.0) all.1
+  | false ↦ times_most rs t a i all.1
+]
+
+-- So the size that is asked is the size that is made.
+
+rounded : (n : ℕ) → IsTimes n → rounded_up n ≡ n
+rounded n (k, e) =
+    let less : GRANULE_BYTES - 1 < GRANULE_BYTES = omega arith in
+    ap (λ m. (m + (GRANULE_BYTES - 1)) / GRANULE_BYTES * GRANULE_BYTES) e ∙ ap (λ m. m * GRANULE_BYTES) (div-mul-add k GRANULE_BYTES (GRANULE_BYTES - 1) less) ∙ sym e
+
+size_exact : (z : Sizes) (n : ℕ) → 0 < n → IsTimes n → n ≤ z.greatest_bytes → size z (Some (exactly n)) ≡ Some n
+size_exact z n h i most =
+    let some : nat_lt 0 n ≡ true = le-leb 1 n h in
+    let limit : ((n == 0) || nat_le n n) ≡ true = elim (n == 0) as (λ b. (b || nat_le n n) ≡ true) [ true ↦ refl | false ↦ le-leb n n (omega arith) ] in
+    let great : nat_le n z.greatest_bytes ≡ true = le-leb n z.greatest_bytes most in
+    let is : asked z n n ≡ n = ap (λ b. cond b (rounded_up n) (cond b (min z.default_bytes (rounded_down n)) z.default_bytes)) some ∙ rounded n i in
+    subst (λ (m : ℕ). within z n n m ≡ Some n) (sym is) (ap (λ b. cond b (Some n) None) (and_from _ _ (and_from _ _ (and_from _ _ some limit) great) great))
+
+-- And there is a pool for it.
+
+no_entries : fin.entries (fin.empty {X = List ℕ} {R = slice_cmp nat_cmp}) ≡ []
+no_entries = none_listed nat_list_cmp_total
+
+-- each pool serves the empty term
+serves_empty : (segments : TextMap) → serves segments fin.empty ≡ true
+serves_empty segments =
+    let inside : is_within fin.empty segments ≡ true = ap (λ (es : List (List ℕ × List ℕ)). list_all (λ e. list_any (λ f. alike e.0 f.0 && same_text e.1 f.1) (fin.entries segments)) es) no_entries in
+    elim (is_within segments fin.empty) as (λ b. (b || is_within fin.empty segments) ≡ true) [ true ↦ refl | false ↦ inside ]
+
+served_all : (rs : List Room) → served rs None ≡ served rs (Some fin.empty)
+served_all [] = refl
+served_all (r ∷ rs) = ap (λ xs. r ∷ xs) (served_all rs) ∙ sym (ap (λ b. cond b (r ∷ served rs (Some fin.empty)) (served rs (Some fin.empty))) (serves_empty r.0.segments))
+
+served_as : (rs : List Room) (t : Option TextMap) → served rs t ≡ served rs (Some (term_of t))
+served_as rs None = served_all rs
+served_as rs (Some t) = refl
+
+-- where no room serves the term and has n bytes free, the greatest free part is less than n
+small : (rs : List Room) (t : TextMap) (n a : ℕ) → a < n → find (λ r. serves r.0.segments t && nat_le n (free r)) rs ≡ None → fold max a (map free (served rs (Some t))) < n
+small [] t n a h none = h
+small (r ∷ rs) t n a h none = go (λ b l f. small rs t n b l f) (serves r.0.segments t) (nat_le n (free r)) refl none
+  where
+    go : ((b : ℕ) → b < n → find (λ r. serves r.0.segments t && nat_le n (free r)) rs ≡ None → fold max b (map free (served rs (Some t))) < n)
+        → (p q : Bool) → nat_le n (free r) ≡ q → cond (p && q) (Some r) (find (λ r. serves r.0.segments t && nat_le n (free r)) rs) ≡ None
+        → fold max a (map free (cond p (r ∷ served rs (Some t)) (served rs (Some t)))) < n
+    go more true true e f = absurd (cc)
+    go more true false e f =
+        let less : free r < n = elim (leb_tells n (free r)) as (λ _. free r < n) [ inl x ↦ absurd (cc (e, x.0)) | inr x ↦ x.1 ] in
+        more (max a (free r)) (omega arith) f
+    go more false q e f = more a h f
+
+has_place : (rs : List Room) (t : TextMap) (n : ℕ) → 0 < n → n ≤ greatest (map free (served rs (Some t))) → choice rs (t ∷ []) n ≢ None
+has_place rs t n h le none =
+    let gone : find (λ r. serves r.0.segments t && nat_le n (free r)) rs ≡ None = no_map (find (λ r. serves r.0.segments t && nat_le n (free r)) rs) (sym (choice_one rs t n) ∙ none) in
+    absurd (omega (arith, small rs t n 0 h gone, le))
+  where
+    no_map : (o : Option Room) → option_map (λ r. r.0) o ≡ None → o ≡ None
+    no_map None e = refl
+    no_map (Some r) e = absurd (cc)
+
+-- none is chosen for a term that is one of those for which none is
+none_of : (rs : List Room) (ts : List TextMap) (t : TextMap) (n : ℕ) → Has ts t → choice rs ts n ≡ None → choice rs (t ∷ []) n ≡ None
+none_of rs [] t n h e = absurd h
+none_of rs (u ∷ ts) t n h e = go (none_of rs ts t n) (choice rs (u ∷ []) n) refl (sym (choice_cons rs u ts n) ∙ e)
+  where
+    go : (Has ts t → choice rs ts n ≡ None → choice rs (t ∷ []) n ≡ None) → (o : Option Pool) → choice rs (u ∷ []) n ≡ o → or_else o (choice rs ts n) ≡ None → choice rs (t ∷ []) n ≡ None
+    go more None f k = elim h as (λ _. choice rs (t ∷ []) n ≡ None) [ inl is ↦ subst (λ (v : TextMap). choice rs (v ∷ []) n ≡ None) is f | inr r ↦ more r k ]
+    go more (Some p) f k = absurd (cc)
+
+under : (a b : ℕ) → b < a → nat_le a b ≡ false
+under a b h = elim (leb_tells a b) as (λ _. nat_le a b ≡ false) [ inl x ↦ absurd (omega (arith, h, x.1)) | inr x ↦ x.0 ]
+
+-- the maximum that is told
+told : (config : Config) (rs : List Room) (g : GetCapacity) (available n : ℕ) → (b : Bool)
+    → cond b (tell_capacity (sum_by free (served rs g.topology)) (greatest_size config (served rs g.topology))) (tell_capacity 0 0) ≡ tell_capacity available n → 0 < n
+    → n ≡ greatest_size config (served rs g.topology)
+told config rs g available n true e h = sym (same (sum_by free (served rs g.topology)) (greatest_size config (served rs g.topology)) available n (ap (λ p. p.outcome) e))
+  where
+    same : (a b c d : ℕ) → (tell_capacity a b).outcome ≡ (tell_capacity c d).outcome → b ≡ d
+    same a b c d e = cc
+told config rs g available n false e h = absurd (none available n (ap (λ p. p.outcome) e) h)
+  where
+    none : (c d : ℕ) → (tell_capacity 0 0).outcome ≡ (tell_capacity c d).outcome → 0 < d → ⊥
+    none c d e h = let z : ◌≡◌ {A = ℕ} 0 d = cc in omega (arith, z, h)
+
+-- a volume of the maximum that GetCapacity tells is made, where its topology is one of the terms
+pub offered : (config : Config) → IsConfigured config → (s : State) (g : GetCapacity) (available n : ℕ) (r : CreateVolume) → IsInvariant config s
+    → capacity config s g ≡ tell_capacity available n → 0 < n → AsksFor r g.topology n → IsNew config s r.name
+    → (pool : Pool) × Has config.pools pool × (create config s r ≡ place_in r s.next n (Some pool))
+offered config good s g available n r inv e h asks new =
+    let rs = rooms config s in
+    let is : n ≡ greatest_size config (served rs g.topology) = told config rs g available n (list_all is_supported g.capabilities) e h in
+    let same = ap (λ (xs : List Room). greatest (map free xs)) (served_as rs g.topology) in
+    let times : IsTimes n = subst IsTimes (sym is) (times_min config.sizes.greatest_bytes (greatest (map free (served rs g.topology))) (times_of _ good.greatest) (times_most rs g.topology 0 (0, omega arith) (all_rooms s config.pools (times_free config s good inv)))) in
+    let most : n ≤ config.sizes.greatest_bytes = omega (arith, is) in
+    let fits : n ≤ greatest (map free (served rs (Some (term_of g.topology)))) = omega (arith, is, same) in
+    let sized : size config.sizes r.range ≡ Some n = ap (size config.sizes) asks.size ∙ size_exact config.sizes n h times most in
+    go fits sized (choice rs (terms r.topology) n) refl
+  where
+    go : n ≤ greatest (map free (served (rooms config s) (Some (term_of g.topology)))) → size config.sizes r.range ≡ Some n → (o : Option Pool) → choice (rooms config s) (terms r.topology) n ≡ o
+        → (pool : Pool) × Has config.pools pool × (create config s r ≡ place_in r s.next n (Some pool))
+    go fits sized None f = absurd (has_place (rooms config s) (term_of g.topology) n h fits (none_of (rooms config s) (terms r.topology) (term_of g.topology) n asks.term f))
+    go fits sized (Some p) f =
+        let one = chosen (rooms config s) (terms r.topology) n p f in
+        let from = has_map (λ p. (p, used s p.name)) config.pools one.0 one.1 in
+        let same : from.0 ≡ p = ap (λ (x : Room). x.0) from.2 ∙ one.2 in (
+          p,
+          subst (Has config.pools) same from.1,
+          ap (create_named config s r) new.unnamed
+              ∙ ap (place (rooms config s) s.next r) sized
+              ∙ ap (λ b. cond b (refuse TooManyVolumes) (cond (nat_le MAX_NUMBER s.next) (refuse NumbersUsedUp) (place_in r s.next n (choice (rooms config s) (terms r.topology) n)))) (under MAX_VOLUMES (count (rooms config s)) new.few)
+              ∙ ap (λ b. cond b (refuse NumbersUsedUp) (place_in r s.next n (choice (rooms config s) (terms r.topology) n))) (under MAX_NUMBER s.next new.numbered)
+              ∙ ap (place_in r s.next n) f,
+        )

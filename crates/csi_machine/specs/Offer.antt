@@ -1,0 +1,33 @@
+-- What a create has to ask for to be given what GetCapacity offers (CSI specification, 'GetCapacity', maximum_volume_size).
+use Rattle.std.specs.Prelude.{◌≡◌, ℕ, pos, ◌<◌, Option, Some, None}
+use Rattle.std.specs.FinMap.{empty}
+use Rattle.csi_types.specs.Maps.{TextMap}
+use Rattle.csi_types.specs.declared.capacity.CapacityRange.{CapacityRange}
+use Rattle.csi_types.specs.declared.limits.TheConstants.{MAX_NUMBER, MAX_VOLUMES}
+use Rattle.csi_types.specs.declared.requests.CreateVolume.{CreateVolume}
+use Rattle.csi_config.specs.Values.{Has}
+use Rattle.csi_config.specs.declared.config.Config.{Config}
+use Rattle.csi_machine.specs.Choice.{rooms, count}
+use Rattle.csi_machine.specs.State.{State, named}
+use Rattle.csi_machine.specs.Texts.{Text}
+use Rattle.csi_machine.specs.Topology.{terms}
+
+-- the topology of a GetCapacity as a term; none is the empty one
+abbrev pub term_of : Option TextMap → TextMap
+term_of None = empty
+term_of (Some t) = t
+
+-- that size, and no other
+abbrev pub exactly : ℕ → CapacityRange
+exactly n = record { required = pos n; limit = pos n }
+
+-- exactly that size is asked, and the topology is one of the terms
+pub record AsksFor (r : CreateVolume) (topology : Option TextMap) (n : ℕ) : Type 0 where
+  pub size : r.range ≡ Some (exactly n)
+  pub term : Has (terms r.topology) (term_of topology)
+
+-- no volume has the name, and neither their count nor their numbers are used up
+pub record IsNew (config : Config) (s : State) (name : Text) : Type 0 where
+  pub unnamed : named s name ≡ None
+  pub few : count (rooms config s) < MAX_VOLUMES
+  pub numbered : s.next < MAX_NUMBER

@@ -1,0 +1,40 @@
+-- How large a volume is made (CSI specification, 'CreateVolume', the message CapacityRange).
+use Rattle.std.specs.Prelude.{ℕ, ℤ, pos, negsuc, ◌+◌, ◌-◌, ◌*◌, ◌/◌, ◌==◌, ◌&&◌, ◌||◌, nat_lt, nat_le, min, Bool, true, Option, Some, None, if◌then◌else◌}
+use Rattle.csi_types.specs.declared.capacity.CapacityRange.{CapacityRange}
+use Rattle.csi_config.specs.declared.sizes.Sizes.{Sizes}
+use Rattle.csi_config.specs.declared.sizes.TheConstants.{GRANULE_BYTES}
+
+-- a number that is not negative
+abbrev pub whole : ℤ → ℕ
+whole (pos n) = n
+whole (negsuc n) = 0
+
+abbrev pub rounded_down : ℕ → ℕ
+rounded_down n = n / GRANULE_BYTES * GRANULE_BYTES
+
+abbrev pub rounded_up : ℕ → ℕ
+rounded_up n = rounded_down (n + (GRANULE_BYTES - 1))
+
+-- 0 is not given: what is required, rounded up; or else the default size, and at most the limit, rounded down
+abbrev pub asked : Sizes → ℕ → ℕ → ℕ
+asked sizes required limit =
+    if nat_lt 0 required then rounded_up required
+    else (if nat_lt 0 limit then min sizes.default_bytes (rounded_down limit) else sizes.default_bytes)
+
+-- a size that is not zero, nor above a limit that is given, nor above the greatest one; what is required is compared before it is rounded
+abbrev pub within : Sizes → ℕ → ℕ → ℕ → Option ℕ
+within sizes required limit n =
+    if nat_lt 0 n && (limit == 0 || nat_le n limit) && nat_le n sizes.greatest_bytes && nat_le required sizes.greatest_bytes then Some n else None
+
+abbrev pub size_by : Sizes → ℕ → ℕ → Option ℕ
+size_by sizes required limit = within sizes required limit (asked sizes required limit)
+
+-- the size of a volume for which a range is asked, or none
+abbrev pub size : Sizes → Option CapacityRange → Option ℕ
+size sizes None = size_by sizes 0 0
+size sizes (Some r) = size_by sizes (whole r.required) (whole r.limit)
+
+-- a volume that stands has a size within a range
+abbrev pub has_size : ℕ → Option CapacityRange → Bool
+has_size bytes None = true
+has_size bytes (Some r) = nat_le (whole r.required) bytes && (whole r.limit == 0 || nat_le bytes (whole r.limit))

@@ -1,0 +1,57 @@
+-- One step of the volume machine: what each request is answered, and the State after it.
+use Rattle.std.specs.Prelude.{nat_le, length, if◌then◌else◌}
+use Rattle.csi_types.specs.declared.reason.Reason.TheVariants.{ReplyTooLarge}
+use Rattle.csi_types.specs.declared.requests.Request.{Request}
+use Rattle.csi_types.specs.declared.requests.Request.TheVariants as request
+use Rattle.csi_codec.specs.Methods.{response_bytes}
+use Rattle.csi_config.specs.declared.config.Config.{Config}
+use Rattle.frames_core.specs.declared.limits.TheConstants.{MAX_BODY_BYTES}
+use Rattle.csi_machine.specs.declared.plan.Outcome.{Outcome}
+use Rattle.csi_machine.specs.declared.plan.Outcome.TheVariants as outcome
+use Rattle.csi_machine.specs.declared.plan.Plan.{Plan}
+use Rattle.csi_machine.specs.calls.Capacity.{capacity}
+use Rattle.csi_machine.specs.calls.Create.{create}
+use Rattle.csi_machine.specs.calls.Delete.{delete}
+use Rattle.csi_machine.specs.calls.Identity.{plugin_info, plugin_capabilities, probe, controller_capabilities}
+use Rattle.csi_machine.specs.calls.Listing.{list_volumes}
+use Rattle.csi_machine.specs.calls.Publish.{publish}
+use Rattle.csi_machine.specs.calls.Unpublish.{unpublish}
+use Rattle.csi_machine.specs.calls.Validate.{validate}
+use Rattle.csi_machine.specs.Plan.{refuse, after}
+use Rattle.csi_machine.specs.State.{State}
+use Rattle.csi_machine.specs.Verdicts.{Told, Says, Denies, told_of}
+
+-- by the request's method
+abbrev pub plan : Config → State → Request → Plan
+plan config s request.PluginInfo = plugin_info config
+plan config s request.PluginCapabilities = plugin_capabilities
+plan config s request.Probe = probe
+plan config s request.ControllerCapabilities = controller_capabilities
+plan config s (request.Create r) = create config s r
+plan config s (request.Delete r) = delete s r
+plan config s (request.Publish r) = publish config s r
+plan config s (request.Unpublish r) = unpublish s r
+plan config s (request.Validate r) = validate s r
+plan config s (request.List r) = list_volumes config s r
+plan config s (request.Capacity r) = capacity config s r
+
+-- a refusal keeps the State
+abbrev pub moved : {S : Type 0} → S → S → Told → S
+moved s t (Says body) = t
+moved s t (Denies reason) = s
+
+-- one request: the body of its response, or the reason of its refusal, and the State after it; a body that no reply holds is refused
+abbrev pub step : Config → State → Request → Told × State
+step config s r = (told_of (plan config s r).outcome, moved s (after s (plan config s r).change) (told_of (plan config s r).outcome))
+
+-- The same as a plan: one whose body no reply holds is a refusal.
+
+abbrev pub limited_by : Plan → Outcome → Plan
+limited_by p (outcome.Refused reason) = refuse reason
+limited_by p (outcome.Done r) = if nat_le (length (response_bytes r)) MAX_BODY_BYTES then p else refuse ReplyTooLarge
+
+abbrev pub limited : Plan → Plan
+limited p = limited_by p p.outcome
+
+abbrev pub settled_plan : Config → State → Request → Plan
+settled_plan config s r = limited (plan config s r)

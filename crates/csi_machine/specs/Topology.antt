@@ -1,0 +1,25 @@
+-- Which pools serve a topology (CSI specification, 'CreateVolume', the messages Topology and TopologyRequirement).
+use Rattle.std.specs.Prelude.{◌==◌, ◌||◌, Bool, true, List, [], ◌∷◌, ◌++◌, Option, Some, None, length}
+use Rattle.std.specs.FinMap.{empty}
+use Rattle.std.specs.List.{list_any}
+use Rattle.csi_types.specs.Maps.{TextMap}
+use Rattle.csi_types.specs.Topology.{is_within}
+use Rattle.csi_types.specs.declared.topology.Requirement.{Requirement}
+
+-- with the ASCII letters of keys folded, one of the two contains the other
+abbrev pub serves : TextMap → TextMap → Bool
+serves segments term = is_within segments term || is_within term segments
+
+abbrev pub or_empty : List TextMap → List TextMap
+or_empty [] = empty ∷ []
+or_empty (t ∷ ts) = t ∷ ts
+
+-- the terms in the order in which they are tried: the preferred ones, and then the requisite ones, or the empty term where there is none
+abbrev pub terms : Option Requirement → List TextMap
+terms None = empty ∷ []
+terms (Some r) = r.preferred ++ or_empty r.requisite
+
+-- a pool of these segments serves a requisite term, or there is none
+abbrev pub is_reachable : TextMap → Option Requirement → Bool
+is_reachable segments None = true
+is_reachable segments (Some r) = length r.requisite == 0 || list_any (serves segments) r.requisite

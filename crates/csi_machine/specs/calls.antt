@@ -1,0 +1,8 @@
+pub mod Create
+pub mod Delete
+pub mod Publish
+pub mod Unpublish
+pub mod Validate
+pub mod Listing
+pub mod Capacity
+pub mod Identity

@@ -1,0 +1,86 @@
+-- ControllerPublishVolume (CSI specification, 'ControllerPublishVolume').
+use Rattle.std.specs.Prelude.{ℕ, ◌&&◌, not, nat_le, Bool, true, false, List, Option, Some, None, find, length, codes, if◌then◌else◌}
+use Rattle.std.specs.FinMap.{get, empty, insert}
+use Rattle.std.specs.List.{list_any}
+use Rattle.csi_types.specs.Maps.{TextMap, same_text}
+use Rattle.csi_types.specs.declared.capability.Capability.{Capability}
+use Rattle.csi_types.specs.declared.reason.Reason.TheVariants.{VolumeNotFound, NodeNotFound, PublishedElsewhere, PublishedOtherwise, NodeFull, CapabilityNotOfVolume}
+use Rattle.csi_types.specs.declared.requests.Publish.{Publish}
+use Rattle.csi_types.specs.declared.responses.Response.TheVariants as response
+use Rattle.csi_config.specs.declared.config.Config.{Config}
+use Rattle.csi_config.specs.declared.nodes.Node.{Node}
+use Rattle.csi_machine.specs.declared.capability.CapKey.{CapKey}
+use Rattle.csi_machine.specs.declared.change.Change.TheVariants.{Attach}
+use Rattle.csi_machine.specs.declared.plan.Plan.{Plan}
+use Rattle.csi_machine.specs.declared.volume.Attachment.{Attachment}
+use Rattle.csi_machine.specs.declared.volume.Volume.{Volume}
+use Rattle.csi_machine.specs.Capability.{key_of, same_key, has_key}
+use Rattle.csi_machine.specs.Coexistence.{coexist}
+use Rattle.csi_machine.specs.Ids.{number_of_id}
+use Rattle.csi_machine.specs.Plan.{refuse, respond, make}
+use Rattle.csi_machine.specs.State.{State, attached, attached_at}
+use Rattle.csi_machine.specs.Texts.{Text}
+
+abbrev pub flag_text : Bool → Text
+flag_text true = codes "true"
+flag_text false = codes "false"
+
+-- the publish_context
+abbrev pub publication : Bool → TextMap
+publication readonly = insert empty (codes "readonly") (flag_text readonly)
+
+abbrev pub is_at : Text → Attachment → Bool
+is_at node a = same_text a.node node
+
+abbrev pub same_flag : Bool → Bool → Bool
+same_flag true b = b
+same_flag false b = not b
+
+-- the volume is attached at the node
+abbrev pub publish_again : CapKey → Bool → Attachment → Plan
+publish_again key readonly a =
+    if same_key a.cap key && same_flag a.readonly readonly then respond (response.Publish (publication readonly)) else refuse PublishedOtherwise
+
+-- some attachment can't stand beside mine
+abbrev pub has_conflict : Attachment → List Attachment → Bool
+has_conflict mine attachments = list_any (λ a. not (coexist a mine)) attachments
+
+-- the volume is not attached at the node, where these volumes are
+abbrev pub attach : ℕ → List CapKey → List Attachment → Node → List ℕ → Attachment → Plan
+attach n caps attachments node there mine =
+    if not (has_key caps (Some mine.cap)) then refuse CapabilityNotOfVolume
+    else (if has_conflict mine attachments then refuse PublishedElsewhere
+    else (if nat_le node.max_volumes (length there) then refuse NodeFull else make (response.Publish (publication mine.readonly)) (Attach n mine)))
+
+abbrev pub wanted : Text → Bool → CapKey → Attachment
+wanted node readonly key = record { node = node; cap = key; readonly = readonly }
+
+abbrev pub publish_key : ℕ → Volume → List Attachment → Node → List ℕ → Publish → Option Attachment → CapKey → Plan
+publish_key n v attachments node there r (Some a) key = publish_again key r.readonly a
+publish_key n v attachments node there r None key = attach n v.caps attachments node there (wanted r.node_id r.readonly key)
+
+abbrev pub publish_at : ℕ → Volume → List Attachment → Node → List ℕ → Publish → Option CapKey → Plan
+publish_at n v attachments node there r None = refuse CapabilityNotOfVolume
+publish_at n v attachments node there r (Some key) = publish_key n v attachments node there r (find (is_at r.node_id) attachments) key
+
+abbrev pub asked_key : Option Capability → Option CapKey
+asked_key None = None
+asked_key (Some c) = key_of c
+
+abbrev pub node_of : Config → Text → Option Node
+node_of config id = find (λ m. same_text m.id id) config.nodes
+
+abbrev pub publish_node : State → ℕ → Volume → Publish → Option Node → Plan
+publish_node s n v r None = refuse NodeNotFound
+publish_node s n v r (Some node) = publish_at n v (attached s n) node (attached_at s r.node_id) r (asked_key r.capability)
+
+abbrev pub publish_volume : Config → State → ℕ → Publish → Option Volume → Plan
+publish_volume config s n r None = refuse VolumeNotFound
+publish_volume config s n r (Some v) = publish_node s n v r (node_of config r.node_id)
+
+abbrev pub publish_number : Config → State → Publish → Option ℕ → Plan
+publish_number config s r None = refuse VolumeNotFound
+publish_number config s r (Some n) = publish_volume config s n r (get s.volumes n)
+
+abbrev pub publish : Config → State → Publish → Plan
+publish config s r = publish_number config s r (number_of_id r.volume_id)

@@ -1,0 +1,209 @@
+//! Requests over any keeper.
+
+ghost use Rattle.std.specs.Prelude.{◌≡◌, ◌⊎◌, ◌≤◌, ◌++◌, length, [], IfOk, OnOk, OnErr, IfSome, IsSome, None};
+ghost use Rattle.csi_types.specs.Checks.{checked};
+ghost use Rattle.frames_core.specs.declared.limits.TheConstants.{MAX_BODY_BYTES};
+ghost use Rattle.csi_machine.specs.Answering.{Answered, Carries, Leaves, Promises, body_of, state_after, verdict_of};
+ghost use Rattle.csi_machine.specs.Invariant.{IsInvariant};
+ghost use Rattle.csi_machine.specs.Keeper.{IsQuiet, Tells, count_after};
+ghost use Rattle.csi_machine.specs.Plan.{after};
+ghost use Rattle.csi_machine.specs.State.{State, Allows, IsBounded};
+ghost use Rattle.csi_machine.specs.Step.{plan, limited, settled_plan, step};
+ghost use Rattle.csi_machine.specs.Verdicts.{Appended, IsTold, told_of};
+
+use crate::body::{Verdict, append_body};
+use crate::calls::capacity::plan_capacity;
+use crate::calls::create::plan_create;
+use crate::calls::delete::plan_delete;
+use crate::calls::identity::{
+    plan_controller_capabilities, plan_plugin_capabilities, plan_plugin_info, plan_probe,
+};
+use crate::calls::listing::plan_list;
+use crate::calls::publish::plan_publish;
+use crate::calls::unpublish::plan_unpublish;
+use crate::calls::validate::plan_validate;
+use crate::change::StoreFault;
+use crate::configured::configured;
+use crate::keeper::Keeper;
+use crate::plan::{Outcome, Plan, refuse};
+use csi_config::Config;
+use csi_types::Request;
+use std::alloc::{AllocError, Global};
+
+// The plan of a request, by reads alone.
+#[tactic(auto, using(crate::proofs::KeeperLemmas::quiet_same))]
+fn plan_of<K: Keeper>(
+    alloc: Global,
+    config: &Config,
+    keeper: &mut K,
+    request: &Request,
+) -> Result<Plan, StoreFault>
+    ensures bounded { IfOk result (λ p. IfSome p.change IsBounded) }
+    ensures value { IfOk result (λ p. Tells K.holds K.doubt keeper.old keeper.new (λ s. p ≡ plan config.now s request.now)) }
+    ensures quiet { IsQuiet K.holds K.doubt K.survivors K.tied K.is_down keeper.old keeper.new }
+    ensures count { K.refused keeper.new ≡ count_after (K.refused keeper.old) result }
+{
+    match request {
+        Request::PluginInfo => Ok(plan_plugin_info(alloc, config)?),
+        Request::PluginCapabilities => Ok(plan_plugin_capabilities(alloc)?),
+        Request::Probe => Ok(plan_probe()),
+        Request::ControllerCapabilities => Ok(plan_controller_capabilities(alloc)?),
+        Request::Create(request) => plan_create(alloc, config, keeper, request),
+        Request::Delete(request) => plan_delete(alloc, keeper, request),
+        Request::Publish(request) => plan_publish(alloc, config, keeper, request),
+        Request::Unpublish(request) => plan_unpublish(alloc, keeper, request),
+        Request::Validate(request) => plan_validate(alloc, keeper, request),
+        Request::List(request) => plan_list(alloc, config, keeper, request),
+        Request::Capacity(request) => plan_capacity(alloc, config, keeper, request),
+    }
+}
+
+fn append_outcome(outcome: &Outcome, out: &mut Vec<u8>) -> Result<Verdict, AllocError>
+    ensures appended { Appended out.old.items out.new.items result }
+    ensures told { IsTold (told_of outcome.now) out.old.items out.new.items result }
+{
+    match outcome {
+        Outcome::Done(response) => append_body(response, out),
+        Outcome::Refused(reason) => Ok(Verdict::Refused(*reason)),
+    }
+}
+
+// Appends the body of a plan's response. A plan whose body no reply holds becomes a refusal.
+fn write_body(plan: Plan, out: &mut Vec<u8>) -> Result<Plan, AllocError>
+    requires { IfSome plan.change IsBounded }
+    ensures bounded { IfOk result (λ p. IfSome p.change IsBounded) }
+    ensures value { IfOk result (λ p. p ≡ limited plan) }
+    ensures body { IfOk result (λ p. out.new.items ≡ out.old.items ++ body_of p.outcome) }
+    ensures small { IfOk result (λ p. length (body_of p.outcome) ≤ MAX_BODY_BYTES) }
+    ensures err { OnErr result (out.new.items ≡ out.old.items) }
+{
+    match append_outcome(&plan.outcome, out)? {
+        Verdict::Done => Ok(plan),
+        Verdict::Refused(reason) => Ok(refuse(reason)),
+    }
+}
+
+fn verdict_of(outcome: &Outcome) -> Verdict
+    ensures { result ≡ verdict_of outcome.now }
+{
+    match outcome {
+        Outcome::Done(_) => Verdict::Done,
+        Outcome::Refused(reason) => Verdict::Refused(*reason),
+    }
+}
+
+// Makes the plan's change, if it has one, and gives its verdict.
+fn carry_out<K: Keeper>(alloc: Global, keeper: &mut K, plan: &Plan) -> Result<Verdict, StoreFault>
+    requires { IfSome plan.now.change IsBounded }
+    ensures clean { K.doubt keeper.old ≤ K.doubt keeper.new }
+    ensures verdict { IfOk result (λ v. v ≡ verdict_of plan.now.outcome) }
+    ensures state { K.doubt keeper.new ≡ 0 → OnOk result ((s : State) → K.holds keeper.old s → IfSome plan.now.change (Allows s) → K.holds keeper.new (after s plan.now.change)) }
+    ensures same { K.doubt keeper.new ≡ 0 → OnErr result ((s : State) → K.holds keeper.old s → IfSome plan.now.change (Allows s) → K.holds keeper.new s) }
+    ensures count { K.refused keeper.new ≡ count_after (K.refused keeper.old) result }
+    ensures crash { K.doubt keeper.new ≡ 0 → (s : State) → K.holds keeper.old s → IfSome plan.now.change (Allows s) → (t : State) → K.survivors keeper.new t → K.survivors keeper.old t ⊎ (t ≡ after s plan.now.change) }
+    ensures settled { K.doubt keeper.new ≡ 0 → OnOk result ((s : State) → K.holds keeper.old s → IfSome plan.now.change (Allows s) → IsSome plan.now.change → (t : State) → K.survivors keeper.new t → t ≡ after s plan.now.change) }
+    ensures ties { K.doubt keeper.new ≡ 0 → (s : State) → K.holds keeper.old s → IfSome plan.now.change (Allows s) → K.tied keeper.old → K.tied keeper.new }
+{
+    if let Some(change) = &plan.change {
+        keeper.apply(alloc, change)?;
+    }
+    Ok(verdict_of(&plan.outcome))
+}
+
+// Appends the body of a plan's response, and makes its change then: a body for which memory is
+// refused leaves the State, and a fault of the keeper takes the body back.
+fn finish<K: Keeper>(
+    alloc: Global,
+    keeper: &mut K,
+    plan: Plan,
+    out: &mut Vec<u8>,
+) -> Result<Verdict, StoreFault>
+    requires { IfSome plan.change IsBounded }
+    ensures carries { Carries K.holds K.doubt K.survivors K.tied (limited plan) keeper.old keeper.new result }
+    ensures count { K.refused keeper.new ≡ count_after (K.refused keeper.old) result }
+    ensures body { OnOk result (out.new.items ≡ out.old.items ++ body_of (limited plan).outcome) }
+    ensures small { OnOk result (length (body_of (limited plan).outcome) ≤ MAX_BODY_BYTES) }
+    ensures err { OnErr result (out.new.items ≡ out.old.items) }
+{
+    let from = out.len();
+    let plan = write_body(plan, out)?;
+    match carry_out(alloc, keeper, &plan) {
+        Ok(verdict) => Ok(verdict),
+        Err(fault) => {
+            out.truncate(from);
+            Err(fault)
+        }
+    }
+}
+
+fn answer_by_plan<K: Keeper>(
+    alloc: Global,
+    config: &Config,
+    keeper: &mut K,
+    request: &Request,
+    out: &mut Vec<u8>,
+) -> Result<Verdict, StoreFault>
+    requires { checked request.now ≡ None }
+    ensures { Answered K.holds K.doubt K.refused K.survivors K.tied config.now (λ s. settled_plan config.now s request.now) keeper.old keeper.new out.old.items out.new.items result }
+{
+    configured(config);
+    let plan = plan_of(alloc, config, keeper, request)?;
+    finish(alloc, keeper, plan, out)
+}
+
+/// Answers a request over any keeper by one step of the machine: the plan that the keeper's State
+/// gives the request. The body of its response is appended to `out`, and then its change is made.
+///
+/// What is promised of a State is promised of each one of the invariant that the keeper may have,
+/// while its doubt is 0. After an answer that moved the State, a stop leaves the State after it.
+///
+/// # Errors
+///
+/// What the keeper answers, or want of memory for the body. The State is as before, and so is
+/// `out`, as it is after anything but [`Verdict::Done`]; a stop may then leave the change made.
+pub fn append_answer<K: Keeper>(
+    alloc: Global,
+    config: &Config,
+    keeper: &mut K,
+    request: &Request,
+    out: &mut Vec<u8>,
+) -> Result<Verdict, StoreFault>
+    requires { checked request.now ≡ None }
+    ensures clean { K.doubt keeper.old ≤ K.doubt keeper.new }
+    ensures appended { Appended out.old.items out.new.items result }
+    ensures told { Promises K.holds K.doubt config.now keeper.old keeper.new (λ s. IsTold (step config.now s request.now).0 out.old.items out.new.items result) }
+    ensures state { Promises K.holds K.doubt config.now keeper.old keeper.new (λ s. K.holds keeper.new (state_after s (step config.now s request.now).1 result)) }
+    ensures invariant { (s : State) → IsInvariant config.now s → IsInvariant config.now (step config.now s request.now).1 }
+    ensures counted { K.refused keeper.new ≡ count_after (K.refused keeper.old) result }
+    ensures left { Promises K.holds K.doubt config.now keeper.old keeper.new (λ s. Leaves (K.survivors keeper.old) (K.survivors keeper.new) s (step config.now s request.now).1 result) }
+    ensures ties { Promises K.holds K.doubt config.now keeper.old keeper.new (λ s. K.tied keeper.old → K.tied keeper.new) }
+{
+    configured(config);
+    answer_by_plan(alloc, config, keeper, request, out)
+}
+
+/// Answers a request as [`append_answer`] does, and empties `out` first.
+///
+/// # Errors
+///
+/// As of [`append_answer`]; `out` is empty after anything but [`Verdict::Done`].
+pub fn answer<K: Keeper>(
+    alloc: Global,
+    config: &Config,
+    keeper: &mut K,
+    request: &Request,
+    out: &mut Vec<u8>,
+) -> Result<Verdict, StoreFault>
+    requires { checked request.now ≡ None }
+    ensures clean { K.doubt keeper.old ≤ K.doubt keeper.new }
+    ensures appended { Appended [] out.new.items result }
+    ensures told { Promises K.holds K.doubt config.now keeper.old keeper.new (λ s. IsTold (step config.now s request.now).0 [] out.new.items result) }
+    ensures state { Promises K.holds K.doubt config.now keeper.old keeper.new (λ s. K.holds keeper.new (state_after s (step config.now s request.now).1 result)) }
+    ensures invariant { (s : State) → IsInvariant config.now s → IsInvariant config.now (step config.now s request.now).1 }
+    ensures counted { K.refused keeper.new ≡ count_after (K.refused keeper.old) result }
+    ensures left { Promises K.holds K.doubt config.now keeper.old keeper.new (λ s. Leaves (K.survivors keeper.old) (K.survivors keeper.new) s (step config.now s request.now).1 result) }
+    ensures ties { Promises K.holds K.doubt config.now keeper.old keeper.new (λ s. K.tied keeper.old → K.tied keeper.new) }
+{
+    out.clear();
+    append_answer(alloc, config, keeper, request, out)
+}

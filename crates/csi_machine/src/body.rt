@@ -1,0 +1,37 @@
+//! The body of a reply.
+
+ghost use Rattle.csi_codec.specs.Methods.{response_bytes};
+ghost use Rattle.csi_machine.specs.Verdicts.{within, Appended, IsTold};
+
+use csi_codec::encode_response;
+use csi_types::{Reason, Response};
+use frames_core::MAX_BODY_BYTES;
+use std::alloc::AllocError;
+
+/// How a request is answered.
+#[derive(Clone, Copy, Debug, PartialEq, Eq)]
+pub enum Verdict {
+    /// It is done, and the body of its response is written.
+    Done,
+    /// It is refused.
+    Refused(Reason),
+}
+
+/// Appends the body of a response, or refuses one of more than [`MAX_BODY_BYTES`] with
+/// [`Reason::ReplyTooLarge`]; the vector is then as it was.
+///
+/// # Errors
+///
+/// Where memory is refused the vector is as it was.
+pub fn append_body(response: &Response, out: &mut Vec<u8>) -> Result<Verdict, AllocError>
+    ensures appended { Appended out.old.items out.new.items result }
+    ensures told { IsTold (within (response_bytes response.now)) out.old.items out.new.items result }
+{
+    let from = out.len();
+    encode_response(response, out)?;
+    if out.len() - from > MAX_BODY_BYTES {
+        out.truncate(from);
+        return Ok(Verdict::Refused(Reason::ReplyTooLarge));
+    }
+    Ok(Verdict::Done)
+}

@@ -1,0 +1,111 @@
+//! GetCapacity (CSI specification, 'GetCapacity').
+
+ghost use Rattle.std.specs.Prelude.{◌≡◌, ◌≤◌, ◌^◌, None, map, sum_by, IfOk};
+ghost use Rattle.std.specs.List.{list_all};
+ghost use Rattle.csi_types.specs.Checks.{is_supported};
+ghost use Rattle.csi_machine.specs.Choice.{room_value, free};
+ghost use Rattle.csi_machine.specs.Keeper.{IsQuiet, Tells, count_after};
+ghost use Rattle.csi_machine.specs.State.{up_to_u64};
+ghost use Rattle.csi_machine.specs.calls.Capacity.{is_served, served, greatest, tell_capacity, capacity_of, capacity};
+
+use crate::capability::mode_of;
+use crate::change::StoreFault;
+use crate::choice::{Room, read_rooms};
+use crate::keeper::Keeper;
+use crate::plan::{Plan, respond};
+use crate::topology::serves;
+use csi_config::Config;
+use csi_config::laws::{pool_bytes_whole, sizes_whole};
+use csi_types::{Access, Capability, GetCapacity, MAX_MOUNT_MODE, Map, Response};
+use std::alloc::Global;
+
+fn is_supported(capability: &Capability) -> bool
+    ensures { result ≡ is_supported capability.now }
+{
+    match (mode_of(capability.mode), &capability.access) {
+        (Some(_), Access::Block) => true,
+        (Some(mode), Access::Mount(_)) => mode <= MAX_MOUNT_MODE,
+        _ => false,
+    }
+}
+
+fn all_supported(capabilities: &[Capability]) -> bool
+    ensures { result ≡ list_all is_supported capabilities.now }
+{
+    capabilities
+        .iter()
+        .all(|capability| is_supported(capability))
+}
+
+fn is_served(topology: &Option<Map>, room: &Room<'_>) -> bool
+    ensures { result ≡ is_served topology.now (room_value room.now) }
+{
+    match topology {
+        Some(term) => serves(&room.pool.segments, term),
+        None => true,
+    }
+}
+
+// The sum of what is free where the topology is served, and the greatest free part.
+fn free_in(rooms: &[Room<'_>], topology: &Option<Map>) -> (u64, u64)
+    ensures sum { result.0 ≡ up_to_u64 (sum_by free (served (map room_value rooms.now) topology.now)) }
+    ensures greatest { result.1 ≡ greatest (map free (served (map room_value rooms.now) topology.now)) }
+{
+    let mut sum: u64 = 0;
+    let mut greatest: u64 = 0;
+    for room in rooms {
+        if is_served(topology, room) {
+            let free = room.free();
+            sum = sum.saturating_add(free);
+            greatest = greatest.max(free);
+        }
+    }
+    (sum, greatest)
+}
+
+fn tell_capacity(available: u64, maximum: u64) -> Plan
+    requires available { available ≤ 2 ^ 62 }
+    requires maximum { maximum ≤ 2 ^ 62 }
+    ensures { result ≡ tell_capacity available maximum }
+{
+    respond(Response::Capacity {
+        available: available as i64,
+        maximum: Some(maximum as i64),
+    })
+}
+
+#[tactic(auto, using(crate::proofs::CapacityLemmas::sum_small, crate::proofs::CapacityLemmas::served_told))]
+fn capacity_of(config: &Config, rooms: &[Room<'_>], request: &GetCapacity) -> Plan
+    requires { sum_by free (map room_value rooms.now) ≤ 2 ^ 62 }
+    ensures value { result ≡ capacity_of config.now (map room_value rooms.now) request.now }
+    ensures none { result.change ≡ None }
+{
+    sizes_whole(config);
+    if !all_supported(request.capabilities.as_slice()) {
+        return tell_capacity(0, 0);
+    }
+    let (sum, greatest) = free_in(rooms, &request.topology);
+    tell_capacity(sum, config.sizes().greatest_bytes.min(greatest))
+}
+
+/// The plan of GetCapacity: what is free in the pools that serve the topology, and the greatest
+/// size of which a volume can be made there. Nothing is where a capability is not supported.
+///
+/// # Errors
+///
+/// What the keeper answers, or want of memory.
+pub(crate) fn plan_capacity<K: Keeper>(
+    alloc: Global,
+    config: &Config,
+    keeper: &mut K,
+    request: &GetCapacity,
+) -> Result<Plan, StoreFault>
+    ensures none { IfOk result (λ plan. plan.change ≡ None) }
+    ensures value { IfOk result (λ plan. Tells K.holds K.doubt keeper.old keeper.new (λ s. plan ≡ capacity config.now s request.now)) }
+    ensures quiet { IsQuiet K.holds K.doubt K.survivors K.tied K.is_down keeper.old keeper.new }
+    ensures count { K.refused keeper.new ≡ count_after (K.refused keeper.old) result }
+{
+    pool_bytes_whole(config);
+    let rooms = read_rooms(alloc, config, keeper)?;
+    Ok(capacity_of(config, &rooms, request))
+}

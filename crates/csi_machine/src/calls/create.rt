@@ -1,0 +1,184 @@
+//! CreateVolume (CSI specification, 'CreateVolume').
+
+ghost use Rattle.std.specs.Prelude.{◌≡◌, Some, None, IfOk, IfSome, map};
+ghost use Rattle.std.specs.Option.{option_copied};
+ghost use Rattle.csi_machine.specs.Choice.{room_value};
+ghost use Rattle.csi_machine.specs.Keeper.{IsQuiet, Tells, count_after};
+ghost use Rattle.csi_machine.specs.State.{IsBounded};
+ghost use Rattle.csi_machine.specs.calls.Create.{is_compatible, again_at, again, made, place_in, place, fresh, create};
+
+use crate::capability::{have_keys, keys_of};
+use crate::change::{Change, StoreFault};
+use crate::choice::{Room, choose, count, read_rooms};
+use crate::info::{info_at, pool_named};
+use crate::keeper::Keeper;
+use crate::plan::{Outcome, Plan, refuse, respond};
+use crate::size::{has_size, size};
+use crate::topology::is_reachable;
+use crate::volume::Volume;
+use csi_config::laws::sizes_whole;
+use csi_config::{Config, Pool};
+use csi_types::{
+    CreateVolume, MAX_NUMBER, MAX_VOLUMES, Map, Reason, Response, copy_map, copy_text,
+};
+use std::alloc::{AllocError, Global};
+
+// Whether the volume, whose pool has these segments, is as the request asks.
+fn is_compatible(
+    alloc: Global,
+    segments: &Map,
+    volume: &Volume,
+    request: &CreateVolume,
+) -> Result<bool, AllocError>
+    ensures { IfOk result (λ is. is ≡ is_compatible segments.now volume.now request.now) }
+{
+    let have = have_keys(
+        alloc,
+        volume.caps.as_slice(),
+        request.capabilities.as_slice(),
+    )?;
+    Ok(
+        is_reachable(segments, &request.topology)
+            && has_size(volume.bytes, &request.range)
+            && have
+            && volume.params == request.parameters,
+    )
+}
+
+fn again_at(
+    alloc: Global,
+    segments: &Map,
+    request: &CreateVolume,
+    volume: &Volume,
+) -> Result<Plan, AllocError>
+    ensures value { IfOk result (λ plan. plan ≡ again_at segments.now request.now volume.now) }
+    ensures none { IfOk result (λ plan. plan.change ≡ None) }
+{
+    if !is_compatible(alloc, segments, volume, request)? {
+        return Ok(refuse(Reason::VolumeNotCompatible));
+    }
+    let info = info_at(alloc, segments, volume)?;
+    Ok(respond(Response::Create(Some(info))))
+}
+
+// The plan where a volume of the name stands.
+fn again(
+    alloc: Global,
+    config: &Config,
+    request: &CreateVolume,
+    volume: &Volume,
+) -> Result<Plan, AllocError>
+    ensures value { IfOk result (λ plan. plan ≡ again config.now request.now volume.now) }
+    ensures none { IfOk result (λ plan. plan.change ≡ None) }
+{
+    match pool_named(config.pools(), &volume.pool) {
+        Some(pool) => again_at(alloc, &pool.segments, request, volume),
+        None => again_at(alloc, &Map::new(alloc), request, volume),
+    }
+}
+
+fn made(
+    alloc: Global,
+    request: &CreateVolume,
+    number: u64,
+    bytes: u64,
+    pool: &Pool,
+) -> Result<Volume, AllocError>
+    ensures { IfOk result (λ volume. volume ≡ made request.now number bytes pool.now) }
+{
+    Ok(Volume {
+        number,
+        name: copy_text(alloc, request.name.as_str())?,
+        bytes,
+        pool: copy_text(alloc, pool.name.as_str())?,
+        caps: keys_of(alloc, request.capabilities.as_slice())?,
+        params: copy_map(alloc, &request.parameters)?,
+    })
+}
+
+fn place_in(
+    alloc: Global,
+    request: &CreateVolume,
+    number: u64,
+    bytes: u64,
+    pool: Option<&Pool>,
+) -> Result<Plan, AllocError>
+    ensures { IfOk result (λ plan. plan ≡ place_in request.now number bytes (option_copied pool.entry)) }
+{
+    let Some(pool) = pool else {
+        return Ok(refuse(Reason::NoRoom));
+    };
+    let volume = made(alloc, request, number, bytes, pool)?;
+    let info = info_at(alloc, &pool.segments, &volume)?;
+    Ok(Plan {
+        outcome: Outcome::Done(Response::Create(Some(info))),
+        change: Some(Change::AddVolume(volume)),
+    })
+}
+
+fn place(
+    alloc: Global,
+    rooms: &[Room<'_>],
+    next: u64,
+    request: &CreateVolume,
+    bytes: u64,
+) -> Result<Plan, AllocError>
+    ensures { IfOk result (λ plan. plan ≡ place (map room_value rooms.now) next request.now (Some bytes)) }
+{
+    if count(rooms) >= MAX_VOLUMES {
+        return Ok(refuse(Reason::TooManyVolumes));
+    }
+    if next >= MAX_NUMBER {
+        return Ok(refuse(Reason::NumbersUsedUp));
+    }
+    let pool = choose(alloc, rooms, &request.topology, bytes);
+    place_in(alloc, request, next, bytes, pool)
+}
+
+// The plan where no volume of the name stands.
+#[tactic(auto, using(crate::proofs::CreateLemmas::fresh_bounded))]
+fn fresh(
+    alloc: Global,
+    config: &Config,
+    rooms: &[Room<'_>],
+    next: u64,
+    request: &CreateVolume,
+) -> Result<Plan, AllocError>
+    ensures bounded { IfOk result (λ plan. IfSome plan.change IsBounded) }
+    ensures value { IfOk result (λ plan. plan ≡ fresh config.now (map room_value rooms.now) next request.now) }
+{
+    sizes_whole(config);
+    match size(config.sizes(), &request.range) {
+        Some(bytes) => place(alloc, rooms, next, request, bytes),
+        None => Ok(refuse(Reason::OutOfRange)),
+    }
+}
+
+/// The plan of CreateVolume.
+///
+/// A volume of the name is answered again if it is as the request asks, and refused otherwise.
+/// Without one a volume is made in the chosen pool, unless the size is out of range, there are too
+/// many volumes, the numbers are used up, or no pool has room, which are asked in this order.
+///
+/// # Errors
+///
+/// What the keeper answers, or want of memory.
+#[tactic(auto, using(crate::proofs::KeeperLemmas::quiet_same, crate::proofs::KeeperLemmas::quiet_then))]
+pub(crate) fn plan_create<K: Keeper>(
+    alloc: Global,
+    config: &Config,
+    keeper: &mut K,
+    request: &CreateVolume,
+) -> Result<Plan, StoreFault>
+    ensures bounded { IfOk result (λ plan. IfSome plan.change IsBounded) }
+    ensures value { IfOk result (λ plan. Tells K.holds K.doubt keeper.old keeper.new (λ s. plan ≡ create config.now s request.now)) }
+    ensures quiet { IsQuiet K.holds K.doubt K.survivors K.tied K.is_down keeper.old keeper.new }
+    ensures count { K.refused keeper.new ≡ count_after (K.refused keeper.old) result }
+{
+    if let Some(volume) = keeper.by_name(alloc, request.name.as_str())? {
+        return Ok(again(alloc, config, request, &volume)?);
+    }
+    let rooms = read_rooms(alloc, config, keeper)?;
+    let next = keeper.next_number()?;
+    Ok(fresh(alloc, config, &rooms, next, request)?)
+}

@@ -1,0 +1,57 @@
+//! What the plugin is and can do: GetPluginInfo, GetPluginCapabilities, Probe and
+//! ControllerGetCapabilities (CSI specification, the sections of these names).
+
+ghost use Rattle.std.specs.Prelude.{◌≡◌, None, IfOk};
+ghost use Rattle.csi_machine.specs.calls.Identity.{plugin_info, plugin_capabilities, probe, controller_capabilities};
+
+use crate::plan::{Plan, respond};
+use csi_config::Config;
+use csi_types::{Items, Response, copy_text};
+use std::alloc::{AllocError, Global};
+
+/// The plan of GetPluginInfo: the name and version of the configuration.
+pub(crate) fn plan_plugin_info(alloc: Global, config: &Config) -> Result<Plan, AllocError>
+    ensures none { IfOk result (λ p. p.change ≡ None) }
+    ensures value { IfOk result (λ p. p ≡ plugin_info config.now) }
+{
+    let plugin = config.plugin();
+    Ok(respond(Response::PluginInfo {
+        name: copy_text(alloc, plugin.name.as_str())?,
+        version: copy_text(alloc, plugin.version.as_str())?,
+    }))
+}
+
+/// The plan of GetPluginCapabilities: `CONTROLLER_SERVICE` and `VOLUME_ACCESSIBILITY_CONSTRAINTS`.
+pub(crate) fn plan_plugin_capabilities(alloc: Global) -> Result<Plan, AllocError>
+    ensures none { IfOk result (λ p. p.change ≡ None) }
+    ensures value { IfOk result (λ p. p ≡ plugin_capabilities) }
+{
+    let mut types = Items::new(alloc);
+    types.push(Some(1))?;
+    types.push(Some(2))?;
+    Ok(respond(Response::PluginCapabilities(types)))
+}
+
+/// The plan of Probe: ready.
+pub(crate) fn plan_probe() -> Plan
+    ensures none { result.change ≡ None }
+    ensures value { result ≡ probe }
+{
+    respond(Response::Probe(Some(true)))
+}
+
+/// The plan of ControllerGetCapabilities: `CREATE_DELETE_VOLUME`, `PUBLISH_UNPUBLISH_VOLUME`,
+/// `LIST_VOLUMES`, `GET_CAPACITY`, `PUBLISH_READONLY` and `LIST_VOLUMES_PUBLISHED_NODES`.
+pub(crate) fn plan_controller_capabilities(alloc: Global) -> Result<Plan, AllocError>
+    ensures none { IfOk result (λ p. p.change ≡ None) }
+    ensures value { IfOk result (λ p. p ≡ controller_capabilities) }
+{
+    let mut types = Items::new(alloc);
+    types.push(Some(1))?;
+    types.push(Some(2))?;
+    types.push(Some(3))?;
+    types.push(Some(4))?;
+    types.push(Some(8))?;
+    types.push(Some(10))?;
+    Ok(respond(Response::ControllerCapabilities(types)))
+}

@@ -1,0 +1,185 @@
+//! ControllerPublishVolume (CSI specification, 'ControllerPublishVolume').
+
+ghost use Rattle.std.specs.Prelude.{◌≡◌, Some, None, IfOk, IfSome, find, not};
+ghost use Rattle.std.specs.Option.{option_copied};
+ghost use Rattle.csi_machine.specs.Keeper.{IsQuiet, Tells, count_after};
+ghost use Rattle.csi_machine.specs.State.{IsBounded};
+ghost use Rattle.csi_machine.specs.calls.Publish.{publication, is_at, publish_again, has_conflict, attach, publish, publish_node, publish_at, publish_key, asked_key, node_of};
+
+use crate::capability::{CapKey, cap_key, has_this_key, is_same_key};
+use crate::change::{Change, StoreFault};
+use crate::coexistence::coexist;
+use crate::ids::number_of_id;
+use crate::keeper::Keeper;
+use crate::plan::{Outcome, Plan, refuse, respond};
+use crate::volume::{Attachment, Volume};
+use csi_config::{Config, Node};
+use csi_types::{Capability, Map, Publish, Reason, Response, Text, copy_text};
+use std::alloc::{AllocError, Global};
+
+fn publication(alloc: Global, readonly: bool) -> Result<Map, AllocError>
+    ensures { IfOk result (λ m. m ≡ publication readonly) }
+{
+    let told = if readonly { "true" } else { "false" };
+    let mut context = Map::new(alloc);
+    context.insert(copy_text(alloc, "readonly")?, copy_text(alloc, told)?)?;
+    Ok(context)
+}
+
+fn publish_again(
+    alloc: Global,
+    key: &CapKey,
+    readonly: bool,
+    attachment: &Attachment,
+) -> Result<Plan, AllocError>
+    ensures bounded { IfOk result (λ p. IfSome p.change IsBounded) }
+    ensures value { IfOk result (λ p. p ≡ publish_again key.now readonly attachment.now) }
+{
+    if is_same_key(&attachment.cap, key) && attachment.readonly == readonly {
+        return Ok(respond(Response::Publish(publication(alloc, readonly)?)));
+    }
+    Ok(refuse(Reason::PublishedOtherwise))
+}
+
+fn has_conflict(mine: &Attachment, attachments: &[Attachment]) -> bool
+    ensures { result ≡ has_conflict mine.now attachments.now }
+{
+    attachments.iter().any(|other| !coexist(other, mine))
+}
+
+// A volume that stands, where it is published, and a node with the volumes that are there.
+#[derive(Clone, Copy)]
+struct Target<'a> {
+    number: u64,
+    volume: &'a Volume,
+    attachments: &'a [Attachment],
+    node: &'a Node,
+    there: &'a [u64],
+}
+
+fn attach(alloc: Global, target: &Target, mine: Attachment) -> Result<Plan, AllocError>
+    ensures bounded { IfOk result (λ p. IfSome p.change IsBounded) }
+    ensures value { IfOk result (λ p. p ≡ attach target.now.number target.now.volume.now.caps target.now.attachments.now target.now.node.now target.now.there.now mine) }
+{
+    if !has_this_key(target.volume.caps.as_slice(), &mine.cap) {
+        return Ok(refuse(Reason::CapabilityNotOfVolume));
+    }
+    if has_conflict(&mine, target.attachments) {
+        return Ok(refuse(Reason::PublishedElsewhere));
+    }
+    if target.there.len() as u64 >= target.node.max_volumes {
+        return Ok(refuse(Reason::NodeFull));
+    }
+    Ok(Plan {
+        outcome: Outcome::Done(Response::Publish(publication(alloc, mine.readonly)?)),
+        change: Some(Change::Attach(target.number, mine)),
+    })
+}
+
+/// The attachment at a node.
+pub(crate) fn attachment_at<'a>(
+    attachments: &'a [Attachment],
+    node: &Text,
+) -> Option<&'a Attachment>
+    ensures { option_copied result ≡ find (is_at node.now) attachments.now }
+{
+    attachments
+        .iter()
+        .find(|attachment| attachment.node == *node)
+}
+
+fn publish_key(
+    alloc: Global,
+    target: &Target,
+    request: &Publish,
+    key: CapKey,
+) -> Result<Plan, AllocError>
+    ensures bounded { IfOk result (λ p. IfSome p.change IsBounded) }
+    ensures value { IfOk result (λ p. p ≡ publish_key target.now.number target.now.volume.now target.now.attachments.now target.now.node.now target.now.there.now request.now (find (is_at request.now.node_id) target.now.attachments.now) key) }
+{
+    if let Some(attachment) = attachment_at(target.attachments, &request.node_id) {
+        return publish_again(alloc, &key, request.readonly, attachment);
+    }
+    let mine = Attachment {
+        node: copy_text(alloc, request.node_id.as_str())?,
+        cap: key,
+        readonly: request.readonly,
+    };
+    attach(alloc, target, mine)
+}
+
+fn asked_key(alloc: Global, capability: &Option<Capability>) -> Result<Option<CapKey>, AllocError>
+    ensures { IfOk result (λ k. k ≡ asked_key capability.now) }
+{
+    match capability {
+        Some(capability) => cap_key(alloc, capability),
+        None => Ok(None),
+    }
+}
+
+fn publish_at(alloc: Global, target: &Target, request: &Publish) -> Result<Plan, AllocError>
+    ensures bounded { IfOk result (λ p. IfSome p.change IsBounded) }
+    ensures value { IfOk result (λ p. p ≡ publish_at target.now.number target.now.volume.now target.now.attachments.now target.now.node.now target.now.there.now request.now (asked_key request.now.capability)) }
+{
+    match asked_key(alloc, &request.capability)? {
+        Some(key) => publish_key(alloc, target, request, key),
+        None => Ok(refuse(Reason::CapabilityNotOfVolume)),
+    }
+}
+
+fn node_of<'a>(config: &'a Config, id: &Text) -> Option<&'a Node>
+    ensures { option_copied result ≡ node_of config.now id.now }
+{
+    config.nodes().iter().find(|node| node.id == *id)
+}
+
+#[tactic(auto, using(crate::proofs::KeeperLemmas::quiet_same, crate::proofs::KeeperLemmas::quiet_then))]
+fn publish_node<K: Keeper>(
+    alloc: Global,
+    config: &Config,
+    keeper: &mut K,
+    number: u64,
+    volume: &Volume,
+    request: &Publish,
+) -> Result<Plan, StoreFault>
+    ensures bounded { IfOk result (λ p. IfSome p.change IsBounded) }
+    ensures value { IfOk result (λ p. Tells K.holds K.doubt keeper.old keeper.new (λ s. p ≡ publish_node s number volume.now request.now (node_of config.now request.now.node_id))) }
+    ensures quiet { IsQuiet K.holds K.doubt K.survivors K.tied K.is_down keeper.old keeper.new }
+    ensures count { K.refused keeper.new ≡ count_after (K.refused keeper.old) result }
+{
+    let Some(node) = node_of(config, &request.node_id) else {
+        return Ok(refuse(Reason::NodeNotFound));
+    };
+    let attachments = keeper.attachments(alloc, number)?;
+    let there = keeper.attached_at(alloc, request.node_id.as_str())?;
+    let target = Target {
+        number,
+        volume,
+        attachments: attachments.as_slice(),
+        node,
+        there: there.as_slice(),
+    };
+    Ok(publish_at(alloc, &target, request)?)
+}
+
+/// The plan of ControllerPublishVolume (CSI specification, the section of this name), by reads alone.
+#[tactic(auto, using(crate::proofs::KeeperLemmas::quiet_same, crate::proofs::KeeperLemmas::quiet_then))]
+pub(crate) fn plan_publish<K: Keeper>(
+    alloc: Global,
+    config: &Config,
+    keeper: &mut K,
+    request: &Publish,
+) -> Result<Plan, StoreFault>
+    ensures bounded { IfOk result (λ p. IfSome p.change IsBounded) }
+    ensures value { IfOk result (λ p. Tells K.holds K.doubt keeper.old keeper.new (λ s. p ≡ publish config.now s request.now)) }
+    ensures quiet { IsQuiet K.holds K.doubt K.survivors K.tied K.is_down keeper.old keeper.new }
+    ensures count { K.refused keeper.new ≡ count_after (K.refused keeper.old) result }
+{
+    let Some(number) = number_of_id(alloc, request.volume_id.as_str())? else {
+        return Ok(refuse(Reason::VolumeNotFound));
+    };
+    let Some(volume) = keeper.by_number(alloc, number)? else {
+        return Ok(refuse(Reason::VolumeNotFound));
+    };
+    publish_node(alloc, config, keeper, number, &volume, request)
+}

@@ -1,0 +1,107 @@
+//! ValidateVolumeCapabilities (CSI specification, 'ValidateVolumeCapabilities').
+
+ghost use Rattle.std.specs.Prelude.{◌≡◌, ◌&&◌, ◌||◌, ◌==◌, None, IfOk};
+ghost use Rattle.std.specs.FinMap.{len};
+ghost use Rattle.csi_types.specs.Maps.{same_map};
+ghost use Rattle.csi_machine.specs.Capability.{have_keys};
+ghost use Rattle.csi_machine.specs.Keeper.{IsQuiet, Tells, count_after};
+ghost use Rattle.csi_machine.specs.calls.Validate.{confirm, deny, validate_volume, validate};
+
+use crate::capability::have_keys;
+use crate::change::StoreFault;
+use crate::ids::number_of_id;
+use crate::keeper::Keeper;
+use crate::plan::{Plan, refuse, respond};
+use crate::volume::Volume;
+use csi_types::{
+    Capability, Confirmed, Items, Map, Reason, Response, Text, Validate, copy_capability, copy_map,
+    copy_text,
+};
+use std::alloc::{AllocError, Global};
+
+fn copy_capabilities(
+    alloc: Global,
+    capabilities: &Items<Capability>,
+) -> Result<Items<Capability>, AllocError>
+    ensures { IfOk result (λ copy. copy ≡ capabilities.now) }
+{
+    let mut copies = Items::new(alloc);
+    for capability in capabilities.as_slice() {
+        copies.push(copy_capability(alloc, capability)?)?;
+    }
+    Ok(copies)
+}
+
+fn confirm(alloc: Global, request: &Validate) -> Result<Plan, AllocError>
+    ensures none { IfOk result (λ p. p.change ≡ None) }
+    ensures value { IfOk result (λ p. p ≡ confirm request.now) }
+{
+    let confirmed = Confirmed {
+        context: Map::new(alloc),
+        capabilities: copy_capabilities(alloc, &request.capabilities)?,
+        parameters: copy_map(alloc, &request.parameters)?,
+    };
+    Ok(respond(Response::Validate {
+        confirmed: Some(confirmed),
+        message: Text::new(alloc),
+    }))
+}
+
+fn deny(alloc: Global) -> Result<Plan, AllocError>
+    ensures none { IfOk result (λ p. p.change ≡ None) }
+    ensures value { IfOk result (λ p. p ≡ deny) }
+{
+    Ok(respond(Response::Validate {
+        confirmed: None,
+        message: copy_text(alloc, "capabilities or parameters are not supported")?,
+    }))
+}
+
+fn is_valid(alloc: Global, volume: &Volume, request: &Validate) -> Result<bool, AllocError>
+    ensures { IfOk result (λ is. is ≡ (have_keys volume.now.caps request.now.capabilities && (len request.now.parameters == 0 || same_map volume.now.params request.now.parameters))) }
+{
+    let have = have_keys(
+        alloc,
+        volume.caps.as_slice(),
+        request.capabilities.as_slice(),
+    )?;
+    Ok(have && (request.parameters.is_empty() || volume.params == request.parameters))
+}
+
+fn validate_volume(
+    alloc: Global,
+    request: &Validate,
+    volume: &Option<Volume>,
+) -> Result<Plan, AllocError>
+    ensures value { IfOk result (λ p. p ≡ validate_volume request.now volume.now) }
+    ensures none { IfOk result (λ p. p.change ≡ None) }
+{
+    match volume {
+        Some(volume) => if is_valid(alloc, volume, request)? {
+            confirm(alloc, request)
+        } else {
+            deny(alloc)
+        },
+        None => Ok(refuse(Reason::VolumeNotFound)),
+    }
+}
+
+/// The plan of ValidateVolumeCapabilities (CSI specification, the section of this name), by reads
+/// alone.
+#[tactic(auto, using(crate::proofs::KeeperLemmas::quiet_same, crate::proofs::KeeperLemmas::quiet_then))]
+pub(crate) fn plan_validate<K: Keeper>(
+    alloc: Global,
+    keeper: &mut K,
+    request: &Validate,
+) -> Result<Plan, StoreFault>
+    ensures value { IfOk result (λ p. Tells K.holds K.doubt keeper.old keeper.new (λ s. p ≡ validate s request.now)) }
+    ensures none { IfOk result (λ p. p.change ≡ None) }
+    ensures quiet { IsQuiet K.holds K.doubt K.survivors K.tied K.is_down keeper.old keeper.new }
+    ensures count { K.refused keeper.new ≡ count_after (K.refused keeper.old) result }
+{
+    let Some(number) = number_of_id(alloc, request.volume_id.as_str())? else {
+        return Ok(refuse(Reason::VolumeNotFound));
+    };
+    let volume = keeper.by_number(alloc, number)?;
+    Ok(validate_volume(alloc, request, &volume)?)
+}

@@ -1,0 +1,17 @@
+//! What a configuration has, as far as requests stand on it.
+
+ghost use Rattle.csi_machine.specs.Configured.{IsConfigured};
+
+use csi_config::Config;
+use csi_config::laws::{node_ids_differ, pool_bytes_whole, pool_names_differ, sizes_whole};
+
+/// The laws of a configuration as one fact.
+#[inline(always)]
+pub(crate) fn configured(config: &Config)
+    ensures { IsConfigured config.now }
+{
+    sizes_whole(config);
+    pool_bytes_whole(config);
+    pool_names_differ(config);
+    node_ids_differ(config);
+}

@@ -1,0 +1,73 @@
+//! Laws of the definitions that the contracts cite: each is the contract of a function that does nothing.
+
+ghost use Rattle.std.specs.Prelude.{◌≡◌, ◌<◌, ◌≤◌, ◌^◌, ℕ, List, [], Some};
+ghost use Rattle.csi_machine.specs.Coexistence.{coexist};
+ghost use Rattle.csi_machine.specs.Ids.{id, number_of_id};
+ghost use Rattle.csi_machine.specs.Texts.{Text};
+ghost use Rattle.csi_machine.specs.Invariant.{IsInvariant};
+ghost use Rattle.csi_machine.specs.State.{State};
+ghost use Rattle.csi_machine.specs.Walk.{Call, pages, AreRead, AreChecked, AreOfVolumes, GoOn, End, Stood, listed_ids, AreApart};
+ghost use Rattle.csi_config.specs.Values.{Has};
+ghost use Rattle.std.specs.List.{AllByRecursion};
+ghost use Rattle.csi_machine.specs.Memory.{first_state};
+ghost use Rattle.csi_machine.specs.Offer.{AsksFor, IsNew};
+ghost use Rattle.csi_machine.specs.calls.Capacity.{capacity, tell_capacity};
+ghost use Rattle.csi_machine.specs.calls.Create.{create, place_in};
+ghost use Rattle.csi_machine.specs.declared.volume.Attachment.{Attachment};
+ghost use Rattle.csi_config.specs.declared.pools.Pool.{Pool};
+ghost use Rattle.csi_types.specs.declared.limits.TheConstants.{MAX_NUMBER};
+ghost use Rattle.csi_types.specs.declared.requests.CreateVolume.{CreateVolume};
+ghost use Rattle.csi_types.specs.declared.requests.GetCapacity.{GetCapacity};
+
+use crate::configured::configured;
+use csi_config::Config;
+
+/// An id names the volume that it was made of, and no other text names that volume.
+#[inline(always)]
+#[tactic(auto, using(crate::proofs::IdsLemmas::id_named, crate::proofs::IdsLemmas::named_id))]
+pub fn ids()
+    ensures read { (n : ℕ) → n < 2 ^ 64 → number_of_id (id n) ≡ Some n }
+    ensures only { (t : Text) (n : ℕ) → number_of_id t ≡ Some n → t ≡ id n }
+{}
+
+/// Coexistence has no order.
+#[inline(always)]
+#[tactic(auto, using(crate::proofs::CoexistenceLemmas::coexist_turned))]
+pub fn coexist_symmetric()
+    ensures { (a b : Attachment) → coexist a b ≡ coexist b a }
+{}
+
+/// A walk over the pages of a listing, from a State of the invariant (CSI specification, 'ListVolumes').
+///
+/// Its first page has an empty token, each next one the token that the page before told, and other
+/// requests that pass the checks of their arguments come anywhere. No page is refused for its token;
+/// what is listed stood at its page; nothing is listed twice; and what stood at each page of a walk
+/// that came to its end is listed.
+#[inline(always)]
+pub fn walk(config: &Config)
+    ensures read { (s : State) (calls : List Call) → IsInvariant config.now s → AreChecked calls → AreRead config.now s [] calls }
+    ensures stood { (s : State) (calls : List Call) → AllByRecursion (AreOfVolumes config.now) (pages config.now s [] calls) }
+    ensures once { (s : State) (calls : List Call) → IsInvariant config.now s → AreChecked calls → GoOn (pages config.now s [] calls) → AreApart (listed_ids (pages config.now s [] calls)) }
+    ensures each { (s : State) (calls : List Call) (n : ℕ) → IsInvariant config.now s → AreChecked calls → GoOn (pages config.now s [] calls) → End (pages config.now s [] calls) → Stood n (pages config.now s [] calls) → Has (listed_ids (pages config.now s [] calls)) (id n) }
+{
+    configured(config);
+}
+
+/// A State without volumes is of the invariant, whatever number its first volume gets.
+#[inline(always)]
+pub fn first(config: &Config)
+    ensures { (n : ℕ) → 1 ≤ n → n ≤ MAX_NUMBER → IsInvariant config.now (first_state n) }
+{}
+
+/// What GetCapacity offers is given (CSI specification, 'GetCapacity', `maximum_volume_size`).
+///
+/// From a State of the invariant: where the maximum that is told is above zero, a create that asks
+/// for exactly that size, with the topology among its terms, makes a volume of that size in a pool
+/// of the configuration. Its name has to be new, and neither the count of volumes nor their numbers
+/// may be used up.
+#[inline(always)]
+pub fn room(config: &Config)
+    ensures { (s : State) (g : GetCapacity) (available n : ℕ) (r : CreateVolume) → IsInvariant config.now s → capacity config.now s g ≡ tell_capacity available n → 0 < n → AsksFor r g.topology n → IsNew config.now s r.name → (pool : Pool) × Has config.now.pools pool × (create config.now s r ≡ place_in r s.next n (Some pool)) }
+{
+    configured(config);
+}

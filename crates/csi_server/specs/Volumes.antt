@@ -1,0 +1,40 @@
+-- The volume machine over calls, and what is seen of a keeper.
+use Rattle.std.specs.Prelude.{◌≡◌, ◌≢◌, ℕ, List, ◌∷◌, ◌++◌, Some, None, Ok}
+use Rattle.std.specs.List.{AllByRecursion}
+use Rattle.csi_types.specs.declared.method.Method.{Method}
+use Rattle.csi_types.specs.declared.requests.Request.{Request}
+use Rattle.csi_types.specs.Checks.{checked}
+use Rattle.csi_types.specs.Methods.{method_at}
+use Rattle.csi_codec.specs.Reading.{read_request}
+use Rattle.csi_config.specs.declared.config.Config.{Config}
+use Rattle.csi_machine.specs.Invariant.{IsInvariant}
+use Rattle.csi_machine.specs.State.{State}
+use Rattle.csi_machine.specs.Step.{step}
+use Rattle.csi_server.specs.Machine.{Machine, Sight, Event, Unmarked, state_after}
+use Rattle.csi_server.specs.Machine.{step as call_step}
+use Rattle.csi_server.specs.Requests.{requests}
+
+-- the volume machine under a configuration
+abbrev pub volumes : Config → Machine State
+volumes config = requests method_at (step config)
+
+module _ {K : Type 0} (holds : K → State → Type 0) (doubt : K → ℕ) (refused : K → ℕ) (survivors : K → State → Type 0) (tied : K → Type 0) where
+  -- a keeper as a run sees it: of the States that it may have those of the invariant, and the rest as the keeper has it
+  abbrev pub seen : Config → K → Sight State
+  seen config k = record { holds = λ s. holds k s × IsInvariant config s; doubt = doubt k; refusals = refused k; survivors = survivors k; tied = tied k }
+
+-- What a stop may leave beside the last State: what a call would have made that was refused inside, whose request was read and passed the checks,
+-- and after which no call moved the State.
+pub record IsPending (config : Config) (s : State) (events : List Event) (t : State) : Type 0 where
+  pub before : List Event
+  pub refused : Event
+  pub after : List Event
+  pub whole : events ≡ before ++ refused ∷ after
+  pub is_marked : refused.mark ≢ Unmarked
+  pub still : AllByRecursion (λ e. (call_step (volumes config) (state_after (volumes config) s before) e).1 ≡ state_after (volumes config) s before) after
+  pub method : Method
+  pub request : Request
+  pub called : method_at refused.call.path ≡ Some method
+  pub read : read_request method refused.call.message ≡ Ok request
+  pub passed : checked request ≡ None
+  pub is : t ≡ (step config (state_after (volumes config) s before) request).1

@@ -1,0 +1,139 @@
+//! The volume machine over a keeper.
+
+ghost use Rattle.std.specs.Prelude.{◌≡◌, ◌≤◌, ⊤, None, Ok};
+ghost use Rattle.std.specs.Io.KnownBytes.{Consumes, IsAtEnd, Keeps};
+ghost use Rattle.csi_types.specs.Checks.{checked};
+ghost use Rattle.csi_types.specs.declared.requests.Request.{Request as AnyRequest};
+ghost use Rattle.csi_codec.specs.Reading.{read_request};
+ghost use Rattle.csi_machine.specs.State.{State as MachineState};
+ghost use Rattle.csi_machine.specs.Step.{step};
+ghost use Rattle.csi_server.specs.Requests.{after_check, after_read, AnswersBy};
+ghost use Rattle.csi_server.specs.Service.{reply_of, HoldsBody, room};
+ghost use Rattle.csi_server.specs.Serving.{Serves};
+ghost use Rattle.csi_server.specs.Volumes.{volumes, seen};
+
+use crate::end::RunEnd;
+use crate::message::{read_message, refuse};
+use crate::running::run_service;
+use crate::service::{Answer, Service, begin_body};
+use csi_config::Config;
+use csi_machine::{Keeper, StoreFault, Verdict, append_answer};
+use csi_types::{Method, Reason, Request, method_of};
+use frames_core::Call;
+use std::alloc::Global;
+use std::io::{Read, Write};
+
+// Answers a request that passes the checks, behind the room for a head.
+fn answer_begun<K: Keeper>(
+    alloc: Global,
+    config: &Config,
+    keeper: &mut K,
+    request: &Request,
+    reply: &mut Vec<u8>,
+) -> Answer
+    requires passed { checked request.now ≡ None }
+    requires begun { reply.old.items ≡ room }
+    ensures clean { K.doubt keeper.old ≤ K.doubt keeper.new }
+    ensures step { K.doubt keeper.new ≡ 0 → (s : MachineState) → (seen K.holds K.doubt K.refused K.survivors K.tied config.now keeper.old).holds s
+        → AnswersBy (after_check (step config.now) s request.now None) ⊤ (seen K.holds K.doubt K.refused K.survivors K.tied config.now keeper.old) (seen K.holds K.doubt K.refused K.survivors K.tied config.now keeper.new) s (reply_of result reply.new.items) }
+    ensures room { HoldsBody result reply.new.items }
+{
+    match append_answer(alloc, config, keeper, request, reply) {
+        Ok(Verdict::Done) => Answer::Body,
+        Ok(Verdict::Refused(reason)) => refuse(reason),
+        Err(StoreFault::NoMemory) => refuse(Reason::OutOfMemory),
+        Err(StoreFault::Refused) => refuse(Reason::StoreRefused),
+        Err(StoreFault::Down) => refuse(Reason::StoreDown),
+    }
+}
+
+// Answers a request that passes the checks.
+fn answer_request<K: Keeper>(
+    alloc: Global,
+    config: &Config,
+    keeper: &mut K,
+    request: &Request,
+    reply: &mut Vec<u8>,
+) -> Answer
+    requires passed { checked request.now ≡ None }
+    ensures clean { K.doubt keeper.old ≤ K.doubt keeper.new }
+    ensures step { K.doubt keeper.new ≡ 0 → (s : MachineState) → (seen K.holds K.doubt K.refused K.survivors K.tied config.now keeper.old).holds s
+        → AnswersBy (after_check (step config.now) s request.now None) ⊤ (seen K.holds K.doubt K.refused K.survivors K.tied config.now keeper.old) (seen K.holds K.doubt K.refused K.survivors K.tied config.now keeper.new) s (reply_of result reply.new.items) }
+    ensures room { HoldsBody result reply.new.items }
+{
+    match begin_body(reply) {
+        Ok(()) => answer_begun(alloc, config, keeper, request, reply),
+        Err(_) => refuse(Reason::OutOfMemory),
+    }
+}
+
+// Reads the message of a call and answers it.
+fn answer_message<K: Keeper>(
+    alloc: Global,
+    config: &Config,
+    keeper: &mut K,
+    method: Method,
+    message: &[u8],
+    reply: &mut Vec<u8>,
+) -> Answer
+    ensures clean { K.doubt keeper.old ≤ K.doubt keeper.new }
+    ensures step { K.doubt keeper.new ≡ 0 → (s : MachineState) → (seen K.holds K.doubt K.refused K.survivors K.tied config.now keeper.old).holds s
+        → AnswersBy (after_read (step config.now) s (read_request method message.now)) ((r : AnyRequest) × (read_request method message.now ≡ Ok r)) (seen K.holds K.doubt K.refused K.survivors K.tied config.now keeper.old) (seen K.holds K.doubt K.refused K.survivors K.tied config.now keeper.new) s (reply_of result reply.new.items) }
+    ensures room { HoldsBody result reply.new.items }
+{
+    match read_message(alloc, method, message) {
+        Ok(request) => answer_request(alloc, config, keeper, &request, reply),
+        Err(refusal) => Answer::Refused(refusal),
+    }
+}
+
+/// A keeper answers the calls of the volume machine under a configuration.
+impl<K: Keeper> Service<Config> for K {
+    ghost use Rattle.csi_machine.specs.State.{State as MachineState};
+    ghost use Rattle.csi_server.specs.Volumes.{volumes, seen};
+
+    ghost State = { MachineState };
+
+    ghost machine = { λ c. volumes c };
+
+    ghost sight = { λ c k. seen K.holds K.doubt K.refused K.survivors K.tied c k };
+
+    fn answer(
+        &mut self,
+        config: &Config,
+        alloc: Global,
+        call: &Call<'_>,
+        reply: &mut Vec<u8>,
+    ) -> Answer {
+        match method_of(call.path) {
+            Some(method) => answer_message(alloc, config, self, method, call.message, reply),
+            None => refuse(Reason::UnknownMethod),
+        }
+    }
+}
+
+/// Serves the volume machine over a keeper.
+///
+/// For every byte stream, however it is cut, what is written are the framed replies of the volume machine
+/// over the calls that the stream has, up to its first malformed frame, which is refused at its place; the
+/// keeper then has that machine's State. No pool is overcommitted in it. A call that is refused for memory
+/// or by the store is answered `INTERNAL` and leaves the State as before it.
+///
+/// `serves` says this by the way the run ends, from each State of the invariant that the keeper may have had, while what
+/// the keeper stands on is not in doubt at the end; besides, the keeper's count rose at least as often as a
+/// call was answered that the store refused, and where a stop at the start could only leave the State, a stop
+/// at the end leaves the last State, or what [`pending`](crate::laws::pending) says.
+pub fn serve<K: Keeper, R: Read, W: Write>(
+    alloc: Global,
+    config: &Config,
+    keeper: &mut K,
+    reader: &mut R,
+    writer: &mut W,
+) -> RunEnd
+    ensures serves { Serves (volumes config.now) (seen K.holds K.doubt K.refused K.survivors K.tied config.now keeper.old) (seen K.holds K.doubt K.refused K.survivors K.tied config.now keeper.new) (R.remaining reader.old) (R.remaining reader.new) (W.contents writer.old) (W.contents writer.new) result }
+    ensures clean { K.doubt keeper.old ≤ K.doubt keeper.new }
+    ensures unread { result ≡ RunEnd.NoMemory → Keeps (R.remaining reader.old) (R.remaining reader.new) }
+    ensures unwritten { result ≡ RunEnd.NoMemory → Keeps (W.contents writer.old) (W.contents writer.new) }
+{
+    run_service(alloc, config, keeper, reader, writer)
+}
