@@ -2,10 +2,10 @@
 
 ghost use Rattle.std.specs.Prelude.{◌≡◌, not};
 ghost use Rattle.std.specs.List.{list_any};
-ghost use Rattle.csi_types.specs.Checks.{is_missing, is_known_mode, is_mode_to, is_supported, is_long_access};
+ghost use Rattle.csi_types.specs.Checks.{is_missing, is_known_mode, is_supported, is_long_access};
 
 use crate::measures::{bytes_of_texts, is_long_text};
-use csi_types::{Access, Capability, MAX_ACCESS_MODE, MAX_MOUNT_FLAGS_BYTES, MAX_MOUNT_MODE};
+use csi_types::{Access, Capability, MAX_MOUNT_FLAGS_BYTES, is_known_mode, is_supported};
 
 /// Whether one is neither block nor mount.
 pub(crate) fn has_missing_access(capabilities: &[Capability]) -> bool
@@ -22,7 +22,7 @@ pub(crate) fn has_unknown_mode(capabilities: &[Capability]) -> bool
 {
     capabilities
         .iter()
-        .any(|capability| !is_mode_to(MAX_ACCESS_MODE, capability.mode))
+        .any(|capability| !is_known_mode(capability.mode))
 }
 
 /// Whether one is not supported.
@@ -41,23 +41,6 @@ pub(crate) fn has_long_text(capabilities: &[Capability]) -> bool
     capabilities
         .iter()
         .any(|capability| is_long_access(&capability.access))
-}
-
-fn is_supported(capability: &Capability) -> bool
-    ensures { result ≡ is_supported capability.now }
-{
-    match capability.access {
-        Access::Missing => false,
-        Access::Block => is_mode_to(MAX_ACCESS_MODE, capability.mode),
-        Access::Mount(_) => is_mode_to(MAX_MOUNT_MODE, capability.mode),
-    }
-}
-
-// Whether a mode is given and is 1 to `most`.
-fn is_mode_to(most: u8, mode: Option<i32>) -> bool
-    ensures { result ≡ is_mode_to most mode }
-{
-    mode.is_some_and(|mode| 1 <= mode && mode <= i32::from(most))
 }
 
 fn is_long_access(access: &Access) -> bool

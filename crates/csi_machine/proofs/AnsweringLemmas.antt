@@ -14,22 +14,22 @@ use Rattle.csi_config.specs.declared.config.Config.{Config}
 use Rattle.frames_core.specs.declared.limits.TheConstants.{MAX_BODY_BYTES}
 use Rattle.csi_machine.specs.declared.body.Verdict.{Verdict}
 use Rattle.csi_machine.specs.declared.body.Verdict.TheVariants as verdict
-use Rattle.csi_machine.specs.declared.change.Change.{Change}
-use Rattle.csi_machine.specs.declared.change.StoreFault.{StoreFault}
+use Rattle.csi_keeper.specs.declared.change.Change.{Change}
+use Rattle.csi_keeper.specs.declared.change.StoreFault.{StoreFault}
 use Rattle.csi_machine.specs.declared.plan.Outcome.{Outcome}
 use Rattle.csi_machine.specs.declared.plan.Outcome.TheVariants as outcome
 use Rattle.csi_machine.specs.declared.plan.Plan.{Plan}
-use Rattle.csi_machine.specs.declared.volume.Volume.{Volume}
+use Rattle.csi_keeper.specs.declared.volume.Volume.{Volume}
 use Rattle.csi_machine.specs.Answering.{Answered, Carries, state_after, Leaves, Promises, verdict_of, body_of}
-use Rattle.csi_machine.specs.Capability.{have_keys}
+use Rattle.csi_keeper.specs.Capability.{have_keys}
 use Rattle.csi_machine.specs.Choice.{Room, rooms, free}
 use Rattle.csi_machine.specs.Configured.{IsConfigured}
 use Rattle.csi_machine.specs.Ids.{number_of_id}
-use Rattle.csi_machine.specs.Invariant.{IsInvariant}
-use Rattle.csi_machine.specs.Keeper.{IsQuiet, Tells, count_after}
+use Rattle.csi_keeper.specs.Invariant.{IsInvariant}
+use Rattle.csi_keeper.specs.Keeper.{IsQuiet, Tells, count_after}
 use Rattle.csi_machine.specs.Plan.{after, refuse}
 use Rattle.csi_machine.specs.Size.{whole}
-use Rattle.csi_machine.specs.State.{State, Allows}
+use Rattle.csi_keeper.specs.State.{State, Allows}
 use Rattle.csi_machine.specs.Step.{plan, limited, limited_by, settled_plan, moved, step}
 use Rattle.csi_machine.specs.Verdicts.{Told, Says, Denies, told_of, Appended, IsTold}
 use Rattle.csi_machine.specs.calls.Capacity.{capacity_of, served, greatest_size, tell_capacity}
@@ -40,7 +40,7 @@ use Rattle.csi_machine.specs.calls.Validate.{validate_number, validate_volume, c
 use Rattle.csi_machine.proofs.CheckedLemmas.{asked}
 use Rattle.csi_machine.proofs.CreateLemmas.{create_sound}
 use Rattle.csi_machine.proofs.DeleteLemmas.{delete_sound}
-use Rattle.csi_machine.proofs.FiniteLemmas.{none_some}
+use Rattle.csi_keeper.specs.facts.Finite.{none_some}
 use Rattle.csi_machine.proofs.PlanLemmas.{IsSound, sound_by, sound_still}
 use Rattle.csi_machine.proofs.PublishLemmas.{publish_fits}
 use Rattle.csi_machine.proofs.UnpublishLemmas.{unpublish_fits}

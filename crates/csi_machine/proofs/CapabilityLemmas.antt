@@ -9,9 +9,9 @@ use Rattle.std.specs.List.Sorted.{IsStrictlySortedBy}
 use Rattle.std.specs.Ordering.{eq_by_cmp, is_lt, match_ordering}
 use Rattle.std.proofs.lemmas.List.{take_more, length-map}
 use Rattle.csi_types.specs.declared.capability.Capability.{Capability}
-use Rattle.csi_machine.specs.declared.capability.CapKey.{CapKey}
-use Rattle.csi_machine.specs.Capability.{key_cmp, AreOrdered, key_of, keys_of, ordered, same_key, is_key, has_key, have_keys}
-use Rattle.csi_machine.specs.Order.{key_total, key_exact, keys_tie}
+use Rattle.csi_keeper.specs.declared.capability.CapKey.{CapKey}
+use Rattle.csi_keeper.specs.Capability.{key_cmp, AreOrdered, key_of, keys_of, ordered, same_key, is_key, has_key, have_keys}
+use Rattle.csi_keeper.specs.Order.{key_total, key_exact, keys_tie}
 
 abbrev Entry : Type 0
 Entry = CapKey × Bool

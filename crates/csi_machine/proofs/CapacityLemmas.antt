@@ -7,7 +7,7 @@ use Rattle.csi_config.specs.declared.config.Config.{Config}
 use Rattle.csi_config.specs.declared.pools.Pool.{Pool}
 use Rattle.csi_machine.specs.declared.choice.Room as code
 use Rattle.csi_machine.specs.Choice.{Room, room_value, free}
-use Rattle.csi_machine.specs.State.{up_to_u64}
+use Rattle.csi_keeper.specs.State.{up_to_u64}
 use Rattle.csi_machine.specs.calls.Capacity.{served, is_served}
 
 pub served_le : (rs : List Room) (t : Option TextMap) → sum_by free (served rs t) ≤ sum_by free rs

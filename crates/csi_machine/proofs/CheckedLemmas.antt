@@ -13,9 +13,9 @@ use Rattle.csi_types.specs.declared.reason.Reason.{Reason}
 use Rattle.csi_types.specs.declared.requests.CreateVolume.{CreateVolume}
 use Rattle.csi_types.specs.declared.requests.Request.{Request}
 use Rattle.csi_types.specs.declared.requests.Request.TheVariants as request
-use Rattle.csi_machine.specs.declared.capability.CapKey.{CapKey}
-use Rattle.csi_machine.specs.declared.capability.Kind.TheVariants as kind
-use Rattle.csi_machine.specs.Capability.{key_of, key_with, mode_of, keys_of, ordered, is_supported_key}
+use Rattle.csi_keeper.specs.declared.capability.CapKey.{CapKey}
+use Rattle.csi_keeper.specs.declared.capability.Kind.TheVariants as kind
+use Rattle.csi_keeper.specs.Capability.{key_of, key_with, mode_of, keys_of, ordered, is_supported_key}
 use Rattle.csi_machine.proofs.CapabilityLemmas.{keys_ordered, some_ordered, all_ordered}
 use Rattle.csi_machine.proofs.CreateLemmas.{IsAsked}
 

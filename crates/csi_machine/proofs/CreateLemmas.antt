@@ -22,25 +22,26 @@ use Rattle.csi_config.specs.declared.config.Config.{Config}
 use Rattle.csi_config.specs.declared.pools.Pool.{Pool}
 use Rattle.csi_config.specs.declared.sizes.Sizes.{Sizes}
 use Rattle.csi_config.specs.declared.sizes.TheConstants.{GRANULE_BYTES}
-use Rattle.csi_machine.specs.declared.change.Change.{Change}
-use Rattle.csi_machine.specs.declared.change.Change.TheVariants.{AddVolume}
-use Rattle.csi_machine.specs.declared.volume.Volume.{Volume}
+use Rattle.csi_keeper.specs.declared.change.Change.{Change}
+use Rattle.csi_keeper.specs.declared.change.Change.TheVariants.{AddVolume}
+use Rattle.csi_keeper.specs.declared.volume.Volume.{Volume}
 use Rattle.csi_machine.specs.calls.Create.{create, create_named, fresh, place, place_in, made, is_compatible}
-use Rattle.csi_machine.specs.Invariant.{IsInvariant, IsVolume, AreKeys}
-use Rattle.csi_machine.specs.Capability.{keys_of}
-use Rattle.csi_machine.specs.Info.{info_at, segments_at, pool_named}
+use Rattle.csi_keeper.specs.Invariant.{IsInvariant, IsVolume, AreKeys}
+use Rattle.csi_keeper.specs.Capability.{keys_of}
+use Rattle.csi_machine.specs.Info.{info_at, segments_at}
+use Rattle.csi_keeper.specs.Lookup.{pool_named}
 use Rattle.csi_machine.specs.Plan.{refuse, respond}
 use Rattle.csi_machine.specs.Size.{size, size_by, within, asked, whole, rounded_up, rounded_down}
-use Rattle.csi_machine.specs.State.{State, changed, named, used, sizes, IsBounded}
+use Rattle.csi_keeper.specs.State.{State, changed, named, used, sizes, IsBounded}
 use Rattle.csi_machine.specs.Choice.{Room, rooms, free, fits, pairs, choice, count}
 use Rattle.csi_machine.specs.Configured.{IsConfigured}
 use Rattle.csi_machine.specs.Topology.{terms}
-use Rattle.csi_machine.specs.Texts.{Text}
-use Rattle.csi_machine.proofs.FiniteLemmas.{none_some, same_some, inserted, insert_other, all_entries}
-use Rattle.csi_machine.proofs.NobodyLemmas.{nobody}
+use Rattle.csi_keeper.specs.Texts.{Text}
+use Rattle.csi_keeper.specs.facts.Finite.{none_some, same_some, inserted, insert_other, all_entries}
+use Rattle.csi_keeper.specs.facts.Names.{nobody}
 use Rattle.csi_machine.proofs.CapabilityLemmas.{keys_ordered}
 use Rattle.csi_machine.proofs.PlanLemmas.{IsFit, IsSound, sound_by}
-use Rattle.csi_machine.proofs.SumLemmas.{added_sum, in_order, count_cons}
+use Rattle.csi_keeper.specs.facts.Sums.{added_sum, in_order, count_cons}
 
 both_true : (a b : Bool) → (a && b) ≡ true → (a ≡ true) × (b ≡ true)
 both_true true b e = (refl, e)

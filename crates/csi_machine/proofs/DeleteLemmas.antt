@@ -5,19 +5,19 @@ use Rattle.std.specs.FinMap as fin
 use Rattle.std.specs.Ordering.{nat_cmp, eq_by_cmp}
 use Rattle.csi_types.specs.declared.requests.DeleteVolume.{DeleteVolume}
 use Rattle.csi_config.specs.declared.config.Config.{Config}
-use Rattle.csi_machine.specs.declared.change.Change.{Change}
-use Rattle.csi_machine.specs.declared.change.Change.TheVariants.{RemoveVolume}
-use Rattle.csi_machine.specs.declared.volume.Attachment.{Attachment}
-use Rattle.csi_machine.specs.declared.volume.Volume.{Volume}
+use Rattle.csi_keeper.specs.declared.change.Change.{Change}
+use Rattle.csi_keeper.specs.declared.change.Change.TheVariants.{RemoveVolume}
+use Rattle.csi_keeper.specs.declared.volume.Attachment.{Attachment}
+use Rattle.csi_keeper.specs.declared.volume.Volume.{Volume}
 use Rattle.csi_machine.specs.calls.Delete.{delete, delete_number, delete_volume}
 use Rattle.csi_machine.specs.Ids.{number_of_id}
-use Rattle.csi_machine.specs.Invariant.{IsInvariant}
-use Rattle.csi_machine.specs.State.{State, Place, place_cmp, attached, changed, sizes}
-use Rattle.csi_machine.specs.Texts.{Text}
-use Rattle.csi_machine.proofs.FiniteLemmas.{none_some, same_some, tied, removed, not_there}
-use Rattle.csi_machine.proofs.OrderLemmas.{place_exact}
+use Rattle.csi_keeper.specs.Invariant.{IsInvariant}
+use Rattle.csi_keeper.specs.State.{State, Place, place_cmp, attached, changed, sizes}
+use Rattle.csi_keeper.specs.Texts.{Text}
+use Rattle.csi_keeper.specs.facts.Finite.{none_some, same_some, tied, removed, not_there}
+use Rattle.csi_keeper.specs.facts.Orders.{place_exact}
 use Rattle.csi_machine.proofs.PlanLemmas.{IsFit, IsSound, sound_by}
-use Rattle.csi_machine.proofs.SumLemmas.{taken_sum}
+use Rattle.csi_keeper.specs.facts.Sums.{taken_sum}
 
 abbrev Row : Type 0
 Row = Place × Attachment

@@ -4,7 +4,7 @@ use Rattle.std.specs.Cmp.{IsTotalOrder}
 use Rattle.std.specs.Ordering.{eq_by_cmp, is_eq, is_lt}
 use Rattle.std.specs.FinMap as fin
 use Rattle.std.specs.FinMap.Entries.{by_order, below_all}
-use Rattle.csi_machine.proofs.FiniteLemmas.{none_some, find_filter}
+use Rattle.csi_keeper.specs.facts.Finite.{none_some, find_filter}
 
 both : (a b : Bool) → T (a && b) → T a × T b
 both true b h = (tt, h)

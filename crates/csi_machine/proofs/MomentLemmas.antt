@@ -5,8 +5,8 @@ use Rattle.std.specs.Ordering.{nat_cmp, is_lt, is_eq, eq_by_cmp}
 use Rattle.std.proofs.lemmas.Bool.Decides.{leb_tells}
 use Rattle.std.specs.FinMap as fin
 use Rattle.std.specs.FinMap.Entries.{below_all}
-use Rattle.csi_machine.specs.declared.volume.Volume.{Volume}
-use Rattle.csi_machine.specs.State.{State, beyond}
+use Rattle.csi_keeper.specs.declared.volume.Volume.{Volume}
+use Rattle.csi_keeper.specs.State.{State, beyond}
 use Rattle.csi_machine.specs.calls.Listing.{entries_for, listed, last_of}
 
 -- a moment at which a page is asked for: the State, and how many entries are asked for

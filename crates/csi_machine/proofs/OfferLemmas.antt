@@ -2,7 +2,7 @@
 use Rattle.std.proofs.Common.{◌≡◌, ◌≢◌, ◌∙◌, inl, inr, ap, sym, subst, cond, arith, refl, ℕ, ◌+◌, ◌-◌, ◌*◌, ◌/◌, ◌%◌, ◌==◌, ◌<◌, ◌≤◌, ◌^◌, max, min, nat_lt, nat_le, List, [], ◌∷◌, map, find, fold, sum, sum_by, Bool, true, false, ◌&&◌, ◌||◌, Option, Some, None, option_map, eqb-true}
 use Rattle.std.specs.FinMap as fin
 use Rattle.std.specs.Cmp.{nat_cmp_total}
-use Rattle.std.specs.Cmp.Lexicographic.{slice_cmp, nat_list_cmp_total}
+use Rattle.std.specs.Cmp.Lexicographic.{slice_cmp}
 use Rattle.std.specs.List.{list_all, list_any, AllByRecursion}
 use Rattle.std.specs.Ordering.{nat_cmp}
 use Rattle.std.proofs.lemmas.Bool.{and_parts, and_from, le-leb}
@@ -21,23 +21,22 @@ use Rattle.csi_config.specs.declared.config.Config.{Config}
 use Rattle.csi_config.specs.declared.pools.Pool.{Pool}
 use Rattle.csi_config.specs.declared.sizes.Sizes.{Sizes}
 use Rattle.csi_config.specs.declared.sizes.TheConstants.{GRANULE_BYTES}
-use Rattle.csi_machine.specs.declared.volume.Volume.{Volume}
+use Rattle.csi_keeper.specs.declared.volume.Volume.{Volume}
 use Rattle.csi_machine.specs.Choice.{Room, rooms, free, choice, count}
 use Rattle.csi_machine.specs.Configured.{IsConfigured}
-use Rattle.csi_machine.specs.Invariant.{IsInvariant}
+use Rattle.csi_keeper.specs.Invariant.{IsInvariant}
 use Rattle.csi_machine.specs.Offer.{term_of, exactly, AsksFor, IsNew}
 use Rattle.csi_machine.specs.Plan.{refuse}
 use Rattle.csi_machine.specs.Size.{size, within, asked, rounded_up, rounded_down}
-use Rattle.csi_machine.specs.State.{State, used, sizes}
-use Rattle.csi_machine.specs.Texts.{Text}
+use Rattle.csi_keeper.specs.State.{State, used, sizes}
+use Rattle.csi_keeper.specs.Texts.{Text}
 use Rattle.csi_machine.specs.Topology.{serves, terms}
 use Rattle.csi_machine.specs.calls.Capacity.{capacity, served, is_served, greatest, greatest_size, tell_capacity}
 use Rattle.csi_machine.specs.calls.Create.{create, create_named, place, place_in}
 use Rattle.csi_machine.proofs.ChoiceLemmas.{or_else, choice_one, choice_cons}
 use Rattle.csi_machine.proofs.CreateLemmas.{chosen, has_map}
-use Rattle.csi_machine.proofs.FiniteLemmas.{all_entries}
-use Rattle.csi_machine.proofs.ListingLemmas.{none_listed}
-use Rattle.csi_machine.proofs.SumLemmas.{in_order, total_cons}
+use Rattle.csi_keeper.specs.facts.Finite.{all_entries, none_listed}
+use Rattle.csi_keeper.specs.facts.Sums.{in_order, total_cons}
 
 -- What is free is a multiple of 1 MiB.
 
@@ -103,7 +102,7 @@ size_exact z n h i most =
 -- And there is a pool for it.
 
 no_entries : fin.entries (fin.empty {X = List ℕ} {R = slice_cmp nat_cmp}) ≡ []
-no_entries = none_listed nat_list_cmp_total
+no_entries = none_listed (slice_cmp nat_cmp)
 
 -- each pool serves the empty term
 serves_empty : (segments : TextMap) → serves segments fin.empty ≡ true

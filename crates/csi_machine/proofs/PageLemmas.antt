@@ -1,10 +1,10 @@
 -- Pages, one volume more at a time.
 use Rattle.std.proofs.Common.{◌≡◌, ◌∙◌, ap, refl, ℕ, ◌+◌, ◌<◌, List, [], ◌∷◌, ◌++◌, length, map, take, get_or}
 use Rattle.std.proofs.lemmas.List.{take_more}
-use Rattle.csi_machine.specs.declared.volume.Volume.{Volume}
+use Rattle.csi_keeper.specs.declared.volume.Volume.{Volume}
 use Rattle.csi_config.specs.declared.config.Config.{Config}
-use Rattle.csi_machine.specs.State.{State, published, page, published_of_page}
-use Rattle.csi_machine.specs.Texts.{Text}
+use Rattle.csi_keeper.specs.State.{State, published, page, published_of_page}
+use Rattle.csi_keeper.specs.Texts.{Text}
 use Rattle.csi_machine.specs.calls.Listing.{last_of, token_for, entry_with, entries_with, entry_of}
 
 last_push : (after : ℕ) (vs : List Volume) (v : Volume) → last_of after (vs ++ v ∷ []) ≡ v.number

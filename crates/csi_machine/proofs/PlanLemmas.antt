@@ -1,11 +1,11 @@
 -- A plan by which each State may be changed, and which keeps the invariant.
 use Rattle.std.proofs.Common.{◌≡◌, Option, Some, None, IfSome, refl}
 use Rattle.csi_config.specs.declared.config.Config.{Config}
-use Rattle.csi_machine.specs.declared.change.Change.{Change}
+use Rattle.csi_keeper.specs.declared.change.Change.{Change}
 use Rattle.csi_machine.specs.declared.plan.Plan.{Plan}
-use Rattle.csi_machine.specs.Invariant.{IsInvariant}
+use Rattle.csi_keeper.specs.Invariant.{IsInvariant}
 use Rattle.csi_machine.specs.Plan.{after}
-use Rattle.csi_machine.specs.State.{State, changed, Allows}
+use Rattle.csi_keeper.specs.State.{State, changed, Allows}
 
 -- a change that a State allows, and that keeps the invariant
 abbrev pub IsFit : Config → State → Change → Type 0

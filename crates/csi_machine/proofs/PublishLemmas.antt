@@ -13,23 +13,24 @@ use Rattle.csi_types.specs.declared.responses.Response.TheVariants as response
 use Rattle.csi_config.specs.Values.{Has}
 use Rattle.csi_config.specs.declared.config.Config.{Config}
 use Rattle.csi_config.specs.declared.nodes.Node.{Node}
-use Rattle.csi_machine.specs.declared.capability.CapKey.{CapKey}
-use Rattle.csi_machine.specs.declared.change.Change.{Change}
-use Rattle.csi_machine.specs.declared.change.Change.TheVariants.{Attach}
-use Rattle.csi_machine.specs.declared.volume.Attachment.{Attachment}
-use Rattle.csi_machine.specs.declared.volume.Volume.{Volume}
-use Rattle.csi_machine.specs.Capability.{has_key, same_key}
-use Rattle.csi_machine.specs.Coexistence.{coexist}
+use Rattle.csi_keeper.specs.declared.capability.CapKey.{CapKey}
+use Rattle.csi_keeper.specs.declared.change.Change.{Change}
+use Rattle.csi_keeper.specs.declared.change.Change.TheVariants.{Attach}
+use Rattle.csi_keeper.specs.declared.volume.Attachment.{Attachment}
+use Rattle.csi_keeper.specs.declared.volume.Volume.{Volume}
+use Rattle.csi_keeper.specs.Capability.{has_key, same_key}
+use Rattle.csi_keeper.specs.Coexistence.{coexist}
 use Rattle.csi_machine.specs.Ids.{number_of_id}
-use Rattle.csi_machine.specs.Invariant.{IsInvariant, IsAttached}
+use Rattle.csi_keeper.specs.Invariant.{IsInvariant, IsAttached}
 use Rattle.csi_machine.specs.Plan.{refuse, respond, make}
-use Rattle.csi_machine.specs.State.{State, Place, place_cmp, attached, attached_at, changed, Allows}
-use Rattle.csi_machine.specs.Texts.{Text}
-use Rattle.csi_machine.specs.calls.Publish.{publish, publish_number, publish_volume, publish_node, publish_at, publish_key, has_conflict, wanted, asked_key, node_of, is_at, publication, same_flag}
-use Rattle.csi_machine.proofs.CoexistenceLemmas.{coexist_turned}
+use Rattle.csi_keeper.specs.State.{State, Place, place_cmp, attached, attached_at, changed, Allows}
+use Rattle.csi_keeper.specs.Texts.{Text}
+use Rattle.csi_keeper.specs.Lookup.{node_of}
+use Rattle.csi_machine.specs.calls.Publish.{publish, publish_number, publish_volume, publish_node, publish_at, publish_key, has_conflict, wanted, asked_key, is_at, publication, same_flag}
+use Rattle.csi_keeper.specs.facts.Coexistence.{coexist_turned}
 use Rattle.csi_machine.proofs.EntriesLemmas.{length_put}
-use Rattle.csi_machine.proofs.FiniteLemmas.{none_some, same_some, tied, inserted}
-use Rattle.csi_machine.proofs.OrderLemmas.{place_total, place_exact}
+use Rattle.csi_keeper.specs.facts.Finite.{none_some, same_some, tied, inserted}
+use Rattle.csi_keeper.specs.facts.Orders.{place_total, place_exact}
 
 -- no two nodes have one id
 abbrev pub AreKnownById : Config → Type 0

@@ -6,18 +6,18 @@ use Rattle.csi_types.specs.Maps.{same_text}
 use Rattle.csi_types.specs.Names.{is_empty}
 use Rattle.csi_types.specs.declared.requests.Unpublish.{Unpublish}
 use Rattle.csi_config.specs.declared.config.Config.{Config}
-use Rattle.csi_machine.specs.declared.change.Change.{Change}
-use Rattle.csi_machine.specs.declared.change.Change.TheVariants.{Detach, DetachAll}
-use Rattle.csi_machine.specs.declared.volume.Attachment.{Attachment}
+use Rattle.csi_keeper.specs.declared.change.Change.{Change}
+use Rattle.csi_keeper.specs.declared.change.Change.TheVariants.{Detach, DetachAll}
+use Rattle.csi_keeper.specs.declared.volume.Attachment.{Attachment}
 use Rattle.csi_machine.specs.Ids.{number_of_id}
-use Rattle.csi_machine.specs.Invariant.{IsInvariant}
-use Rattle.csi_machine.specs.State.{State, Place, place_cmp, attached, changed, Allows}
-use Rattle.csi_machine.specs.Texts.{Text}
+use Rattle.csi_keeper.specs.Invariant.{IsInvariant}
+use Rattle.csi_keeper.specs.State.{State, Place, place_cmp, attached, changed, Allows}
+use Rattle.csi_keeper.specs.Texts.{Text}
 use Rattle.csi_machine.specs.calls.Publish.{is_at}
 use Rattle.csi_machine.specs.calls.Unpublish.{unpublish, unpublish_number, detach_all, detach_one}
 use Rattle.csi_machine.proofs.EntriesLemmas.{entries_retained, entries_left, length_both}
-use Rattle.csi_machine.proofs.FiniteLemmas.{none_some, same_some, removed}
-use Rattle.csi_machine.proofs.OrderLemmas.{place_total, place_exact}
+use Rattle.csi_keeper.specs.facts.Finite.{none_some, same_some, removed}
+use Rattle.csi_keeper.specs.facts.Orders.{place_total, place_exact}
 use Rattle.csi_machine.proofs.PublishLemmas.{moved_on}
 
 abbrev Row : Type 0

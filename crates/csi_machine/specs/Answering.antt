@@ -2,16 +2,16 @@
 use Rattle.std.specs.Prelude.{◌≡◌, ◌⊎◌, ℕ, ◌≤◌, ◌++◌, List, [], Result, Ok, Err, IsSome, IfSome, IfOk, OnOk, OnErr}
 use Rattle.csi_codec.specs.Methods.{response_bytes}
 use Rattle.csi_config.specs.declared.config.Config.{Config}
-use Rattle.csi_machine.specs.declared.change.StoreFault.{StoreFault}
+use Rattle.csi_keeper.specs.declared.change.StoreFault.{StoreFault}
 use Rattle.csi_machine.specs.declared.plan.Outcome.{Outcome}
 use Rattle.csi_machine.specs.declared.plan.Outcome.TheVariants as outcome
 use Rattle.csi_machine.specs.declared.body.Verdict.{Verdict}
 use Rattle.csi_machine.specs.declared.body.Verdict.TheVariants as verdict
 use Rattle.csi_machine.specs.declared.plan.Plan.{Plan}
-use Rattle.csi_machine.specs.Invariant.{IsInvariant}
-use Rattle.csi_machine.specs.Keeper.{count_after}
+use Rattle.csi_keeper.specs.Invariant.{IsInvariant}
+use Rattle.csi_keeper.specs.Keeper.{count_after}
 use Rattle.csi_machine.specs.Plan.{after}
-use Rattle.csi_machine.specs.State.{State, Allows}
+use Rattle.csi_keeper.specs.State.{State, Allows}
 use Rattle.csi_machine.specs.Verdicts.{Appended}
 
 -- the verdict of an outcome, and the body that is written

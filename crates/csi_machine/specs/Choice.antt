@@ -5,9 +5,9 @@ use Rattle.std.specs.List.{flat_map}
 use Rattle.csi_types.specs.Maps.{TextMap}
 use Rattle.csi_config.specs.declared.config.Config.{Config}
 use Rattle.csi_config.specs.declared.pools.Pool.{Pool}
-use Rattle.csi_machine.specs.declared.change.Usage.{Usage}
+use Rattle.csi_keeper.specs.declared.change.Usage.{Usage}
 use Rattle.csi_machine.specs.declared.choice.Room as code
-use Rattle.csi_machine.specs.State.{State, used}
+use Rattle.csi_keeper.specs.State.{State, used}
 use Rattle.csi_machine.specs.Topology.{serves}
 
 -- a pool, and what its volumes use of it

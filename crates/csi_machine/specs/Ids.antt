@@ -4,7 +4,7 @@ use Rattle.std.specs.Prelude.{ℕ, ◌^◌, ◌++◌, ◌&&◌, nat_lt, Option, 
 use Rattle.std.specs.Fmt.{decimal}
 use Rattle.std.specs.Str.Parse.{digits_value}
 use Rattle.csi_types.specs.Maps.{same_text}
-use Rattle.csi_machine.specs.Texts.{Text}
+use Rattle.csi_keeper.specs.Texts.{Text}
 
 -- the number whose decimal without leading zeros a text is, below 2 ^ 64
 abbrev pub number_of : Text → Option ℕ

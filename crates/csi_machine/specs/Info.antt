@@ -5,16 +5,14 @@ use Rattle.csi_types.specs.Maps.{TextMap, same_text}
 use Rattle.csi_types.specs.declared.volume.VolumeInfo.{VolumeInfo}
 use Rattle.csi_config.specs.declared.config.Config.{Config}
 use Rattle.csi_config.specs.declared.pools.Pool.{Pool}
-use Rattle.csi_machine.specs.declared.volume.Volume.{Volume}
+use Rattle.csi_keeper.specs.Lookup.{pool_named}
+use Rattle.csi_keeper.specs.declared.volume.Volume.{Volume}
 use Rattle.csi_machine.specs.Ids.{id}
-use Rattle.csi_machine.specs.Texts.{Text}
+use Rattle.csi_keeper.specs.Texts.{Text}
 
 -- as an int64 tells it
 abbrev pub signed : ℕ → ℤ
 signed n = pos (min n (2 ^ 63 - 1))
-
-abbrev pub pool_named : List Pool → Text → Option Pool
-pool_named pools name = find (λ p. same_text p.name name) pools
 
 abbrev pub segments_of : Option Pool → TextMap
 segments_of None = empty

@@ -8,8 +8,8 @@ use Rattle.csi_types.specs.declared.requests.CreateVolume.{CreateVolume}
 use Rattle.csi_config.specs.Values.{Has}
 use Rattle.csi_config.specs.declared.config.Config.{Config}
 use Rattle.csi_machine.specs.Choice.{rooms, count}
-use Rattle.csi_machine.specs.State.{State, named}
-use Rattle.csi_machine.specs.Texts.{Text}
+use Rattle.csi_keeper.specs.State.{State, named}
+use Rattle.csi_keeper.specs.Texts.{Text}
 use Rattle.csi_machine.specs.Topology.{terms}
 
 -- the topology of a GetCapacity as a term; none is the empty one

@@ -2,10 +2,10 @@
 use Rattle.std.specs.Prelude.{Option, None, Some}
 use Rattle.csi_types.specs.declared.reason.Reason.{Reason}
 use Rattle.csi_types.specs.declared.responses.Response.{Response}
-use Rattle.csi_machine.specs.declared.change.Change.{Change}
+use Rattle.csi_keeper.specs.declared.change.Change.{Change}
 use Rattle.csi_machine.specs.declared.plan.Outcome.TheVariants.{Done, Refused}
 use Rattle.csi_machine.specs.declared.plan.Plan.{Plan}
-use Rattle.csi_machine.specs.State.{State, changed}
+use Rattle.csi_keeper.specs.State.{State, changed}
 
 -- a refusal changes nothing
 abbrev pub refuse : Reason → Plan

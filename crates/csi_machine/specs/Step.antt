@@ -18,7 +18,7 @@ use Rattle.csi_machine.specs.calls.Publish.{publish}
 use Rattle.csi_machine.specs.calls.Unpublish.{unpublish}
 use Rattle.csi_machine.specs.calls.Validate.{validate}
 use Rattle.csi_machine.specs.Plan.{refuse, after}
-use Rattle.csi_machine.specs.State.{State}
+use Rattle.csi_keeper.specs.State.{State}
 use Rattle.csi_machine.specs.Verdicts.{Told, Says, Denies, told_of}
 
 -- by the request's method

@@ -14,11 +14,11 @@ use Rattle.csi_config.specs.Values.{Has}
 use Rattle.csi_config.specs.declared.config.Config.{Config}
 use Rattle.csi_machine.specs.declared.plan.Outcome.{Outcome}
 use Rattle.csi_machine.specs.declared.plan.Outcome.TheVariants as outcome
-use Rattle.csi_machine.specs.declared.volume.Volume.{Volume}
+use Rattle.csi_keeper.specs.declared.volume.Volume.{Volume}
 use Rattle.csi_machine.specs.calls.Listing.{entry_of}
-use Rattle.csi_machine.specs.State.{State}
+use Rattle.csi_keeper.specs.State.{State}
 use Rattle.csi_machine.specs.Step.{plan, step}
-use Rattle.csi_machine.specs.Texts.{Text}
+use Rattle.csi_keeper.specs.Texts.{Text}
 use Rattle.csi_machine.specs.Verdicts.{Told, Says, Denies}
 
 -- a call of a walk: its next page, of so many entries, or any other request

@@ -4,10 +4,10 @@ ghost use Rattle.std.specs.Prelude.{◌≡◌, ◌⊎◌, ◌≤◌, ◌++◌, l
 ghost use Rattle.csi_types.specs.Checks.{checked};
 ghost use Rattle.frames_core.specs.declared.limits.TheConstants.{MAX_BODY_BYTES};
 ghost use Rattle.csi_machine.specs.Answering.{Answered, Carries, Leaves, Promises, body_of, state_after, verdict_of};
-ghost use Rattle.csi_machine.specs.Invariant.{IsInvariant};
-ghost use Rattle.csi_machine.specs.Keeper.{IsQuiet, Tells, count_after};
+ghost use Rattle.csi_keeper.specs.Invariant.{IsInvariant};
+ghost use Rattle.csi_keeper.specs.Keeper.{IsQuiet, Tells, count_after};
 ghost use Rattle.csi_machine.specs.Plan.{after};
-ghost use Rattle.csi_machine.specs.State.{State, Allows, IsBounded};
+ghost use Rattle.csi_keeper.specs.State.{State, Allows, IsBounded};
 ghost use Rattle.csi_machine.specs.Step.{plan, limited, settled_plan, step};
 ghost use Rattle.csi_machine.specs.Verdicts.{Appended, IsTold, told_of};
 
@@ -22,16 +22,15 @@ use crate::calls::listing::plan_list;
 use crate::calls::publish::plan_publish;
 use crate::calls::unpublish::plan_unpublish;
 use crate::calls::validate::plan_validate;
-use crate::change::StoreFault;
 use crate::configured::configured;
-use crate::keeper::Keeper;
 use crate::plan::{Outcome, Plan, refuse};
 use csi_config::Config;
+use csi_keeper::{Keeper, StoreFault};
 use csi_types::Request;
 use std::alloc::{AllocError, Global};
 
 // The plan of a request, by reads alone.
-#[tactic(auto, using(crate::proofs::KeeperLemmas::quiet_same))]
+#[tactic(auto, using(csi_keeper::specs::facts::Reads::quiet_same))]
 fn plan_of<K: Keeper>(
     alloc: Global,
     config: &Config,

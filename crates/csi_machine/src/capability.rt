@@ -1,186 +1,12 @@
-//! What a volume can be used as.
+//! Sets of capability keys.
 
 ghost use Rattle.std.specs.Prelude.{◌≡◌, Some, IfOk};
-ghost use Rattle.csi_machine.specs.Capability.{kind_cmp, mode_of, key_with, key_of, access_of, capability_of, is_supported_key, same_kind, same_key, has_key, have_keys, ordered, keys_of};
+ghost use Rattle.csi_keeper.specs.Capability.{key_of, has_key, have_keys, ordered, keys_of};
 
-use crate::copies::copy_key;
-use csi_types::{
-    Access, Capability, Items, MAX_ACCESS_MODE, MAX_MOUNT_MODE, Mount, Text, copy_text,
-};
+use csi_keeper::{CapKey, cap_key, copy_key};
+use csi_types::{Capability, Items};
 use std::alloc::{AllocError, Global};
-use std::cmp::Ordering;
 use std::collections::BTreeSet;
-
-/// How a volume is offered (CSI 1.x, `VolumeCapability.access_type`).
-#[derive(Debug, PartialEq, Eq, Drop)]
-pub enum Kind {
-    /// A raw block device (`BlockVolume`).
-    Block,
-    /// A file system of this type (`MountVolume.fs_type`, up to 128 bytes), or of the plugin's
-    /// choice where the text is empty.
-    Mount(Text),
-}
-
-/// What a capability is known by: how the volume is offered, and its access mode.
-///
-/// Mount flags and the mount group do not count: two capabilities that differ in these alone have
-/// one key. Keys are ordered: block before mount, mounts by the bytes of their type, and then by
-/// mode.
-#[derive(Debug, Drop)]
-pub struct CapKey {
-    /// Block or mount.
-    pub kind: Kind,
-    /// The number of the access mode (CSI 1.x, `VolumeCapability.AccessMode.Mode`), 1 to 5.
-    pub mode: u8,
-}
-
-fn is_same_kind(one: &Kind, other: &Kind) -> bool
-    ensures { result ≡ same_kind one.now other.now }
-{
-    match (one, other) {
-        (Kind::Block, Kind::Block) => true,
-        (Kind::Mount(one), Kind::Mount(other)) => one == other,
-        _ => false,
-    }
-}
-
-/// Whether the keys are equal.
-pub(crate) fn is_same_key(one: &CapKey, other: &CapKey) -> bool
-    ensures { result ≡ same_key one.now other.now }
-{
-    is_same_kind(&one.kind, &other.kind) && one.mode == other.mode
-}
-
-fn kind_cmp(one: &Kind, other: &Kind) -> Ordering
-    ensures { result ≡ kind_cmp one.now other.now }
-{
-    match (one, other) {
-        (Kind::Block, Kind::Block) => Ordering::Equal,
-        (Kind::Block, Kind::Mount(_)) => Ordering::Less,
-        (Kind::Mount(_), Kind::Block) => Ordering::Greater,
-        (Kind::Mount(one), Kind::Mount(other)) => one.cmp(other),
-    }
-}
-
-impl PartialEq for CapKey {
-    ghost use Rattle.csi_machine.specs.Capability.{same_key};
-    ghost use Rattle.csi_machine.specs.Order.{key_per};
-
-    ghost eq = { same_key };
-
-    ghost laws = { key_per };
-
-    fn eq(&self, other: &Self) -> bool {
-        is_same_key(self, other)
-    }
-}
-
-impl Eq for CapKey {
-    ghost use Rattle.csi_machine.specs.Order.{key_equiv};
-
-    ghost laws = { key_equiv };
-}
-
-impl PartialOrd for CapKey {
-    ghost use Rattle.std.specs.Ordering.{as_partial_cmp};
-    ghost use Rattle.csi_machine.specs.Capability.{key_cmp};
-    ghost use Rattle.csi_machine.specs.Order.{key_order};
-
-    ghost partial_cmp = { as_partial_cmp key_cmp };
-
-    ghost laws = { key_order };
-
-    fn partial_cmp(&self, other: &Self) -> Option<Ordering> {
-        Some(self.cmp(other))
-    }
-}
-
-impl Ord for CapKey {
-    ghost use Rattle.std.specs.Prelude.{refl};
-    ghost use Rattle.csi_machine.specs.Capability.{key_cmp};
-    ghost use Rattle.csi_machine.specs.Order.{key_total, keys_tie};
-
-    ghost cmp = { key_cmp };
-
-    ghost total = { key_total };
-
-    ghost matches_partial_cmp = { λ x y. refl };
-
-    ghost matches_eq = { λ x y. keys_tie x y };
-
-    fn cmp(&self, other: &Self) -> Ordering {
-        kind_cmp(&self.kind, &other.kind).then(self.mode.cmp(&other.mode))
-    }
-}
-
-/// Whether a volume can be made for the key: block with the modes 1 to 5, mount with the modes 1 to
-/// 3, in which no node writes beside others (CSI specification, 'CreateVolume').
-pub fn supported(key: &CapKey) -> bool
-    ensures { result ≡ is_supported_key key.now }
-{
-    match key.kind {
-        Kind::Block => 1 <= key.mode && key.mode <= MAX_ACCESS_MODE,
-        Kind::Mount(_) => 1 <= key.mode && key.mode <= MAX_MOUNT_MODE,
-    }
-}
-
-/// The number of a known access mode, 1 to 5.
-pub(crate) fn mode_of(mode: Option<i32>) -> Option<u8>
-    ensures { result ≡ mode_of mode }
-{
-    match mode {
-        Some(mode) => if 1 <= mode && mode <= i32::from(MAX_ACCESS_MODE) {
-            Some(mode as u8)
-        } else {
-            None
-        },
-        None => None,
-    }
-}
-
-fn key_with(alloc: Global, access: &Access, mode: u8) -> Result<Option<CapKey>, AllocError>
-    ensures { IfOk result (λ key. key ≡ key_with access.now (Some mode)) }
-{
-    let kind = match access {
-        Access::Missing => return Ok(None),
-        Access::Block => Kind::Block,
-        Access::Mount(mount) => Kind::Mount(copy_text(alloc, mount.fs_type.as_str())?),
-    };
-    Ok(Some(CapKey { kind, mode }))
-}
-
-/// What a capability is known by; `None` without an access type, or with a mode other than 1 to 5.
-pub fn cap_key(alloc: Global, capability: &Capability) -> Result<Option<CapKey>, AllocError>
-    ensures { IfOk result (λ key. key ≡ key_of capability.now) }
-{
-    match mode_of(capability.mode) {
-        Some(mode) => key_with(alloc, &capability.access, mode),
-        None => Ok(None),
-    }
-}
-
-fn access_of(alloc: Global, kind: &Kind) -> Result<Access, AllocError>
-    ensures { IfOk result (λ access. access ≡ access_of kind.now) }
-{
-    match kind {
-        Kind::Block => Ok(Access::Block),
-        Kind::Mount(fs_type) => Ok(Access::Mount(Mount {
-            fs_type: copy_text(alloc, fs_type.as_str())?,
-            flags: Items::new(alloc),
-            group: Text::new(alloc),
-        })),
-    }
-}
-
-/// The capability of a key, without mount flags and mount group.
-pub fn capability_of(alloc: Global, key: &CapKey) -> Result<Capability, AllocError>
-    ensures { IfOk result (λ capability. capability ≡ capability_of key.now) }
-{
-    Ok(Capability {
-        access: access_of(alloc, &key.kind)?,
-        mode: Some(i32::from(key.mode)),
-    })
-}
 
 #[tactic(auto, using(crate::proofs::CapabilityLemmas::keys_more, crate::proofs::CapabilityLemmas::keys_same, crate::proofs::CapabilityLemmas::keys_none))]
 fn key_set(alloc: Global, capabilities: &[Capability]) -> Result<BTreeSet<CapKey>, AllocError>
@@ -219,7 +45,7 @@ pub(crate) fn keys_of(
 pub(crate) fn has_this_key(keys: &[CapKey], key: &CapKey) -> bool
     ensures { result ≡ has_key keys.now (Some key.now) }
 {
-    keys.iter().any(|other| is_same_key(key, other))
+    keys.iter().any(|other| key == other)
 }
 
 #[tactic(auto, using(crate::proofs::CapabilityLemmas::ordered_more, crate::proofs::CapabilityLemmas::keys_none))]

@@ -4,14 +4,13 @@ ghost use Rattle.std.specs.Prelude.{◌≡◌, ◌&&◌, nat_le, Some, [], ◌�
 ghost use Rattle.std.specs.FinMap.{empty};
 ghost use Rattle.std.specs.Option.{option_map};
 ghost use Rattle.csi_machine.specs.Choice.{room_value, free, rooms, choice, count};
-ghost use Rattle.csi_machine.specs.Keeper.{IsQuiet, Tells, count_after};
-ghost use Rattle.csi_machine.specs.State.{up_to_u64};
+ghost use Rattle.csi_keeper.specs.Keeper.{IsQuiet, Tells, count_after};
+ghost use Rattle.csi_keeper.specs.State.{up_to_u64};
 ghost use Rattle.csi_machine.specs.Topology.{serves, or_empty, terms};
 
-use crate::change::{StoreFault, Usage};
-use crate::keeper::Keeper;
 use crate::topology::serves;
 use csi_config::{Config, Pool};
+use csi_keeper::{Keeper, StoreFault, Usage};
 use csi_types::{Map, Requirement};
 use std::alloc::Global;
 
@@ -32,7 +31,7 @@ impl Room<'_> {
 }
 
 /// The pools in the order of the configuration, and what is used of each.
-#[tactic(auto, using(crate::proofs::KeeperLemmas::quiet_same, crate::proofs::KeeperLemmas::quiet_then))]
+#[tactic(auto, using(csi_keeper::specs::facts::Reads::quiet_same, csi_keeper::specs::facts::Reads::quiet_then))]
 pub(crate) fn read_rooms<'a, K: Keeper>(
     alloc: Global,
     config: &'a Config,

@@ -3,11 +3,12 @@
 ghost use Rattle.std.specs.Prelude.{◌≡◌, IfOk, codes};
 ghost use Rattle.std.specs.Option.{option_copied};
 ghost use Rattle.std.specs.FinMap.{empty, insert};
-ghost use Rattle.csi_machine.specs.Info.{signed, pool_named, topology_of, info_at, info};
+ghost use Rattle.csi_machine.specs.Info.{signed, topology_of, info_at, info};
+ghost use Rattle.csi_keeper.specs.Lookup.{pool_named};
 
 use crate::ids::id;
-use crate::volume::Volume;
 use csi_config::{Config, Pool};
+use csi_keeper::Volume;
 use csi_types::{Items, Map, Text, VolumeInfo, copy_map, copy_text};
 use std::alloc::{AllocError, Global};
 

@@ -1,21 +1,18 @@
-//! Laws of the definitions that the contracts cite: each is the contract of a function that does nothing.
+//! Laws of the definitions that the contracts cite: each is the contract of a function that does
+//! nothing.
 
-ghost use Rattle.std.specs.Prelude.{◌≡◌, ◌<◌, ◌≤◌, ◌^◌, ℕ, List, [], Some};
-ghost use Rattle.csi_machine.specs.Coexistence.{coexist};
+ghost use Rattle.std.specs.Prelude.{◌≡◌, ◌<◌, ◌^◌, ℕ, List, [], Some};
 ghost use Rattle.csi_machine.specs.Ids.{id, number_of_id};
-ghost use Rattle.csi_machine.specs.Texts.{Text};
-ghost use Rattle.csi_machine.specs.Invariant.{IsInvariant};
-ghost use Rattle.csi_machine.specs.State.{State};
+ghost use Rattle.csi_keeper.specs.Texts.{Text};
+ghost use Rattle.csi_keeper.specs.Invariant.{IsInvariant};
+ghost use Rattle.csi_keeper.specs.State.{State};
 ghost use Rattle.csi_machine.specs.Walk.{Call, pages, AreRead, AreChecked, AreOfVolumes, GoOn, End, Stood, listed_ids, AreApart};
 ghost use Rattle.csi_config.specs.Values.{Has};
 ghost use Rattle.std.specs.List.{AllByRecursion};
-ghost use Rattle.csi_machine.specs.Memory.{first_state};
 ghost use Rattle.csi_machine.specs.Offer.{AsksFor, IsNew};
 ghost use Rattle.csi_machine.specs.calls.Capacity.{capacity, tell_capacity};
 ghost use Rattle.csi_machine.specs.calls.Create.{create, place_in};
-ghost use Rattle.csi_machine.specs.declared.volume.Attachment.{Attachment};
 ghost use Rattle.csi_config.specs.declared.pools.Pool.{Pool};
-ghost use Rattle.csi_types.specs.declared.limits.TheConstants.{MAX_NUMBER};
 ghost use Rattle.csi_types.specs.declared.requests.CreateVolume.{CreateVolume};
 ghost use Rattle.csi_types.specs.declared.requests.GetCapacity.{GetCapacity};
 
@@ -30,14 +27,8 @@ pub fn ids()
     ensures only { (t : Text) (n : ℕ) → number_of_id t ≡ Some n → t ≡ id n }
 {}
 
-/// Coexistence has no order.
-#[inline(always)]
-#[tactic(auto, using(crate::proofs::CoexistenceLemmas::coexist_turned))]
-pub fn coexist_symmetric()
-    ensures { (a b : Attachment) → coexist a b ≡ coexist b a }
-{}
-
-/// A walk over the pages of a listing, from a State of the invariant (CSI specification, 'ListVolumes').
+/// A walk over the pages of a listing, from a State of the invariant (CSI specification,
+/// 'ListVolumes').
 ///
 /// Its first page has an empty token, each next one the token that the page before told, and other
 /// requests that pass the checks of their arguments come anywhere. No page is refused for its token;
@@ -52,12 +43,6 @@ pub fn walk(config: &Config)
 {
     configured(config);
 }
-
-/// A State without volumes is of the invariant, whatever number its first volume gets.
-#[inline(always)]
-pub fn first(config: &Config)
-    ensures { (n : ℕ) → 1 ≤ n → n ≤ MAX_NUMBER → IsInvariant config.now (first_state n) }
-{}
 
 /// What GetCapacity offers is given (CSI specification, 'GetCapacity', `maximum_volume_size`).
 ///

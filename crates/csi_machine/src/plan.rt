@@ -3,7 +3,7 @@
 ghost use Rattle.std.specs.Prelude.{◌≡◌};
 ghost use Rattle.csi_machine.specs.Plan.{refuse, respond};
 
-use crate::change::Change;
+use csi_keeper::Change;
 use csi_types::{Reason, Response};
 
 /// What a request is answered.

@@ -7,7 +7,7 @@ use Rattle.csi_types.specs.declared.requests.Request.{Request}
 use Rattle.csi_types.specs.Checks.{checked}
 use Rattle.frames_core.specs.Envelope.{ReplyBytes}
 use Rattle.csi_config.specs.declared.config.Config.{Config}
-use Rattle.csi_machine.specs.State.{State}
+use Rattle.csi_keeper.specs.State.{State}
 use Rattle.csi_machine.specs.Step.{step}
 use Rattle.csi_codec.specs.Reading.{read_request}
 use Rattle.csi_server.specs.Machine.{Event, Unmarked, IsAllowed, IsDue, state_after}

@@ -46,7 +46,7 @@ kept_by {S} x May now s r e h = subst (λ (y : ReplyBytes × S). AnswersBy y May
   allowed = λ is_marked. absurd (is_marked refl);
   reply = refl;
   held = h;
-  counted = inl (omega arith);
+  counted = inl (refl, refl);
   left = inl (refl, λ t k. inl k);
   ties = λ k. k;
 })
@@ -58,7 +58,7 @@ memory_by x May now s r e may h = record {
   allowed = λ is_marked. may;
   reply = e;
   held = h;
-  counted = inl (omega arith);
+  counted = inl (refl, refl);
   left = λ t k. inl k;
   ties = λ k. k;
 }

@@ -1,5 +1,6 @@
 -- A run that goes on by one call.
 use Rattle.std.proofs.Common.{◌≡◌, ◌≢◌, ℕ, ◌+◌, List, [], ◌∷◌, ◌++◌, length, Option, refl, sym, ap, subst, ◌∙◌, append_assoc, append-nil, arith, All, inl, inr, ◌⊎◌}
+use Rattle.std.specs.Prelude.{◌-◌, ◌^◌, min}
 use Rattle.std.specs.List.{AllByRecursion}
 use Rattle.std.proofs.lemmas.List.{map-append, length-append}
 use Rattle.std.proofs.lemmas.List.Elements.{All-push, All-nil}
@@ -56,10 +57,10 @@ marks-push [] e = omega arith
 marks-push (x ∷ xs) e = omega (arith, marks-push xs e)
 
 rose-more : (a b c n k : ℕ) → RoseBy a b n → RoseBy b c k → RoseBy a c (n + k)
-rose-more a b c n k (inl p) (inl q) = inl (omega (arith, p, q))
-rose-more a b c n k (inl p) (inr q) = inr q
-rose-more a b c n k (inr p) (inl q) = inr (omega (arith, p, q))
-rose-more a b c n k (inr p) (inr q) = inr q
+rose-more a b c n k (inl p) (inl q) = inl (omega (arith, p.0, q.0), q.1 ∙ p.1)
+rose-more a b c n k (inl p) (inr q) = inr (omega (arith, p.0, p.1, q))
+rose-more a b c n k (inr p) (inl q) = inr (omega (arith, p, q.0, q.1))
+rose-more a b c n k (inr p) (inr q) = inr (omega (arith, p, q))
 
 marked_keeps : {S : Type 0} (m : Machine S) (s : S) (call : CallBytes) (mark : Mark) → mark ≢ Unmarked → (step m s (record { call = call; mark = mark })).1 ≡ s
 marked_keeps m s call Unmarked h = absurd (h refl)
@@ -131,7 +132,7 @@ runs_start m now s h = record {
   allowed = tt;
   formed = tt;
   held = h;
-  counted = inl (omega arith);
+  counted = inl (refl, refl);
   survive = λ only t k. inl (only t k);
   ties = λ k. k;
 }

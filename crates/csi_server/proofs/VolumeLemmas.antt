@@ -1,8 +1,6 @@
 -- A keeper's answers, as the volume machine responds.
-use Rattle.std.proofs.Common.{◌≡◌, ◌≢◌, ◌⊎◌, ℕ, List, [], ◌++◌, drop, Option, Some, None, Result, Ok, Err, refl, sym, ap, subst, ◌∙◌, inl, inr, arith}
-use Rattle.std.specs.Prelude.{⊤, ◌+◌, ◌-◌, ◌^◌, ◌<◌, ◌≤◌, min}
-use Rattle.std.proofs.lemmas.Bool.{cases_lt}
-use Rattle.std.proofs.Math.Nat.{min-eq_left, min-eq_right}
+use Rattle.std.proofs.Common.{◌≡◌, ◌≢◌, ◌⊎◌, ℕ, List, [], ◌++◌, drop, Option, Some, None, Result, Ok, Err, refl, sym, ap, subst, ◌∙◌, inl, inr}
+use Rattle.std.specs.Prelude.{⊤}
 use Rattle.csi_types.specs.declared.reason.Reason.TheVariants as reason
 use Rattle.csi_types.specs.declared.requests.Request.{Request}
 use Rattle.frames_core.specs.Envelope.{ReplyBytes}
@@ -10,15 +8,15 @@ use Rattle.frames_core.specs.declared.limits.TheConstants.{REPLY_HEAD_BYTES}
 use Rattle.csi_config.specs.declared.config.Config.{Config}
 use Rattle.csi_machine.specs.declared.body.Verdict.{Verdict}
 use Rattle.csi_machine.specs.declared.body.Verdict.TheVariants as verdict
-use Rattle.csi_machine.specs.declared.change.StoreFault.{StoreFault}
-use Rattle.csi_machine.specs.declared.change.StoreFault.TheVariants as fault
+use Rattle.csi_keeper.specs.declared.change.StoreFault.{StoreFault}
+use Rattle.csi_keeper.specs.declared.change.StoreFault.TheVariants as fault
 use Rattle.csi_machine.specs.Answering.{state_after, Leaves}
-use Rattle.csi_machine.specs.Invariant.{IsInvariant}
-use Rattle.csi_machine.specs.Keeper.{count_after}
-use Rattle.csi_machine.specs.State.{State}
+use Rattle.csi_keeper.specs.Invariant.{IsInvariant}
+use Rattle.csi_keeper.specs.Keeper.{count_after}
+use Rattle.csi_keeper.specs.State.{State}
 use Rattle.csi_machine.specs.Step.{step}
 use Rattle.csi_machine.specs.Verdicts.{Told, IsTold}
-use Rattle.csi_server.specs.Machine.{Mark, Unmarked, OutOfMemory, StoreRefused, StoreDown, Sight, RoseBy, refused}
+use Rattle.csi_server.specs.Machine.{Mark, Unmarked, OutOfMemory, StoreRefused, StoreDown, Sight, refused}
 use Rattle.csi_server.specs.Requests.{AnswersBy, after_check, told}
 use Rattle.csi_server.specs.Service.{room}
 use Rattle.csi_server.specs.Volumes.{seen}
@@ -31,17 +29,6 @@ RepliesTo out r (Err fault.NoMemory) = r ≡ refused reason.OutOfMemory
 RepliesTo out r (Err fault.Refused) = r ≡ refused reason.StoreRefused
 RepliesTo out r (Err fault.Down) = r ≡ refused reason.StoreDown
 
--- one more, or no more can be counted
-rises : (n : ℕ) → (n + 1 ≤ min (n + 1) (2 ^ 64 - 1)) ⊎ (2 ^ 64 - 1 ≤ min (n + 1) (2 ^ 64 - 1))
-rises n = by (cases_lt (n + 1) (2 ^ 64 - 1))
-  where
-    by : (n + 1 < 2 ^ 64 - 1) ⊎ (2 ^ 64 - 1 ≤ n + 1) → (n + 1 ≤ min (n + 1) (2 ^ 64 - 1)) ⊎ (2 ^ 64 - 1 ≤ min (n + 1) (2 ^ 64 - 1))
-    by (inl less) = inl (let e : min (n + 1) (2 ^ 64 - 1) ≡ n + 1 = min-eq_left (omega arith) in omega arith)
-    by (inr most) = inr (let e : min (n + 1) (2 ^ 64 - 1) ≡ 2 ^ 64 - 1 = min-eq_right most in omega arith)
-
-rose : (old new : ℕ) → new ≡ min (old + 1) (2 ^ 64 - 1) → RoseBy old new 1
-rose old new e = subst (λ (n : ℕ). RoseBy old n 1) (sym e) (rises old)
-
 module _ {K : Type 0} (holds : K → State → Type 0) (doubt refusals : K → ℕ) (survivors : K → State → Type 0) (tied : K → Type 0) (config : Config) (request : Request) (a b : K) where
   done_by : (s : State) (r : ReplyBytes) → r ≡ told (step config s request).0
       → holds b (step config s request).1 → IsInvariant config (step config s request).1 → refusals b ≡ refusals a
@@ -53,7 +40,7 @@ module _ {K : Type 0} (holds : K → State → Type 0) (doubt refusals : K → �
     allowed = λ is_marked. tt;
     reply = e;
     held = (held, inv);
-    counted = inl (omega (arith, count));
+    counted = inl (refl, count);
     left = left;
     ties = ties;
   }
@@ -79,7 +66,7 @@ module _ {K : Type 0} (holds : K → State → Type 0) (doubt refusals : K → �
     allowed = λ is_marked. tt;
     reply = e;
     held = (held, inv);
-    counted = inl (omega (arith, count));
+    counted = inl (refl, count);
     left = left;
     ties = ties;
   }
@@ -88,7 +75,7 @@ module _ {K : Type 0} (holds : K → State → Type 0) (doubt refusals : K → �
     allowed = λ is_marked. tt;
     reply = e;
     held = (held, inv);
-    counted = rose (refusals a) (refusals b) count;
+    counted = inr count;
     left = left;
     ties = ties;
   }
@@ -97,7 +84,7 @@ module _ {K : Type 0} (holds : K → State → Type 0) (doubt refusals : K → �
     allowed = λ is_marked. tt;
     reply = e;
     held = (held, inv);
-    counted = rose (refusals a) (refusals b) count;
+    counted = inr count;
     left = left;
     ties = ties;
   }

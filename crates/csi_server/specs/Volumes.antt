@@ -7,8 +7,8 @@ use Rattle.csi_types.specs.Checks.{checked}
 use Rattle.csi_types.specs.Methods.{method_at}
 use Rattle.csi_codec.specs.Reading.{read_request}
 use Rattle.csi_config.specs.declared.config.Config.{Config}
-use Rattle.csi_machine.specs.Invariant.{IsInvariant}
-use Rattle.csi_machine.specs.State.{State}
+use Rattle.csi_keeper.specs.Invariant.{IsInvariant}
+use Rattle.csi_keeper.specs.State.{State}
 use Rattle.csi_machine.specs.Step.{step}
 use Rattle.csi_server.specs.Machine.{Machine, Sight, Event, Unmarked, state_after}
 use Rattle.csi_server.specs.Machine.{step as call_step}

@@ -12,7 +12,7 @@ ghost use Rattle.csi_server.specs.Machine.{Unmarked, Event, Runs, AreReplies, re
 ghost use Rattle.csi_server.specs.Identity.{identity};
 ghost use Rattle.csi_server.specs.Volumes.{volumes, seen, IsPending};
 ghost use Rattle.csi_config.specs.declared.config.Config.{Config as AnyConfig};
-ghost use Rattle.csi_machine.specs.State.{State as MachineState};
+ghost use Rattle.csi_keeper.specs.State.{State as MachineState};
 
 use crate::service::Service;
 use csi_codec::laws::reading;

@@ -5,7 +5,7 @@ ghost use Rattle.std.specs.Io.KnownBytes.{Consumes, IsAtEnd, Keeps};
 ghost use Rattle.csi_types.specs.Checks.{checked};
 ghost use Rattle.csi_types.specs.declared.requests.Request.{Request as AnyRequest};
 ghost use Rattle.csi_codec.specs.Reading.{read_request};
-ghost use Rattle.csi_machine.specs.State.{State as MachineState};
+ghost use Rattle.csi_keeper.specs.State.{State as MachineState};
 ghost use Rattle.csi_machine.specs.Step.{step};
 ghost use Rattle.csi_server.specs.Requests.{after_check, after_read, AnswersBy};
 ghost use Rattle.csi_server.specs.Service.{reply_of, HoldsBody, room};
@@ -89,7 +89,7 @@ fn answer_message<K: Keeper>(
 
 /// A keeper answers the calls of the volume machine under a configuration.
 impl<K: Keeper> Service<Config> for K {
-    ghost use Rattle.csi_machine.specs.State.{State as MachineState};
+    ghost use Rattle.csi_keeper.specs.State.{State as MachineState};
     ghost use Rattle.csi_server.specs.Volumes.{volumes, seen};
 
     ghost State = { MachineState };
@@ -114,15 +114,16 @@ impl<K: Keeper> Service<Config> for K {
 
 /// Serves the volume machine over a keeper.
 ///
-/// For every byte stream, however it is cut, what is written are the framed replies of the volume machine
-/// over the calls that the stream has, up to its first malformed frame, which is refused at its place; the
-/// keeper then has that machine's State. No pool is overcommitted in it. A call that is refused for memory
-/// or by the store is answered `INTERNAL` and leaves the State as before it.
+/// For every byte stream, however it is cut, what is written are the framed replies of the volume
+/// machine over the calls that the stream has, up to its first malformed frame, which is refused at
+/// its place; the keeper then has that machine's State. No pool is overcommitted in it. A call that
+/// is refused for memory or by the store is answered `INTERNAL` and leaves the State as before it.
 ///
-/// `serves` says this by the way the run ends, from each State of the invariant that the keeper may have had, while what
-/// the keeper stands on is not in doubt at the end; besides, the keeper's count rose at least as often as a
-/// call was answered that the store refused, and where a stop at the start could only leave the State, a stop
-/// at the end leaves the last State, or what [`pending`](crate::laws::pending) says.
+/// `serves` says this by the way the run ends, from each State of the invariant that the keeper may
+/// have had, while what the keeper stands on is not in doubt at the end; besides, the keeper's count
+/// rose exactly as often as a call was answered that the store refused or that it is down, up to
+/// 2^64 - 1, and where a stop at the start could only leave the State, a stop at the end leaves the
+/// last State, or what [`pending`](crate::laws::pending) says.
 pub fn serve<K: Keeper, R: Read, W: Write>(
     alloc: Global,
     config: &Config,

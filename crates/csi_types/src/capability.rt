@@ -1,6 +1,10 @@
 //! How a volume may be used.
 
+ghost use Rattle.std.specs.Prelude.{◌≡◌};
+ghost use Rattle.csi_types.specs.Checks.{is_known_mode, is_mode_to, is_supported};
+
 use crate::items::Items;
+use crate::limits::{MAX_ACCESS_MODE, MAX_MOUNT_MODE};
 use crate::text::Text;
 
 /// `VolumeCapability.MountVolume` (CSI specification, 'CreateVolume').
@@ -34,4 +38,31 @@ pub struct Capability {
     pub access: Access,
     /// `access_mode.mode`, field 1 of field 3, as it was sent; `None` where `access_mode` is absent.
     pub mode: Option<i32>,
+}
+
+// Whether a mode is given and is 1 to `most`.
+fn is_mode_to(most: u8, mode: Option<i32>) -> bool
+    ensures { result ≡ is_mode_to most mode }
+{
+    mode.is_some_and(|mode| 1 <= mode && mode <= i32::from(most))
+}
+
+/// Whether an access mode is given and is one of those that are known, 1 to `MAX_ACCESS_MODE`.
+pub fn is_known_mode(mode: Option<i32>) -> bool
+    ensures { result ≡ is_known_mode mode }
+{
+    is_mode_to(MAX_ACCESS_MODE, mode)
+}
+
+/// Whether a volume can be made for the capability: block with each known mode, mount with the
+/// modes 1 to `MAX_MOUNT_MODE`, in which no node writes beside others (CSI specification,
+/// 'CreateVolume').
+pub fn is_supported(capability: &Capability) -> bool
+    ensures { result ≡ is_supported capability.now }
+{
+    match capability.access {
+        Access::Missing => false,
+        Access::Block => is_known_mode(capability.mode),
+        Access::Mount(_) => is_mode_to(MAX_MOUNT_MODE, capability.mode),
+    }
 }

@@ -36,6 +36,9 @@ pub const MAX_NODES: usize = 64;
 /// The most volumes.
 pub const MAX_VOLUMES: u64 = 100_000;
 
+/// The most entries of a page of a listing.
+pub const MAX_PAGE_ENTRIES: u32 = 100;
+
 /// The most bytes of all pools together.
 pub const MAX_POOL_BYTES: u64 = 1 << 62;
 
@@ -61,6 +64,8 @@ const _: () = prove!(MAX_SEGMENTS == 8);
 const _: () = prove!(MAX_NODES == 64);
 
 const _: () = prove!(MAX_VOLUMES == 100_000);
+
+const _: () = prove!(MAX_PAGE_ENTRIES == 100);
 
 const _: () = prove!(MAX_POOL_BYTES == 4_611_686_018_427_387_904);
 

@@ -9,7 +9,7 @@ use Rattle.csi_config.specs.declared.config.Config.{Config}
 use Rattle.csi_machine.specs.declared.plan.Plan.{Plan}
 use Rattle.csi_machine.specs.Choice.{Room, rooms, free}
 use Rattle.csi_machine.specs.Plan.{respond}
-use Rattle.csi_machine.specs.State.{State}
+use Rattle.csi_keeper.specs.State.{State}
 use Rattle.csi_machine.specs.Topology.{serves}
 
 abbrev pub is_served : Option TextMap → Room → Bool

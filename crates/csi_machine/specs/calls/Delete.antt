@@ -4,13 +4,13 @@ use Rattle.std.specs.FinMap.{get}
 use Rattle.csi_types.specs.declared.reason.Reason.TheVariants.{VolumeInUse}
 use Rattle.csi_types.specs.declared.requests.DeleteVolume.{DeleteVolume}
 use Rattle.csi_types.specs.declared.responses.Response.TheVariants as response
-use Rattle.csi_machine.specs.declared.change.Change.TheVariants.{RemoveVolume}
+use Rattle.csi_keeper.specs.declared.change.Change.TheVariants.{RemoveVolume}
 use Rattle.csi_machine.specs.declared.plan.Plan.{Plan}
-use Rattle.csi_machine.specs.declared.volume.Attachment.{Attachment}
-use Rattle.csi_machine.specs.declared.volume.Volume.{Volume}
+use Rattle.csi_keeper.specs.declared.volume.Attachment.{Attachment}
+use Rattle.csi_keeper.specs.declared.volume.Volume.{Volume}
 use Rattle.csi_machine.specs.Ids.{number_of_id}
 use Rattle.csi_machine.specs.Plan.{refuse, respond, make}
-use Rattle.csi_machine.specs.State.{State, attached}
+use Rattle.csi_keeper.specs.State.{State, attached}
 
 -- an unknown volume is done with; one that is attached is in use
 abbrev pub delete_volume : ℕ → Option Volume → List Attachment → Plan

@@ -2,19 +2,20 @@
 use Rattle.std.specs.Prelude.{ℕ, ◌==◌, ◌&&◌, nat_lt, nat_le, min, List, [], ◌∷◌, Option, Some, None, map, if◌then◌else◌}
 use Rattle.std.specs.Fmt.{decimal}
 use Rattle.csi_types.specs.Names.{is_empty}
+use Rattle.csi_types.specs.declared.limits.TheConstants.{MAX_PAGE_ENTRIES}
 use Rattle.csi_types.specs.declared.reason.Reason.TheVariants.{BadToken}
 use Rattle.csi_types.specs.declared.requests.ListVolumes.{ListVolumes}
 use Rattle.csi_types.specs.declared.responses.Response.TheVariants as response
 use Rattle.csi_types.specs.declared.volume.Entry.{Entry}
 use Rattle.csi_config.specs.declared.config.Config.{Config}
 use Rattle.csi_machine.specs.declared.plan.Plan.{Plan}
-use Rattle.csi_machine.specs.declared.volume.Volume.{Volume}
+use Rattle.csi_keeper.specs.declared.volume.Volume.{Volume}
 use Rattle.csi_machine.specs.Ids.{number_of}
 use Rattle.csi_machine.specs.Info.{info}
 use Rattle.csi_machine.specs.Plan.{refuse, respond}
 use Rattle.csi_machine.specs.Size.{whole}
-use Rattle.csi_machine.specs.State.{State, published, beyond, page}
-use Rattle.csi_machine.specs.Texts.{Text}
+use Rattle.csi_keeper.specs.State.{State, published, beyond, page}
+use Rattle.csi_keeper.specs.Texts.{Text}
 
 -- a number that a volume was given
 abbrev pub given : ℕ → Option ℕ → Option ℕ
@@ -25,9 +26,9 @@ given next (Some n) = if nat_le 1 n && nat_lt n next then Some n else None
 abbrev pub start_of : ℕ → Text → Option ℕ
 start_of next token = if is_empty token then Some 0 else given next (number_of token)
 
--- as many entries as are asked for, and at most 100; 0 does not ask
+-- as many entries as are asked for, up to the limit; 0 does not ask
 abbrev pub entries_for : ℕ → ℕ
-entries_for most = if most == 0 then 100 else min most 100
+entries_for most = if most == 0 then MAX_PAGE_ENTRIES else min most MAX_PAGE_ENTRIES
 
 -- the volumes of a page that begins after a number
 abbrev pub listed : State → ℕ → ℕ → List Volume

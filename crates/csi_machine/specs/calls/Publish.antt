@@ -9,17 +9,18 @@ use Rattle.csi_types.specs.declared.requests.Publish.{Publish}
 use Rattle.csi_types.specs.declared.responses.Response.TheVariants as response
 use Rattle.csi_config.specs.declared.config.Config.{Config}
 use Rattle.csi_config.specs.declared.nodes.Node.{Node}
-use Rattle.csi_machine.specs.declared.capability.CapKey.{CapKey}
-use Rattle.csi_machine.specs.declared.change.Change.TheVariants.{Attach}
+use Rattle.csi_keeper.specs.Lookup.{node_of}
+use Rattle.csi_keeper.specs.declared.capability.CapKey.{CapKey}
+use Rattle.csi_keeper.specs.declared.change.Change.TheVariants.{Attach}
 use Rattle.csi_machine.specs.declared.plan.Plan.{Plan}
-use Rattle.csi_machine.specs.declared.volume.Attachment.{Attachment}
-use Rattle.csi_machine.specs.declared.volume.Volume.{Volume}
-use Rattle.csi_machine.specs.Capability.{key_of, same_key, has_key}
-use Rattle.csi_machine.specs.Coexistence.{coexist}
+use Rattle.csi_keeper.specs.declared.volume.Attachment.{Attachment}
+use Rattle.csi_keeper.specs.declared.volume.Volume.{Volume}
+use Rattle.csi_keeper.specs.Capability.{key_of, same_key, has_key}
+use Rattle.csi_keeper.specs.Coexistence.{coexist}
 use Rattle.csi_machine.specs.Ids.{number_of_id}
 use Rattle.csi_machine.specs.Plan.{refuse, respond, make}
-use Rattle.csi_machine.specs.State.{State, attached, attached_at}
-use Rattle.csi_machine.specs.Texts.{Text}
+use Rattle.csi_keeper.specs.State.{State, attached, attached_at}
+use Rattle.csi_keeper.specs.Texts.{Text}
 
 abbrev pub flag_text : Bool → Text
 flag_text true = codes "true"
@@ -66,9 +67,6 @@ publish_at n v attachments node there r (Some key) = publish_key n v attachments
 abbrev pub asked_key : Option Capability → Option CapKey
 asked_key None = None
 asked_key (Some c) = key_of c
-
-abbrev pub node_of : Config → Text → Option Node
-node_of config id = find (λ m. same_text m.id id) config.nodes
 
 abbrev pub publish_node : State → ℕ → Volume → Publish → Option Node → Plan
 publish_node s n v r None = refuse NodeNotFound

@@ -3,14 +3,14 @@ use Rattle.std.specs.Prelude.{ℕ, List, [], ◌∷◌, Option, Some, None, find
 use Rattle.csi_types.specs.Names.{is_empty}
 use Rattle.csi_types.specs.declared.requests.Unpublish.{Unpublish}
 use Rattle.csi_types.specs.declared.responses.Response.TheVariants as response
-use Rattle.csi_machine.specs.declared.change.Change.TheVariants.{Detach, DetachAll}
+use Rattle.csi_keeper.specs.declared.change.Change.TheVariants.{Detach, DetachAll}
 use Rattle.csi_machine.specs.declared.plan.Plan.{Plan}
-use Rattle.csi_machine.specs.declared.volume.Attachment.{Attachment}
+use Rattle.csi_keeper.specs.declared.volume.Attachment.{Attachment}
 use Rattle.csi_machine.specs.calls.Publish.{is_at}
 use Rattle.csi_machine.specs.Ids.{number_of_id}
 use Rattle.csi_machine.specs.Plan.{respond, make}
-use Rattle.csi_machine.specs.State.{State, attached}
-use Rattle.csi_machine.specs.Texts.{Text}
+use Rattle.csi_keeper.specs.State.{State, attached}
+use Rattle.csi_keeper.specs.Texts.{Text}
 
 abbrev pub detach_all : ℕ → List Attachment → Plan
 detach_all n [] = respond response.Unpublish

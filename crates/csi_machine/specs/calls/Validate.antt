@@ -6,11 +6,11 @@ use Rattle.csi_types.specs.declared.reason.Reason.TheVariants.{VolumeNotFound}
 use Rattle.csi_types.specs.declared.requests.Validate.{Validate}
 use Rattle.csi_types.specs.declared.responses.Response.TheVariants as response
 use Rattle.csi_machine.specs.declared.plan.Plan.{Plan}
-use Rattle.csi_machine.specs.declared.volume.Volume.{Volume}
-use Rattle.csi_machine.specs.Capability.{have_keys}
+use Rattle.csi_keeper.specs.declared.volume.Volume.{Volume}
+use Rattle.csi_keeper.specs.Capability.{have_keys}
 use Rattle.csi_machine.specs.Ids.{number_of_id}
 use Rattle.csi_machine.specs.Plan.{refuse, respond}
-use Rattle.csi_machine.specs.State.{State}
+use Rattle.csi_keeper.specs.State.{State}
 
 -- the request's own capabilities and parameters; a volume's context is not confirmed
 abbrev pub confirm : Validate → Plan

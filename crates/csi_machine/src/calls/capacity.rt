@@ -4,30 +4,18 @@ ghost use Rattle.std.specs.Prelude.{◌≡◌, ◌≤◌, ◌^◌, None, map, su
 ghost use Rattle.std.specs.List.{list_all};
 ghost use Rattle.csi_types.specs.Checks.{is_supported};
 ghost use Rattle.csi_machine.specs.Choice.{room_value, free};
-ghost use Rattle.csi_machine.specs.Keeper.{IsQuiet, Tells, count_after};
-ghost use Rattle.csi_machine.specs.State.{up_to_u64};
+ghost use Rattle.csi_keeper.specs.Keeper.{IsQuiet, Tells, count_after};
+ghost use Rattle.csi_keeper.specs.State.{up_to_u64};
 ghost use Rattle.csi_machine.specs.calls.Capacity.{is_served, served, greatest, tell_capacity, capacity_of, capacity};
 
-use crate::capability::mode_of;
-use crate::change::StoreFault;
 use crate::choice::{Room, read_rooms};
-use crate::keeper::Keeper;
 use crate::plan::{Plan, respond};
 use crate::topology::serves;
 use csi_config::Config;
 use csi_config::laws::{pool_bytes_whole, sizes_whole};
-use csi_types::{Access, Capability, GetCapacity, MAX_MOUNT_MODE, Map, Response};
+use csi_keeper::{Keeper, StoreFault};
+use csi_types::{Capability, GetCapacity, Map, Response, is_supported};
 use std::alloc::Global;
-
-fn is_supported(capability: &Capability) -> bool
-    ensures { result ≡ is_supported capability.now }
-{
-    match (mode_of(capability.mode), &capability.access) {
-        (Some(_), Access::Block) => true,
-        (Some(mode), Access::Mount(_)) => mode <= MAX_MOUNT_MODE,
-        _ => false,
-    }
-}
 
 fn all_supported(capabilities: &[Capability]) -> bool
     ensures { result ≡ list_all is_supported capabilities.now }

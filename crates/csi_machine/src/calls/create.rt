@@ -3,21 +3,19 @@
 ghost use Rattle.std.specs.Prelude.{◌≡◌, Some, None, IfOk, IfSome, map};
 ghost use Rattle.std.specs.Option.{option_copied};
 ghost use Rattle.csi_machine.specs.Choice.{room_value};
-ghost use Rattle.csi_machine.specs.Keeper.{IsQuiet, Tells, count_after};
-ghost use Rattle.csi_machine.specs.State.{IsBounded};
+ghost use Rattle.csi_keeper.specs.Keeper.{IsQuiet, Tells, count_after};
+ghost use Rattle.csi_keeper.specs.State.{IsBounded};
 ghost use Rattle.csi_machine.specs.calls.Create.{is_compatible, again_at, again, made, place_in, place, fresh, create};
 
 use crate::capability::{have_keys, keys_of};
-use crate::change::{Change, StoreFault};
 use crate::choice::{Room, choose, count, read_rooms};
 use crate::info::{info_at, pool_named};
-use crate::keeper::Keeper;
 use crate::plan::{Outcome, Plan, refuse, respond};
 use crate::size::{has_size, size};
 use crate::topology::is_reachable;
-use crate::volume::Volume;
 use csi_config::laws::sizes_whole;
 use csi_config::{Config, Pool};
+use csi_keeper::{Change, Keeper, StoreFault, Volume};
 use csi_types::{
     CreateVolume, MAX_NUMBER, MAX_VOLUMES, Map, Reason, Response, copy_map, copy_text,
 };
@@ -163,7 +161,7 @@ fn fresh(
 /// # Errors
 ///
 /// What the keeper answers, or want of memory.
-#[tactic(auto, using(crate::proofs::KeeperLemmas::quiet_same, crate::proofs::KeeperLemmas::quiet_then))]
+#[tactic(auto, using(csi_keeper::specs::facts::Reads::quiet_same, csi_keeper::specs::facts::Reads::quiet_then))]
 pub(crate) fn plan_create<K: Keeper>(
     alloc: Global,
     config: &Config,

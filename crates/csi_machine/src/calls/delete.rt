@@ -1,15 +1,13 @@
 //! DeleteVolume (CSI specification, 'DeleteVolume').
 
 ghost use Rattle.std.specs.Prelude.{◌≡◌, IfOk, IfSome};
-ghost use Rattle.csi_machine.specs.Keeper.{IsQuiet, Tells, count_after};
-ghost use Rattle.csi_machine.specs.State.{IsBounded};
+ghost use Rattle.csi_keeper.specs.Keeper.{IsQuiet, Tells, count_after};
+ghost use Rattle.csi_keeper.specs.State.{IsBounded};
 ghost use Rattle.csi_machine.specs.calls.Delete.{delete_volume, delete};
 
-use crate::change::{Change, StoreFault};
 use crate::ids::number_of_id;
-use crate::keeper::Keeper;
 use crate::plan::{Outcome, Plan, refuse, respond};
-use crate::volume::{Attachment, Volume};
+use csi_keeper::{Attachment, Change, Keeper, StoreFault, Volume};
 use csi_types::{DeleteVolume, Reason, Response};
 use std::alloc::Global;
 
@@ -35,7 +33,7 @@ fn delete_volume(number: u64, volume: &Option<Volume>, attachments: &[Attachment
 /// # Errors
 ///
 /// What the keeper answers, or want of memory.
-#[tactic(auto, using(crate::proofs::KeeperLemmas::quiet_same, crate::proofs::KeeperLemmas::quiet_then))]
+#[tactic(auto, using(csi_keeper::specs::facts::Reads::quiet_same, csi_keeper::specs::facts::Reads::quiet_then))]
 pub(crate) fn plan_delete<K: Keeper>(
     alloc: Global,
     keeper: &mut K,

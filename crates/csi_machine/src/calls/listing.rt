@@ -1,18 +1,16 @@
 //! ListVolumes (CSI specification, 'ListVolumes').
 
 ghost use Rattle.std.specs.Prelude.{◌≡◌, Some, None, IfOk};
-ghost use Rattle.csi_machine.specs.Keeper.{IsQuiet, Tells, count_after};
+ghost use Rattle.csi_keeper.specs.Keeper.{IsQuiet, Tells, count_after};
 ghost use Rattle.csi_machine.specs.Size.{whole};
 ghost use Rattle.csi_machine.specs.calls.Listing.{start_of, entries_for, last_of, token_for, entry_with, entries_with, list_after, list_volumes};
 
-use crate::change::StoreFault;
 use crate::ids::{decimal_of, number_of};
 use crate::info::info;
-use crate::keeper::Keeper;
 use crate::plan::{Plan, refuse, respond};
-use crate::volume::Volume;
 use csi_config::Config;
-use csi_types::{Entry, Items, ListVolumes, Reason, Response, Text};
+use csi_keeper::{Keeper, StoreFault, Volume};
+use csi_types::{Entry, Items, ListVolumes, MAX_PAGE_ENTRIES, Reason, Response, Text};
 use std::alloc::{AllocError, Global};
 
 fn start_of(alloc: Global, next: u64, token: &Text) -> Result<Option<u64>, AllocError>
@@ -35,9 +33,9 @@ fn entries_for(most: i32) -> u32
     ensures { result ≡ entries_for (whole most) }
 {
     if most <= 0 {
-        100
+        MAX_PAGE_ENTRIES
     } else {
-        (most as u32).min(100)
+        (most as u32).min(MAX_PAGE_ENTRIES)
     }
 }
 
@@ -95,7 +93,7 @@ fn entries_with(
     Ok(entries)
 }
 
-#[tactic(auto, using(crate::proofs::KeeperLemmas::quiet_same, crate::proofs::KeeperLemmas::quiet_then, crate::proofs::PageLemmas::token_one, crate::proofs::PageLemmas::entries_page))]
+#[tactic(auto, using(csi_keeper::specs::facts::Reads::quiet_same, csi_keeper::specs::facts::Reads::quiet_then, crate::proofs::PageLemmas::token_one, crate::proofs::PageLemmas::entries_page))]
 fn list_after<K: Keeper>(
     alloc: Global,
     config: &Config,
@@ -117,7 +115,7 @@ fn list_after<K: Keeper>(
     Ok(respond(Response::List { entries, token }))
 }
 
-#[tactic(auto, using(crate::proofs::KeeperLemmas::quiet_same, crate::proofs::KeeperLemmas::quiet_then))]
+#[tactic(auto, using(csi_keeper::specs::facts::Reads::quiet_same, csi_keeper::specs::facts::Reads::quiet_then))]
 fn list_from<K: Keeper>(
     alloc: Global,
     config: &Config,
@@ -139,7 +137,7 @@ fn list_from<K: Keeper>(
 /// The plan of ListVolumes (CSI specification, the section of this name), by reads alone. A page has
 /// at most 100 entries; its token is the number of its last volume, which need not stand any more
 /// when the next page is asked for.
-#[tactic(auto, using(crate::proofs::KeeperLemmas::quiet_same, crate::proofs::KeeperLemmas::quiet_then))]
+#[tactic(auto, using(csi_keeper::specs::facts::Reads::quiet_same, csi_keeper::specs::facts::Reads::quiet_then))]
 pub(crate) fn plan_list<K: Keeper>(
     alloc: Global,
     config: &Config,

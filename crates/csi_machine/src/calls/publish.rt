@@ -2,18 +2,16 @@
 
 ghost use Rattle.std.specs.Prelude.{◌≡◌, Some, None, IfOk, IfSome, find, not};
 ghost use Rattle.std.specs.Option.{option_copied};
-ghost use Rattle.csi_machine.specs.Keeper.{IsQuiet, Tells, count_after};
-ghost use Rattle.csi_machine.specs.State.{IsBounded};
-ghost use Rattle.csi_machine.specs.calls.Publish.{publication, is_at, publish_again, has_conflict, attach, publish, publish_node, publish_at, publish_key, asked_key, node_of};
+ghost use Rattle.csi_keeper.specs.Keeper.{IsQuiet, Tells, count_after};
+ghost use Rattle.csi_keeper.specs.State.{IsBounded};
+ghost use Rattle.csi_machine.specs.calls.Publish.{publication, is_at, publish_again, has_conflict, attach, publish, publish_node, publish_at, publish_key, asked_key};
+ghost use Rattle.csi_keeper.specs.Lookup.{node_of};
 
-use crate::capability::{CapKey, cap_key, has_this_key, is_same_key};
-use crate::change::{Change, StoreFault};
-use crate::coexistence::coexist;
+use crate::capability::has_this_key;
 use crate::ids::number_of_id;
-use crate::keeper::Keeper;
 use crate::plan::{Outcome, Plan, refuse, respond};
-use crate::volume::{Attachment, Volume};
 use csi_config::{Config, Node};
+use csi_keeper::{Attachment, CapKey, Change, Keeper, StoreFault, Volume, cap_key, coexist};
 use csi_types::{Capability, Map, Publish, Reason, Response, Text, copy_text};
 use std::alloc::{AllocError, Global};
 
@@ -35,7 +33,7 @@ fn publish_again(
     ensures bounded { IfOk result (λ p. IfSome p.change IsBounded) }
     ensures value { IfOk result (λ p. p ≡ publish_again key.now readonly attachment.now) }
 {
-    if is_same_key(&attachment.cap, key) && attachment.readonly == readonly {
+    if attachment.cap == *key && attachment.readonly == readonly {
         return Ok(respond(Response::Publish(publication(alloc, readonly)?)));
     }
     Ok(refuse(Reason::PublishedOtherwise))
@@ -133,7 +131,7 @@ fn node_of<'a>(config: &'a Config, id: &Text) -> Option<&'a Node>
     config.nodes().iter().find(|node| node.id == *id)
 }
 
-#[tactic(auto, using(crate::proofs::KeeperLemmas::quiet_same, crate::proofs::KeeperLemmas::quiet_then))]
+#[tactic(auto, using(csi_keeper::specs::facts::Reads::quiet_same, csi_keeper::specs::facts::Reads::quiet_then))]
 fn publish_node<K: Keeper>(
     alloc: Global,
     config: &Config,
@@ -162,8 +160,9 @@ fn publish_node<K: Keeper>(
     Ok(publish_at(alloc, &target, request)?)
 }
 
-/// The plan of ControllerPublishVolume (CSI specification, the section of this name), by reads alone.
-#[tactic(auto, using(crate::proofs::KeeperLemmas::quiet_same, crate::proofs::KeeperLemmas::quiet_then))]
+/// The plan of ControllerPublishVolume (CSI specification, the section of this name), by reads
+/// alone.
+#[tactic(auto, using(csi_keeper::specs::facts::Reads::quiet_same, csi_keeper::specs::facts::Reads::quiet_then))]
 pub(crate) fn plan_publish<K: Keeper>(
     alloc: Global,
     config: &Config,

@@ -1,17 +1,15 @@
 //! ControllerUnpublishVolume (CSI specification, 'ControllerUnpublishVolume').
 
 ghost use Rattle.std.specs.Prelude.{◌≡◌, IfOk, IfSome, find};
-ghost use Rattle.csi_machine.specs.Keeper.{IsQuiet, Tells, count_after};
-ghost use Rattle.csi_machine.specs.State.{IsBounded};
+ghost use Rattle.csi_keeper.specs.Keeper.{IsQuiet, Tells, count_after};
+ghost use Rattle.csi_keeper.specs.State.{IsBounded};
 ghost use Rattle.csi_machine.specs.calls.Publish.{is_at};
 ghost use Rattle.csi_machine.specs.calls.Unpublish.{detach_all, detach_one, detach, unpublish};
 
 use crate::calls::publish::attachment_at;
-use crate::change::{Change, StoreFault};
 use crate::ids::number_of_id;
-use crate::keeper::Keeper;
 use crate::plan::{Outcome, Plan, respond};
-use crate::volume::Attachment;
+use csi_keeper::{Attachment, Change, Keeper, StoreFault};
 use csi_types::{Response, Text, Unpublish, copy_text};
 use std::alloc::{AllocError, Global};
 
@@ -63,7 +61,7 @@ fn detach(
 
 /// The plan of ControllerUnpublishVolume (CSI specification, the section of this name), by reads
 /// alone: a volume that is not published there, or does not stand, is answered as one that was.
-#[tactic(auto, using(crate::proofs::KeeperLemmas::quiet_same, crate::proofs::KeeperLemmas::quiet_then))]
+#[tactic(auto, using(csi_keeper::specs::facts::Reads::quiet_same, csi_keeper::specs::facts::Reads::quiet_then))]
 pub(crate) fn plan_unpublish<K: Keeper>(
     alloc: Global,
     keeper: &mut K,

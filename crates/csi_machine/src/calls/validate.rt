@@ -3,16 +3,14 @@
 ghost use Rattle.std.specs.Prelude.{◌≡◌, ◌&&◌, ◌||◌, ◌==◌, None, IfOk};
 ghost use Rattle.std.specs.FinMap.{len};
 ghost use Rattle.csi_types.specs.Maps.{same_map};
-ghost use Rattle.csi_machine.specs.Capability.{have_keys};
-ghost use Rattle.csi_machine.specs.Keeper.{IsQuiet, Tells, count_after};
+ghost use Rattle.csi_keeper.specs.Capability.{have_keys};
+ghost use Rattle.csi_keeper.specs.Keeper.{IsQuiet, Tells, count_after};
 ghost use Rattle.csi_machine.specs.calls.Validate.{confirm, deny, validate_volume, validate};
 
 use crate::capability::have_keys;
-use crate::change::StoreFault;
 use crate::ids::number_of_id;
-use crate::keeper::Keeper;
 use crate::plan::{Plan, refuse, respond};
-use crate::volume::Volume;
+use csi_keeper::{Keeper, StoreFault, Volume};
 use csi_types::{
     Capability, Confirmed, Items, Map, Reason, Response, Text, Validate, copy_capability, copy_map,
     copy_text,
@@ -88,7 +86,7 @@ fn validate_volume(
 
 /// The plan of ValidateVolumeCapabilities (CSI specification, the section of this name), by reads
 /// alone.
-#[tactic(auto, using(crate::proofs::KeeperLemmas::quiet_same, crate::proofs::KeeperLemmas::quiet_then))]
+#[tactic(auto, using(csi_keeper::specs::facts::Reads::quiet_same, csi_keeper::specs::facts::Reads::quiet_then))]
 pub(crate) fn plan_validate<K: Keeper>(
     alloc: Global,
     keeper: &mut K,

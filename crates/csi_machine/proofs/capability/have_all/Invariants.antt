@@ -1,5 +1,5 @@
 use Rattle.std.proofs.Common.{◌≡◌, drop}
-use Rattle.csi_machine.specs.Capability.{have_keys}
+use Rattle.csi_keeper.specs.Capability.{have_keys}
 use Rattle.csi_machine.proofs.capability.have_all.Given as goal
 
 -- the keys of the capabilities that are left are there, if all are

@@ -1,5 +1,5 @@
 use Rattle.std.proofs.Common.{◌≡◌, take}
-use Rattle.csi_machine.specs.Capability.{keys_of}
+use Rattle.csi_keeper.specs.Capability.{keys_of}
 use Rattle.csi_machine.proofs.capability.key_set.Given as goal
 
 abbrev pub invariant-loop-capability : goal.invariant-loop-capability

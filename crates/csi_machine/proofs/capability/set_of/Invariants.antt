@@ -1,5 +1,5 @@
 use Rattle.std.proofs.Common.{◌≡◌, take}
-use Rattle.csi_machine.specs.Capability.{ordered}
+use Rattle.csi_keeper.specs.Capability.{ordered}
 use Rattle.csi_machine.proofs.capability.set_of.Given as goal
 
 abbrev pub invariant-loop-key : goal.invariant-loop-key

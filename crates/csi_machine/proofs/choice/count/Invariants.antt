@@ -1,5 +1,5 @@
 use Rattle.std.proofs.Common.{◌≡◌, map, take}
-use Rattle.csi_machine.specs.State.{up_to_u64}
+use Rattle.csi_keeper.specs.State.{up_to_u64}
 use Rattle.csi_machine.specs.Choice.{count}
 use Rattle.csi_machine.specs.Choice.{room_value}
 use Rattle.csi_machine.proofs.choice.count.Given as goal

@@ -1,6 +1,6 @@
 use Rattle.std.proofs.Common.{◌≡◌, map, take}
-use Rattle.csi_machine.specs.State.{used}
-use Rattle.csi_machine.specs.Keeper.{IsQuiet, Tells}
+use Rattle.csi_keeper.specs.State.{used}
+use Rattle.csi_keeper.specs.Keeper.{IsQuiet, Tells}
 use Rattle.csi_machine.specs.Choice.{room_value}
 use Rattle.csi_machine.proofs.choice.read_rooms.Given as goal
 

@@ -1,12 +1,12 @@
 use Rattle.std.proofs.Common.{◌≡◌, ◌∙◌, ℕ, Result, Ok, Err, refl, ap, subst}
 use Rattle.csi_machine.specs.Answering.{state_after, Leaves}
-use Rattle.csi_machine.specs.Keeper.{count_after}
+use Rattle.csi_keeper.specs.Keeper.{count_after}
 use Rattle.csi_machine.specs.Step.{step}
 use Rattle.csi_machine.specs.Verdicts.{IsTold}
 use Rattle.csi_machine.specs.declared.body.Verdict.{Verdict}
 use Rattle.csi_machine.specs.declared.body.Verdict.TheVariants as verdict
-use Rattle.csi_machine.specs.declared.change.StoreFault.{StoreFault}
-use Rattle.csi_machine.specs.declared.change.StoreFault.TheVariants as fault
+use Rattle.csi_keeper.specs.declared.change.StoreFault.{StoreFault}
+use Rattle.csi_keeper.specs.declared.change.StoreFault.TheVariants as fault
 use Rattle.csi_server.specs.Volumes.{seen}
 use Rattle.csi_server.proofs.VolumeLemmas.{answered_by}
 use Rattle.csi_server.proofs.volumes.answer_begun.Goals as goal

@@ -1,5 +1,5 @@
 use Rattle.std.proofs.Common.{◌≡◌, map, take, sum_by}
-use Rattle.csi_machine.specs.State.{up_to_u64}
+use Rattle.csi_keeper.specs.State.{up_to_u64}
 use Rattle.csi_machine.specs.Choice.{free}
 use Rattle.csi_machine.specs.calls.Capacity.{served, greatest}
 use Rattle.csi_machine.specs.Choice.{room_value}

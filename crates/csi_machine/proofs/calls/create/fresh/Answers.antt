@@ -3,9 +3,9 @@ use Rattle.csi_machine.specs.declared.plan.Plan.{Plan}
 use Rattle.csi_machine.specs.calls.Create.{place}
 use Rattle.csi_machine.specs.Choice.{room_value}
 use Rattle.csi_machine.specs.Size.{size}
-use Rattle.csi_machine.specs.State.{IsBounded}
+use Rattle.csi_keeper.specs.State.{IsBounded}
 use Rattle.csi_machine.proofs.CreateLemmas.{fresh_bounded}
-use Rattle.csi_machine.proofs.KeeperLemmas.{if_ok}
+use Rattle.csi_keeper.specs.facts.Reads.{if_ok}
 use Rattle.csi_machine.proofs.calls.create.fresh.Goals as goal
 
 pub returns-in-Some-clause-bounded : goal.returns-in-Some-clause-bounded

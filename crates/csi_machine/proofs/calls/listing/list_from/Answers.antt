@@ -1,7 +1,7 @@
 use Rattle.std.proofs.Common.{rules, ◌≡◌, ◌∙◌, ap, Some, to_z, of_z, w32}
 use Rattle.csi_machine.specs.calls.Listing.{list_after, start_of}
 use Rattle.csi_machine.specs.Size.{whole}
-use Rattle.csi_machine.proofs.KeeperLemmas.{if_ok}
+use Rattle.csi_keeper.specs.facts.Reads.{if_ok}
 use Rattle.csi_machine.proofs.calls.listing.list_from.Goals as goal
 
 pub returns-in-Some-clause-value : goal.returns-in-Some-clause-value

@@ -1,0 +1,154 @@
+-- Rows, index and totals stand for the State after a change.
+use Rattle.std.proofs.Common.{◌≡◌, ◌∙◌, inl, inr, ap, ap₂, sym, subst, cond, arith, refl, ℕ, ◌+◌, ◌-◌, ◌<◌, ◌≤◌, ◌^◌, List, length, sum, Bool, true, false, Some, None}
+use Rattle.std.specs.BTreeMap.{is_at}
+use Rattle.std.specs.Cmp.{nat_cmp_total}
+use Rattle.std.specs.FinMap as fin
+use Rattle.std.specs.Map.{lookup}
+use Rattle.std.specs.Ordering.{nat_cmp}
+use lib.Pointwise.{bytes_decides}
+use Rattle.csi_types.specs.Maps.{same_text}
+use Rattle.csi_keeper.specs.declared.volume.Attachment.{Attachment}
+use Rattle.csi_keeper.specs.declared.change.Change.TheVariants.{AddVolume, RemoveVolume, Attach}
+use Rattle.csi_keeper.specs.declared.volume.Volume.{Volume}
+use Rattle.csi_keeper.specs.declared.totals.Total.{Total}
+use Rattle.csi_keeper.specs.declared.totals.Totals.{Totals}
+use Rattle.csi_keeper.specs.Memory.{Spot, spot_cmp, AreSpotted, IsKept, volumes_of, places_of}
+use Rattle.csi_keeper.specs.Totals.{total_of, the_total, more, less}
+use Rattle.csi_keeper.specs.State.{State, Place, place_cmp, changed, sizes, Allows}
+use Rattle.csi_keeper.specs.Texts.{Text, text_cmp}
+use Rattle.csi_keeper.specs.facts.Names.{nobody}
+use Rattle.csi_keeper.specs.facts.Finite.{inserted, removed}
+use Rattle.csi_keeper.proofs.SpotLemmas.{spotted_more}
+use Rattle.csi_keeper.specs.facts.Sums.{added_sum, added_count, taken_sum, taken_count}
+
+total_more : (t : Total) (n b m : ℕ) → t ≡ the_total n b → more t m ≡ the_total (1 + n) (m + b)
+total_more t n b m e = ap (λ (x : Total). more x m) e ∙ ap₂ the_total (omega arith) (omega arith)
+
+total_less : (t : Total) (n b m : ℕ) → t ≡ the_total (1 + n) (m + b) → less t m ≡ the_total n b
+total_less t n b m e = ap (λ (x : Total). less x m) e ∙ ap₂ the_total (omega arith) (omega arith)
+
+module _ (next : ℕ) (volumes rows : List (ℕ × Volume)) (names : List (Text × ℕ)) (pools kept : Totals) (attachments : List (Place × Attachment)) (spots : List (Spot × Unit {0})) (s : State) where
+  -- a volume more
+  pub kept_add : (index : List (Text × ℕ)) (v : Volume) → IsKept next volumes names pools attachments spots s → Allows s (AddVolume v) → v.bytes ≤ 2 ^ 62
+      → volumes_of rows ≡ fin.insert (volumes_of volumes) v.number v
+      → ((q : Text) → lookup (is_at (text_cmp q)) index ≡ cond (same_text v.name q) (Some v.number) (lookup (is_at (text_cmp q)) names))
+      → ((q : Text) → total_of kept q ≡ cond (same_text v.pool q) (more (total_of pools v.pool) v.bytes) (total_of pools q))
+      → IsKept (next + 1) rows index kept attachments spots (changed s (AddVolume v))
+  kept_add index v k allows small is_rows is_index is_totals =
+      let free : fin.get s.volumes v.number ≡ None = allows.1 in
+      let split = inserted nat_cmp_total fin.nat_cmp-IsAntisymmetric s.volumes v.number v in
+      let long = fin.len-insert nat_cmp_total s.volumes v.number v in
+      record {
+        next_is = ap (λ n. n + 1) k.next_is;
+        volumes_are = ap (λ (m : fin.FinMap nat_cmp Volume). fin.insert m v.number v) k.volumes_are ∙ sym is_rows;
+        attachments_are = k.attachments_are;
+        named = λ n w e. elim (split n w e) as (λ _. lookup (is_at (text_cmp w.name)) index ≡ Some n) [
+          | inl a ↦
+              let same : same_text v.name w.name ≡ true = (bytes_decides v.name w.name).1 (ap (λ (x : Volume). x.name) a.1) in
+              is_index w.name ∙ ap (λ b. cond b (Some v.number) (lookup (is_at (text_cmp w.name)) names)) same ∙ ap Some (sym a.0)
+          | inr b ↦ is_index w.name ∙ other n w b (same_text v.name w.name) refl
+        ];
+        totals = λ pool. is_totals pool ∙ total pool (same_text v.pool pool) refl;
+        few = let old = k.few in elim (fin.contains_key s.volumes v.number) as (λ b. fin.len (fin.insert s.volumes v.number v) ≡ cond b (fin.len s.volumes) (fin.len s.volumes + 1) → fin.len (fin.insert s.volumes v.number v) < s.next + 1) [
+          | true ↦ λ l. omega (arith, l, old)
+          | false ↦ λ l. omega (arith, l, old)
+        ] long;
+        small = λ n w e. elim (split n w e) as (λ _. w.bytes ≤ 2 ^ 62) [
+          | inl a ↦ subst (λ (x : Volume). x.bytes ≤ 2 ^ 62) a.1 small
+          | inr b ↦ k.small n w b
+        ];
+        spotted = k.spotted;
+      }
+    where
+      other : (n : ℕ) (w : Volume) → fin.get s.volumes n ≡ Some w → (b : Bool) → same_text v.name w.name ≡ b → cond b (Some v.number) (lookup (is_at (text_cmp w.name)) names) ≡ Some n
+      other n w e true t = absurd (nobody s v.name n w allows.2 e (sym ((bytes_decides v.name w.name).0 t)))
+      other n w e false t = k.named n w e
+
+      total : (pool : Text) (b : Bool) → same_text v.pool pool ≡ b → cond b (more (total_of pools v.pool) v.bytes) (total_of pools pool) ≡ the_total (length (sizes (changed s (AddVolume v)) pool)) (sum (sizes (changed s (AddVolume v)) pool))
+      total pool true t =
+          let is : v.pool ≡ pool = (bytes_decides v.pool pool).0 t in
+          total_more (total_of pools v.pool) (length (sizes s pool)) (sum (sizes s pool)) v.bytes (subst (λ (p : Text). total_of pools v.pool ≡ the_total (length (sizes s p)) (sum (sizes s p))) is (k.totals v.pool))
+          ∙ sym (ap₂ the_total (added_count s v pool allows.1 ∙ ap (λ b. cond b 1 0 + length (sizes s pool)) t) (added_sum s v pool allows.1 ∙ ap (λ b. cond b v.bytes 0 + sum (sizes s pool)) t))
+      total pool false t =
+          let a = added_count s v pool allows.1 ∙ ap (λ (b : Bool). cond {A = ℕ} b 1 0 + length (sizes s pool)) t in
+          let b = added_sum s v pool allows.1 ∙ ap (λ (b : Bool). cond {A = ℕ} b v.bytes 0 + sum (sizes s pool)) t in
+          let n : length (sizes s pool) ≡ length (sizes (changed s (AddVolume v)) pool) = omega (arith, a) in
+          let m : sum (sizes s pool) ≡ sum (sizes (changed s (AddVolume v)) pool) = omega (arith, b) in
+          k.totals pool ∙ ap₂ the_total n m
+
+  -- a volume less; the index may keep its name
+  pub kept_remove : (n : ℕ) (v : Volume) → IsKept next volumes names pools attachments spots s → fin.get s.volumes n ≡ Some v
+      → volumes_of rows ≡ fin.remove (volumes_of volumes) n
+      → ((q : Text) → total_of kept q ≡ cond (same_text v.pool q) (less (total_of pools v.pool) v.bytes) (total_of pools q))
+      → IsKept next rows names kept attachments spots (changed s (RemoveVolume n))
+  kept_remove n v k some is_rows is_totals =
+      let old = removed nat_cmp_total fin.nat_cmp-IsAntisymmetric s.volumes n in
+      let long = fin.len-remove nat_cmp_total s.volumes n in
+      record {
+        next_is = k.next_is;
+        volumes_are = ap (λ (m : fin.FinMap nat_cmp Volume). fin.remove m n) k.volumes_are ∙ sym is_rows;
+        attachments_are = k.attachments_are;
+        named = λ m w e. k.named m w (old m w e).1;
+        totals = λ pool. is_totals pool ∙ total pool (same_text v.pool pool) refl;
+        few = let less = k.few in elim (fin.contains_key s.volumes n) as (λ b. fin.len (fin.remove s.volumes n) ≡ cond b (fin.len s.volumes - 1) (fin.len s.volumes) → fin.len (fin.remove s.volumes n) < s.next) [
+          | true ↦ λ l. omega (arith, l, less)
+          | false ↦ λ l. omega (arith, l, less)
+        ] long;
+        small = λ m w e. k.small m w (old m w e).1;
+        spotted = k.spotted;
+      }
+    where
+      total : (pool : Text) (b : Bool) → same_text v.pool pool ≡ b → cond b (less (total_of pools v.pool) v.bytes) (total_of pools pool) ≡ the_total (length (sizes (changed s (RemoveVolume n)) pool)) (sum (sizes (changed s (RemoveVolume n)) pool))
+      total pool true t =
+          let is : v.pool ≡ pool = (bytes_decides v.pool pool).0 t in
+          let before : total_of pools v.pool ≡ the_total (length (sizes s pool)) (sum (sizes s pool)) = subst (λ (p : Text). total_of pools v.pool ≡ the_total (length (sizes s p)) (sum (sizes s p))) is (k.totals v.pool) in
+          total_less (total_of pools v.pool) _ _ v.bytes (before ∙ ap₂ the_total (taken_count s n v pool some ∙ ap (λ b. cond b 1 0 + length (sizes (changed s (RemoveVolume n)) pool)) t) (taken_sum s n v pool some ∙ ap (λ b. cond b v.bytes 0 + sum (sizes (changed s (RemoveVolume n)) pool)) t))
+      total pool false t =
+          let a = taken_count s n v pool some ∙ ap (λ (b : Bool). cond {A = ℕ} b 1 0 + length (sizes (changed s (RemoveVolume n)) pool)) t in
+          let b = taken_sum s n v pool some ∙ ap (λ (b : Bool). cond {A = ℕ} b v.bytes 0 + sum (sizes (changed s (RemoveVolume n)) pool)) t in
+          let x : length (sizes s pool) ≡ length (sizes (changed s (RemoveVolume n)) pool) = omega (arith, a) in
+          let y : sum (sizes s pool) ≡ sum (sizes (changed s (RemoveVolume n)) pool) = omega (arith, b) in
+          k.totals pool ∙ ap₂ the_total x y
+
+module _ (next : ℕ) (volumes : List (ℕ × Volume)) (names : List (Text × ℕ)) (pools : Totals) (attachments : List (Place × Attachment)) (spots : List (Spot × Unit {0})) (s : State) where
+  -- other attachments, that are in the index
+  pub kept_places : (rows : List (Place × Attachment)) (ahead : List (Spot × Unit {0})) (m : fin.FinMap place_cmp Attachment) → IsKept next volumes names pools attachments spots s → m ≡ places_of rows → AreSpotted rows ahead
+      → IsKept next volumes names pools rows ahead (record s { attachments = m })
+  kept_places rows ahead m k is spotted = record {
+    next_is = k.next_is;
+    volumes_are = k.volumes_are;
+    attachments_are = is;
+    named = k.named;
+    totals = k.totals;
+    few = k.few;
+    small = k.small;
+    spotted = spotted;
+  }
+
+  -- another index, in which the attachments are
+  pub kept_spots : (rows : List (Place × Attachment)) (ahead : List (Spot × Unit {0})) → IsKept next volumes names pools attachments spots s → rows ≡ attachments → (AreSpotted attachments spots → AreSpotted attachments ahead)
+      → IsKept next volumes names pools rows ahead s
+  kept_spots rows ahead k is spotted = subst (λ (es : List (Place × Attachment)). IsKept next volumes names pools es ahead s) (sym is) (record {
+    next_is = k.next_is;
+    volumes_are = k.volumes_are;
+    attachments_are = k.attachments_are;
+    named = k.named;
+    totals = k.totals;
+    few = k.few;
+    small = k.small;
+    spotted = spotted k.spotted;
+  })
+
+  -- one attachment more, whose spot was put into the index before
+  pub kept_attached : (rows : List (Place × Attachment)) (ahead : List (Spot × Unit {0})) (n : ℕ) (a copy : Attachment) (node spot : Text) → IsKept next volumes names pools attachments spots s
+      → copy ≡ a → node ≡ a.node → spot ≡ a.node
+      → places_of rows ≡ fin.insert (places_of attachments) (n, node) copy
+      → ((q : Spot) → lookup (is_at (spot_cmp q)) ahead ≡ cond (is_at (spot_cmp (spot, n)) q) (Some tt) (lookup (is_at (spot_cmp q)) spots))
+      → IsKept next volumes names pools rows ahead (changed s (Attach n a))
+  kept_attached rows ahead n a copy node spot k one here there is_rows is_ahead =
+      let made : places_of rows ≡ fin.insert (places_of attachments) (n, a.node) a =
+      is_rows ∙ ap (λ (t : Text). fin.insert (places_of attachments) (n, t) copy) here ∙ ap (λ (v : Attachment). fin.insert (places_of attachments) (n, a.node) v) one in
+      kept_places rows ahead (fin.insert s.attachments (n, a.node) a) k
+      (ap (λ (m : fin.FinMap place_cmp Attachment). fin.insert m (n, a.node) a) k.attachments_are ∙ sym made)
+      (spotted_more attachments rows spots ahead (n, a.node) a made
+      (λ q. is_ahead q ∙ ap (λ (t : Text). cond (is_at (spot_cmp (t, n)) q) (Some tt) (lookup (is_at (spot_cmp q)) spots)) there) k.spotted)

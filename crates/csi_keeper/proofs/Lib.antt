@@ -1,0 +1,9 @@
+mod ChangeLemmas
+mod DetachLemmas
+mod InvariantLemmas
+mod KeptLemmas
+mod ListingLemmas
+mod NamesLemmas
+mod ReadLemmas
+mod SpotLemmas
+mod TreeLemmas

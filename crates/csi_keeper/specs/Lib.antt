@@ -1,0 +1,12 @@
+pub mod Capability
+pub mod Coexistence
+pub mod Holding
+pub mod Invariant
+pub mod Keeper
+pub mod Lookup
+pub mod Memory
+pub mod Order
+pub mod State
+pub mod Texts
+pub mod Totals
+pub mod facts

@@ -1,0 +1,86 @@
+-- What rows in memory stand for.
+use Rattle.std.specs.Prelude.{◌≡◌, ℕ, ◌+◌, ◌-◌, ◌<◌, ◌≤◌, ◌^◌, ◌==◌, ◌&&◌, Bool, List, [], ◌∷◌, Option, Some, None, is_some, length, sum, map, filter, if◌then◌else◌}
+use Rattle.std.specs.BTreeMap.{is_at}
+use Rattle.std.specs.FinMap.{FinMap, get, len, empty, remove, entries, from_entries}
+use Rattle.std.specs.Map.{lookup}
+use Rattle.std.specs.Ordering.{nat_cmp, ordering_then}
+use Rattle.std.specs.declared.cmp.Ordering.{Ordering}
+use Rattle.std.specs.declared.ops.Bound.{Bound}
+use Rattle.std.specs.declared.ops.Bound.TheVariants.{Excluded, Unbounded}
+use Rattle.csi_types.specs.Maps.{same_text}
+use Rattle.csi_keeper.specs.declared.volume.Attachment.{Attachment}
+use Rattle.csi_keeper.specs.declared.volume.Volume.{Volume}
+use Rattle.csi_keeper.specs.declared.totals.Totals.{Totals}
+use Rattle.csi_keeper.specs.Totals.{total_of, the_total}
+use Rattle.csi_keeper.specs.State.{State, Place, place_cmp, sizes}
+use Rattle.csi_keeper.specs.Texts.{Text, text_cmp}
+
+abbrev pub volumes_of : List (ℕ × Volume) → FinMap nat_cmp Volume
+volumes_of es = from_entries es
+
+abbrev pub places_of : List (Place × Attachment) → FinMap place_cmp Attachment
+places_of es = from_entries es
+
+abbrev pub if_named : Text → Option Volume → Option Volume
+if_named name None = None
+if_named name (Some v) = if same_text v.name name then Some v else None
+
+abbrev pub at_number : FinMap nat_cmp Volume → Text → Option ℕ → Option Volume
+at_number volumes name None = None
+at_number volumes name (Some n) = if_named name (get volumes n)
+
+-- the volume of a name, by an index that may be out of date
+abbrev pub named_by : List (Text × ℕ) → FinMap nat_cmp Volume → Text → Option Volume
+named_by names volumes name = at_number volumes name (lookup (is_at (text_cmp name)) names)
+
+-- the end of the places of a number that a u64 keeps
+abbrev pub place_end : ℕ → Bound Place
+place_end n = if n == 2 ^ 64 - 1 then Unbounded else Excluded (n + 1, [])
+
+-- the nodes of a number's attachments
+abbrev pub nodes_in : List (Place × Attachment) → ℕ → List Text
+nodes_in es n = map (λ a. a.node) (map (λ e. e.1) (filter (λ e. e.0.0 == n) (entries (places_of es))))
+
+-- without the attachments at the places
+abbrev pub removed_each : FinMap place_cmp Attachment → List Place → FinMap place_cmp Attachment
+removed_each m [] = m
+removed_each m (p ∷ ps) = removed_each (remove m p) ps
+
+-- a node's id, and a volume's number
+abbrev pub Spot : Type 0
+Spot = Text × ℕ
+
+-- by the bytes of the id, and then by number
+abbrev pub spot_cmp : Spot → Spot → Ordering
+spot_cmp a b = ordering_then (text_cmp a.0 b.0) (nat_cmp a.1 b.1)
+
+abbrev pub spots_of : List (Spot × Unit {0}) → FinMap spot_cmp (Unit {0})
+spots_of es = from_entries es
+
+-- what stands at a place is in the index of nodes, which may be ahead
+abbrev pub AreSpotted : List (Place × Attachment) → List (Spot × Unit {0}) → Type 0
+AreSpotted es spots = (n : ℕ) (node : Text) (a : Attachment) → get (places_of es) (n, node) ≡ Some a → lookup (is_at (spot_cmp (node, n))) spots ≡ Some tt
+
+-- the number of a spot stands at its node
+abbrev pub stands_at : List (Place × Attachment) → Spot → Bool
+stands_at es spot = is_some (get (places_of es) (spot.1, spot.0))
+
+-- the numbers at a node, by an index that may be ahead
+abbrev pub numbers_by : List (Spot × Unit {0}) → List (Place × Attachment) → Text → List ℕ
+numbers_by spots es node = map (λ e. e.0.1) (filter (λ e. same_text e.0.0 node && stands_at es e.0) spots)
+
+-- rows, an index of names, an index of nodes and kept totals stand for a State
+pub record IsKept (next : ℕ) (volumes : List (ℕ × Volume)) (names : List (Text × ℕ)) (pools : Totals) (attachments : List (Place × Attachment)) (spots : List (Spot × Unit {0})) (s : State) : Type 0 where
+  pub next_is : s.next ≡ next
+  pub volumes_are : s.volumes ≡ volumes_of volumes
+  pub attachments_are : s.attachments ≡ places_of attachments
+  pub named : (n : ℕ) (v : Volume) → get s.volumes n ≡ Some v → lookup (is_at (text_cmp v.name)) names ≡ Some n
+  pub totals : (pool : Text) → total_of pools pool ≡ the_total (length (sizes s pool)) (sum (sizes s pool))
+  pub spotted : AreSpotted attachments spots
+  -- so that neither total passes what it is kept in
+  pub few : len s.volumes < s.next
+  pub small : (n : ℕ) (v : Volume) → get s.volumes n ≡ Some v → v.bytes ≤ 2 ^ 62
+
+-- no volumes, and the first number
+abbrev pub first_state : ℕ → State
+first_state first = record { next = first; volumes = empty; attachments = empty }

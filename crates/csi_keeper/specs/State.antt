@@ -1,0 +1,93 @@
+-- The State of the volume machine, what is read of it, and what a change makes of it.
+use Rattle.std.specs.Prelude.{◌≡◌, ℕ, ◌+◌, ◌-◌, ◌^◌, ◌<◌, ◌≤◌, ◌==◌, not, min, nat_lt, List, [], Option, None, IsSome, map, filter, find, take, sum, length, bytes_eq, ⊤}
+use Rattle.std.specs.declared.cmp.Ordering.{Ordering}
+use Rattle.std.specs.Ordering.{nat_cmp, ordering_then}
+use Rattle.std.specs.FinMap.{FinMap, get, insert, remove, entries, values, retain_keys}
+use Rattle.csi_keeper.specs.Texts.{Text, text_cmp}
+use Rattle.csi_keeper.specs.Capability.{AreOrdered}
+use Rattle.csi_keeper.specs.declared.volume.Volume.{Volume}
+use Rattle.csi_keeper.specs.declared.volume.Attachment.{Attachment}
+use Rattle.csi_keeper.specs.declared.change.Usage.{Usage}
+use Rattle.csi_keeper.specs.declared.change.Change.{Change}
+use Rattle.csi_keeper.specs.declared.change.Change.TheVariants.{AddVolume, RemoveVolume, Attach, Detach, DetachAll}
+
+-- a volume's number, and a node's id
+abbrev pub Place : Type 0
+Place = ℕ × Text
+
+-- by number, and then by the bytes of the node's id
+abbrev pub place_cmp : Place → Place → Ordering
+place_cmp a b = ordering_then (nat_cmp a.0 b.0) (text_cmp a.1 b.1)
+
+pub record State : Type 0 where
+  pub next : ℕ
+  pub volumes : FinMap nat_cmp Volume
+  pub attachments : FinMap place_cmp Attachment
+
+-- the volumes, in rising order of their numbers
+abbrev pub standing : State → List Volume
+standing s = values s.volumes
+
+-- the volume of a name
+abbrev pub named : State → Text → Option Volume
+named s name = find (λ v. bytes_eq v.name name) (standing s)
+
+-- the bytes of a pool's volumes
+abbrev pub sizes : State → Text → List ℕ
+sizes s pool = map (λ v. v.bytes) (filter (λ v. bytes_eq v.pool pool) (standing s))
+
+-- as a u64 tells it
+abbrev pub up_to_u64 : ℕ → ℕ
+up_to_u64 n = min n (2 ^ 64 - 1)
+
+-- how many volumes a pool has, and their bytes
+abbrev pub used : State → Text → Usage
+used s pool = record { volumes = up_to_u64 (length (sizes s pool)); bytes = up_to_u64 (sum (sizes s pool)) }
+
+-- a volume's attachments, in the order of their nodes
+abbrev pub attached : State → ℕ → List Attachment
+attached s number = map (λ e. e.1) (filter (λ e. e.0.0 == number) (entries s.attachments))
+
+-- the numbers of the volumes that are attached at a node, in rising order
+abbrev pub attached_at : State → Text → List ℕ
+attached_at s node = map (λ e. e.0.0) (filter (λ e. bytes_eq e.0.1 node) (entries s.attachments))
+
+-- the volumes with a greater number
+abbrev pub beyond : State → ℕ → List Volume
+beyond s after = map (λ e. e.1) (filter (λ e. nat_lt after e.0) (entries s.volumes))
+
+-- at most that many of them
+abbrev pub page : State → ℕ → ℕ → List Volume
+page s after count = take count (beyond s after)
+
+-- the nodes that a volume is published at, in their order
+abbrev pub published : State → ℕ → List Text
+published s number = map (λ a. a.node) (attached s number)
+
+-- those of each volume of a page
+abbrev pub published_of_page : State → ℕ → ℕ → List (List Text)
+published_of_page s after count = map (λ v. published s v.number) (page s after count)
+
+-- the State after a change
+abbrev pub changed : State → Change → State
+changed s (AddVolume v) = record s { next = s.next + 1; volumes = insert s.volumes v.number v }
+changed s (RemoveVolume n) = record s { volumes = remove s.volumes n }
+changed s (Attach n a) = record s { attachments = insert s.attachments (n, a.node) a }
+changed s (Detach n node) = record s { attachments = remove s.attachments (n, node) }
+changed s (DetachAll n) = record s { attachments = retain_keys s.attachments (λ p. not (p.0 == n)) }
+
+-- what the State has to be for a change: a premise of the promise
+abbrev pub Allows : State → Change → Type 0
+Allows s (AddVolume v) = (v.number ≡ s.next) × (get s.volumes v.number ≡ None) × (named s v.name ≡ None)
+Allows s (RemoveVolume n) = attached s n ≡ []
+Allows s (Attach n a) = IsSome (get s.volumes n) × (get s.attachments (n, a.node) ≡ None)
+Allows s (Detach n node) = ⊤
+Allows s (DetachAll n) = ⊤
+
+-- what is asked of the caller
+abbrev pub IsBounded : Change → Type 0
+IsBounded (AddVolume v) = (v.number < 2 ^ 62) × (v.bytes ≤ 2 ^ 62) × AreOrdered v.caps
+IsBounded (RemoveVolume n) = ⊤
+IsBounded (Attach n a) = ⊤
+IsBounded (Detach n node) = ⊤
+IsBounded (DetachAll n) = ⊤

@@ -1,0 +1,6 @@
+pub mod Coexistence
+pub mod Finite
+pub mod Names
+pub mod Orders
+pub mod Reads
+pub mod Sums

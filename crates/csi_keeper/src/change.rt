@@ -1,0 +1,65 @@
+//! How what is kept changes, what is told of it, and why a call fails.
+
+use crate::volume::{Attachment, Volume};
+use csi_types::Text;
+use std::alloc::{AllocError, AllocFailed};
+
+/// One change of the State, which is made whole or not at all.
+#[derive(Debug, Drop)]
+pub enum Change {
+    /// A new volume. Its number is the State's next one, no volume has its name, and it has at most
+    /// 2^62 bytes. The next number becomes greater by 1.
+    AddVolume(Volume),
+    /// The volume of the number stands no more. It has no attachments. Its number is never given
+    /// again. Where no volume has the number nothing changes.
+    RemoveVolume(u64),
+    /// The volume of the number, which stands, is attached at a node where it is not.
+    Attach(u64, Attachment),
+    /// The volume of the number is detached at a node. Where it is not attached there nothing
+    /// changes.
+    Detach(u64, Text),
+    /// The volume of the number is detached at each node.
+    DetachAll(u64),
+}
+
+/// How many volumes a pool has, and the sum of their bytes.
+#[derive(Clone, Copy, Debug, PartialEq, Eq)]
+pub struct Usage {
+    /// How many volumes there are.
+    pub volumes: u64,
+    /// The sum of their bytes, or the greatest `u64` where that is smaller.
+    pub bytes: u64,
+}
+
+/// Why a keeper's call failed.
+#[derive(Clone, Copy, Debug, PartialEq, Eq)]
+pub enum StoreFault {
+    /// Memory was refused.
+    NoMemory,
+    /// What the keeper stands on, as a file, refused the call.
+    Refused,
+    /// The keeper is down: it answers nothing until it is opened again.
+    Down,
+}
+
+impl From<AllocError> for StoreFault {
+    ghost use Rattle.std.specs.Prelude.{◌≡◌};
+    ghost use Rattle.csi_keeper.specs.declared.change.StoreFault.TheVariants.{NoMemory};
+
+    ghost from_gives = { λ _ e. e ≡ NoMemory };
+
+    fn from(_: AllocError) -> StoreFault {
+        StoreFault::NoMemory
+    }
+}
+
+impl<T: Drop> From<AllocFailed<T>> for StoreFault {
+    ghost use Rattle.std.specs.Prelude.{◌≡◌};
+    ghost use Rattle.csi_keeper.specs.declared.change.StoreFault.TheVariants.{NoMemory};
+
+    ghost from_gives = { λ _ e. e ≡ NoMemory };
+
+    fn from(_: AllocFailed<T>) -> StoreFault {
+        StoreFault::NoMemory
+    }
+}

@@ -1,0 +1,61 @@
+//! Copies of what is kept.
+
+ghost use Rattle.std.specs.Prelude.{◌≡◌, IfOk};
+
+use crate::capability::{CapKey, Kind};
+use crate::volume::{Attachment, Volume};
+use csi_types::{Items, copy_map, copy_text};
+use std::alloc::{AllocError, Global};
+
+/// A key equal to this one.
+pub fn copy_key(alloc: Global, key: &CapKey) -> Result<CapKey, AllocError>
+    ensures { IfOk result (λ copy. copy ≡ key.now) }
+{
+    let kind = match &key.kind {
+        Kind::Block => Kind::Block,
+        Kind::Mount(fs_type) => Kind::Mount(copy_text(alloc, fs_type.as_str())?),
+    };
+    Ok(CapKey {
+        kind,
+        mode: key.mode,
+    })
+}
+
+/// Keys equal to these.
+pub(crate) fn copy_keys(alloc: Global, keys: &Items<CapKey>) -> Result<Items<CapKey>, AllocError>
+    ensures { IfOk result (λ copy. copy ≡ keys.now) }
+{
+    let mut copy = Items::new(alloc);
+    for key in keys.as_slice() {
+        copy.push(copy_key(alloc, key)?)?;
+    }
+    Ok(copy)
+}
+
+/// A volume equal to this one.
+pub(crate) fn copy_volume(alloc: Global, volume: &Volume) -> Result<Volume, AllocError>
+    ensures { IfOk result (λ copy. copy ≡ volume.now) }
+{
+    Ok(Volume {
+        number: volume.number,
+        name: copy_text(alloc, volume.name.as_str())?,
+        bytes: volume.bytes,
+        pool: copy_text(alloc, volume.pool.as_str())?,
+        caps: copy_keys(alloc, &volume.caps)?,
+        params: copy_map(alloc, &volume.params)?,
+    })
+}
+
+/// An attachment equal to this one.
+pub(crate) fn copy_attachment(
+    alloc: Global,
+    attachment: &Attachment,
+) -> Result<Attachment, AllocError>
+    ensures { IfOk result (λ copy. copy ≡ attachment.now) }
+{
+    Ok(Attachment {
+        node: copy_text(alloc, attachment.node.as_str())?,
+        cap: copy_key(alloc, &attachment.cap)?,
+        readonly: attachment.readonly,
+    })
+}

@@ -1,0 +1,142 @@
+//! What keeps the State.
+
+ghost use Rattle.std.specs.Prelude.{◌≡◌, ℕ, Bool, Some, None, Err, IfOk, IsTrue, ◌↔◌};
+ghost use Rattle.std.specs.FinMap.{get};
+ghost use Rattle.csi_keeper.specs.State.{State, IsBounded, named, used, sizes, attached, attached_at, page, published_of_page};
+ghost use Rattle.csi_keeper.specs.Keeper.{count_after, IsQuiet, Tells, Applies};
+ghost use Rattle.csi_keeper.specs.declared.change.StoreFault.TheVariants.{Down};
+
+use crate::change::{Change, StoreFault, Usage};
+use crate::volume::{Attachment, Volume};
+use csi_types::{Items, Text};
+use std::alloc::Global;
+
+/// What keeps volumes and attachments: their State is the next number, the volumes by number, and
+/// the attachments by number and node.
+///
+/// Each read says what the State is, and leaves it. A change is made whole or not at all: where it
+/// fails the State stays, but a stop of the process may then leave it made. While the keeper is
+/// down each call but `refusals` is answered `Down`, and nothing moves; no call is answered so
+/// otherwise.
+///
+/// A keeper may stand on something that answers other than it was written to, as a broken disk
+/// does. What is promised of the State is promised while that has not been seen: while `doubt`,
+/// which never falls, is 0.
+///
+/// Any call but `refusals` may be answered `NoMemory` or `Refused`; the State stays then. What is
+/// answered belongs to the caller.
+pub trait Keeper {
+    // The States that it may have.
+    ghost holds: { Self → State → Type 0 };
+
+    // 0 while what it stands on has answered what was written.
+    ghost doubt: { Self → ℕ };
+
+    // How many calls were answered `Refused` or `Down`, up to 2^64 - 1.
+    ghost refused: { Self → ℕ };
+
+    // It answers nothing until it is opened again.
+    ghost is_down: { Self → Bool };
+
+    // The States that a stop at this moment may leave.
+    ghost survivors: { Self → State → Type 0 };
+
+    // What a stop at this moment leaves is one of the survivors.
+    ghost tied: { Self → Type 0 };
+
+    /// How many calls were answered `Refused` or `Down` since the keeper was opened, up to the
+    /// greatest `u64`. It costs O(1), and is answered also while the keeper is down.
+    fn refusals(&self) -> u64
+        ensures { result ≡ refused self.now };
+
+    /// The number that the next volume gets. A volume that is added takes it and raises it by 1; no
+    /// other change moves it, so no number is given twice.
+    fn next_number(&mut self) -> Result<u64, StoreFault>
+        ensures value { IfOk result (λ n. Tells holds doubt self.old self.new (λ s. n ≡ s.next)) }
+        ensures quiet { IsQuiet holds doubt survivors tied is_down self.old self.new }
+        ensures count { refused self.new ≡ count_after (refused self.old) result }
+        ensures down { (result ≡ Err Down) ↔ IsTrue (is_down self.old) };
+
+    /// The volume that stands under a name, byte for byte; `None` where there is none.
+    fn by_name(&mut self, alloc: Global, name: &str) -> Result<Option<Volume>, StoreFault>
+        ensures value { IfOk result (λ v. Tells holds doubt self.old self.new (λ s. v ≡ named s name.now)) }
+        ensures quiet { IsQuiet holds doubt survivors tied is_down self.old self.new }
+        ensures count { refused self.new ≡ count_after (refused self.old) result }
+        ensures down { (result ≡ Err Down) ↔ IsTrue (is_down self.old) };
+
+    /// The volume of a number; `None` where none stands.
+    fn by_number(&mut self, alloc: Global, number: u64) -> Result<Option<Volume>, StoreFault>
+        ensures value { IfOk result (λ v. Tells holds doubt self.old self.new (λ s. v ≡ get s.volumes number)) }
+        ensures quiet { IsQuiet holds doubt survivors tied is_down self.old self.new }
+        ensures count { refused self.new ≡ count_after (refused self.old) result }
+        ensures down { (result ≡ Err Down) ↔ IsTrue (is_down self.old) };
+
+    /// The attachments of the volume of a number, in byte order of their nodes' ids.
+    fn attachments(&mut self, alloc: Global, number: u64) -> Result<Items<Attachment>, StoreFault>
+        ensures value { IfOk result (λ xs. Tells holds doubt self.old self.new (λ s. xs ≡ attached s number)) }
+        ensures quiet { IsQuiet holds doubt survivors tied is_down self.old self.new }
+        ensures count { refused self.new ≡ count_after (refused self.old) result }
+        ensures down { (result ≡ Err Down) ↔ IsTrue (is_down self.old) };
+
+    /// The numbers of the volumes that are attached at a node, in rising order. It may look through
+    /// all attachments.
+    fn attached_at(&mut self, alloc: Global, node: &str) -> Result<Items<u64>, StoreFault>
+        ensures value { IfOk result (λ xs. Tells holds doubt self.old self.new (λ s. xs ≡ attached_at s node.now)) }
+        ensures quiet { IsQuiet holds doubt survivors tied is_down self.old self.new }
+        ensures count { refused self.new ≡ count_after (refused self.old) result }
+        ensures down { (result ≡ Err Down) ↔ IsTrue (is_down self.old) };
+
+    /// The sizes in bytes of a pool's volumes, in rising order of their numbers. It may look through
+    /// all volumes; `used_in` tells their count and sum without that.
+    fn sizes_in(&mut self, alloc: Global, pool: &str) -> Result<Items<u64>, StoreFault>
+        ensures value { IfOk result (λ xs. Tells holds doubt self.old self.new (λ s. xs ≡ sizes s pool.now)) }
+        ensures quiet { IsQuiet holds doubt survivors tied is_down self.old self.new }
+        ensures count { refused self.new ≡ count_after (refused self.old) result }
+        ensures down { (result ≡ Err Down) ↔ IsTrue (is_down self.old) };
+
+    /// How many volumes a pool has, and the sum of their bytes, each up to the greatest `u64`: the
+    /// count and the sum of what `sizes_in` lists. A keeper has them at hand, so that a create costs
+    /// no more where a pool has many volumes.
+    fn used_in(&mut self, pool: &Text) -> Result<Usage, StoreFault>
+        ensures value { IfOk result (λ u. Tells holds doubt self.old self.new (λ s. u ≡ used s pool.now)) }
+        ensures quiet { IsQuiet holds doubt survivors tied is_down self.old self.new }
+        ensures count { refused self.new ≡ count_after (refused self.old) result }
+        ensures down { (result ≡ Err Down) ↔ IsTrue (is_down self.old) };
+
+    /// The volumes with numbers greater than `after`, in rising order, and of these the first
+    /// `count`: one page of a listing (CSI 1.x, `ListVolumes`). It costs the search for the first of
+    /// them, and then what it answers.
+    fn page(&mut self, alloc: Global, after: u64, count: u32) -> Result<Items<Volume>, StoreFault>
+        ensures value { IfOk result (λ xs. Tells holds doubt self.old self.new (λ s. xs ≡ page s after count)) }
+        ensures quiet { IsQuiet holds doubt survivors tied is_down self.old self.new }
+        ensures count { refused self.new ≡ count_after (refused self.old) result }
+        ensures down { (result ≡ Err Down) ↔ IsTrue (is_down self.old) };
+
+    /// The nodes that each volume of a page is published at, in byte order of their ids: the page of
+    /// `page`, volume by volume (CSI 1.x, `ListVolumesResponse.VolumeStatus.published_node_ids`). It
+    /// is one read for the whole page.
+    fn published_nodes(
+        &mut self,
+        alloc: Global,
+        after: u64,
+        count: u32,
+    ) -> Result<Items<Items<Text>>, StoreFault>
+        ensures value { IfOk result (λ xs. Tells holds doubt self.old self.new (λ s. xs ≡ published_of_page s after count)) }
+        ensures quiet { IsQuiet holds doubt survivors tied is_down self.old self.new }
+        ensures count { refused self.new ≡ count_after (refused self.old) result }
+        ensures down { (result ≡ Err Down) ↔ IsTrue (is_down self.old) };
+
+    /// Makes a change, which the State has to allow: the items of `Change` say when it does. A
+    /// volume that is added has a number below 2^62, at most 2^62 bytes, and capabilities in order
+    /// and without doubles.
+    ///
+    /// After `Ok` the State is the one after the change, so is what a stop leaves, and the keeper is
+    /// not down. After `NoMemory` or `Refused` the State stays; a stop leaves what it could have
+    /// left before, or the State after the change. After `Down` nothing moved. Where the State does
+    /// not allow the change, nothing is promised of the State from then on.
+    fn apply(&mut self, alloc: Global, change: &Change) -> Result<(), StoreFault>
+        requires { IsBounded change.now }
+        ensures applies { Applies holds doubt survivors tied is_down self.old self.new change.now result }
+        ensures count { refused self.new ≡ count_after (refused self.old) result }
+        ensures down { (result ≡ Err Down) ↔ IsTrue (is_down self.old) };
+}

@@ -1,0 +1,24 @@
+//! Laws of the definitions that the contracts cite: each is the contract of a function that does
+//! nothing.
+
+ghost use Rattle.std.specs.Prelude.{◌≡◌, ◌≤◌, ℕ};
+ghost use Rattle.csi_keeper.specs.Coexistence.{coexist};
+ghost use Rattle.csi_keeper.specs.Invariant.{IsInvariant};
+ghost use Rattle.csi_keeper.specs.Memory.{first_state};
+ghost use Rattle.csi_keeper.specs.declared.volume.Attachment.{Attachment};
+ghost use Rattle.csi_types.specs.declared.limits.TheConstants.{MAX_NUMBER};
+
+use csi_config::Config;
+
+/// Coexistence has no order.
+#[inline(always)]
+#[tactic(auto, using(crate::specs::facts::Coexistence::coexist_turned))]
+pub fn coexist_symmetric()
+    ensures { (a b : Attachment) → coexist a b ≡ coexist b a }
+{}
+
+/// A State without volumes is of the invariant, whatever number its first volume gets.
+#[inline(always)]
+pub fn first(config: &Config)
+    ensures { (n : ℕ) → 1 ≤ n → n ≤ MAX_NUMBER → IsInvariant config.now (first_state n) }
+{}

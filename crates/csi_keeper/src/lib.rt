@@ -1,0 +1,21 @@
+//! What is kept of volumes: the State, how it changes, what keeps it, and a keeper in memory.
+#![tactic(auto)]
+
+mod capability;
+mod change;
+mod coexistence;
+mod copies;
+mod keeper;
+pub mod laws;
+mod mem;
+mod totals;
+mod volume;
+
+pub use capability::{CapKey, Kind, cap_key, capability_of, supported};
+pub use change::{Change, StoreFault, Usage};
+pub use coexistence::coexist;
+pub use copies::copy_key;
+pub use keeper::Keeper;
+pub use mem::MemKeeper;
+pub use totals::{Total, Totals};
+pub use volume::{Attachment, Volume};

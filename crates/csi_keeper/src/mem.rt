@@ -1,0 +1,214 @@
+//! A keeper in memory.
+
+mod attachments;
+mod names;
+mod nodes;
+mod rows;
+
+ghost use Rattle.std.specs.Prelude.{◌≡◌, ◌≤◌, ◌<◌, ◌^◌, IfOk, OnOk, OnErr};
+ghost use Rattle.csi_keeper.specs.State.{State, Allows, changed};
+ghost use Rattle.csi_keeper.specs.declared.change.Change.TheVariants.{AddVolume, RemoveVolume, Attach, Detach, DetachAll};
+ghost use Rattle.csi_keeper.specs.Holding.{Holds};
+ghost use Rattle.csi_keeper.specs.Memory.{first_state};
+
+use crate::change::{Change, StoreFault, Usage};
+use crate::copies::{copy_attachment, copy_volume};
+use crate::keeper::Keeper;
+use crate::mem::attachments::{attached_to, put_place, take_attachment, take_places};
+use crate::mem::names::{drop_name, set_name, volume_named};
+use crate::mem::nodes::{numbers_at, put_spot};
+use crate::mem::rows::{nodes_after, put_volume, sizes_of, take_volume, volume_at, volumes_after};
+use crate::totals::Totals;
+use crate::volume::{Attachment, Volume};
+use csi_types::{Items, Text, copy_text};
+use std::alloc::{AllocError, Global};
+use std::collections::BTreeMap;
+
+/// A keeper in memory. It is never down, and refuses nothing but what memory refuses: then it stays
+/// as it was, and goes on. What it keeps ends with it, so there is nothing that a stop leaves.
+///
+/// Each volume is there once. For n volumes and m attachments a volume is found by its number or
+/// name in O(log n), the attachments of a volume in O(log m) and their number, and a page in
+/// O(log n) and its entries, for its nodes O(log m) more an entry; what a pool has used costs
+/// O(log p) for p pools. What is attached at a node costs O(log m) for each of its numbers;
+/// `sizes_in` looks through all volumes. A change costs O(log n + log m), and `DetachAll` the
+/// attachments that it takes away. What is answered is a copy.
+#[derive(Drop)]
+pub struct MemKeeper {
+    next: u64,
+    volumes: BTreeMap<u64, Volume>,
+    // The number of a name's volume. A volume is asked for its name before it is answered.
+    names: BTreeMap<Text, u64>,
+    pools: Totals,
+    attachments: BTreeMap<(u64, Text), Attachment>,
+    // Where an attachment stands, by node. It is asked for before its number is answered.
+    nodes: BTreeMap<(Text, u64), ()>,
+}
+
+impl MemKeeper {
+    /// A State with no volumes and no attachments, whose first volume gets the number `first`, 1 to
+    /// 2^62.
+    pub fn new(alloc: Global, first: u64) -> Result<MemKeeper, AllocError>
+        requires least { 1 ≤ first }
+        requires most { first ≤ 2 ^ 62 }
+        ensures { IfOk result (λ keeper. Holds keeper (first_state first)) }
+    {
+        Ok(MemKeeper {
+            next: first,
+            volumes: BTreeMap::new(alloc),
+            names: BTreeMap::new(alloc),
+            pools: Totals::new(alloc),
+            attachments: BTreeMap::new(alloc),
+            nodes: BTreeMap::new(alloc),
+        })
+    }
+
+    fn add(&mut self, alloc: Global, volume: &Volume) -> Result<(), AllocError>
+        requires number { volume.now.number < 2 ^ 62 }
+        requires bytes { volume.now.bytes ≤ 2 ^ 62 }
+        ensures made { OnOk result ((s : State) → Holds self.old s → Allows s (AddVolume volume.now) → Holds self.new (changed s (AddVolume volume.now))) }
+        ensures same { OnErr result ((s : State) → Holds self.old s → Allows s (AddVolume volume.now) → Holds self.new s) }
+    {
+        let copy = copy_volume(alloc, volume)?;
+        let name = copy_text(alloc, volume.name.as_str())?;
+        let pool = copy_text(alloc, volume.pool.as_str())?;
+        set_name(&mut self.names, name, volume.number)?;
+        if let Err(refused) = put_volume(&mut self.volumes, copy) {
+            drop_name(&mut self.names, &volume.name);
+            return Err(refused);
+        }
+        if let Err(refused) = self.pools.add(pool, volume.bytes) {
+            take_volume(&mut self.volumes, volume.number);
+            drop_name(&mut self.names, &volume.name);
+            return Err(refused);
+        }
+        self.next = volume.number + 1;
+        Ok(())
+    }
+
+    fn remove(&mut self, number: u64)
+        ensures { (s : State) → Holds self.old s → Allows s (RemoveVolume number) → Holds self.new (changed s (RemoveVolume number)) }
+    {
+        if let Some(volume) = take_volume(&mut self.volumes, number) {
+            self.pools.remove(&volume.pool, volume.bytes);
+            drop_name(&mut self.names, &volume.name);
+        }
+    }
+
+    fn attach(
+        &mut self,
+        alloc: Global,
+        number: u64,
+        attachment: &Attachment,
+    ) -> Result<(), AllocError>
+        ensures made { OnOk result ((s : State) → Holds self.old s → Allows s (Attach number attachment.now) → Holds self.new (changed s (Attach number attachment.now))) }
+        ensures same { OnErr result ((s : State) → Holds self.old s → Allows s (Attach number attachment.now) → Holds self.new s) }
+    {
+        let copy = copy_attachment(alloc, attachment)?;
+        let place = (number, copy_text(alloc, attachment.node.as_str())?);
+        let spot = copy_text(alloc, attachment.node.as_str())?;
+        put_spot(&mut self.nodes, (spot, number))?;
+        put_place(&mut self.attachments, place, copy)?;
+        Ok(())
+    }
+
+    fn detach(&mut self, alloc: Global, number: u64, node: &Text) -> Result<(), AllocError>
+        ensures made { OnOk result ((s : State) → Holds self.old s → Allows s (Detach number node.now) → Holds self.new (changed s (Detach number node.now))) }
+        ensures same { OnErr result ((s : State) → Holds self.old s → Allows s (Detach number node.now) → Holds self.new s) }
+    {
+        let place = (number, copy_text(alloc, node.as_str())?);
+        take_attachment(&mut self.attachments, &mut self.nodes, place);
+        Ok(())
+    }
+
+    fn detach_all(&mut self, alloc: Global, number: u64) -> Result<(), AllocError>
+        ensures made { OnOk result ((s : State) → Holds self.old s → Allows s (DetachAll number) → Holds self.new (changed s (DetachAll number))) }
+        ensures same { OnErr result ((s : State) → Holds self.old s → Allows s (DetachAll number) → Holds self.new s) }
+    {
+        take_places(alloc, &mut self.attachments, &mut self.nodes, number)
+    }
+}
+
+impl Keeper for MemKeeper {
+    ghost use Rattle.std.specs.Prelude.{ℕ, Bool, false, ⊤};
+    ghost use Rattle.csi_keeper.specs.State.{State};
+    ghost use Rattle.csi_keeper.specs.Holding.{Holds};
+
+    ghost holds = { Holds };
+
+    ghost doubt = { λ _. 0 };
+
+    ghost refused = { λ _. 0 };
+
+    ghost is_down = { λ _. false };
+
+    ghost survivors = { λ _ _. ⊥ };
+
+    ghost tied = { λ _. ⊤ };
+
+    fn refusals(&self) -> u64 {
+        0
+    }
+
+    #[tactic(auto, using(crate::specs::facts::Reads::quiet_same, crate::proofs::ReadLemmas::held_next))]
+    fn next_number(&mut self) -> Result<u64, StoreFault> {
+        Ok(self.next)
+    }
+
+    #[tactic(auto, using(crate::specs::facts::Reads::quiet_same, crate::proofs::NamesLemmas::named_kept))]
+    fn by_name(&mut self, alloc: Global, name: &str) -> Result<Option<Volume>, StoreFault> {
+        let name = copy_text(alloc, name)?;
+        Ok(volume_named(alloc, &self.names, &self.volumes, &name)?)
+    }
+
+    #[tactic(auto, using(crate::specs::facts::Reads::quiet_same, crate::proofs::ReadLemmas::held_number))]
+    fn by_number(&mut self, alloc: Global, number: u64) -> Result<Option<Volume>, StoreFault> {
+        Ok(volume_at(alloc, &self.volumes, number)?)
+    }
+
+    #[tactic(auto, using(crate::specs::facts::Reads::quiet_same, crate::proofs::ReadLemmas::held_places))]
+    fn attachments(&mut self, alloc: Global, number: u64) -> Result<Items<Attachment>, StoreFault> {
+        Ok(attached_to(alloc, &self.attachments, number)?)
+    }
+
+    #[tactic(auto, using(crate::specs::facts::Reads::quiet_same, crate::proofs::ReadLemmas::held_at))]
+    fn attached_at(&mut self, alloc: Global, node: &str) -> Result<Items<u64>, StoreFault> {
+        Ok(numbers_at(alloc, &self.nodes, &self.attachments, node)?)
+    }
+
+    #[tactic(auto, using(crate::specs::facts::Reads::quiet_same, crate::proofs::ReadLemmas::held_sizes))]
+    fn sizes_in(&mut self, alloc: Global, pool: &str) -> Result<Items<u64>, StoreFault> {
+        Ok(Items::from_vec(sizes_of(alloc, &self.volumes, pool)?))
+    }
+
+    #[tactic(auto, using(crate::specs::facts::Reads::quiet_same, crate::proofs::ReadLemmas::held_used))]
+    fn used_in(&mut self, pool: &Text) -> Result<Usage, StoreFault> {
+        Ok(self.pools.usage(pool))
+    }
+
+    #[tactic(auto, using(crate::specs::facts::Reads::quiet_same, crate::proofs::ReadLemmas::held_page))]
+    fn page(&mut self, alloc: Global, after: u64, count: u32) -> Result<Items<Volume>, StoreFault> {
+        Ok(volumes_after(alloc, &self.volumes, after, count)?)
+    }
+
+    #[tactic(auto, using(crate::specs::facts::Reads::quiet_same, crate::proofs::ReadLemmas::held_nodes))]
+    fn published_nodes(
+        &mut self,
+        alloc: Global,
+        after: u64,
+        count: u32,
+    ) -> Result<Items<Items<Text>>, StoreFault> {
+        Ok(nodes_after(alloc, &self.volumes, &self.attachments, after, count)?)
+    }
+
+    fn apply(&mut self, alloc: Global, change: &Change) -> Result<(), StoreFault> {
+        match change {
+            Change::AddVolume(volume) => self.add(alloc, volume)?,
+            Change::RemoveVolume(number) => self.remove(*number),
+            Change::Attach(number, attachment) => self.attach(alloc, *number, attachment)?,
+            Change::Detach(number, node) => self.detach(alloc, *number, node)?,
+            Change::DetachAll(number) => self.detach_all(alloc, *number)?,
+        }
+        Ok(())
+    }
+}

@@ -1,0 +1,131 @@
+//! The volumes in memory, by their numbers.
+
+ghost use Rattle.std.specs.Prelude.{◌≡◌, ℕ, IfOk, OnOk, OnErr, map, filter, take};
+ghost use Rattle.std.specs.BTreeMap.{values};
+ghost use Rattle.std.specs.BTreeMap.Range.{entries_between};
+ghost use Rattle.std.specs.Map.Iter.{ShowsInOrder, deref_pair};
+ghost use Rattle.csi_keeper.specs.declared.volume.Volume.{Volume as Row};
+ghost use Rattle.std.specs.FinMap.{get, insert, remove, entries};
+ghost use Rattle.std.specs.Ordering.{nat_cmp};
+ghost use Rattle.std.specs.declared.ops.Bound.TheVariants.{Excluded, Unbounded};
+ghost use Rattle.csi_types.specs.Maps.{same_text};
+ghost use Rattle.csi_keeper.specs.Memory.{volumes_of, nodes_in};
+
+use crate::copies::copy_volume;
+use crate::mem::attachments::nodes_of;
+use crate::volume::{Attachment, Volume};
+use csi_types::{Items, Text};
+use std::alloc::{AllocError, Global};
+use std::collections::BTreeMap;
+use std::collections::btree_map::Range;
+use std::ops::Bound;
+
+/// A copy of the volume of a number.
+#[tactic(auto, using(crate::proofs::TreeLemmas::get_number))]
+pub(crate) fn volume_at(
+    alloc: Global,
+    volumes: &BTreeMap<u64, Volume>,
+    number: u64,
+) -> Result<Option<Volume>, AllocError>
+    ensures { IfOk result (λ v. v ≡ get (volumes_of volumes.now.entries) number) }
+{
+    match volumes.get(&number) {
+        Some(volume) => Ok(Some(copy_volume(alloc, volume)?)),
+        None => Ok(None),
+    }
+}
+
+fn is_in(volume: &Volume, pool: &str) -> bool
+    ensures { result ≡ same_text volume.now.pool pool.now }
+{
+    volume.pool.as_str() == pool
+}
+
+/// The bytes of a pool's volumes, in rising order of their numbers.
+#[tactic(auto, using(crate::proofs::ListingLemmas::rows_are))]
+pub(crate) fn sizes_of(
+    alloc: Global,
+    volumes: &BTreeMap<u64, Volume>,
+    pool: &str,
+) -> Result<Vec<u64>, AllocError>
+    ensures value { IfOk result (λ xs. xs.items ≡ map (λ v. v.bytes) (filter (λ v. same_text v.pool pool.now) (values volumes.now))) }
+    ensures ordered { entries (volumes_of volumes.now.entries) ≡ volumes.now.entries }
+{
+    volumes
+        .values()
+        .filter(|v| is_in(v, pool))
+        .map(|v| v.bytes)
+        .collect(alloc)
+}
+
+#[tactic(auto, using(crate::proofs::ListingLemmas::rows_are))]
+fn beyond(volumes: &BTreeMap<u64, Volume>, after: u64) -> Range<'_, u64, Volume>
+    ensures rest { result ≡ entries_between nat_cmp (Excluded after) Unbounded volumes.now.entries }
+    ensures runs { ShowsInOrder (deref_pair {K = ℕ} {X = Row}) }
+    ensures ordered { entries (volumes_of volumes.now.entries) ≡ volumes.now.entries }
+{
+    volumes.range((Bound::Excluded(after), Bound::Unbounded))
+}
+
+/// Copies of the volumes with greater numbers, at most that many.
+pub(crate) fn volumes_after(
+    alloc: Global,
+    volumes: &BTreeMap<u64, Volume>,
+    after: u64,
+    count: u32,
+) -> Result<Items<Volume>, AllocError>
+    ensures value { IfOk result (λ vs. vs ≡ take count (map (λ e. e.1) (entries_between nat_cmp (Excluded after) Unbounded volumes.now.entries))) }
+    ensures ordered { entries (volumes_of volumes.now.entries) ≡ volumes.now.entries }
+{
+    let mut copies = Items::new(alloc);
+    for (_, volume) in beyond(volumes, after) {
+        if copies.len() >= count as usize {
+            return Ok(copies);
+        }
+        copies.push(copy_volume(alloc, volume)?)?;
+    }
+    Ok(copies)
+}
+
+/// The nodes of the volumes with greater numbers, of at most that many volumes.
+pub(crate) fn nodes_after(
+    alloc: Global,
+    volumes: &BTreeMap<u64, Volume>,
+    attachments: &BTreeMap<(u64, Text), Attachment>,
+    after: u64,
+    count: u32,
+) -> Result<Items<Items<Text>>, AllocError>
+    ensures value { IfOk result (λ xs. xs ≡ take count (map (λ e. nodes_in attachments.now.entries e.1.number) (entries_between nat_cmp (Excluded after) Unbounded volumes.now.entries))) }
+    ensures ordered { entries (volumes_of volumes.now.entries) ≡ volumes.now.entries }
+{
+    let mut nodes = Items::new(alloc);
+    for (_, volume) in beyond(volumes, after) {
+        if nodes.len() >= count as usize {
+            return Ok(nodes);
+        }
+        nodes.push(nodes_of(alloc, attachments, volume.number)?)?;
+    }
+    Ok(nodes)
+}
+
+/// Adds a volume. Where memory is refused the rows stay.
+#[tactic(auto, using(crate::proofs::TreeLemmas::one_volume))]
+pub(crate) fn put_volume(
+    volumes: &mut BTreeMap<u64, Volume>,
+    volume: Volume,
+) -> Result<(), AllocError>
+    ensures ok { OnOk result (volumes_of volumes.new.entries ≡ insert (volumes_of volumes.old.entries) volume.number volume) }
+    ensures err { OnErr result (volumes.new.entries ≡ volumes.old.entries) }
+{
+    volumes.insert(volume.number, volume)?;
+    Ok(())
+}
+
+/// Takes the volume of a number away.
+#[tactic(auto, using(crate::proofs::TreeLemmas::no_volume, crate::proofs::TreeLemmas::get_number))]
+pub(crate) fn take_volume(volumes: &mut BTreeMap<u64, Volume>, number: u64) -> Option<Volume>
+    ensures value { result ≡ get (volumes_of volumes.old.entries) number }
+    ensures rest { volumes_of volumes.new.entries ≡ remove (volumes_of volumes.old.entries) number }
+{
+    volumes.remove(&number)
+}

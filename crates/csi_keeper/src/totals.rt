@@ -1,0 +1,106 @@
+//! Running totals: how many volumes each pool has, and their bytes.
+
+ghost use Rattle.std.specs.Prelude.{◌≡◌, List, ℕ, OnOk, OnErr, if◌then◌else◌};
+ghost use Rattle.csi_types.specs.Maps.{same_text};
+ghost use Rattle.csi_keeper.specs.Totals.{total_of, told, more, less, zero_total, HasRoom};
+
+use crate::change::Usage;
+use csi_types::Text;
+use std::alloc::{AllocError, Global};
+use std::collections::BTreeMap;
+
+/// The number of a pool's volumes, and the sum of their bytes.
+#[derive(Clone, Copy, Debug, PartialEq, Eq)]
+pub struct Total {
+    /// How many volumes there are.
+    pub volumes: u64,
+    /// The sum of their bytes.
+    pub bytes: u128,
+}
+
+/// The total of each pool. A pool that was never named has none of either.
+///
+/// A keeper of volumes has one beside its rows, so that what a pool has used is told in O(log n) for
+/// n pools. An entry stays for each pool that a volume was ever added to.
+#[derive(Drop)]
+pub struct Totals {
+    tree: BTreeMap<Text, Total>,
+}
+
+impl Totals {
+    /// No volumes in any pool. It takes no memory.
+    pub fn new(alloc: Global) -> Totals
+        ensures { (q : List ℕ) → total_of result q ≡ zero_total }
+    {
+        Totals {
+            tree: BTreeMap::new(alloc),
+        }
+    }
+
+    fn get(&self, pool: &Text) -> Total
+        ensures { result ≡ total_of self.now pool.now }
+    {
+        match self.tree.get(pool) {
+            Some(total) => *total,
+            None => Total {
+                volumes: 0,
+                bytes: 0,
+            },
+        }
+    }
+
+    /// How many volumes a pool has, and the sum of their bytes, up to the greatest `u64`.
+    pub fn usage(&self, pool: &Text) -> Usage
+        ensures { result ≡ told (total_of self.now pool.now) }
+    {
+        let total = self.get(pool);
+        Usage {
+            volumes: total.volumes,
+            bytes: total.bytes.min(u64::MAX as u128) as u64,
+        }
+    }
+
+    /// Counts a volume of this many bytes in a pool; the other pools stay. Where memory is refused
+    /// each total stays. Nothing is said where the pool has 2^64 - 1 volumes already, or the sum
+    /// would pass the greatest `u128`.
+    #[tactic(auto, using(crate::proofs::TreeLemmas::total_set))]
+    pub fn add(&mut self, pool: Text, bytes: u64) -> Result<(), AllocError>
+        ensures counted { OnOk result (HasRoom (total_of self.old pool) bytes → (q : List ℕ) → total_of self.new q ≡ (if same_text pool q then more (total_of self.old pool) bytes else total_of self.old q)) }
+        ensures same { OnErr result ((q : List ℕ) → total_of self.new q ≡ total_of self.old q) }
+    {
+        let total = more_total(self.get(&pool), bytes);
+        self.tree.insert(pool, total)?;
+        Ok(())
+    }
+
+    /// Takes a volume of this many bytes out of a pool's total; the other pools stay. It takes no
+    /// memory. Neither part goes below 0.
+    #[tactic(auto, using(crate::proofs::TreeLemmas::total_set))]
+    pub fn remove(&mut self, pool: &Text, bytes: u64)
+        ensures { (q : List ℕ) → total_of self.new q ≡ (if same_text pool.now q then less (total_of self.old pool.now) bytes else total_of self.old q) }
+    {
+        if let Some(total) = self.tree.get_mut(pool) {
+            *total = less_total(*total, bytes);
+        }
+    }
+}
+
+// A total with one volume more. Neither part wraps.
+fn more_total(total: Total, bytes: u64) -> Total
+    ensures { HasRoom total bytes → result ≡ more total bytes }
+{
+    Total {
+        volumes: total.volumes.saturating_add(1),
+        bytes: total.bytes.saturating_add(bytes as u128),
+    }
+}
+
+// A total with one volume less.
+fn less_total(total: Total, bytes: u64) -> Total
+    ensures { result ≡ less total bytes }
+{
+    Total {
+        volumes: total.volumes.saturating_sub(1),
+        bytes: total.bytes.saturating_sub(bytes as u128),
+    }
+}

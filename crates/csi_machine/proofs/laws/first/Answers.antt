@@ -1,5 +1,0 @@
-use Rattle.csi_machine.proofs.InvariantLemmas.{first_invariant}
-use Rattle.csi_machine.proofs.laws.first.Goals as goal
-
-pub returns : goal.returns
-returns c = first_invariant c.args.config.now

@@ -1,6 +1,0 @@
-use Rattle.std.proofs.Common.{◌∙◌}
-use Rattle.csi_machine.proofs.ReadLemmas.{held_places}
-use Rattle.csi_machine.proofs.mem.MemKeeperKeeper.attachments.Goals as goal
-
-pub returns-clause-value : goal.returns-clause-value
-returns-clause-value c d s k = c.in_ok-attached_to.ensures.value ∙ held_places _ _ _ _ _ _ s c.args.number c.in_ok-attached_to.ensures.ordered k
