@@ -71,7 +71,7 @@ pub(crate) fn answer(alloc: Global, row: &str) -> Result<String, RowFault> {
     if name == "fault" {
         return fault_answer(alloc, rest);
     }
-    let method = method_named(name).ok_or(RowFault::NoMethod)?;
+    let method = method_named(alloc, name)?.ok_or(RowFault::NoMethod)?;
     let (word, notation) = rest.split_once(' ').ok_or(RowFault::NotRow)?;
     let question = question_of(word).ok_or(RowFault::NotRow)?;
     let bytes = bytes_of(alloc, notation)?;

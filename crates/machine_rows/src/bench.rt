@@ -77,7 +77,7 @@ impl Bench {
             "many" => self.answer_many(alloc, rest),
             "list" => self.list(alloc, rest),
             _ => {
-                let method = method_named(word).ok_or(RowFault::NotRow)?;
+                let method = method_named(alloc, word)?.ok_or(RowFault::NotRow)?;
                 let reply = self.reply(alloc, method, &bytes_of(alloc, rest)?)?;
                 told(alloc, &reply)
             }
@@ -110,7 +110,7 @@ impl Bench {
         let (times, rest) = words.split_once(' ').ok_or(RowFault::NotRow)?;
         let times: u32 = times.parse().map_err(|_| RowFault::NotRow)?;
         let (name, notation) = rest.split_once(' ').ok_or(RowFault::NotRow)?;
-        let method = method_named(name).ok_or(RowFault::NotRow)?;
+        let method = method_named(alloc, name)?.ok_or(RowFault::NotRow)?;
         let mut done: u32 = 0;
         let mut last = String::from_str(alloc, "no other")?;
         for count in 0..times {

@@ -7,9 +7,11 @@
 //! skipped, and `-` alone is no bytes.
 #![tactic(auto)]
 
-ghost use Rattle.std.specs.Prelude.{◌<◌, IfSome, length};
+ghost use Rattle.std.specs.Prelude.{◌≡◌, ◌<◌, ◌++◌, [], IfOk, IfSome, codes, length};
+ghost use Rattle.csi_types.specs.Methods.{method_at};
+ghost use Rattle.row_notation.specs.Methods.{method_named};
 
-use csi_types::Method;
+use csi_types::{Method, method_of};
 use std::alloc::{AllocError, AllocFailed, Global};
 use std::str;
 
@@ -57,7 +59,9 @@ enum Part<'t> {
 /// # Errors
 ///
 /// Where the text is not of this notation, or memory was refused.
-pub fn bytes_of(alloc: Global, text: &str) -> Result<Vec<u8>, NotationFault> {
+pub fn bytes_of(alloc: Global, text: &str) -> Result<Vec<u8>, NotationFault>
+    ensures none { text.now ≡ codes "-" → IfOk result (λ bytes. bytes.items ≡ []) }
+{
     bytes_counted(alloc, text, 0)
 }
 
@@ -66,7 +70,9 @@ pub fn bytes_of(alloc: Global, text: &str) -> Result<Vec<u8>, NotationFault> {
 /// # Errors
 ///
 /// Where the text is not of this notation, or memory was refused.
-pub fn bytes_counted(alloc: Global, text: &str, count: u32) -> Result<Vec<u8>, NotationFault> {
+pub fn bytes_counted(alloc: Global, text: &str, count: u32) -> Result<Vec<u8>, NotationFault>
+    ensures none { text.now ≡ codes "-" → IfOk result (λ bytes. bytes.items ≡ []) }
+{
     let mut out = Vec::new(alloc);
     if text != "-" {
         put_all(&mut out, alloc, text.as_bytes(), count, DEEPEST)?;
@@ -74,29 +80,27 @@ pub fn bytes_counted(alloc: Global, text: &str, count: u32) -> Result<Vec<u8>, N
     Ok(out)
 }
 
-// All methods.
-const METHODS: [Method; 11] = [
-    Method::GetPluginInfo,
-    Method::GetPluginCapabilities,
-    Method::Probe,
-    Method::CreateVolume,
-    Method::DeleteVolume,
-    Method::ControllerPublishVolume,
-    Method::ControllerUnpublishVolume,
-    Method::ValidateVolumeCapabilities,
-    Method::ListVolumes,
-    Method::GetCapacity,
-    Method::ControllerGetCapabilities,
-];
+// The method of a name among those of a service.
+fn method_under(alloc: Global, service: &str, name: &str) -> Result<Option<Method>, NotationFault>
+    ensures { IfOk result (λ method. method ≡ method_at (service.now ++ name.now)) }
+{
+    let path = format!(in alloc; "{service}{name}").map_err(|_| NotationFault::NoMemory)?;
+    Ok(method_of(path.as_bytes()))
+}
 
-/// The method whose path ends in this name.
-pub fn method_named(name: &str) -> Option<Method> {
-    METHODS.iter().copied().find(|method| {
-        method
-            .path()
-            .rsplit_once('/')
-            .is_some_and(|(_, last)| last == name)
-    })
+/// The method of this name, of the controller or of the identity service; `None` where neither has
+/// one.
+///
+/// # Errors
+///
+/// Where memory was refused.
+pub fn method_named(alloc: Global, name: &str) -> Result<Option<Method>, NotationFault>
+    ensures { IfOk result (λ method. method ≡ method_named name.now) }
+{
+    match method_under(alloc, "/csi.v1.Controller/", name)? {
+        Some(method) => Ok(Some(method)),
+        None => method_under(alloc, "/csi.v1.Identity/", name),
+    }
 }
 
 // Appends the bytes of a notation. The group around it was repeated `count` times before.
