@@ -5,9 +5,9 @@ use std::alloc::Global;
 
 /// What the command line asks for: calls on standard input, replies on standard output.
 #[derive(Clone, Copy, Debug, PartialEq, Eq)]
-pub struct Pipe<'a> {
+pub(crate) struct Pipe<'a> {
     /// The file of the configuration; without it the sample configuration.
-    pub config: Option<&'a str>,
+    pub(crate) config: Option<&'a str>,
 }
 
 /// The command line of the program.
@@ -15,7 +15,7 @@ pub struct Pipe<'a> {
 /// # Errors
 ///
 /// Where memory is refused.
-pub fn command<'a>(alloc: Global) -> Result<Command<'a>, Error> {
+pub(crate) fn command<'a>(alloc: Global) -> Result<Command<'a>, Error> {
     let config = Arg::new(alloc, "config")
         .long("config")
         .value_name("FILE")
@@ -34,7 +34,7 @@ pub fn command<'a>(alloc: Global) -> Result<Command<'a>, Error> {
 }
 
 /// What the words that [`command`] takes ask for.
-pub fn asked<'a>(matches: &ArgMatches<'a>) -> Pipe<'a> {
+pub(crate) fn asked<'a>(matches: &ArgMatches<'a>) -> Pipe<'a> {
     match matches.subcommand() {
         Some((_, pipe)) => Pipe {
             config: pipe.get_str("config"),

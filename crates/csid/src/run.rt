@@ -142,7 +142,7 @@ fn pipe(rt: &HostRuntime, path: Option<&str>) -> u8 {
 }
 
 /// Does what the command line asks, and gives the exit status.
-pub fn run(rt: &HostRuntime) -> u8 {
+pub(crate) fn run(rt: &HostRuntime) -> u8 {
     let words: Vec<String> = match words(rt) {
         Ok(words) => words,
         Err(error) if error.kind() == ErrorKind::OutOfMemory => return no_memory(rt),
