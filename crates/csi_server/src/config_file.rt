@@ -31,38 +31,28 @@ impl fmt::Display for Section {
     }
 }
 
-/// A key of a configuration.
-#[derive(Clone, Copy, Debug, PartialEq, Eq, Error)]
+/// A key of a configuration. It is displayed as it is written.
+#[derive(Clone, Copy, Debug, PartialEq, Eq)]
 pub enum Key {
     /// The plugin's name, and the name of a pool.
-    #[error("name")]
     Name,
     /// The plugin's version.
-    #[error("vendor_version")]
     VendorVersion,
     /// The size of a volume for which none is asked.
-    #[error("default_bytes")]
     DefaultBytes,
     /// The greatest size of a volume.
-    #[error("greatest_bytes")]
     GreatestBytes,
     /// The pools.
-    #[error("pool")]
     Pool,
     /// How many bytes a pool has.
-    #[error("bytes")]
     Bytes,
     /// The topology of a pool.
-    #[error("segments")]
     Segments,
     /// The nodes.
-    #[error("node")]
     Node,
     /// The id of a node.
-    #[error("id")]
     Id,
     /// The greatest number of volumes of a node.
-    #[error("max_volumes")]
     MaxVolumes,
 }
 
@@ -81,6 +71,12 @@ impl Key {
             Key::Id => "id",
             Key::MaxVolumes => "max_volumes",
         }
+    }
+}
+
+impl fmt::Display for Key {
+    fn fmt<W: fmt::Write>(&self, f: &mut fmt::Formatter<W>) -> fmt::Result {
+        f.write_str(self.text())
     }
 }
 
