@@ -30,6 +30,15 @@ pub fn text(alloc: Global, payload: &[u8]) -> Result<Text, AllocError>
     Text::from_str(alloc, unsafe { std::str::from_utf8_unchecked(payload) })
 }
 
+/// Gives a text another value, in the memory that it has where that is enough.
+pub fn set_text(slot: &mut Text, payload: &[u8]) -> Result<(), AllocError>
+    requires { IsUtf8 payload.now }
+    ensures { OnOk result (slot.new ≡ payload.now) }
+{
+    // The bytes were found to be UTF-8 when the message was looked through for faults.
+    slot.set(unsafe { std::str::from_utf8_unchecked(payload) })
+}
+
 /// Whether the payload is by itself a list of good fields.
 pub fn is_message<M: Message>(payload: &[u8]) -> bool
     ensures { IsTrue result ↔ AreGood (GoodField (Good M.schema)) payload.now }

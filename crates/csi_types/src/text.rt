@@ -1,6 +1,6 @@
 //! Texts, which contracts see as their bytes.
 
-ghost use Rattle.std.specs.Prelude.{◌≡◌, ◌==◌, ℕ, List, [], IfOk, IsUtf8, length};
+ghost use Rattle.std.specs.Prelude.{◌≡◌, ◌==◌, ℕ, List, [], IfOk, IsUtf8, OnErr, OnOk, length};
 ghost use Rattle.std.specs.String.{string_bytes};
 
 use std::alloc::{AllocError, Global};
@@ -58,6 +58,16 @@ impl Text {
     {
         let Text { string } = self;
         string
+    }
+
+    /// Makes it equal to another text, in the memory that it has where that is enough. Where memory
+    /// is refused it is empty.
+    pub fn set(&mut self, text: &str) -> Result<(), AllocError>
+        ensures ok { OnOk result (self.new ≡ text.now) }
+        ensures err { OnErr result (self.new ≡ []) }
+    {
+        self.string.clear();
+        self.string.push_str(text)
     }
 
     /// The text, lent.

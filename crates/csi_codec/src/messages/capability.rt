@@ -10,7 +10,7 @@ ghost use Rattle.csi_codec.specs.messages.Capability.{mount_in, mount_schema, ca
 
 use crate::message::{Message, merge, read};
 use crate::messages::single::{EnumValue, NoFields};
-use crate::slots::{is_message, is_text, merge_message, text};
+use crate::slots::{is_message, is_text, merge_message, set_text, text};
 use crate::writing::{Written, put_message, put_option, put_text, put_texts};
 use csi_types::{Access, Capability, Items, Mount, Text};
 use pbwire::put_bytes;
@@ -46,9 +46,9 @@ impl Message for Mount {
         payload: &[u8],
     ) -> Result<(), AllocError> {
         match number {
-            1 => self.fs_type = text(alloc, payload)?,
+            1 => set_text(&mut self.fs_type, payload)?,
             2 => self.flags.push(text(alloc, payload)?)?,
-            3 => self.group = text(alloc, payload)?,
+            3 => set_text(&mut self.group, payload)?,
             _ => {}
         }
         Ok(())

@@ -4,7 +4,7 @@ ghost use Rattle.csi_codec.specs.messages.PublishRequests.{publish_in, publish_s
 
 use crate::message::Message;
 use crate::messages::single::MapEntry;
-use crate::slots::{is_message, is_text, merge_entry, merge_message, text};
+use crate::slots::{is_message, is_text, merge_entry, merge_message, set_text};
 use crate::writing::{Written, put_flag, put_map, put_option, put_text};
 use csi_types::{Capability, Map, Publish, Text, Unpublish};
 use std::alloc::{AllocError, Global};
@@ -48,8 +48,8 @@ impl Message for Publish {
         payload: &[u8],
     ) -> Result<(), AllocError> {
         match number {
-            1 => self.volume_id = text(alloc, payload)?,
-            2 => self.node_id = text(alloc, payload)?,
+            1 => set_text(&mut self.volume_id, payload)?,
+            2 => set_text(&mut self.node_id, payload)?,
             3 => merge_message(&mut self.capability, alloc, payload)?,
             5 => merge_entry(&mut self.secrets, alloc, payload)?,
             6 => merge_entry(&mut self.context, alloc, payload)?,
@@ -107,8 +107,8 @@ impl Message for Unpublish {
         payload: &[u8],
     ) -> Result<(), AllocError> {
         match number {
-            1 => self.volume_id = text(alloc, payload)?,
-            2 => self.node_id = text(alloc, payload)?,
+            1 => set_text(&mut self.volume_id, payload)?,
+            2 => set_text(&mut self.node_id, payload)?,
             3 => merge_entry(&mut self.secrets, alloc, payload)?,
             _ => {}
         }

@@ -4,7 +4,7 @@ ghost use Rattle.csi_codec.specs.messages.QueryRequests.{validate_in, validate_s
 
 use crate::message::Message;
 use crate::messages::single::{MapEntry, low_half};
-use crate::slots::{is_message, is_text, merge_entry, merge_message, push_message, text};
+use crate::slots::{is_message, is_text, merge_entry, merge_message, push_message, set_text};
 use crate::writing::{Written, put_map, put_messages, put_option, put_signed, put_text};
 use csi_types::{Capability, GetCapacity, Items, ListVolumes, Map, Text, Validate};
 use std::alloc::{AllocError, Global};
@@ -43,7 +43,7 @@ impl Message for Validate {
         payload: &[u8],
     ) -> Result<(), AllocError> {
         match number {
-            1 => self.volume_id = text(alloc, payload)?,
+            1 => set_text(&mut self.volume_id, payload)?,
             2 => merge_entry(&mut self.context, alloc, payload)?,
             3 => push_message(&mut self.capabilities, alloc, payload)?,
             4 => merge_entry(&mut self.parameters, alloc, payload)?,
@@ -98,12 +98,12 @@ impl Message for ListVolumes {
 
     fn merge_payload(
         &mut self,
-        alloc: Global,
+        _alloc: Global,
         number: u32,
         payload: &[u8],
     ) -> Result<(), AllocError> {
         match number {
-            2 => self.token = text(alloc, payload)?,
+            2 => set_text(&mut self.token, payload)?,
             _ => {}
         }
         Ok(())

@@ -7,7 +7,7 @@ ghost use Rattle.csi_codec.specs.messages.ResponseParts.{info_in, info_schema, c
 
 use crate::message::Message;
 use crate::messages::single::Int64Value;
-use crate::slots::{is_message, is_text, merge_message, push_message, text};
+use crate::slots::{is_message, is_text, merge_message, push_message, set_text};
 use crate::writing::{put_messages, put_option, put_signed, put_text};
 use csi_types::{Confirmed, Entry, Items, Text};
 use std::alloc::{AllocError, Global};
@@ -64,13 +64,13 @@ impl Message for PluginInfo {
 
     fn merge_payload(
         &mut self,
-        alloc: Global,
+        _alloc: Global,
         number: u32,
         payload: &[u8],
     ) -> Result<(), AllocError> {
         match number {
-            1 => self.name = text(alloc, payload)?,
-            2 => self.version = text(alloc, payload)?,
+            1 => set_text(&mut self.name, payload)?,
+            2 => set_text(&mut self.version, payload)?,
             _ => {}
         }
         Ok(())
@@ -108,7 +108,7 @@ impl Message for Validation {
     ) -> Result<(), AllocError> {
         match number {
             1 => merge_message(&mut self.confirmed, alloc, payload)?,
-            2 => self.message = text(alloc, payload)?,
+            2 => set_text(&mut self.message, payload)?,
             _ => {}
         }
         Ok(())
@@ -146,7 +146,7 @@ impl Message for Listing {
     ) -> Result<(), AllocError> {
         match number {
             1 => push_message(&mut self.entries, alloc, payload)?,
-            2 => self.token = text(alloc, payload)?,
+            2 => set_text(&mut self.token, payload)?,
             _ => {}
         }
         Ok(())

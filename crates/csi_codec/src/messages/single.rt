@@ -8,7 +8,7 @@ ghost use Rattle.csi_codec.specs.messages.Single.{nothing_in, bool_value_in, can
 ghost use Rattle.csi_codec.specs.Canon.{FitsI64, FitsI32, FitsOption};
 
 use crate::message::Message;
-use crate::slots::{is_message, is_text, merge_message, push_message, text};
+use crate::slots::{is_message, is_text, merge_message, push_message, set_text};
 use crate::writing::{Written, put_flag, put_messages, put_option, put_signed};
 use csi_types::{Items, Text};
 use std::alloc::{AllocError, Global};
@@ -165,13 +165,13 @@ impl Message for MapEntry {
 
     fn merge_payload(
         &mut self,
-        alloc: Global,
+        _alloc: Global,
         number: u32,
         payload: &[u8],
     ) -> Result<(), AllocError> {
         match number {
-            1 => self.0 = text(alloc, payload)?,
-            2 => self.1 = text(alloc, payload)?,
+            1 => set_text(&mut self.0, payload)?,
+            2 => set_text(&mut self.1, payload)?,
             _ => {}
         }
         Ok(())

@@ -5,7 +5,7 @@ ghost use Rattle.csi_codec.specs.messages.Volume.{volume_in, volume_schema, cano
 
 use crate::message::Message;
 use crate::messages::single::MapEntry;
-use crate::slots::{is_message, is_text, merge_entry, merge_message, push_message, text};
+use crate::slots::{is_message, is_text, merge_entry, merge_message, push_message, set_text, text};
 use crate::writing::{Written, put_map, put_messages, put_option, put_signed, put_text, put_texts};
 use csi_types::{Capability, Confirmed, Entry, Items, Map, Text, VolumeInfo};
 use std::alloc::{AllocError, Global};
@@ -47,7 +47,7 @@ impl Message for VolumeInfo {
         payload: &[u8],
     ) -> Result<(), AllocError> {
         match number {
-            2 => self.id = text(alloc, payload)?,
+            2 => set_text(&mut self.id, payload)?,
             3 => merge_entry(&mut self.context, alloc, payload)?,
             5 => push_message(&mut self.topology, alloc, payload)?,
             _ => {}

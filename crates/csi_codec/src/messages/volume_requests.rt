@@ -4,7 +4,7 @@ ghost use Rattle.csi_codec.specs.messages.VolumeRequests.{create_in, create_sche
 
 use crate::message::Message;
 use crate::messages::single::{MapEntry, NoFields};
-use crate::slots::{is_message, is_text, merge_entry, merge_message, push_message, text};
+use crate::slots::{is_message, is_text, merge_entry, merge_message, push_message, set_text};
 use crate::writing::{Written, put_map, put_messages, put_option, put_presence, put_text};
 use csi_types::{
     Capability, CapacityRange, CreateVolume, DeleteVolume, Items, Map, Requirement, Text,
@@ -50,7 +50,7 @@ impl Message for CreateVolume {
         payload: &[u8],
     ) -> Result<(), AllocError> {
         match number {
-            1 => self.name = text(alloc, payload)?,
+            1 => set_text(&mut self.name, payload)?,
             2 => merge_message(&mut self.range, alloc, payload)?,
             3 => push_message(&mut self.capabilities, alloc, payload)?,
             4 => merge_entry(&mut self.parameters, alloc, payload)?,
@@ -111,7 +111,7 @@ impl Message for DeleteVolume {
         payload: &[u8],
     ) -> Result<(), AllocError> {
         match number {
-            1 => self.volume_id = text(alloc, payload)?,
+            1 => set_text(&mut self.volume_id, payload)?,
             2 => merge_entry(&mut self.secrets, alloc, payload)?,
             _ => {}
         }
