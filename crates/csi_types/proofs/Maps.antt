@@ -1,18 +1,20 @@
--- A tree of texts as a finite map.
-use Rattle.std.proofs.Common.{◌≡◌, ℕ, suc, Bool, cond, List, [], ◌∷◌, Option, Some, None, Ordering, true, false, length, reverse, ◌++◌, arith, refl, sym, ap, subst, ◌∙◌}
-use Rattle.std.specs.Ordering.{nat_cmp, eq_by_cmp}
-use Rattle.std.specs.Cmp.{eq_by_cmp_equiv}
+-- Entries of texts as a finite map.
+use Rattle.std.proofs.Common.{◌≡◌, ◌<◌, ◌≤◌, ◌+◌, ℕ, zero, suc, ltb, Bool, cond, List, [], ◌∷◌, Option, Some, None, Ordering, true, false, length, get_or, reverse, ◌++◌, append_assoc, arith, refl, sym, ap, subst, ◌∙◌}
+use Rattle.std.specs.Ordering.{nat_cmp, eq_by_cmp, ordering_index, ordering_reverse, match_ordering}
 use Rattle.std.specs.Cmp.Lexicographic.{slice_cmp, nat_list_cmp_total, pointwise}
-use Rattle.std.specs.BTreeMap.{is_at}
-use Rattle.std.specs.Map.{lookup, keys_of}
-use Rattle.std.specs.List.Sorted.{IsStrictlySortedBy}
-use Rattle.std.specs.FinMap.{FinMap, find, get, put, insert, entries, empty, from_entries, get-from_entries, get-insert, get-entries, len-entries, len-empty, entries_sorted, is_sorted, entries-insert, same_map, nat_cmp-IsAntisymmetric, slice_cmp-IsAntisymmetric, IsAntisymmetric}
-use Rattle.std.specs.FinMap.Entries.{by_order, below_all}
+use Rattle.std.specs.BTreeMap.{insert_entry, is_at}
+use Rattle.std.specs.Map.{keys_of, lookup}
+use Rattle.std.specs.List.Sorted.{IsStrictlySortedBy, IsNonDecreasingBy, IsPartitionPoint}
+use Rattle.std.proofs.lemmas.List.Sorted.{searchable_from_sorted}
+use Rattle.std.specs.FinMap.{FinMap, find, get, put, insert, entries, empty, from_entries, from_sorted, get-from_entries, get-entries, len-entries, len-empty, entries_sorted, is_sorted, entries-insert, entries-from_sorted, get-from_sorted, same_map, same_entries_map, nat_cmp-IsAntisymmetric, slice_cmp-IsAntisymmetric, IsAntisymmetric}
+use Rattle.std.specs.FinMap.Entries.{by_order, below_all, is_sorted-put}
 use Rattle.std.specs.Ordering.{is_eq, is_lt}
 use Rattle.std.specs.List.{AllByRecursion}
+use Rattle.std.proofs.lemmas.Bool.{ltb-true, ltb-false}
 use Rattle.std.proofs.lemmas.List.{reverse-append}
 use Rattle.std.specs.declared.cmp.Ordering.TheVariants.{Less, Equal, Greater}
 use Rattle.std.specs.Prelude.{T, ◌&&◌}
+use Rattle.csi_types.specs.Maps.{IsRising, AreBelow}
 
 abbrev pub Text : Type 0
 Text = List ℕ
@@ -27,38 +29,16 @@ find_text : (es : List (Text × Text)) (q : Text) → find text_cmp q es ≡ loo
 find_text [] q = refl
 find_text (e ∷ es) q = ap (cond (is_at (text_cmp q) e.0) (Some e.1)) (find_text es q)
 
-pub get_text : (es : List (Text × Text)) (q : Text) → get (from_entries {R = text_cmp} es) q ≡ lookup (is_at (text_cmp q)) es
-get_text es q = get-from_entries nat_list_cmp_total es q ∙ find_text es q
-
--- entries that differ at one key make maps that differ there
-pub one_set : (es fs : List (Text × Text)) (k v : Text) → ((q : Text) → lookup (is_at (text_cmp q)) fs ≡ cond (is_at (text_cmp k) q) (Some v) (lookup (is_at (text_cmp q)) es)) → from_entries {R = text_cmp} fs ≡ insert (from_entries es) k v
-one_set es fs k v h = same_map nat_list_cmp_total exact _ _ (λ q.
-    get_text fs q ∙ h q ∙ ap (λ b. cond b (Some v) (lookup (is_at (text_cmp q)) es)) ((eq_by_cmp_equiv nat_list_cmp_total).symm k q)
-    ∙ sym (get-insert nat_list_cmp_total (from_entries es) k v q ∙ ap (cond (is_at (text_cmp q) k) (Some v)) (get_text es q)))
-
-put_first : (k v : Text) (es : List (Text × Text)) → IsStrictlySortedBy text_cmp (k ∷ keys_of es) → put text_cmp k v es ≡ (k, v) ∷ es
-unfolding IsStrictlySortedBy
-put_first k v [] h = refl
-put_first k v (e ∷ es) h = ap (λ r. by_order r ((k, v) ∷ e ∷ es) ((e.0, v) ∷ es) (e ∷ put text_cmp k v es)) h.0.0
-
 sorted_rest : (k : Text) (ks : List Text) → IsStrictlySortedBy text_cmp (k ∷ ks) → IsStrictlySortedBy text_cmp ks
 unfolding IsStrictlySortedBy
 sorted_rest k ks h = h.1
 
-zero_long : (es : List (Text × Text)) → length es ≡ 0 → es ≡ []
+pub zero_long : (es : List (Text × Text)) → length es ≡ 0 → es ≡ []
 zero_long [] h = refl
 zero_long (e ∷ es) h = absurd (omega arith)
 
 empty_entries : entries (empty {X = Text} {R = text_cmp}) ≡ []
 empty_entries = zero_long _ (sym (len-entries empty) ∙ len-empty text_cmp Text)
-
--- entries in order are those of their map
-pub entries_are : (es : List (Text × Text)) → IsStrictlySortedBy text_cmp (keys_of es) → entries (from_entries {R = text_cmp} es) ≡ es
-entries_are [] h = empty_entries
-entries_are (e ∷ es) h =
-    entries-insert nat_list_cmp_total (from_entries es) e.0 e.1
-    ∙ ap (put text_cmp e.0 e.1) (entries_are es (sorted_rest e.0 (keys_of es) h))
-    ∙ put_first e.0 e.1 es h
 
 -- the first that is there
 abbrev or_else : Option Text → Option Text → Option Text
@@ -69,12 +49,12 @@ or_none : (a : Option Text) → or_else a None ≡ a
 or_none None = refl
 or_none (Some v) = refl
 
-find_app : (q : Text) (xs : List (Text × Text)) (e : Text × Text) → find text_cmp q (xs ++ e ∷ []) ≡ or_else (find text_cmp q xs) (cond (eq_by_cmp text_cmp q e.0) (Some e.1) None)
-find_app q [] e = refl
-find_app q (x ∷ xs) e =
-    elim (eq_by_cmp text_cmp q x.0) as (λ b. cond b (Some x.1) (find text_cmp q (xs ++ e ∷ [])) ≡ or_else (cond b (Some x.1) (find text_cmp q xs)) (cond (eq_by_cmp text_cmp q e.0) (Some e.1) None)) [
+pub find_app : (q : Text) (xs ys : List (Text × Text)) → find text_cmp q (xs ++ ys) ≡ or_else (find text_cmp q xs) (find text_cmp q ys)
+find_app q [] ys = refl
+find_app q (x ∷ xs) ys =
+    elim (eq_by_cmp text_cmp q x.0) as (λ b. cond b (Some x.1) (find text_cmp q (xs ++ ys)) ≡ or_else (cond b (Some x.1) (find text_cmp q xs)) (find text_cmp q ys)) [
       | true ↦ refl
-      | false ↦ find_app q xs e
+      | false ↦ find_app q xs ys
     ]
 
 not_found : (k : Text) (es : List (Text × Text)) → IsStrictlySortedBy text_cmp (k ∷ keys_of es) → find text_cmp k es ≡ None
@@ -92,14 +72,14 @@ find_back : (q : Text) (es : List (Text × Text)) → IsStrictlySortedBy text_cm
 find_back q [] h = refl
 find_back q (e ∷ es) h =
     let rest = find_back q es (sorted_rest e.0 (keys_of es) h) in
-    ap (find text_cmp q) (reverse-append (e ∷ []) es) ∙ find_app q (reverse es) e
+    ap (find text_cmp q) (reverse-append (e ∷ []) es) ∙ find_app q (reverse es) (e ∷ [])
     ∙ ap (λ (o : Option Text). or_else o (cond (eq_by_cmp text_cmp q e.0) (Some e.1) None)) rest
     ∙ elim (eq_by_cmp text_cmp q e.0) as (λ b. eq_by_cmp text_cmp q e.0 ≡ b → or_else (find text_cmp q es) (cond b (Some e.1) None) ≡ cond b (Some e.1) (find text_cmp q es)) [
       | true ↦ λ t. ap (λ (o : Option Text). or_else o (Some e.1)) (subst (λ (k : Text). find text_cmp k es ≡ None) (sym (exact q e.0 (tied _ t))) (not_found e.0 es h))
       | false ↦ λ t. or_none (find text_cmp q es)
     ] refl
 
-is_less : (r : Ordering) → T (is_lt r) → r ≡ Less
+pub is_less : (r : Ordering) → T (is_lt r) → r ≡ Less
 is_less Less p = refl
 is_less Equal p = absurd p
 is_less Greater p = absurd p
@@ -128,10 +108,6 @@ again m = same_map nat_list_cmp_total exact _ _ (λ q.
     ∙ find_back q (entries m) (keys_sorted (entries m) (entries_sorted m))
     ∙ sym (get-entries m q))
 
--- the entries of a map are those of its tree
-pub entries_of : (es : List (Text × Text)) (m : FinMap text_cmp Text) → IsStrictlySortedBy text_cmp (keys_of es) → from_entries es ≡ m → entries m ≡ es
-entries_of es m h e = ap entries (sym e) ∙ entries_are es h
-
 both_false : (a b : Bool) → b ≡ false → (a && b) ≡ false
 both_false true b h = h
 both_false false b h = refl
@@ -142,3 +118,127 @@ apart_by_length E [] [] h = absurd (h refl)
 apart_by_length E [] (y ∷ ys) h = refl
 apart_by_length E (x ∷ xs) [] h = refl
 apart_by_length E (x ∷ xs) (y ∷ ys) h = both_false (E x y) _ (apart_by_length E xs ys (λ e. h (ap suc e)))
+
+both_so : (a b : Bool) → T a → T b → T (a && b)
+both_so true b p q = q
+both_so false b p q = p
+
+-- the entries of a map are those that it holds
+pub entries_of : (es : List (Text × Text)) (m : FinMap text_cmp Text) → IsRising es → from_sorted es ≡ m → entries m ≡ es
+entries_of es m h e = ap entries (sym e) ∙ entries-from_sorted text_cmp es h
+
+pub none_held : from_sorted {R = text_cmp} [] ≡ empty {X = Text}
+none_held = same_entries_map _ _ (entries-from_sorted text_cmp [] tt ∙ sym empty_entries)
+
+-- what an entry makes of the entries that are held
+pub put_rising : (k v : Text) (es fs : List (Text × Text)) → IsRising es → fs ≡ put text_cmp k v es → IsRising fs
+put_rising k v es fs h e = subst (λ xs. IsRising xs) (sym e) (is_sorted-put text_cmp nat_list_cmp_total k v es h)
+
+pub put_inserts : (k v : Text) (es fs : List (Text × Text)) → IsRising es → fs ≡ put text_cmp k v es → from_sorted {R = text_cmp} fs ≡ insert (from_sorted es) k v
+put_inserts k v es fs h e =
+    same_entries_map _ _ (entries-from_sorted text_cmp fs (put_rising k v es fs h e) ∙ e
+    ∙ ap (put text_cmp k v) (sym (entries-from_sorted text_cmp es h)) ∙ sym (entries-insert nat_list_cmp_total (from_sorted es) k v))
+
+greater : (x y : Text) → text_cmp x y ≡ Less → text_cmp y x ≡ Greater
+greater x y h = nat_list_cmp_total.antisymm y x ∙ ap ordering_reverse h
+
+-- a key goes behind those that are below it
+pub put_beyond : (k v : Text) (es ts : List (Text × Text)) → AreBelow k es → put text_cmp k v (es ++ ts) ≡ es ++ put text_cmp k v ts
+put_beyond k v [] ts h = refl
+put_beyond k v (e ∷ es) ts h =
+    ap (λ r. by_order r ((k, v) ∷ e ∷ (es ++ ts)) ((e.0, v) ∷ (es ++ ts)) (e ∷ put text_cmp k v (es ++ ts))) (greater e.0 k h.0)
+    ∙ ap (λ r. e ∷ r) (put_beyond k v es ts h.1)
+
+-- a tree enters as a map does
+pub tree_puts : (k v : Text) (es : List (Text × Text)) → insert_entry text_cmp es k v ≡ put text_cmp k v es
+tree_puts k v [] = refl
+tree_puts k v (e ∷ es) =
+    elim (text_cmp k e.0) as (λ r. match_ordering r ((k, v) ∷ e ∷ es) ((e.0, v) ∷ es) (e ∷ insert_entry text_cmp es k v) ≡ by_order r ((k, v) ∷ e ∷ es) ((e.0, v) ∷ es) (e ∷ put text_cmp k v es)) [
+      | Less ↦ refl
+      | Equal ↦ refl
+      | Greater ↦ ap (λ r. e ∷ r) (tree_puts k v es)
+    ]
+
+below_last : (k : Text) (xs : List (Text × Text)) (e : Text × Text) → T (below_all text_cmp k (xs ++ e ∷ [])) → text_cmp k e.0 ≡ Less
+below_last k [] e h = is_less _ (first_so _ _ h)
+below_last k (x ∷ xs) e h = below_last k xs e (second_so _ _ h)
+
+-- a key that is beyond the last is beyond all
+pub beyond_last : (k : Text) (xs : List (Text × Text)) (e : Text × Text) → IsRising (xs ++ e ∷ []) → text_cmp e.0 k ≡ Less → AreBelow k (xs ++ e ∷ [])
+beyond_last k [] e h l = (l, tt)
+beyond_last k (x ∷ xs) e h l = (nat_list_cmp_total.trans x.0 e.0 k (below_last x.0 xs e (first_so _ _ h)) l, beyond_last k xs e (second_so _ _ h) l)
+
+front_below : (k : Text) (xs ys : List (Text × Text)) → T (below_all text_cmp k (xs ++ ys)) → T (below_all text_cmp k xs)
+front_below k [] ys h = tt
+front_below k (x ∷ xs) ys h = both_so _ _ (first_so _ _ h) (front_below k xs ys (second_so _ _ h))
+
+pub front_rises : (xs ys : List (Text × Text)) → IsRising (xs ++ ys) → IsRising xs
+front_rises [] ys h = tt
+front_rises (x ∷ xs) ys h = both_so _ _ (front_below x.0 xs ys (first_so _ _ h)) (front_rises xs ys (second_so _ _ h))
+
+back_rises : (xs ys : List (Text × Text)) → IsRising (xs ++ ys) → IsRising ys
+back_rises [] ys h = h
+back_rises (x ∷ xs) ys h = back_rises xs ys (second_so _ _ h)
+
+goes_first : (e : Text × Text) (es : List (Text × Text)) → IsRising (e ∷ es) → insert_entry text_cmp es e.0 e.1 ≡ e ∷ es
+goes_first e [] h = refl
+goes_first e (f ∷ es) h =
+    ap (λ r. match_ordering r (e ∷ f ∷ es) ((f.0, e.1) ∷ es) (f ∷ insert_entry text_cmp es e.0 e.1)) (is_less _ (first_so _ _ (first_so _ _ h)))
+
+-- the last of a list moves to the tree that stands behind it
+pub last_moves : (xs : List (Text × Text)) (e : Text × Text) (ts : List (Text × Text)) → IsRising ((xs ++ e ∷ []) ++ ts) → xs ++ insert_entry text_cmp ts e.0 e.1 ≡ (xs ++ e ∷ []) ++ ts
+last_moves xs e ts h =
+    let whole = append_assoc xs (e ∷ []) ts in
+    ap (λ r. xs ++ r) (goes_first e ts (back_rises xs (e ∷ ts) (subst (λ es. IsRising es) whole h))) ∙ sym whole
+
+-- an entry that a search finds is the one of its key
+below_at : (k : Text) (es : List (Text × Text)) (i : ℕ) (d : Text × Text) → T (below_all text_cmp k es) → i < length es → text_cmp k (get_or es i d).0 ≡ Less
+below_at k [] i d h l = absurd (omega arith)
+below_at k (e ∷ es) zero d h l = is_less _ (first_so _ _ h)
+below_at k (e ∷ es) (suc i) d h l = below_at k es i d (second_so _ _ h) (omega arith)
+
+pub find_at : (k : Text) (es : List (Text × Text)) (i : ℕ) (d : Text × Text) → IsRising es → i < length es → text_cmp (get_or es i d).0 k ≡ Equal → find text_cmp k es ≡ Some (get_or es i d).1
+find_at k [] i d h l e = absurd (omega arith)
+find_at k (x ∷ es) zero d h l e = ap (λ r. cond (is_eq r) (Some x.1) (find text_cmp k es)) (nat_list_cmp_total.antisymm k x.0 ∙ ap ordering_reverse e)
+find_at k (x ∷ es) (suc i) d h l e =
+    let less : text_cmp x.0 k ≡ Less = subst (λ q. text_cmp x.0 q ≡ Less) (exact _ _ e) (below_at x.0 es i d (first_so _ _ h) (omega arith)) in
+    ap (λ r. cond (is_eq r) (Some x.1) (find text_cmp k es)) (greater x.0 k less) ∙ find_at k es i d (second_so _ _ h) (omega arith) e
+
+-- a key that a search misses is none of theirs
+rises : (es : List (Text × Text)) → IsRising es → (n : ℕ) (d : Text × Text) → 0 ≤ n → n + 1 < length es → is_lt (text_cmp (get_or es (n + 1) d).0 (get_or es n d).0) ≡ false
+rises [] h n d z l = absurd (omega arith)
+rises (e ∷ es) h zero d z l = ap is_lt (greater e.0 (get_or es 0 d).0 (below_at e.0 es 0 d (first_so _ _ h) (omega arith)))
+rises (e ∷ es) h (suc n) d z l =
+    let next : suc n + 1 ≡ suc (n + 1) = omega arith in
+    rw next (rises es (second_so _ _ h) n d (omega arith) (omega arith))
+
+none_at : (k : Text) (es : List (Text × Text)) → ((j : ℕ) (d : Text × Text) → j < length es → is_eq (text_cmp k (get_or es j d).0) ≡ false) → find text_cmp k es ≡ None
+none_at k [] h = refl
+none_at k (e ∷ es) h = ap (λ b. cond b (Some e.1) (find text_cmp k es)) (h 0 e (omega arith)) ∙ none_at k es (λ j d l. h (suc j) d (omega arith))
+
+apart_below : (k x : Text) → text_cmp x k ≡ Less → is_eq (text_cmp k x) ≡ false
+apart_below k x h = ap is_eq (greater x k h)
+
+apart_above : (k x : Text) → text_cmp x k ≡ Greater → is_eq (text_cmp k x) ≡ false
+apart_above k x h = ap is_eq (nat_list_cmp_total.antisymm k x ∙ ap ordering_reverse h)
+
+pub find_none : (k : Text) (es : List (Text × Text)) (i : ℕ) → IsRising es
+    → (IsNonDecreasingBy (λ y. ordering_index (text_cmp y.0 k)) es → IsPartitionPoint (λ y. text_cmp y.0 k ≡ Less) (λ y. text_cmp y.0 k ≡ Greater) es i)
+    → find text_cmp k es ≡ None
+find_none k es i h p =
+    let parts = p (searchable_from_sorted nat_list_cmp_total (λ e. e.0) es k (rises es h)) in
+    none_at k es (λ j d l. elim (ltb j i) as (λ b. ltb j i ≡ b → is_eq (text_cmp k (get_or es j d).0) ≡ false) [
+      | true ↦ λ t. apart_below k _ (parts.0 j d (omega arith) (ltb-true j i t))
+      | false ↦ λ t. apart_above k _ (parts.1 j d (ltb-false j i t) l)
+    ] refl)
+
+-- what a list and a tree have at a key
+pub got_listed : (k : Text) (es ts : List (Text × Text)) (i : ℕ) (d : Text × Text) → IsRising (es ++ ts) → i < length es → text_cmp (get_or es i d).0 k ≡ Equal → get (from_sorted {R = text_cmp} (es ++ ts)) k ≡ Some (get_or es i d).1
+got_listed k es ts i d h l e =
+    get-from_sorted text_cmp (es ++ ts) k h ∙ find_app k es ts
+    ∙ ap (λ (o : Option Text). or_else o (find text_cmp k ts)) (find_at k es i d (front_rises es ts h) l e)
+
+pub got_in_tree : (k : Text) (es ts : List (Text × Text)) → IsRising (es ++ ts) → find text_cmp k es ≡ None → get (from_sorted {R = text_cmp} (es ++ ts)) k ≡ lookup (is_at (text_cmp k)) ts
+got_in_tree k es ts h e =
+    get-from_sorted text_cmp (es ++ ts) k h ∙ find_app k es ts
+    ∙ ap (λ (o : Option Text). or_else o (find text_cmp k ts)) e ∙ find_text ts k

@@ -1,13 +1,23 @@
 -- Equality of texts and of maps of texts, as a test.
-use Rattle.std.specs.Prelude.{ℕ, Bool, ◌&&◌, List, nat_eq}
+use Rattle.std.specs.Prelude.{◌≡◌, ℕ, Bool, ◌&&◌, T, List, nat_eq}
 use Rattle.std.specs.Cmp.{IsEquivalence, IsPartialEquivalence, and_equiv, on_equiv, partial_equiv_from_equiv}
 use Rattle.std.specs.Cmp.Lexicographic.{pointwise, slice_cmp, lists_equiv, nat_list_eq_equiv}
-use Rattle.std.specs.FinMap.{FinMap, entries}
+use Rattle.std.specs.FinMap.{FinMap, entries, is_sorted}
+use Rattle.std.specs.List.{AllByRecursion}
 use Rattle.std.specs.Ordering.{nat_cmp}
+use Rattle.std.specs.declared.cmp.Ordering.TheVariants.{Less}
 
 -- a map of texts, in byte order of its keys
 abbrev pub TextMap : Type 0
 TextMap = FinMap (slice_cmp nat_cmp) (List ℕ)
+
+-- the keys of the entries rise
+abbrev pub IsRising : List (List ℕ × List ℕ) → Type 0
+IsRising es = T (is_sorted (slice_cmp nat_cmp) es)
+
+-- the keys of the entries are below a key
+abbrev pub AreBelow : List ℕ → List (List ℕ × List ℕ) → Type 0
+AreBelow key es = AllByRecursion (λ e. slice_cmp nat_cmp e.0 key ≡ Less) es
 
 abbrev pub same_text : List ℕ → List ℕ → Bool
 same_text = pointwise nat_eq

@@ -28,7 +28,7 @@ pub use limits::{
     MAX_NODES, MAX_NUMBER, MAX_PAGE_ENTRIES, MAX_POOL_BYTES, MAX_POOLS, MAX_SEGMENTS,
     MAX_TEXT_BYTES, MAX_VOLUMES,
 };
-pub use map::Map;
+pub use map::{Map, MapEntries};
 pub use method::{Method, method_of};
 pub use name::name_reason;
 pub use reason::Reason;

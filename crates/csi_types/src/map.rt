@@ -1,33 +1,49 @@
 //! Maps of texts, which contracts see as finite maps.
 
+mod entering;
+mod entries;
+
 ghost use Rattle.std.specs.Prelude.{◌≡◌, ◌==◌, ◌++◌, ◌∷◌, List, [], OnOk, OnErr, IfOk, length};
 ghost use Rattle.std.specs.Option.{option_copied};
 ghost use Rattle.std.specs.FinMap as map;
+ghost use Rattle.std.specs.Ordering.{nat_cmp};
+ghost use Rattle.std.specs.Cmp.Lexicographic.{slice_cmp};
 
 use crate::text::Text;
+use entering::enter;
+pub use entries::MapEntries;
+use entries::are_same;
 use std::alloc::{AllocError, Global};
 use std::collections::BTreeMap;
-use std::collections::btree_map::Iter;
+use std::fmt;
 use std::marker::Model;
 
 /// A `map<string, string>` (Protocol Buffers language guide, 'Maps'), in byte order of its keys.
-#[derive(Debug, Drop)]
+///
+/// Entries that come in rising order of their keys stand in a list, others in a tree: a map of one
+/// entry takes no more than its room.
+#[derive(Drop)]
 pub struct Map {
+    listed: Vec<(Text, Text)>,
+    // The keys are beyond those of the list.
     tree: BTreeMap<Text, Text>,
 }
 
 impl Model for Map {
-    ghost use Rattle.std.specs.Prelude.{ℕ, List};
+    ghost use Rattle.std.specs.Prelude.{ℕ, List, ◌++◌};
     ghost use Rattle.std.specs.FinMap as map;
     ghost use Rattle.std.specs.Ordering.{nat_cmp};
     ghost use Rattle.std.specs.Cmp.Lexicographic.{slice_cmp};
     ghost use Rattle.std.specs.Coded.{coded_ℕ, coded_list};
+    ghost use Rattle.csi_types.specs.Maps.{IsRising};
 
     ghost Value = { map.FinMap (slice_cmp nat_cmp) (List ℕ) };
 
     ghost coded = { map.code (coded_list coded_ℕ) (coded_list coded_ℕ) };
 
-    ghost view = { λ a. map.from_entries a.tree.entries };
+    ghost view = { λ a. map.from_sorted (a.listed.items ++ a.tree.entries) };
+
+    ghost invariant = { λ a. IsRising (a.listed.items ++ a.tree.entries) };
 }
 
 impl Map {
@@ -36,30 +52,16 @@ impl Map {
         ensures { result ≡ map.empty }
     {
         Map {
+            listed: Vec::new(alloc),
             tree: BTreeMap::new(alloc),
         }
-    }
-
-    /// Takes a tree, and no memory.
-    pub fn from_tree(tree: BTreeMap<Text, Text>) -> Self
-        ensures { result ≡ map.from_entries tree.entries }
-    {
-        Self { tree }
-    }
-
-    /// Gives the tree back.
-    pub fn into_tree(self) -> BTreeMap<Text, Text>
-        ensures { map.from_entries result.entries ≡ self }
-    {
-        let Map { tree } = self;
-        tree
     }
 
     /// How many entries there are.
     pub fn len(&self) -> usize
         ensures { result ≡ map.len self.now }
     {
-        self.tree.len()
+        self.listed.len() + self.tree.len()
     }
 
     /// Whether there is no entry.
@@ -70,11 +72,18 @@ impl Map {
     }
 
     /// The value of a key, or `None` where there is none.
-    #[tactic(auto, using(crate::proofs::Maps::get_text))]
     pub fn get(&self, key: &Text) -> Option<&Text>
         ensures { option_copied result ≡ map.get self.now key.now }
     {
-        self.tree.get(key)
+        let place = self.listed.binary_search_by(
+            |entry|
+                ensures { result ≡ slice_cmp nat_cmp entry.now.0 key.entry.now }
+            { entry.0.cmp(key) },
+        );
+        match place {
+            Ok(place) => Some(&self.listed[place].1),
+            Err(_) => self.tree.get(key),
+        }
     }
 
     /// Whether a key has a value.
@@ -89,27 +98,36 @@ impl Map {
         ensures ok { OnOk result (self.new ≡ map.insert self.old key value) }
         ensures err { OnErr result (self.new ≡ self.old) }
     {
-        self.tree.insert(key, value)?;
+        enter(&mut self.listed, &mut self.tree, key, value)?;
         Ok(())
     }
 
     /// The entries, in byte order of their keys.
     #[tactic(auto, using(crate::proofs::Maps::entries_of))]
-    pub fn iter(&self) -> Iter<'_, Text, Text>
+    pub fn iter(&self) -> MapEntries<'_>
         ensures { result ≡ map.entries self.now }
     {
-        self.tree.iter()
+        MapEntries {
+            listed: self.listed.iter(),
+            tree: self.tree.iter(),
+        }
+    }
+}
+
+impl fmt::Debug for Map {
+    fn fmt<W: fmt::Write>(&self, f: &mut fmt::Formatter<W>) -> fmt::Result {
+        f.debug_map().entries(self).finish()
     }
 }
 
 impl<'a> IntoIterator for &'a Map {
     type Item = (&'a Text, &'a Text);
 
-    type IntoIter = Iter<'a, Text, Text>;
+    type IntoIter = MapEntries<'a>;
 
     ghost into_iter_gives = { λ m it. it ≡ map.entries m.now };
 
-    fn into_iter(self) -> Iter<'a, Text, Text> {
+    fn into_iter(self) -> MapEntries<'a> {
         self.iter()
     }
 }
@@ -122,8 +140,7 @@ impl PartialEq for Map {
     ghost laws = { same_map_per };
 
     fn eq(&self, other: &Self) -> bool {
-        let (ours, theirs) = (&self.tree, &other.tree);
-        ours.len() == theirs.len() && ours == theirs
+        self.len() == other.len() && are_same(self.iter(), other.iter())
     }
 }
 

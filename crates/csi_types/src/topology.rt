@@ -50,6 +50,8 @@ pub fn has_alike_keys(topology: &Map) -> bool
 fn has_alike_pair(topology: &Map) -> bool
     ensures { result ≡ has_alike_keys topology.now }
 {
+    // Its keys can be counted.
+    let _count = topology.len();
     topology.iter().enumerate().any(|(index, (key, _))| is_key_alike_before(topology, index, key))
 }
 

@@ -1,4 +1,4 @@
-use Rattle.std.proofs.Common.{◌≡◌, ap, ◌∙◌, map, reverse, rules}
+use Rattle.std.proofs.Common.{◌≡◌, ap, ◌∙◌, map, reverse}
 use Rattle.std.specs.FinMap.{entries, from_entries}
 use Rattle.std.specs.Map.Iter.{deref_pair}
 use Rattle.std.proofs.lemmas.Map.Iter.{iter_end}
@@ -7,5 +7,6 @@ use Rattle.csi_types.proofs.copies.copy_map.Goals as goal
 
 pub returns : goal.returns
 returns c =
-    let e : map deref_pair c.loop-key.yielded ≡ entries c.args.map.now = search (rules, iter_end) in
-    c.loop-key.invariant ∙ ap (λ es. from_entries {R = text_cmp} (reverse es)) e ∙ again c.args.map.now
+    let all : map deref_pair c.loop-key.yielded ≡ entries c.args.map.now =
+    (iter_end deref_pair (entries c.args.map.now) c.loop-key.yielded _ c.loop-key.key-iterator c.next.new.self c.next.result c.into_iter-key-iterator.ensures.into_iter_gives c.loop-key.yielded_by c.in-None.is c.next.ensures.steps).0 in
+    c.loop-key.invariant ∙ ap (λ es. from_entries {R = text_cmp} (reverse es)) all ∙ again c.args.map.now

@@ -1,16 +1,11 @@
 use Rattle.std.proofs.Common.{◌≡◌, sym, ◌∙◌, false, rules, tests, eqb}
-use Rattle.csi_types.proofs.Maps.{entries_of, apart_by_length}
+use Rattle.std.specs.FinMap.{entries, len-entries}
+use Rattle.csi_types.proofs.Maps.{apart_by_length}
 use Rattle.csi_types.proofs.map.MapPartialEq.eq.Goals as goal
-
-pub returns-then-len : goal.returns-then-len
-returns-then-len c =
-    let ours = entries_of c.self.inside.tree.entries c.args.self.now c.len.ensures.ordered c.self.view_is in
-    let theirs = entries_of c.other.inside.tree.entries c.args.other.now c.len-2.ensures.ordered c.other.view_is in
-    rw (ours, theirs) c.eq.ensures
 
 pub returns-else-len : goal.returns-else-len
 returns-else-len c =
-    let ours = entries_of c.self.inside.tree.entries c.args.self.now c.len.ensures.ordered c.self.view_is in
-    let theirs = entries_of c.other.inside.tree.entries c.args.other.now c.len-2.ensures.ordered c.other.view_is in
     let differ : eqb c.len.result c.len-2.result ≡ false = search (tests, rules) in
-    differ ∙ sym (rw (ours, theirs) (apart_by_length _ _ _ (λ e. c.if-len.false (c.len.ensures.len ∙ e ∙ sym c.len-2.ensures.len))))
+    let ours = c.len.ensures ∙ len-entries c.args.self.now in
+    let theirs = c.len-2.ensures ∙ len-entries c.args.other.now in
+    differ ∙ sym (apart_by_length _ (entries c.args.self.now) (entries c.args.other.now) (λ e. c.if-len.false (ours ∙ e ∙ sym theirs)))

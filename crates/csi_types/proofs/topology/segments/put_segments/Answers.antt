@@ -31,7 +31,8 @@ loop-key-preserved c =
 
 pub returns : goal.returns
 returns c =
-    let all : map deref_pair c.loop-key.yielded ≡ entries c.args.topology.now = search (rules, iter_end) in
+    let all : map deref_pair c.loop-key.yielded ≡ entries c.args.topology.now =
+    (iter_end deref_pair (entries c.args.topology.now) c.loop-key.yielded _ c.loop-key.key-iterator c.next.new.self c.next.result c.into_iter-key-iterator.ensures.into_iter_gives c.loop-key.yielded_by c.in-None.is c.next.ensures.steps).0 in
     let done = length-map c.loop-key.yielded deref_pair in
     let long = len-entries c.args.topology.now in
     let every = ap length all in

@@ -1,0 +1,100 @@
+//! Entering an entry into a map.
+//!
+//! A map is a list and a tree. The keys of the list rise, and those of the tree are beyond them. So
+//! entries that come in the order of their keys, as they mostly do, need no tree; and an entry
+//! moves at most once, from the list to the tree.
+
+ghost use Rattle.std.specs.Prelude.{◌≡◌, ◌<◌, ◌+◌, ◌++◌, ◌∷◌, [], IsFalse, IsTrue, OnErr, OnOk, length};
+ghost use Rattle.std.specs.FinMap.{put};
+ghost use Rattle.std.specs.Ordering.{nat_cmp};
+ghost use Rattle.std.specs.Cmp.Lexicographic.{slice_cmp};
+ghost use Rattle.csi_types.specs.Maps.{AreBelow, IsRising};
+
+use crate::text::Text;
+use std::alloc::AllocError;
+use std::collections::BTreeMap;
+
+/// Gives a key its value, in place of one that it had. Where memory is refused the entries stay.
+pub(super) fn enter(
+    listed: &mut Vec<(Text, Text)>,
+    tree: &mut BTreeMap<Text, Text>,
+    key: Text,
+    value: Text,
+) -> Result<(), AllocError>
+    requires { IsRising (listed.old.items ++ tree.old.entries) }
+    ensures ok { OnOk result (listed.new.items ++ tree.new.entries ≡ put (slice_cmp nat_cmp) key value (listed.old.items ++ tree.old.entries)) }
+    ensures err { OnErr result (listed.new.items ++ tree.new.entries ≡ listed.old.items ++ tree.old.entries) }
+{
+    if tree.is_empty() && is_beyond(&key, listed) {
+        append(listed, key, value)?;
+    } else {
+        move_from(&key, listed, tree)?;
+        tree.insert(key, value)?;
+    }
+    Ok(())
+}
+
+// Whether a key is beyond those of a list.
+fn is_beyond(key: &Text, listed: &[(Text, Text)]) -> bool
+    requires { IsRising listed.now }
+    ensures beyond { IsTrue result → AreBelow key.now listed.now }
+    ensures some { IsFalse result → 0 < length listed.now }
+{
+    match listed.split_last() {
+        Some((last, _)) => last.0 < *key,
+        None => true,
+    }
+}
+
+// Appends an entry. A list of one entry takes room for no more, since most have one.
+fn append(listed: &mut Vec<(Text, Text)>, key: Text, value: Text) -> Result<(), AllocError>
+    ensures ok { OnOk result (listed.new.items ≡ listed.old.items ++ (key, value) ∷ []) }
+    ensures err { OnErr result (listed.new.items ≡ listed.old.items) }
+{
+    if listed.is_empty() {
+        listed.reserve_exact(1)?;
+    }
+    listed.push((key, value))?;
+    Ok(())
+}
+
+// Moves the entries from a key on to the tree. Where memory is refused some may have been moved.
+fn move_from(
+    key: &Text,
+    listed: &mut Vec<(Text, Text)>,
+    tree: &mut BTreeMap<Text, Text>,
+) -> Result<(), AllocError>
+    requires { IsRising (listed.old.items ++ tree.old.entries) }
+    ensures same { listed.new.items ++ tree.new.entries ≡ listed.old.items ++ tree.old.entries }
+    ensures ok { OnOk result (AreBelow key.now listed.new.items) }
+{
+    while !is_beyond(key, listed) {
+        move_last(listed, tree)?;
+    }
+    Ok(())
+}
+
+// Moves the last entry of the list to the tree.
+fn move_last(
+    listed: &mut Vec<(Text, Text)>,
+    tree: &mut BTreeMap<Text, Text>,
+) -> Result<(), AllocError>
+    requires rising { IsRising (listed.old.items ++ tree.old.entries) }
+    requires some { 0 < length listed.old.items }
+    ensures same { listed.new.items ++ tree.new.entries ≡ listed.old.items ++ tree.old.entries }
+    ensures moved { OnOk result (length listed.new.items + 1 ≡ length listed.old.items) }
+{
+    let Some((key, value)) = listed.pop() else {
+        unreachable!()
+    };
+    match tree.insert(key, value) {
+        Ok(_) => Ok(()),
+        Err(refused) => {
+            // The list has kept the room.
+            let Ok(()) = listed.push(refused.value) else {
+                unreachable!()
+            };
+            Err(AllocError)
+        }
+    }
+}
