@@ -3,7 +3,7 @@
 use csi_checks::check;
 use csi_codec::{DecodeFault, decode, decode_response, encode_request, encode_response};
 use csi_types::{
-    MAX_MAP_BYTES, MAX_MOUNT_FLAGS_BYTES, MAX_NODE_ID_BYTES, MAX_NODES, MAX_NUMBER, MAX_POOL_BYTES,
+    MAX_MAP_BYTES, MAX_MOUNT_FLAGS_BYTES, MAX_NODE_ID_BYTES, MAX_NODES, MAX_NUMBER, MAX_PAGE_ENTRIES, MAX_POOL_BYTES,
     MAX_POOLS, MAX_SEGMENTS, MAX_TEXT_BYTES, MAX_VOLUMES, Method, Request,
 };
 use row_notation::{NotationFault, bytes_of, method_named};
@@ -185,6 +185,7 @@ fn limit(name: &str) -> Option<u64> {
         "MAX_SEGMENTS" => MAX_SEGMENTS as u64,
         "MAX_NODES" => MAX_NODES as u64,
         "MAX_VOLUMES" => MAX_VOLUMES,
+        "MAX_PAGE_ENTRIES" => u64::from(MAX_PAGE_ENTRIES),
         "MAX_POOL_BYTES" => MAX_POOL_BYTES,
         "MAX_NUMBER" => MAX_NUMBER,
         _ => return None,

@@ -1,5 +1,6 @@
 pub mod Capability
 pub mod Coexistence
+pub mod Fakes
 pub mod Holding
 pub mod Invariant
 pub mod Keeper

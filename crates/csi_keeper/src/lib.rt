@@ -5,6 +5,7 @@ mod capability;
 mod change;
 mod coexistence;
 mod copies;
+pub mod fakes;
 mod keeper;
 pub mod laws;
 mod mem;

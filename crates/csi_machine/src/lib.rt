@@ -18,6 +18,6 @@ pub use answering::{answer, append_answer};
 pub use body::{Verdict, append_body};
 pub use csi_keeper::{
     Attachment, CapKey, Change, Keeper, Kind, MemKeeper, StoreFault, Total, Totals, Usage, Volume,
-    cap_key, capability_of, coexist, supported,
+    cap_key, capability_of, coexist, fakes, supported,
 };
 pub use plan::{Outcome, Plan};
