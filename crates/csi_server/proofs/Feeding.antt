@@ -6,6 +6,7 @@ use Rattle.std.proofs.lemmas.List.{take-append-drop, take_all, length-take}
 use Rattle.frames_core.specs.declared.fault.FrameFault.{FrameFault}
 use Rattle.frames_core.specs.declared.fault.FrameWhy.{FrameWhy}
 use Rattle.frames_core.specs.Envelope.{CallBytes, IsCall, frame}
+use Rattle.frames_core.specs.Grammar as grammar
 use Rattle.frames_core.specs.Stream.{Breaks, BreaksFirst, FaultAt, IsUnfinished, BeginsFrame}
 use Rattle.frames_core.specs.Framer.{FramerState, IsSettled, IsBreakOf, start}
 use Rattle.csi_server.specs.Machine.{Machine, Sight, Runs}
@@ -70,7 +71,7 @@ part_of read given old new rest n e f =
     ap (λ (x : List ℕ). x ++ take n rest) e ∙ (append_assoc given old.held (take n rest) ∙ ap (λ (x : List ℕ). given ++ x) (sym f.held))
 
 no_break_at_end : (bytes : List ℕ) (at : ℕ) → Breaks bytes EndOfInput at → ⊥
-unfolding Breaks
+unfolding grammar.Breaks
 no_break_at_end bytes at h = h
 
 -- the first break is the fault of the rest

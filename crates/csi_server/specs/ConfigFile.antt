@@ -1,5 +1,5 @@
 -- What reading a configuration says of its text.
-use Rattle.std.specs.Prelude.{◌≡◌, ℕ, List, Option, Some, None, Result, Ok, Err, IsSome, IsUtf8, ⊤}
+use Rattle.std.specs.Prelude.{◌≡◌, ℕ, List, None, Result, Ok, Err, IsSome, IsUtf8, ⊤}
 use Rattle.toml.specs.Parse.{parse_document}
 use Rattle.csi_config.specs.declared.config.Config.{Config}
 use Rattle.csi_server.specs.declared.config_file.ConfigError.{ConfigError}

@@ -1,65 +1,74 @@
 -- What a framer's invariant says.
-use Rattle.std.proofs.Common.{◌≤◌, ◌-◌, ◌++◌, ◌≡◌, ℕ, ◌+◌, ◌<◌, ◌^◌, List, [], length, Option, Some, None, refl, sym, subst, arith, inl}
-use Rattle.std.specs.Prelude.{IsNone, MatchOption}
-use Rattle.std.specs.Prelude.{IfSome, is_some, true}
-use Rattle.frames_core.specs.declared.call.Call.{Call}
-use Rattle.frames_core.specs.declared.fault.FrameFault.{FrameFault}
-use Rattle.frames_core.specs.declared.fault.FrameWhy.{FrameWhy}
-use Rattle.frames_core.specs.Envelope.{IsCall, bytes_of, frame}
-use Rattle.frames_core.specs.Stream.{BreaksFirst, FaultAt, IsUnbroken, IsUnfinished, BeginsFrame}
+use Rattle.std.proofs.Common.{◌-◌, ◌++◌, ◌≡◌, ℕ, ◌+◌, ◌<◌, ◌^◌, List, [], length, take, Option, Some, None, refl, sym, ap, subst, arith, length-append, inl, inr}
+use Rattle.std.specs.Prelude.{IsSome}
+use Rattle.std.proofs.lemmas.List.{length-take}
+use Rattle.frames_core.specs.declared.kind.Kind.{Kind}
+use Rattle.frames_core.specs.declared.kind.Part.{Part}
+use Rattle.frames_core.specs.declared.head.Flaw.{Flaw}
+use Rattle.frames_core.specs.declared.prefix.Prefix.{Prefix}
+use Rattle.frames_core.specs.Grammar.{BreaksFirst, FaultAt, IsUnbroken, IsUnfinished, BeginsFrame, IsFrame}
 use Rattle.frames_core.specs.Head.{IsShort}
-use Rattle.frames_core.specs.Framer.{FramerState, IsFrame, IsFramer}
+use Rattle.frames_core.specs.Prefix.{TakesPrefix, Stands}
+use Rattle.frames_core.specs.Holding.{Holds, IsBreakIn}
 use Rattle.frames_core.proofs.Breaking.{BreaksFirst-longer, nil_unbroken}
-use Rattle.frames_core.proofs.Frames.{fault_of_break, fault_no_frame, frame_begins, is_unfinished, nil_short}
+use Rattle.frames_core.proofs.Frames.{IsBytes, fault_of_break, fault_no_frame, frame_begins, is_unfinished, nil_short, whole_frame}
 
-pub empty_framer : (past : ℕ) → past < 2 ^ 63 → IsFramer past [] None
-empty_framer past few = record { few = omega arith; faults = (nil_unbroken, inl nil_short) }
+pub empty_holds : {F : Type 0} (kind : Kind) (part : F → Part) (at : F → ℕ) (past : ℕ) → past < 2 ^ 63 → Holds kind part at past [] None
+empty_holds kind part at past few = record { few = omega arith; faults = (nil_unbroken kind, inl (nil_short kind)) }
 
 -- a frame that stands leaves no fault
-pub known_none : (past : ℕ) (held : List ℕ) (known : Option FrameFault) → IsFramer past held known → BeginsFrame held → known ≡ None
-known_none past held None h b = refl
-known_none past held (Some f) h b = absurd (fault_no_frame held f.why (f.at - past) h.faults.1 b)
+pub known_none : {F : Type 0} (kind : Kind) (part : F → Part) (at : F → ℕ) (past : ℕ) (held : List ℕ) (known : Option F) → Holds kind part at past held known → BeginsFrame kind held → known ≡ None
+known_none kind part at past held None h b = refl
+known_none kind part at past held (Some f) h b = absurd (fault_no_frame kind held (part f) (at f - past) h.faults.1 b)
 
-pub unbroken_unknown : (past : ℕ) (held : List ℕ) (known : Option FrameFault) → IsFramer past held known → known ≡ None → IsUnbroken held
-unbroken_unknown past held None h e = h.faults.0
-unbroken_unknown past held (Some f) h e = absurd cc
+-- no frame begins where none is answered
+pub frameless : {F : Type 0} (kind : Kind) (part : F → Part) (at : F → ℕ) (past : ℕ) (held : List ℕ) (known : Option F) → Holds kind part at past held known → (known ≡ None → IsUnbroken kind held × IsShort kind held) → BeginsFrame kind held → ⊥
+frameless kind part at past held None h none b = let n = none refl in (is_unfinished kind held n.0 n.1).frameless b
+frameless kind part at past held (Some f) h none b = fault_no_frame kind held (part f) (at f - past) h.faults.1 b
 
-frameless : (past : ℕ) (held : List ℕ) (known : Option FrameFault) → IsFramer past held known → (known ≡ None → IsUnbroken held × IsShort held) → BeginsFrame held → ⊥
-frameless past held None h none b = let n = none refl in (is_unfinished held n.0 n.1).frameless b
-frameless past held (Some f) h none b = fault_no_frame held f.why (f.at - past) h.faults.1 b
-
-pub frame_of : (held : List ℕ) → IsFrame held → BeginsFrame held
-frame_of held f = frame_begins held f.0 f.1 f.2
+pub frame_of : (kind : Kind) (held : List ℕ) → IsFrame kind held → BeginsFrame kind held
+frame_of kind held f = frame_begins kind held f.0 f.1 f.2
 
 -- the fault that a byte makes known
-pub framer_broken : (past : ℕ) (held : List ℕ) (why : FrameWhy) (at : ℕ) (f : FrameFault) → past + length held < 2 ^ 63 → BreaksFirst held why at → f ≡ record { why = why; at = past + at } → IsFramer past held (Some f)
-framer_broken past held why at f few h e = record {
+pub holds_broken : {F : Type 0} (kind : Kind) (part : F → Part) (at : F → ℕ) (past : ℕ) (held : List ℕ) (f : F) (place : ℕ) → past + length held < 2 ^ 63 → BreaksFirst kind held (part f) place → at f ≡ past + place → Holds kind part at past held (Some f)
+holds_broken kind part at past held f place few h is = record {
   few = few;
-  faults = rw e (omega arith, subst (λ (k : ℕ). FaultAt held why k) (let same : at ≡ past + at - past = omega arith in same) (fault_of_break held why at h));
+  faults = (omega arith, subst (λ (k : ℕ). FaultAt kind held (part f) k) (let same : place ≡ at f - past = omega arith in same) (fault_of_break kind held (part f) place h));
 }
 
-abbrev pub IsGood : FramerState → Type 0
-IsGood s = IsFramer s.past s.held s.fault
+pub given_up : {F : Type 0} (kind : Kind) (part : F → Part) (at : F → ℕ) (past : ℕ) (held : List ℕ) (known : Option F) → Holds kind part at past held known → IsFrame kind held → Holds kind part at (past + length held) [] known × (known ≡ None)
+given_up {F} kind part at past held known h f =
+    let e = known_none kind part at past held known h (frame_of kind held f) in
+    (subst (λ (k : Option F). Holds kind part at (past + length held) [] k) (sym e) (empty_holds kind part at (past + length held) h.few), e)
 
-pub frame_answer : (s : FramerState) (r : Option Call) → IsGood s → IfSome r (λ call. IsCall (bytes_of call) × (s.held ≡ frame (bytes_of call)) × (s.fault ≡ None)) → (IsNone r → s.fault ≡ None → IsUnbroken s.held × IsShort s.held)
-    → MatchOption r (BeginsFrame s.held → ⊥) (λ call. IsCall (bytes_of call) × (s.held ≡ frame (bytes_of call)))
-frame_answer s None h some none = frameless s.past s.held s.fault h (none refl)
-frame_answer s (Some call) h some none = (some.0, some.1)
-
-pub stands : (held : List ℕ) (r : Option Call) → true ≡ is_some r → MatchOption r (BeginsFrame held → ⊥) (λ call. IsCall (bytes_of call) × (held ≡ frame (bytes_of call))) → IsFrame held
-stands held None e h = absurd cc
-stands held (Some call) e h = (bytes_of call, h.0, h.1)
-
-pub given_up : (s : FramerState) → IsGood s → IsFrame s.held → IsFramer (s.past + length s.held) [] s.fault × (s.fault ≡ None)
-given_up s h f =
-    let e = known_none s.past s.held s.fault h (frame_of s.held f) in
-    (rw e (empty_framer (s.past + length s.held) h.few), e)
-
-pub none_unfinished : (held : List ℕ) → held ≡ [] → IsUnfinished held
-none_unfinished held none = subst IsUnfinished (sym none) (is_unfinished [] nil_unbroken nil_short)
+pub none_unfinished : (kind : Kind) (held : List ℕ) → held ≡ [] → IsUnfinished kind held
+none_unfinished kind held none = subst (IsUnfinished kind) (sym none) (is_unfinished kind [] (nil_unbroken kind) (nil_short kind))
 
 -- a break that was found is one whatever follows
-pub known_break : (past : ℕ) (held : List ℕ) (f : FrameFault) → BreaksFirst held f.why f.at → (past ≤ past + f.at) × ((more : List ℕ) → BreaksFirst (held ++ more) f.why (past + f.at - past))
-known_break past held f h =
-    let same : f.at ≡ past + f.at - past = omega arith in
-    (omega arith, λ more. subst (λ (k : ℕ). BreaksFirst (held ++ more) f.why k) same (BreaksFirst-longer held more f.why f.at h))
+pub known_break : (kind : Kind) (past : ℕ) (held : List ℕ) (part : Part) (place at : ℕ) → BreaksFirst kind held part place → at ≡ past + place → IsBreakIn kind past held part at
+known_break kind past held part place at h is =
+    let same : place ≡ at - past = omega arith in
+    (omega arith, λ more. subst (λ (k : ℕ). BreaksFirst kind (held ++ more) part k) same (BreaksFirst-longer kind held more part place h))
+
+-- ---- what is taken of a piece
+
+-- how many bytes there are then
+pub few_then : (kind : Kind) (past : ℕ) (old piece new : List ℕ) (prefix : Prefix) → past + length old + length piece < 2 ^ 63 → TakesPrefix kind old piece new prefix → past + length new < 2 ^ 63
+few_then kind past old piece new prefix room t = omega (arith, ap length t.held, length-append old (take prefix.count piece), length-take prefix.count piece)
+
+pub breaks_then : (kind : Kind) (old piece new : List ℕ) (prefix : Prefix) (f : Flaw) → TakesPrefix kind old piece new prefix → prefix.flaw ≡ Some f → BreaksFirst kind new f.part f.at
+breaks_then kind old piece new prefix f t e = let P : Option Flaw → Type 0 = λ o. Stands kind new o in subst P e t.stands
+
+none_some : (o : Option Flaw) → o ≡ None → IsSome o → ⊥
+none_some None e some = absurd cc
+none_some (Some f) e some = absurd cc
+
+-- what is whole is a frame
+pub settled_whole : (kind : Kind) (old piece new : List ℕ) (prefix : Prefix) → TakesPrefix kind old piece new prefix → prefix.flaw ≡ None → IsBytes new → prefix.count < length piece → IsFrame kind new
+settled_whole kind old piece new prefix t e fits less =
+    let P : Option Flaw → Type 0 = λ o. Stands kind new o in
+    let stands = subst P e t.stands in
+    elim (t.all less) [
+      | inl whole ↦ whole_frame kind new fits stands.0 whole
+      | inr some ↦ absurd (none_some prefix.flaw e some)
+    ]

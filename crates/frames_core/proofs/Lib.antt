@@ -2,6 +2,7 @@ mod Breaking
 mod Frames
 mod Framing
 mod Looking
+mod Cancelling
 mod Reading
 mod Existing
 mod Longer

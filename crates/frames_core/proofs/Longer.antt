@@ -3,7 +3,8 @@ use Rattle.std.proofs.Common.{◌≡◌, ℕ, List, [], ◌∷◌, ◌++◌, len
 use Rattle.std.proofs.lemmas.List.Elements.{All-tail}
 use Rattle.std.proofs.lemmas.List.{append-nil}
 use Rattle.frames_core.specs.Envelope.{CallBytes, IsCall, frame}
-use Rattle.frames_core.specs.Stream.{BeginsFrame, End, Clean, Fault, Open, Ends, KeepsEnd, KeepsReading, frames}
+use Rattle.frames_core.specs.declared.kind.Kind.TheVariants.{Calls}
+use Rattle.frames_core.specs.Stream.{part_of, BeginsFrame, End, Clean, Fault, Open, Ends, KeepsEnd, KeepsReading, frames}
 use Rattle.frames_core.proofs.Breaking.{BreaksFirst-longer}
 use Rattle.frames_core.proofs.Frames.{broken_rest}
 use Rattle.frames_core.proofs.Reading.{frame_cancel, one_end, end_no_frame}
@@ -37,8 +38,8 @@ keeps_end : (calls others : List CallBytes) (rest more last : List ℕ) (end oth
 keeps_end calls others rest more last Clean other f ends theirs = tt
 keeps_end calls others rest more last Open other f ends theirs = tt
 keeps_end calls others rest more last (Fault why place) other f ends theirs =
-    let broken = BreaksFirst-longer rest more why ends.0 ends.1 in
-    let none : f.later ≡ [] = no_later f.later (rest ++ more) last f.each f.read (broken_rest (rest ++ more) why ends.0 broken) in
+    let broken = BreaksFirst-longer Calls rest more (part_of why) ends.0 ends.1 in
+    let none : f.later ≡ [] = no_later f.later (rest ++ more) last f.each f.read (broken_rest Calls (rest ++ more) (part_of why) ends.0 broken) in
     let same : others ≡ calls = f.whole ∙ (ap (λ (zs : List CallBytes). calls ++ zs) none ∙ append-nil calls) in
     let read : rest ++ more ≡ last = f.read ∙ ap (λ (zs : List CallBytes). frames zs ++ last) none in
     let there : Ends (length (frames calls)) (rest ++ more) other = subst (λ (r : List ℕ). Ends (length (frames calls)) r other) (sym read) (subst (λ (zs : List CallBytes). Ends (length (frames zs)) last other) same theirs) in

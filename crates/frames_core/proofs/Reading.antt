@@ -1,37 +1,18 @@
 -- Bytes have one reading as calls and an end.
-use Rattle.std.proofs.Common.{◌≡◌, ℕ, List, [], ◌∷◌, ◌++◌, length, take, drop, All, refl, sym, ap, subst, ◌∙◌, append_assoc, length-append, arith}
-use Rattle.std.proofs.lemmas.List.{take_at, drop_at}
+use Rattle.std.proofs.Common.{◌≡◌, ℕ, List, [], ◌∷◌, ◌++◌, length, All, refl, sym, ap, subst, ◌∙◌, append_assoc, arith}
 use Rattle.std.proofs.lemmas.List.Elements.{All-tail}
-use Rattle.std.specs.Int.{w16, w32, to_be_bytes}
 use Rattle.frames_core.specs.declared.fault.FrameWhy.{FrameWhy}
 use Rattle.frames_core.specs.declared.fault.FrameWhy.TheVariants.{BadPathLength, BadPath, BadFlag, TooLong, EndOfInput}
 use Rattle.frames_core.specs.Envelope.{CallBytes, IsCall, frame}
-use Rattle.frames_core.specs.Stream.{Breaks, BreaksFirst, BeginsFrame, IsUnbroken, End, Clean, Fault, Open, Ends, Stream, frames}
+use Rattle.frames_core.specs.declared.kind.Kind.TheVariants.{Calls}
+use Rattle.frames_core.specs.Grammar as grammar
+use Rattle.frames_core.specs.Stream.{part_of, BreaksFirst, BeginsFrame, IsUnbroken, End, Clean, Fault, Open, Ends, Stream, frames}
 use Rattle.frames_core.proofs.Breaking.{nil_unbroken}
-use Rattle.frames_core.proofs.Frames.{BeginsWith, begins_with, frame-append, length-frame, broken_rest}
-
-split_same : (a b x y : List ℕ) → length a ≡ length b → a ++ x ≡ b ++ y → (a ≡ b) × (x ≡ y)
-split_same a b x y len e = (
-  sym (take_at a x (length a) refl) ∙ (ap (λ (l : List ℕ). take (length a) l) e ∙ take_at b y (length a) (sym len)),
-  sym (drop_at a x (length a) refl) ∙ (ap (λ (l : List ℕ). drop (length a) l) e ∙ drop_at b y (length a) (sym len)),
-)
-
-call : List ℕ → List ℕ → CallBytes
-call p m = record { path = p; message = m }
+use Rattle.frames_core.proofs.Cancelling.{cancel, nil_no_frame}
+use Rattle.frames_core.proofs.Frames.{broken_rest}
 
 pub frame_cancel : (c d : CallBytes) (x y : List ℕ) → IsCall c → IsCall d → frame c ++ x ≡ frame d ++ y → (c ≡ d) × (x ≡ y)
-unfolding call
-frame_cancel c d x y gc gd e =
-    let b = begins_with c x gc in
-    let f : BeginsWith (frame c ++ x) d = subst (λ (l : List ℕ). BeginsWith l d) (sym e) (begins_with d y gd) in
-    let paths : length c.path ≡ length d.path = sym b.path_is ∙ f.path_is in
-    let messages : length c.message ≡ length d.message = sym b.message_is ∙ f.message_is in
-    let opened = sym (frame-append c x) ∙ (e ∙ frame-append d y) in
-    let one = split_same (to_be_bytes w16 (length c.path)) (to_be_bytes w16 (length d.path)) (c.path ++ (0 ∷ (to_be_bytes w32 (length c.message) ++ (c.message ++ x)))) (d.path ++ (0 ∷ (to_be_bytes w32 (length d.message) ++ (d.message ++ y)))) refl opened in
-    let two = split_same c.path d.path (0 ∷ (to_be_bytes w32 (length c.message) ++ (c.message ++ x))) (0 ∷ (to_be_bytes w32 (length d.message) ++ (d.message ++ y))) paths one.1 in
-    let three = split_same (0 ∷ to_be_bytes w32 (length c.message)) (0 ∷ to_be_bytes w32 (length d.message)) (c.message ++ x) (d.message ++ y) refl two.1 in
-    let four = split_same c.message d.message x y messages three.1 in
-    (ap (λ (p : List ℕ). call p c.message) two.0 ∙ ap (λ (m : List ℕ). call d.path m) four.0, four.1)
+frame_cancel c d x y gc gd e = cancel Calls c d x y gc gd e
 
 pub one_split : (cs ds : List CallBytes) (r q : List ℕ) → All IsCall cs → All IsCall ds → frames cs ++ r ≡ frames ds ++ q → (BeginsFrame r → ⊥) → (BeginsFrame q → ⊥) → (cs ≡ ds) × (r ≡ q)
 one_split [] [] r q h k e nr nq = (refl, e)
@@ -43,16 +24,13 @@ one_split (c ∷ cs) (d ∷ ds) r q h k e nr nq =
     let rest = one_split cs ds r q (All-tail IsCall c cs h) (All-tail IsCall d ds k) one.1 nr nq in
     (ap (λ (z : CallBytes). z ∷ cs) one.0 ∙ ap (λ (zs : List CallBytes). d ∷ zs) rest.0, rest.1)
 
-nil_no_frame : (r : List ℕ) → r ≡ [] → BeginsFrame r → ⊥
-nil_no_frame r e b = omega (arith, ap length e, ap length b.3, length-append (frame b.0) b.1, length-frame b.0)
-
 pub end_no_frame : (from : ℕ) (r : List ℕ) (e : End) → Ends from r e → BeginsFrame r → ⊥
-end_no_frame from r Clean h b = nil_no_frame r h b
-end_no_frame from r (Fault why place) h b = broken_rest r why h.0 h.1 b
+end_no_frame from r Clean h b = nil_no_frame Calls r h b
+end_no_frame from r (Fault why place) h b = broken_rest Calls r (part_of why) h.0 h.1 b
 end_no_frame from r Open h b = h.1.frameless b
 
-one_why : (bytes : List ℕ) (w v : FrameWhy) (at : ℕ) → Breaks bytes w at → Breaks bytes v at → w ≡ v
-unfolding Breaks
+one_why : (bytes : List ℕ) (w v : FrameWhy) (at : ℕ) → grammar.Breaks Calls bytes (part_of w) at → grammar.Breaks Calls bytes (part_of v) at → w ≡ v
+unfolding grammar.Breaks
 one_why bytes EndOfInput v at h k = absurd h
 one_why bytes w EndOfInput at h k = absurd k
 one_why bytes BadPathLength BadPathLength at h k = refl
@@ -73,12 +51,12 @@ one_why bytes TooLong BadFlag at h k = absurd (omega (arith, h.0, k.0))
 one_why bytes TooLong TooLong at h k = refl
 
 begun_not : (why : FrameWhy) (at : ℕ) (r : List ℕ) → r ≡ [] → BreaksFirst r why at → ⊥
-unfolding IsUnbroken
-begun_not why at r e h = nil_unbroken why at (subst (λ (x : List ℕ). Breaks x why at) e h.breaks)
+unfolding grammar.IsUnbroken
+begun_not why at r e h = nil_unbroken Calls (part_of why) at (subst (λ (x : List ℕ). grammar.Breaks Calls x (part_of why) at) e h.breaks)
 
 open_not : (why : FrameWhy) (at : ℕ) (r : List ℕ) → IsUnbroken r → BreaksFirst r why at → ⊥
-unfolding IsUnbroken
-open_not why at r u h = u why at h.breaks
+unfolding grammar.IsUnbroken
+open_not why at r u h = u (part_of why) at h.breaks
 
 pub one_end : (from : ℕ) (r : List ℕ) (e f : End) → Ends from r e → Ends from r f → e ≡ f
 one_end from r Clean Clean h k = refl
@@ -86,8 +64,8 @@ one_end from r Clean (Fault why place) h k = absurd (begun_not why k.0 r h k.1)
 one_end from r Clean Open h k = absurd (k.0 h)
 one_end from r (Fault why place) Clean h k = absurd (begun_not why h.0 r k h.1)
 one_end from r (Fault why place) (Fault way point) h k =
-    let at : h.0 ≡ k.0 = omega (arith, h.1.least way k.0 k.1.breaks, k.1.least why h.0 h.1.breaks) in
-    let same = one_why r why way h.0 h.1.breaks (subst (λ (a : ℕ). Breaks r way a) (sym at) k.1.breaks) in
+    let at : h.0 ≡ k.0 = omega (arith, h.1.least (part_of way) k.0 k.1.breaks, k.1.least (part_of why) h.0 h.1.breaks) in
+    let same = one_why r why way h.0 h.1.breaks (subst (λ (a : ℕ). grammar.Breaks Calls r (part_of way) a) (sym at) k.1.breaks) in
     let places : place ≡ point = omega (arith, h.2, k.2) in
     ap (λ (w : FrameWhy). Fault w place) same ∙ ap (λ (p : ℕ). Fault way p) places
 one_end from r (Fault why place) Open h k = absurd (open_not why h.0 r k.1.unbroken h.1)

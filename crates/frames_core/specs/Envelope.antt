@@ -3,6 +3,7 @@ use Rattle.std.specs.Prelude.{ℕ, ◌≡◌, ◌≢◌, ◌==◌, ◌≤◌, Bo
 use Rattle.std.specs.Int.{w16, w32, to_be_bytes}
 use Rattle.std.specs.List.{list_any}
 use Rattle.frames_core.specs.declared.call.Call.{Call}
+use Rattle.frames_core.specs.declared.reply.Reply.{Reply}
 use Rattle.frames_core.specs.declared.limits.TheConstants.{MAX_PATH_BYTES, MAX_MESSAGE_BYTES, MAX_TEXT_BYTES, MAX_BODY_BYTES}
 
 -- a call without where it lies in memory
@@ -32,6 +33,9 @@ pub record ReplyBytes : Type 0 where
   pub status : ℕ
   pub text : List ℕ
   pub body : List ℕ
+
+abbrev pub reply_bytes_of : Reply → ReplyBytes
+reply_bytes_of r = record { status = r.status; text = r.text.now; body = r.body.now }
 
 abbrev pub IsTextByte : ℕ → Type 0
 IsTextByte byte = (32 ≤ byte) × (byte ≤ 126)

@@ -1,24 +1,25 @@
 -- What a framer takes of a piece.
 use Rattle.std.specs.Prelude.{◌≡◌, ℕ, ◌+◌, ◌≤◌, ◌<◌, List, ◌++◌, length, take, Option, None, Some, IsSome, ◌⊎◌}
+use Rattle.frames_core.specs.declared.kind.Kind.{Kind}
 use Rattle.frames_core.specs.declared.prefix.Prefix.{Prefix}
-use Rattle.frames_core.specs.declared.fault.FrameFault.{FrameFault}
-use Rattle.frames_core.specs.Stream.{IsUnbroken, IsUnfinished, BreaksFirst, path_length, message_length}
+use Rattle.frames_core.specs.declared.head.Flaw.{Flaw}
+use Rattle.frames_core.specs.Grammar.{lead, text_length, body_length, IsUnbroken, IsUnfinished, BreaksFirst}
 use Rattle.frames_core.specs.Head.{IsShort, IsWhole}
 
 -- what the bytes are with those that were taken
-abbrev pub Stands : List ℕ → Option FrameFault → Type 0
-Stands bytes None = IsUnbroken bytes × (IsShort bytes ⊎ IsWhole bytes)
-Stands bytes (Some f) = BreaksFirst bytes f.why f.at
+abbrev pub Stands : Kind → List ℕ → Option Flaw → Type 0
+Stands kind bytes None = IsUnbroken kind bytes × (IsShort kind bytes ⊎ IsWhole kind bytes)
+Stands kind bytes (Some f) = BreaksFirst kind bytes f.part f.at
 
-pub record TakesPrefix (old piece new : List ℕ) (prefix : Prefix) : Type 0 where
+pub record TakesPrefix (kind : Kind) (old piece new : List ℕ) (prefix : Prefix) : Type 0 where
   pub within : prefix.count ≤ length piece
   pub held : new ≡ old ++ take prefix.count piece
-  pub least : (k : ℕ) → k < prefix.count → IsUnfinished (old ++ take k piece)
-  pub stands : Stands new prefix.fault
-  pub all : prefix.count < length piece → IsWhole new ⊎ IsSome prefix.fault
-  pub idle : prefix.count ≡ 0 → prefix.fault ≡ None
+  pub least : (k : ℕ) → k < prefix.count → IsUnfinished kind (old ++ take k piece)
+  pub stands : Stands kind new prefix.flaw
+  pub all : prefix.count < length piece → IsWhole kind new ⊎ IsSome prefix.flaw
+  pub idle : prefix.count ≡ 0 → prefix.flaw ≡ None
 
--- nothing is missing while the message's length isn't known
-pub record Misses (bytes : List ℕ) (n : ℕ) : Type 0 where
-  pub head : length bytes < 7 + path_length bytes → n ≡ 0
-  pub message : 7 + path_length bytes ≤ length bytes → length bytes + n ≡ 7 + path_length bytes + message_length bytes
+-- nothing is missing while the body's length isn't known
+pub record Misses (kind : Kind) (bytes : List ℕ) (n : ℕ) : Type 0 where
+  pub head : length bytes < lead kind + 7 + text_length kind bytes → n ≡ 0
+  pub body : lead kind + 7 + text_length kind bytes ≤ length bytes → length bytes + n ≡ lead kind + 7 + text_length kind bytes + body_length kind bytes

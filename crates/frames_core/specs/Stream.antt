@@ -1,50 +1,45 @@
 -- Which calls a stream of bytes has, and how it ends: docs/PROTOCOL.md, "Streams" (own).
-use Rattle.std.specs.Prelude.{◌≡◌, ◌≢◌, ℕ, ◌+◌, ◌*◌, ◌<◌, ◌≤◌, List, [], ◌++◌, length, slice_index, All, ◌⊎◌}
+use Rattle.std.specs.Prelude.{◌≡◌, ℕ, ◌+◌, List, [], ◌++◌, length, All}
 use Rattle.std.specs.List.{flat_map}
 use Rattle.frames_core.specs.declared.fault.FrameWhy.{FrameWhy}
 use Rattle.frames_core.specs.declared.fault.FrameWhy.TheVariants.{BadPathLength, BadPath, BadFlag, TooLong, EndOfInput}
-use Rattle.frames_core.specs.declared.limits.TheConstants.{MAX_PATH_BYTES, MAX_MESSAGE_BYTES}
-use Rattle.frames_core.specs.Envelope.{CallBytes, IsPathByte, IsCall, frame}
+use Rattle.frames_core.specs.declared.kind.Kind.TheVariants.{Calls}
+use Rattle.frames_core.specs.declared.kind.Part.{Part}
+use Rattle.frames_core.specs.declared.kind.Part.TheVariants.{TextLength, Text, Flag, BodyLength, Missing}
+use Rattle.frames_core.specs.Envelope.{CallBytes, IsCall, frame}
+use Rattle.frames_core.specs.Grammar as grammar
 
--- the length that the first two bytes give
-unfoldable pub path_length : List ℕ → ℕ
-path_length bytes = 256 * slice_index bytes 0 + slice_index bytes 1
-
--- the length that the four bytes behind the flag give
-unfoldable pub message_length : List ℕ → ℕ
-message_length bytes =
-    let at = 3 + path_length bytes in
-    16777216 * slice_index bytes at + 65536 * slice_index bytes (at + 1) + 256 * slice_index bytes (at + 2) + slice_index bytes (at + 3)
+-- the part of a frame that is wrong, for each reason
+abbrev pub part_of : FrameWhy → Part
+part_of BadPathLength = TextLength
+part_of BadPath = Text
+part_of BadFlag = Flag
+part_of TooLong = BodyLength
+part_of EndOfInput = Missing
 
 -- the byte at this place breaks the table of a frame, for this reason
-unfoldable pub Breaks : List ℕ → FrameWhy → ℕ → Type 0
-Breaks bytes BadPathLength at = (at ≡ 0) × (2 ≤ length bytes) × ((path_length bytes ≡ 0) ⊎ (MAX_PATH_BYTES < path_length bytes))
-Breaks bytes BadPath at = (2 ≤ at) × (at < 2 + path_length bytes) × (at < length bytes) × ¬ IsPathByte (slice_index bytes at)
-Breaks bytes BadFlag at = (at ≡ 2 + path_length bytes) × (at < length bytes) × (slice_index bytes at ≢ 0)
-Breaks bytes TooLong at = (at ≡ 3 + path_length bytes) × (at + 4 ≤ length bytes) × (MAX_MESSAGE_BYTES < message_length bytes)
-Breaks bytes EndOfInput at = ⊥
+abbrev pub Breaks : List ℕ → FrameWhy → ℕ → Type 0
+Breaks bytes why at = grammar.Breaks Calls bytes (part_of why) at
 
 -- the rest of a stream breaks the table nowhere
-unfoldable pub IsUnbroken : List ℕ → Type 0
-IsUnbroken bytes = (why : FrameWhy) (at : ℕ) → ¬ Breaks bytes why at
+abbrev pub IsUnbroken : List ℕ → Type 0
+IsUnbroken bytes = grammar.IsUnbroken Calls bytes
 
 -- it breaks it first at this place
-pub record BreaksFirst (bytes : List ℕ) (why : FrameWhy) (at : ℕ) : Type 0 where
-  pub breaks : Breaks bytes why at
-  pub least : (other : FrameWhy) (place : ℕ) → Breaks bytes other place → at ≤ place
+abbrev pub BreaksFirst : List ℕ → FrameWhy → ℕ → Type 0
+BreaksFirst bytes why at = grammar.BreaksFirst Calls bytes (part_of why) at
 
 -- a prefix of it is a frame
 abbrev pub BeginsFrame : List ℕ → Type 0
-BeginsFrame bytes = (call : CallBytes) × (more : List ℕ) × IsCall call × (bytes ≡ frame call ++ more)
+BeginsFrame bytes = grammar.BeginsFrame Calls bytes
 
 -- it may yet become a frame
-pub record IsUnfinished (bytes : List ℕ) : Type 0 where
-  pub unbroken : IsUnbroken bytes
-  pub frameless : ¬ BeginsFrame bytes
+abbrev pub IsUnfinished : List ℕ → Type 0
+IsUnfinished bytes = grammar.IsUnfinished Calls bytes
 
 -- something of a frame has come, and it may yet become one
 abbrev pub IsOpen : List ℕ → Type 0
-IsOpen bytes = (bytes ≢ []) × IsUnfinished bytes
+IsOpen bytes = grammar.IsOpen Calls bytes
 
 -- how a stream ends
 pub data End : Type 0 where
@@ -70,8 +65,7 @@ pub record Stream (bytes : List ℕ) (calls : List CallBytes) (end : End) : Type
 
 -- The fault of a stream's rest once the input ends with it: an open rest ends too early.
 abbrev pub FaultAt : List ℕ → FrameWhy → ℕ → Type 0
-FaultAt rest EndOfInput at = (at ≡ length rest) × IsOpen rest
-FaultAt rest why at = BreaksFirst rest why at
+FaultAt rest why at = grammar.FaultAt Calls rest (part_of why) at
 
 -- the bytes can be read
 abbrev pub HasReading : List ℕ → Type 0

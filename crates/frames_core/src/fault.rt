@@ -1,7 +1,10 @@
-ghost use Rattle.std.specs.Prelude.{◌≡◌, ◌≤◌, length, All};
+ghost use Rattle.std.specs.Prelude.{◌≡◌, ◌≢◌, ◌≤◌, length, All};
+ghost use Rattle.frames_core.specs.declared.kind.Part.TheVariants.{Status};
 ghost use Rattle.frames_core.specs.Envelope.{IsTextByte};
+ghost use Rattle.frames_core.specs.Stream.{part_of};
 ghost use Rattle.frames_core.specs.Texts.{fault_words};
 
+use crate::kind::Part;
 use thiserror::Error;
 
 /// Why bytes are not a request frame, in the order in which a frame's bytes show it.
@@ -32,6 +35,21 @@ impl FrameWhy {
             FrameWhy::BadFlag => "bad flag at byte ",
             FrameWhy::TooLong => "message too long at byte ",
             FrameWhy::EndOfInput => "end of input at byte ",
+        }
+    }
+
+    /// The reason, by the part that is wrong: a call's frame has no status.
+    pub(crate) fn of(part: Part) -> FrameWhy
+        requires { part ≢ Status }
+        ensures { part_of result ≡ part }
+    {
+        match part {
+            Part::Status => unreachable!(),
+            Part::TextLength => FrameWhy::BadPathLength,
+            Part::Text => FrameWhy::BadPath,
+            Part::Flag => FrameWhy::BadFlag,
+            Part::BodyLength => FrameWhy::TooLong,
+            Part::Missing => FrameWhy::EndOfInput,
         }
     }
 }

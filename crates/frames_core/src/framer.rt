@@ -1,12 +1,14 @@
 ghost use Rattle.std.specs.Prelude.{◌≡◌, ℕ, ◌+◌, ◌^◌, ◌<◌, ◌≤◌, [], ◌++◌, length, take, slice_index, min, vec_len, vec_capacity, None, Some, IfOk, MatchOption, IsTrue, IsNone, IfSome, false};
 ghost use Rattle.frames_core.specs.Envelope.{IsCall, bytes_of, frame};
 ghost use Rattle.frames_core.specs.Stream.{BeginsFrame, IsUnbroken, IsUnfinished};
+ghost use Rattle.frames_core.specs.declared.kind.Kind.TheVariants.{Calls};
 ghost use Rattle.frames_core.specs.Head.{IsShort};
 ghost use Rattle.frames_core.specs.Framer.{FramerState, start, IsFrame, IsSettled, IsFaultOf, IsBreakOf, IsCutShort, cut_short};
 
 use crate::call::Call;
 use crate::fault::{FrameFault, FrameWhy};
 use crate::head::{call_of, is_whole};
+use crate::kind::Kind;
 use crate::limits::MAX_FRAME_BYTES;
 use crate::prefix::{each_fits, take_prefix};
 use std::alloc::{AllocError, Global};
@@ -77,13 +79,13 @@ impl Framer {
     // The same, with what is known where there is none.
     fn standing(&self) -> Option<Call<'_>>
         ensures some { IfSome result (λ call. IsCall (bytes_of call) × (self.now.held ≡ frame (bytes_of call)) × (self.now.fault ≡ None)) }
-        ensures none { IsNone result → self.now.fault ≡ None → IsUnbroken self.now.held × IsShort self.now.held }
+        ensures none { IsNone result → self.now.fault ≡ None → IsUnbroken self.now.held × IsShort Calls self.now.held }
     {
         let held = self.buffer.as_slice();
         if self.known.is_some() {
             return None;
         }
-        if !is_whole(held) {
+        if !is_whole(Kind::Calls, held) {
             return None;
         }
         Some(call_of(held))
@@ -117,7 +119,7 @@ impl Framer {
     // Whether nothing more is taken.
     fn is_settled(&self) -> bool
         ensures settled { IsTrue result → IsSettled self.now }
-        ensures open { (result ≡ false) → (self.now.fault ≡ None) × IsUnbroken self.now.held × IsShort self.now.held }
+        ensures open { (result ≡ false) → (self.now.fault ≡ None) × IsUnbroken self.now.held × IsShort Calls self.now.held }
     {
         self.known.is_some() || self.standing().is_some()
     }
@@ -142,12 +144,12 @@ impl Framer {
         if self.is_settled() {
             return 0;
         }
-        let prefix = take_prefix(&mut self.buffer, piece);
+        let prefix = take_prefix(Kind::Calls, &mut self.buffer, piece);
         each_fits(self.buffer.as_slice());
-        if let Some(fault) = prefix.fault {
+        if let Some(flaw) = prefix.flaw {
             self.known = Some(FrameFault {
-                why: fault.why,
-                at: self.past + fault.at,
+                why: FrameWhy::of(flaw.part),
+                at: self.past + flaw.at as u64,
             });
         }
         prefix.count

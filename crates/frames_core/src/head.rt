@@ -1,28 +1,30 @@
 ghost use Rattle.std.specs.Prelude.{◌≡◌, ℕ, ◌+◌, ◌-◌, ◌<◌, ◌≤◌, ◌↔◌, ◌≢◌, ◌⊎◌, length, take, slice_index, false, IsTrue, MatchOption};
-ghost use Rattle.frames_core.specs.Stream.{path_length, message_length, IsUnbroken};
-ghost use Rattle.frames_core.specs.Envelope.{IsPathByte, IsCall, bytes_of, frame};
-ghost use Rattle.frames_core.specs.Head.{IsHead, IsWhole, Looks, ArePathBytes, IsBadPathByte};
+ghost use Rattle.frames_core.specs.declared.kind.Kind.TheVariants.{Calls, Replies};
+ghost use Rattle.frames_core.specs.Grammar.{lead, text_length, body_length, IsUnbroken};
+ghost use Rattle.frames_core.specs.Envelope.{IsCall, bytes_of, frame, IsReply, reply_bytes_of, reply};
+ghost use Rattle.frames_core.specs.Head.{IsHead, IsWhole, Looks, AreGoodBytes, IsBadByte};
 
 use crate::call::Call;
-use crate::fault::{FrameFault, FrameWhy};
-use crate::limits::{MAX_MESSAGE_BYTES, MAX_PATH_BYTES};
+use crate::kind::{Kind, Part};
+use crate::reply::Reply;
 
-// The length of the path, which the first two bytes give.
-#[tactic(auto, unfolding(crate::specs::Stream::path_length))]
-fn path_length_of(bytes: &[u8]) -> usize
-    requires { 2 ≤ length bytes.now }
-    ensures value { result ≡ path_length bytes.now }
+// The length of the text, which the two bytes before it give.
+#[tactic(auto, unfolding(crate::specs::Grammar::text_length))]
+fn text_length_of(kind: Kind, bytes: &[u8]) -> usize
+    requires { lead kind + 2 ≤ length bytes.now }
+    ensures value { result ≡ text_length kind bytes.now }
     ensures bound { result < 65536 }
 {
-    usize::from(bytes[0]) * 256 + usize::from(bytes[1])
+    let at = kind.lead();
+    usize::from(bytes[at]) * 256 + usize::from(bytes[at + 1])
 }
 
-// The length of the message, which the four bytes behind the flag give.
-#[tactic(auto, unfolding(crate::specs::Stream::message_length))]
-fn message_length_of(bytes: &[u8], from: usize) -> usize
-    requires from { from ≡ 3 + path_length bytes.now }
+// The length of the body, which the four bytes behind the flag give.
+#[tactic(auto, unfolding(crate::specs::Grammar::body_length))]
+fn body_length_of(kind: Kind, bytes: &[u8], from: usize) -> usize
+    requires from { from ≡ lead kind + 3 + text_length kind bytes.now }
     requires there { from + 4 ≤ length bytes.now }
-    ensures value { result ≡ message_length bytes.now }
+    ensures value { result ≡ body_length kind bytes.now }
     ensures bound { result < 4294967296 }
 {
     usize::from(bytes[from]) * 16777216
@@ -31,51 +33,61 @@ fn message_length_of(bytes: &[u8], from: usize) -> usize
         + usize::from(bytes[from + 3])
 }
 
-/// The lengths that the bytes of a frame before its message give.
+/// What the bytes of a frame before its body say of its length.
 #[derive(Clone, Copy)]
 pub(crate) struct Head {
-    /// Of the path.
-    pub path_length: usize,
-    /// Of the message.
-    pub message_length: usize,
+    /// Where the body begins.
+    pub body_at: usize,
+    /// How many bytes it has.
+    pub body_length: usize,
 }
 
 impl Head {
-    /// The lengths, where all bytes before the message are there.
-    pub(crate) fn read(bytes: &[u8]) -> Option<Head>
-        ensures { MatchOption result (length bytes.now < 7 + path_length bytes.now) (IsHead bytes.now) }
+    /// What they say, where all bytes before the body are there.
+    pub(crate) fn read(kind: Kind, bytes: &[u8]) -> Option<Head>
+        ensures { MatchOption result (length bytes.now < lead kind + 7 + text_length kind bytes.now) (IsHead kind bytes.now) }
     {
-        if bytes.len() < 7 {
+        let lead = kind.lead();
+        if bytes.len() < lead + 7 {
             return None;
         }
-        let path_length = path_length_of(bytes);
-        if bytes.len() < 7 + path_length {
+        let text_length = text_length_of(kind, bytes);
+        if bytes.len() < lead + 7 + text_length {
             return None;
         }
         Some(Head {
-            path_length,
-            message_length: message_length_of(bytes, 3 + path_length),
+            body_at: lead + 7 + text_length,
+            body_length: body_length_of(kind, bytes, lead + 3 + text_length),
         })
     }
 
     /// How many bytes the whole frame has.
     pub(crate) fn frame_bytes(self) -> usize
-        requires { (self.path_length < 65536) × (self.message_length < 4294967296) }
-        ensures { result ≡ 7 + self.path_length + self.message_length }
+        requires { (self.body_at < 65544) × (self.body_length < 4294967296) }
+        ensures { result ≡ self.body_at + self.body_length }
     {
-        7 + self.path_length + self.message_length
+        self.body_at + self.body_length
     }
 }
 
 /// Whether the bytes have the length that they give.
 #[tactic(auto, unfolding(crate::specs::Head::IsWhole))]
-pub(crate) fn is_whole(bytes: &[u8]) -> bool
-    ensures { IsTrue result ↔ IsWhole bytes.now }
+pub(crate) fn is_whole(kind: Kind, bytes: &[u8]) -> bool
+    ensures { IsTrue result ↔ IsWhole kind bytes.now }
 {
-    match Head::read(bytes) {
+    match Head::read(kind, bytes) {
         None => false,
         Some(head) => bytes.len() == head.frame_bytes(),
     }
+}
+
+/// What breaks the table of a frame.
+#[derive(Clone, Copy)]
+pub(crate) struct Flaw {
+    /// The part that is wrong.
+    pub part: Part,
+    /// The byte at which it is, counted from the frame's first.
+    pub at: usize,
 }
 
 /// What the first bytes of a rest are.
@@ -86,38 +98,46 @@ pub(crate) enum Look {
     /// That many are a frame.
     Whole(usize),
     /// They break the table, and the last of that many shows it.
-    Broken(FrameFault, usize),
+    Broken(Flaw, usize),
 }
 
 /// What these bytes are, of which so many were looked at before and break nothing.
 ///
-/// Takes the time of the path's bytes that are new: none of the message is looked at.
-pub(crate) fn look_at(bytes: &[u8], seen: usize) -> Look
+/// Takes the time of the text's bytes that are new: none of the body is looked at.
+pub(crate) fn look_at(kind: Kind, bytes: &[u8], seen: usize) -> Look
     requires within { seen ≤ length bytes.now }
-    requires prefix { IsUnbroken (take seen bytes.now) }
-    ensures { Looks bytes.now result }
+    requires prefix { IsUnbroken kind (take seen bytes.now) }
+    ensures { Looks kind bytes.now result }
 {
-    if bytes.len() < 2 {
+    let lead = kind.lead();
+    if kind.has_bad_status(bytes) {
+        return broken(Part::Status, 0, 1);
+    }
+    if bytes.len() < lead + 2 {
         return Look::Short;
     }
-    let path_length = path_length_of(bytes);
-    if path_length == 0 || path_length > MAX_PATH_BYTES {
-        return broken(FrameWhy::BadPathLength, 0, 2);
+    let text_length = text_length_of(kind, bytes);
+    if text_length < kind.least_text() || text_length > kind.most_text(bytes[0]) {
+        return broken(Part::TextLength, lead, lead + 2);
     }
-    if let Some(at) = bad_path_byte(bytes, seen, 2 + path_length) {
-        return broken(FrameWhy::BadPath, at, at + 1);
+    if let Some(at) = bad_byte(kind, bytes, seen, lead + 2 + text_length) {
+        return broken(Part::Text, at, at + 1);
     }
-    if bytes.len() < 3 + path_length {
+    if bytes.len() < lead + 3 + text_length {
         return Look::Short;
     }
-    if bytes[2 + path_length] != 0 {
-        return broken(FrameWhy::BadFlag, 2 + path_length, 3 + path_length);
+    if bytes[lead + 2 + text_length] != 0 {
+        return broken(Part::Flag, lead + 2 + text_length, lead + 3 + text_length);
     }
-    let Some(head) = Head::read(bytes) else {
+    let Some(head) = Head::read(kind, bytes) else {
         return Look::Short;
     };
-    if head.message_length > MAX_MESSAGE_BYTES {
-        return broken(FrameWhy::TooLong, 3 + path_length, 7 + path_length);
+    if head.body_length > kind.most_body(bytes[0]) {
+        return broken(
+            Part::BodyLength,
+            lead + 3 + text_length,
+            lead + 7 + text_length,
+        );
     }
     if bytes.len() < head.frame_bytes() {
         return Look::Short;
@@ -125,21 +145,22 @@ pub(crate) fn look_at(bytes: &[u8], seen: usize) -> Look
     Look::Whole(head.frame_bytes())
 }
 
-fn broken(why: FrameWhy, at: usize, size: usize) -> Look
-    ensures { result ≡ Look.Broken (record { why = why; at = at }) size }
+fn broken(part: Part, at: usize, size: usize) -> Look
+    ensures { result ≡ Look.Broken (record { part = part; at = at }) size }
 {
-    Look::Broken(FrameFault { why, at: at as u64 }, size)
+    Look::Broken(Flaw { part, at }, size)
 }
 
-// The first byte that no path has, of those from here on that the path has.
-fn bad_path_byte(bytes: &[u8], from: usize, end: usize) -> Option<usize>
-    ensures { MatchOption result (ArePathBytes bytes.now from end (length bytes.now)) (λ at. IsBadPathByte bytes.now from end at) }
+// The first byte that no text has, of those from here on that the text has.
+fn bad_byte(kind: Kind, bytes: &[u8], from: usize, end: usize) -> Option<usize>
+    ensures { MatchOption result (AreGoodBytes kind bytes.now from end (length bytes.now)) (λ at. IsBadByte kind bytes.now from end at) }
 {
-    let first = from.max(2);
+    let least = kind.least_byte();
+    let first = from.max(kind.lead() + 2);
     let last = end.min(bytes.len());
     for i in first..last {
         let byte = bytes[i];
-        if byte < 33 || byte > 126 {
+        if byte < least || byte > 126 {
             return Some(i);
         }
     }
@@ -149,15 +170,32 @@ fn bad_path_byte(bytes: &[u8], from: usize, end: usize) -> Option<usize>
 /// The call of a whole frame.
 #[tactic(auto, unfolding(crate::specs::Head::IsWhole))]
 pub(crate) fn call_of(bytes: &[u8]) -> Call<'_>
-    requires unbroken { IsUnbroken bytes.now }
-    requires whole { IsWhole bytes.now }
+    requires unbroken { IsUnbroken Calls bytes.now }
+    requires whole { IsWhole Calls bytes.now }
     ensures call { IsCall (bytes_of result) }
     ensures spelled { bytes.now ≡ frame (bytes_of result) }
 {
-    let path_length = path_length_of(bytes);
-    let (_, message) = bytes.split_at(7 + path_length);
+    let text_length = text_length_of(Kind::Calls, bytes);
+    let (_, message) = bytes.split_at(7 + text_length);
     Call {
-        path: &bytes[2..2 + path_length],
+        path: &bytes[2..2 + text_length],
         message,
+    }
+}
+
+/// The reply of a whole frame.
+#[tactic(auto, unfolding(crate::specs::Head::IsWhole))]
+pub(crate) fn reply_of(bytes: &[u8]) -> Reply<'_>
+    requires unbroken { IsUnbroken Replies bytes.now }
+    requires whole { IsWhole Replies bytes.now }
+    ensures reply { IsReply (reply_bytes_of result) }
+    ensures spelled { bytes.now ≡ reply (reply_bytes_of result) }
+{
+    let text_length = text_length_of(Kind::Replies, bytes);
+    let (_, body) = bytes.split_at(8 + text_length);
+    Reply {
+        status: bytes[0],
+        text: &bytes[3..3 + text_length],
+        body,
     }
 }

@@ -1,11 +1,10 @@
 ghost use Rattle.std.specs.Prelude.{◌≡◌, ℕ, ◌+◌, ◌<◌, ◌≤◌, ◌++◌, length, slice_index, min, vec_len, vec_capacity};
 ghost use Rattle.frames_core.specs.Prefix.{TakesPrefix, Misses};
-ghost use Rattle.frames_core.specs.Stream.{IsUnbroken};
-ghost use Rattle.frames_core.specs.Head.{IsShort};
+ghost use Rattle.frames_core.specs.Grammar.{IsUnbroken};
+ghost use Rattle.frames_core.specs.Head.{IsShort, most_frame};
 
-use crate::fault::FrameFault;
-use crate::head::{Head, Look, look_at};
-use crate::limits::{MAX_FRAME_BYTES, MAX_HEAD_BYTES};
+use crate::head::{Flaw, Head, Look, look_at};
+use crate::kind::Kind;
 
 /// What was taken of a piece.
 #[derive(Clone, Copy)]
@@ -13,43 +12,46 @@ pub(crate) struct Prefix {
     /// How many bytes.
     pub count: usize,
     /// What the last of them breaks, with its place in the bytes held.
-    pub fault: Option<FrameFault>,
+    pub flaw: Option<Flaw>,
 }
 
 /// Takes bytes of the piece up to the end of one frame, or up to the byte that breaks the table.
 ///
-/// What may be the head is appended, looked at and cut back to where the frame or the break ends; the message then comes as one copy.
-pub(crate) fn take_prefix(buffer: &mut Vec<u8>, piece: &[u8]) -> Prefix
-    requires room { MAX_FRAME_BYTES ≤ vec_capacity buffer.old }
-    requires unbroken { IsUnbroken buffer.old.items }
-    requires short { IsShort buffer.old.items }
-    ensures room { MAX_FRAME_BYTES ≤ vec_capacity buffer.new }
-    ensures takes { TakesPrefix buffer.old.items piece.now buffer.new.items result }
+/// What may be the head is appended, looked at and cut back to where the frame or the break ends; the body then comes as one copy.
+pub(crate) fn take_prefix(kind: Kind, buffer: &mut Vec<u8>, piece: &[u8]) -> Prefix
+    requires room { most_frame kind ≤ vec_capacity buffer.old }
+    requires unbroken { IsUnbroken kind buffer.old.items }
+    requires short { IsShort kind buffer.old.items }
+    ensures room { most_frame kind ≤ vec_capacity buffer.new }
+    ensures takes { TakesPrefix kind buffer.old.items piece.now buffer.new.items result }
 {
     let before = buffer.len();
-    let (head, rest) = piece.split_at(at_most(piece.len(), MAX_HEAD_BYTES.saturating_sub(before)));
+    let (head, rest) = piece.split_at(at_most(
+        piece.len(),
+        kind.most_head().saturating_sub(before),
+    ));
     append(buffer, head);
-    match look_at(buffer.as_slice(), before) {
-        Look::Broken(fault, size) => {
+    match look_at(kind, buffer.as_slice(), before) {
+        Look::Broken(flaw, size) => {
             buffer.truncate(size);
             Prefix {
                 count: size - before,
-                fault: Some(fault),
+                flaw: Some(flaw),
             }
         }
         Look::Whole(size) => {
             buffer.truncate(size);
             Prefix {
                 count: size - before,
-                fault: None,
+                flaw: None,
             }
         }
         Look::Short => {
-            let (more, _) = rest.split_at(at_most(rest.len(), missing(buffer.as_slice())));
+            let (more, _) = rest.split_at(at_most(rest.len(), missing(kind, buffer.as_slice())));
             append(buffer, more);
             Prefix {
                 count: head.len() + more.len(),
-                fault: None,
+                flaw: None,
             }
         }
     }
@@ -77,13 +79,13 @@ fn append(buffer: &mut Vec<u8>, bytes: &[u8])
     }
 }
 
-// How many bytes of the message are missing: 0 until its length is known.
+// How many bytes of the body are missing: 0 until its length is known.
 #[tactic(auto, unfolding(crate::specs::Head::IsShort))]
-fn missing(bytes: &[u8]) -> usize
-    requires { IsShort bytes.now }
-    ensures { Misses bytes.now result }
+fn missing(kind: Kind, bytes: &[u8]) -> usize
+    requires { IsShort kind bytes.now }
+    ensures { Misses kind bytes.now result }
 {
-    match Head::read(bytes) {
+    match Head::read(kind, bytes) {
         None => 0,
         Some(head) => head.frame_bytes() - bytes.len(),
     }

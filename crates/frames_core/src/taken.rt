@@ -3,6 +3,7 @@ ghost use Rattle.frames_core.specs.Taken.{TakesFirst};
 use crate::call::Call;
 use crate::fault::{FrameFault, FrameWhy};
 use crate::head::{Look, call_of, look_at};
+use crate::kind::Kind;
 
 /// What stands first in the whole rest of a stream.
 #[derive(Clone, Copy, Debug)]
@@ -25,12 +26,15 @@ pub fn take_frame(bytes: &[u8]) -> Taken<'_>
     if bytes.is_empty() {
         return Taken::Nothing;
     }
-    match look_at(bytes, 0) {
+    match look_at(Kind::Calls, bytes, 0) {
         Look::Whole(size) => {
             let (prefix, _) = bytes.split_at(size);
             Taken::Frame(call_of(prefix), size)
         }
-        Look::Broken(fault, _) => Taken::Fault(fault),
+        Look::Broken(flaw, _) => Taken::Fault(FrameFault {
+            why: FrameWhy::of(flaw.part),
+            at: flaw.at as u64,
+        }),
         Look::Short => Taken::Fault(FrameFault {
             why: FrameWhy::EndOfInput,
             at: bytes.len() as u64,

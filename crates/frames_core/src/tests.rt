@@ -2,8 +2,9 @@
 
 use crate::{
     Call, FrameFault, FrameWhy, Framer, MAX_BODY_BYTES, MAX_FRAME_BYTES, MAX_HEAD_BYTES,
-    MAX_MESSAGE_BYTES, MAX_PATH_BYTES, MAX_REFUSAL_TEXT_BYTES, MAX_TEXT_BYTES, REPLY_HEAD_BYTES,
-    Taken, fault_text, fixed_text, refusal_frame, reply_head, take_frame, text_and_number,
+    MAX_MESSAGE_BYTES, MAX_PATH_BYTES, MAX_REFUSAL_TEXT_BYTES, MAX_REPLY_BYTES,
+    MAX_REPLY_HEAD_BYTES, MAX_TEXT_BYTES, REPLY_HEAD_BYTES, Taken, fault_text, fixed_text,
+    refusal_frame, reply_head, take_frame, text_and_number,
 };
 use std::process::Abort;
 use std::test::Fail;
@@ -199,5 +200,7 @@ fn has_the_limits_of_the_envelope(rt: HostRuntime) {
     assert_eq!(rt; MAX_TEXT_BYTES, 1_024);
     assert_eq!(rt; MAX_BODY_BYTES, 4_194_304);
     assert_eq!(rt; REPLY_HEAD_BYTES, 8);
+    assert_eq!(rt; MAX_REPLY_HEAD_BYTES, 1_032);
+    assert_eq!(rt; MAX_REPLY_BYTES, 4_194_312);
     assert_eq!(rt; MAX_REFUSAL_TEXT_BYTES, 160);
 }

@@ -1,7 +1,7 @@
-use Rattle.std.proofs.Common.{◌≡◌, ℕ, ◌+◌, List, drop, sym, ap, subst, ◌∙◌, arith}
-use Rattle.std.specs.Prelude.{slice_range}
+use Rattle.std.proofs.Common.{◌≡◌, ℕ, ◌+◌, ◌-◌, List, take, drop, sym, ap, subst, ◌∙◌, arith}
+use Rattle.frames_core.specs.declared.kind.Kind.TheVariants.{Calls}
 use Rattle.frames_core.specs.Envelope.{CallBytes, IsCall, frame}
-use Rattle.frames_core.specs.Head.{call_in}
+use Rattle.frames_core.specs.Head.{item_in}
 use Rattle.frames_core.proofs.Frames.{whole_is_frame}
 use Rattle.frames_core.proofs.head.call_of.Goals as goal
 
@@ -11,8 +11,12 @@ pair p m = record { path = p; message = m }
 pub returns : goal.returns
 returns c =
     let bytes = c.args.bytes.now in
-    let n = c.path_length_of-path_length.ensures.value in
-    let w = whole_is_frame bytes (λ i. let f = c.type_inv.bytes i in omega arith) c.requires.unbroken c.requires.whole in
-    let same : call_in bytes ≡ pair (slice_range bytes 2 (2 + c.path_length_of-path_length.result)) c.split_at.result.1.now =
-    ap (λ (k : ℕ). pair (slice_range bytes 2 (2 + k)) (drop (7 + k) bytes)) (sym n) ∙ ap (λ (m : List ℕ). pair (slice_range bytes 2 (2 + c.path_length_of-path_length.result)) m) (sym c.split_at.ensures.back) in
+    let n = c.text_length_of-text_length.result in
+    let is = c.text_length_of-text_length.ensures.value in
+    let w = whole_is_frame Calls bytes (λ i. let f = c.type_inv.bytes i in omega arith) c.requires.unbroken c.requires.whole in
+    let size : 2 + n - 2 ≡ n = omega arith in
+    let same : item_in Calls bytes ≡ pair (take (2 + n - 2) (drop 2 bytes)) c.split_at.result.1.now =
+    ap (λ (k : ℕ). pair (take k (drop 2 bytes)) (drop (7 + k) bytes)) (sym is)
+    ∙ (ap (λ (k : ℕ). pair (take k (drop 2 bytes)) (drop (7 + n) bytes)) (sym size)
+    ∙ ap (λ (m : List ℕ). pair (take (2 + n - 2) (drop 2 bytes)) m) (sym c.split_at.ensures.back)) in
     record { call = subst IsCall same w.0; spelled = subst (λ (x : CallBytes). bytes ≡ frame x) same w.1 }

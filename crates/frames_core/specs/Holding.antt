@@ -1,0 +1,19 @@
+-- What holds of a framer of either kind: the bytes of the frames that were given up, the bytes since then, and the
+-- fault, whose part of a frame and whose place two functions give.
+use Rattle.std.specs.Prelude.{ℕ, ◌+◌, ◌-◌, ◌≤◌, ◌<◌, ◌^◌, List, ◌++◌, length, Option, MatchOption, ◌⊎◌}
+use Rattle.frames_core.specs.declared.kind.Kind.{Kind}
+use Rattle.frames_core.specs.declared.kind.Part.{Part}
+use Rattle.frames_core.specs.Grammar.{IsUnbroken, FaultAt, BreaksFirst}
+use Rattle.frames_core.specs.Head.{IsShort, IsWhole}
+
+-- the fault is one of the bytes held, with its place counted from the first byte of the stream
+abbrev pub IsFaultIn : Kind → ℕ → List ℕ → Part → ℕ → Type 0
+IsFaultIn kind past held part at = (past ≤ at) × FaultAt kind held part (at - past)
+
+-- it is one whatever follows them
+abbrev pub IsBreakIn : Kind → ℕ → List ℕ → Part → ℕ → Type 0
+IsBreakIn kind past held part at = (past ≤ at) × ((more : List ℕ) → BreaksFirst kind (held ++ more) part (at - past))
+
+pub record Holds {F : Type 0} (kind : Kind) (part : F → Part) (at : F → ℕ) (past : ℕ) (held : List ℕ) (known : Option F) : Type 0 where
+  pub few : past + length held < 2 ^ 63
+  pub faults : MatchOption known (IsUnbroken kind held × (IsShort kind held ⊎ IsWhole kind held)) (λ f. IsFaultIn kind past held (part f) (at f))
