@@ -3,8 +3,9 @@
 use csi_checks::check;
 use csi_codec::{DecodeFault, decode, decode_response, encode_request, encode_response};
 use csi_types::{
-    MAX_MAP_BYTES, MAX_MOUNT_FLAGS_BYTES, MAX_NODE_ID_BYTES, MAX_NODES, MAX_NUMBER, MAX_PAGE_ENTRIES, MAX_POOL_BYTES,
-    MAX_POOLS, MAX_SEGMENTS, MAX_TEXT_BYTES, MAX_VOLUMES, Method, Request,
+    MAX_MAP_BYTES, MAX_MOUNT_FLAGS_BYTES, MAX_NODE_ID_BYTES, MAX_NODES, MAX_NUMBER,
+    MAX_PAGE_ENTRIES, MAX_POOL_BYTES, MAX_POOLS, MAX_SEGMENTS, MAX_TEXT_BYTES, MAX_VOLUMES, Method,
+    Request,
 };
 use row_notation::{NotationFault, bytes_of, method_named};
 use std::alloc::{AllocError, Global};

@@ -58,9 +58,9 @@ marks-push (x ∷ xs) e = omega (arith, marks-push xs e)
 
 rose-more : (a b c n k : ℕ) → RoseBy a b n → RoseBy b c k → RoseBy a c (n + k)
 rose-more a b c n k (inl p) (inl q) = inl (omega (arith, p.0, q.0), q.1 ∙ p.1)
-rose-more a b c n k (inl p) (inr q) = inr (omega (arith, p.0, p.1, q))
-rose-more a b c n k (inr p) (inl q) = inr (omega (arith, p, q.0, q.1))
-rose-more a b c n k (inr p) (inr q) = inr (omega (arith, p, q))
+rose-more a b c n k (inl p) (inr q) = inr (omega (arith, q.0), omega (arith, p.0, p.1, q.1))
+rose-more a b c n k (inr p) (inl q) = inr (omega (arith, p.0), omega (arith, p.1, q.0, q.1))
+rose-more a b c n k (inr p) (inr q) = inr (omega (arith, p.0), omega (arith, p.1, q.1))
 
 marked_keeps : {S : Type 0} (m : Machine S) (s : S) (call : CallBytes) (mark : Mark) → mark ≢ Unmarked → (step m s (record { call = call; mark = mark })).1 ≡ s
 marked_keeps m s call Unmarked h = absurd (h refl)

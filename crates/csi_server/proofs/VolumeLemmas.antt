@@ -1,6 +1,6 @@
 -- A keeper's answers, as the volume machine responds.
-use Rattle.std.proofs.Common.{◌≡◌, ◌≢◌, ◌⊎◌, ℕ, List, [], ◌++◌, drop, Option, Some, None, Result, Ok, Err, refl, sym, ap, subst, ◌∙◌, inl, inr}
-use Rattle.std.specs.Prelude.{⊤}
+use Rattle.std.proofs.Common.{◌≡◌, ◌≢◌, ◌⊎◌, ℕ, List, [], ◌++◌, drop, Option, Some, None, Result, Ok, Err, refl, sym, ap, subst, ◌∙◌, inl, inr, arith}
+use Rattle.std.specs.Prelude.{⊤, ◌≤◌}
 use Rattle.csi_types.specs.declared.reason.Reason.TheVariants as reason
 use Rattle.csi_types.specs.declared.requests.Request.{Request}
 use Rattle.frames_core.specs.Envelope.{ReplyBytes}
@@ -75,7 +75,7 @@ module _ {K : Type 0} (holds : K → State → Type 0) (doubt refusals : K → �
     allowed = λ is_marked. tt;
     reply = e;
     held = (held, inv);
-    counted = inr count;
+    counted = inr (omega arith, count);
     left = left;
     ties = ties;
   }
@@ -84,7 +84,7 @@ module _ {K : Type 0} (holds : K → State → Type 0) (doubt refusals : K → �
     allowed = λ is_marked. tt;
     reply = e;
     held = (held, inv);
-    counted = inr count;
+    counted = inr (omega arith, count);
     left = left;
     ties = ties;
   }
