@@ -1,0 +1,81 @@
+//! What a reply says, as lines.
+
+ghost use Rattle.std.specs.Prelude.{◌≡◌, ◌++◌, ℕ, OnOk, Some, Err, codes, decimal};
+ghost use Rattle.csi_codec.specs.Reading.{read_response};
+ghost use Rattle.csi_codec.specs.declared.message.DecodeFault.TheVariants.{Malformed};
+ghost use Rattle.csi_types.specs.Codes.{name_of, number_of};
+ghost use Rattle.csi_types.specs.declared.code.Code.{Code};
+ghost use Rattle.csi_types.specs.declared.method.Method.{Method};
+ghost use Rattle.frames_core.specs.Envelope.{reply_bytes_of};
+ghost use Rattle.csi_client.specs.Replies.{content, first_line, body_lines};
+
+use crate::lines::put_lines;
+use csi_codec::{DecodeFault, decode_response};
+use csi_types::{Code, Method};
+use frames_core::Reply;
+use itoa::Buffer;
+use std::alloc::{AllocError, Global};
+
+fn put_status(out: &mut Vec<u8>, status: u8) -> Result<(), AllocError>
+    ensures { OnOk result ((code : Code) → status ≡ number_of code → out.new.items ≡ out.old.items ++ decimal status ++ codes " " ++ name_of code) }
+{
+    let mut buffer = Buffer::new();
+    out.extend_from_slice(buffer.format(status).as_bytes())?;
+    out.extend_from_slice(b" ")?;
+    let name = match Code::of(status) {
+        Some(code) => code.name(),
+        None => "-",
+    };
+    out.extend_from_slice(name.as_bytes())
+}
+
+fn put_content(alloc: Global, out: &mut Vec<u8>, text: &[u8], body: &[u8]) -> Result<(), AllocError>
+    ensures { OnOk result (out.new.items ≡ out.old.items ++ content text.now body.now) }
+{
+    if !body.is_empty() {
+        let digits = hex::encode(alloc, body)?;
+        return out.extend_from_slice(digits.as_bytes());
+    }
+    out.extend_from_slice(if text.is_empty() { b"-" } else { text })
+}
+
+/// Appends a line that says a reply: its status as a number, the name of the status, and its body in
+/// lower case hexadecimal digits or its text, `-` where there is neither.
+///
+/// # Errors
+///
+/// Where memory was refused. What was appended until then stays.
+pub fn put_reply_line(alloc: Global, out: &mut Vec<u8>, reply: &Reply<'_>) -> Result<(), AllocError>
+    ensures { OnOk result ((code : Code) → reply.now.status ≡ number_of code → out.new.items ≡ out.old.items ++ first_line code (reply_bytes_of reply.now)) }
+{
+    put_status(out, reply.status)?;
+    out.extend_from_slice(b" ")?;
+    put_content(alloc, out, reply.text, reply.body)?;
+    out.extend_from_slice(b"\n")
+}
+
+/// Appends what the body of a reply says, as [`put_lines`](crate::put_lines) does, where the call
+/// was done (status 0) and its method is given; else nothing.
+///
+/// # Errors
+///
+/// [`DecodeFault::Malformed`] where the body is no response of the method; then nothing was
+/// appended. [`DecodeFault::NoMemory`] where memory was refused; what was appended until then stays.
+pub fn put_body_lines(
+    alloc: Global,
+    out: &mut Vec<u8>,
+    method: Option<Method>,
+    reply: &Reply<'_>,
+) -> Result<(), DecodeFault>
+    ensures ok { OnOk result (out.new.items ≡ out.old.items ++ body_lines method (reply_bytes_of reply.now)) }
+    ensures malformed { (at : ℕ) → result ≡ Err (Malformed at) → (m : Method) × (method ≡ Some m) × (read_response m reply.now.body.now ≡ Err at) × (out.new.items ≡ out.old.items) }
+{
+    let Some(method) = method else {
+        return Ok(());
+    };
+    if reply.status != 0 {
+        return Ok(());
+    }
+    let response = decode_response(alloc, method, reply.body)?;
+    put_lines(out, &response).map_err(|_| DecodeFault::NoMemory)
+}
