@@ -32,7 +32,7 @@ fn put_byte(out: &mut Vec<u8>, byte: u8) -> Result<(), AllocError>
 ///
 /// # Errors
 ///
-/// Where memory was refused. What was appended until then stays.
+/// Where memory was refused. Nothing is promised of the vector then.
 pub fn put_escaped(out: &mut Vec<u8>, text: &[u8]) -> Result<(), AllocError>
     ensures { OnOk result (out.new.items ≡ out.old.items ++ escaped text.now) }
 {

@@ -208,7 +208,7 @@ fn put_capacity(out: &mut Vec<u8>, available: i64, maximum: Option<i64>) -> Resu
 ///
 /// # Errors
 ///
-/// Where memory was refused. What was appended until then stays.
+/// Where memory was refused. Nothing is promised of the vector then.
 pub fn put_lines(out: &mut Vec<u8>, response: &Response) -> Result<(), AllocError>
     ensures { OnOk result (out.new.items ≡ out.old.items ++ lines response.now) }
 {

@@ -39,12 +39,13 @@ fn put_content(alloc: Global, out: &mut Vec<u8>, text: &[u8], body: &[u8]) -> Re
     out.extend_from_slice(if text.is_empty() { b"-" } else { text })
 }
 
-/// Appends a line that says a reply: its status as a number, the name of the status, and its body in
-/// lower case hexadecimal digits or its text, `-` where there is neither.
+/// Appends a line that says a reply: its status as a number, the name of the status, and its body
+/// in lower case hexadecimal digits or its text, `-` where there is neither. This is promised of a
+/// reply whose status is one of the ten codes, as [`take_reply`](frames_core::take_reply) gives it.
 ///
 /// # Errors
 ///
-/// Where memory was refused. What was appended until then stays.
+/// Where memory was refused. Nothing is promised of the vector then.
 pub fn put_reply_line(alloc: Global, out: &mut Vec<u8>, reply: &Reply<'_>) -> Result<(), AllocError>
     ensures { OnOk result ((code : Code) → reply.now.status ≡ number_of code → out.new.items ≡ out.old.items ++ first_line code (reply_bytes_of reply.now)) }
 {
@@ -60,7 +61,8 @@ pub fn put_reply_line(alloc: Global, out: &mut Vec<u8>, reply: &Reply<'_>) -> Re
 /// # Errors
 ///
 /// [`DecodeFault::Malformed`] where the body is no response of the method; then nothing was
-/// appended. [`DecodeFault::NoMemory`] where memory was refused; what was appended until then stays.
+/// appended. [`DecodeFault::NoMemory`] where memory was refused; nothing is promised of the vector
+/// then.
 pub fn put_body_lines(
     alloc: Global,
     out: &mut Vec<u8>,
