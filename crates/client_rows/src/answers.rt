@@ -2,9 +2,9 @@
 
 use csi_client::{put_body_lines, put_reply_line};
 use csi_codec::DecodeFault;
-use csi_types::Method;
+use csi_types::{Method, method_named};
 use frames_core::{Reply, TakenReply, take_reply};
-use row_notation::{NotationFault, bytes_of, method_named};
+use row_notation::{NotationFault, bytes_of};
 use std::alloc::{AllocError, Global};
 use thiserror::Error;
 

@@ -5,9 +5,9 @@ use csi_codec::{DecodeFault, decode, decode_response, encode_request, encode_res
 use csi_types::{
     MAX_MAP_BYTES, MAX_MOUNT_FLAGS_BYTES, MAX_NODE_ID_BYTES, MAX_NODES, MAX_NUMBER,
     MAX_PAGE_ENTRIES, MAX_POOL_BYTES, MAX_POOLS, MAX_SEGMENTS, MAX_TEXT_BYTES, MAX_VOLUMES, Method,
-    Request,
+    Request, method_named,
 };
-use row_notation::{NotationFault, bytes_of, method_named};
+use row_notation::{NotationFault, bytes_of};
 use std::alloc::{AllocError, Global};
 use thiserror::Error;
 

@@ -1,0 +1,5 @@
+pub mod Feeding
+pub mod Gathering
+pub mod Paths
+pub mod Printing
+pub mod Statuses

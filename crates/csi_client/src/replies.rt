@@ -1,13 +1,12 @@
 //! What a reply says, as lines.
 
 ghost use Rattle.std.specs.Prelude.{◌≡◌, ◌++◌, ℕ, OnOk, Some, Err, codes, decimal};
-ghost use Rattle.csi_codec.specs.Reading.{read_response};
 ghost use Rattle.csi_codec.specs.declared.message.DecodeFault.TheVariants.{Malformed};
 ghost use Rattle.csi_types.specs.Codes.{name_of, number_of};
 ghost use Rattle.csi_types.specs.declared.code.Code.{Code};
-ghost use Rattle.csi_types.specs.declared.method.Method.{Method};
 ghost use Rattle.frames_core.specs.Envelope.{reply_bytes_of};
 ghost use Rattle.csi_client.specs.Replies.{content, first_line, body_lines};
+ghost use Rattle.csi_client.specs.Showing.{IsBad, IsBadAt};
 
 use crate::lines::put_lines;
 use csi_codec::{DecodeFault, decode_response};
@@ -70,7 +69,8 @@ pub fn put_body_lines(
     reply: &Reply<'_>,
 ) -> Result<(), DecodeFault>
     ensures ok { OnOk result (out.new.items ≡ out.old.items ++ body_lines method (reply_bytes_of reply.now)) }
-    ensures malformed { (at : ℕ) → result ≡ Err (Malformed at) → (m : Method) × (method ≡ Some m) × (read_response m reply.now.body.now ≡ Err at) × (out.new.items ≡ out.old.items) }
+    ensures readable { OnOk result (¬ IsBad method (reply_bytes_of reply.now)) }
+    ensures malformed { (at : ℕ) → result ≡ Err (Malformed at) → IsBadAt method (reply_bytes_of reply.now) at × (out.new.items ≡ out.old.items) }
 {
     let Some(method) = method else {
         return Ok(());

@@ -1,5 +1,5 @@
 -- The paths of the methods (gRPC over HTTP2, 'Requests': a path is the service and the method).
-use Rattle.std.specs.Prelude.{ℕ, List, [], ◌∷◌, Option, codes, find}
+use Rattle.std.specs.Prelude.{ℕ, List, [], ◌∷◌, ◌++◌, Option, Some, None, codes, find}
 use Rattle.std.specs.Str.{bytes_eq}
 use Rattle.csi_types.specs.declared.method.Method.{Method}
 use Rattle.csi_types.specs.declared.method.Method.TheVariants.{GetPluginInfo, GetPluginCapabilities, Probe, CreateVolume, DeleteVolume, ControllerPublishVolume, ControllerUnpublishVolume, ValidateVolumeCapabilities, ListVolumes, GetCapacity, ControllerGetCapabilities}
@@ -37,3 +37,13 @@ methods =
 -- the method of a path, where one has it
 unfoldable pub method_at : List ℕ → Option Method
 method_at path = find (λ method. bytes_eq path (path_of method)) methods
+
+-- ---- methods by their names alone (CSI specification, 'RPC Interface')
+
+abbrev pub or_else : Option Method → Option Method → Option Method
+or_else None other = other
+or_else (Some method) other = Some method
+
+-- of the controller service, or else of the identity service
+abbrev pub method_named : List ℕ → Option Method
+method_named name = or_else (method_at (codes "/csi.v1.Controller/" ++ name)) (method_at (codes "/csi.v1.Identity/" ++ name))

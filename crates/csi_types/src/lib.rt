@@ -29,7 +29,7 @@ pub use limits::{
     MAX_TEXT_BYTES, MAX_VOLUMES,
 };
 pub use map::{Map, MapEntries};
-pub use method::{Method, method_of};
+pub use method::{Method, method_named, method_of};
 pub use name::name_reason;
 pub use reason::Reason;
 pub use requests::{

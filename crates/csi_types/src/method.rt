@@ -1,8 +1,10 @@
 //! The methods of the Identity and the Controller service.
 
-ghost use Rattle.std.specs.Prelude.{◌≡◌, ◌↔◌};
-ghost use Rattle.csi_types.specs.Methods.{method_at, path_of};
+ghost use Rattle.std.specs.Prelude.{◌≡◌, ◌++◌, ◌↔◌, IfOk};
+ghost use Rattle.csi_types.specs.Methods.{method_at, method_named, path_of};
 ghost use Rattle.csi_types.specs.declared.method.Method.{Method};
+
+use std::alloc::{AllocError, Global};
 
 /// A method (CSI specification, 'RPC Interface').
 #[derive(Clone, Copy, Debug, PartialEq, Eq)]
@@ -59,6 +61,29 @@ pub fn method_of(path: &[u8]) -> Option<Method>
 {
     let method = likely_method(path)?;
     (path == method.path().as_bytes()).then_some(method)
+}
+
+// The method of a name among those of a service.
+fn method_under(alloc: Global, service: &str, name: &str) -> Result<Option<Method>, AllocError>
+    ensures { IfOk result (λ method. method ≡ method_at (service.now ++ name.now)) }
+{
+    let path = format!(in alloc; "{service}{name}")?;
+    Ok(method_of(path.as_bytes()))
+}
+
+/// The method of a name alone, as `CreateVolume`, of the controller or of the identity service; `None`
+/// where neither has one.
+///
+/// # Errors
+///
+/// Where memory was refused.
+pub fn method_named(alloc: Global, name: &str) -> Result<Option<Method>, AllocError>
+    ensures { IfOk result (λ method. method ≡ method_named name.now) }
+{
+    match method_under(alloc, "/csi.v1.Controller/", name)? {
+        Some(method) => Ok(Some(method)),
+        None => method_under(alloc, "/csi.v1.Identity/", name),
+    }
 }
 
 // The only method that may have this path, by its length and one byte.

@@ -8,10 +8,7 @@
 #![tactic(auto)]
 
 ghost use Rattle.std.specs.Prelude.{◌≡◌, ◌<◌, ◌++◌, [], IfOk, IfSome, codes, length};
-ghost use Rattle.csi_types.specs.Methods.{method_at};
-ghost use Rattle.row_notation.specs.Methods.{method_named};
 
-use csi_types::{Method, method_of};
 use std::alloc::{AllocError, AllocFailed, Global};
 use std::str;
 
@@ -78,29 +75,6 @@ pub fn bytes_counted(alloc: Global, text: &str, count: u32) -> Result<Vec<u8>, N
         put_all(&mut out, alloc, text.as_bytes(), count, DEEPEST)?;
     }
     Ok(out)
-}
-
-// The method of a name among those of a service.
-fn method_under(alloc: Global, service: &str, name: &str) -> Result<Option<Method>, NotationFault>
-    ensures { IfOk result (λ method. method ≡ method_at (service.now ++ name.now)) }
-{
-    let path = format!(in alloc; "{service}{name}").map_err(|_| NotationFault::NoMemory)?;
-    Ok(method_of(path.as_bytes()))
-}
-
-/// The method of this name, of the controller or of the identity service; `None` where neither has
-/// one.
-///
-/// # Errors
-///
-/// Where memory was refused.
-pub fn method_named(alloc: Global, name: &str) -> Result<Option<Method>, NotationFault>
-    ensures { IfOk result (λ method. method ≡ method_named name.now) }
-{
-    match method_under(alloc, "/csi.v1.Controller/", name)? {
-        Some(method) => Ok(Some(method)),
-        None => method_under(alloc, "/csi.v1.Identity/", name),
-    }
 }
 
 // Appends the bytes of a notation. The group around it was repeated `count` times before.

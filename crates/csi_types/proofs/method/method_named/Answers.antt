@@ -1,8 +1,7 @@
 use Rattle.std.proofs.Common.{◌≡◌, ◌++◌, ap, codes, sym, subst, ◌∙◌, IfOk, None, Option, Some}
-use Rattle.csi_types.specs.Methods.{method_at}
 use Rattle.csi_types.specs.declared.method.Method.{Method}
-use Rattle.row_notation.specs.Methods.{method_named, or_else}
-use Rattle.row_notation.proofs.method_named.Goals as goal
+use Rattle.csi_types.specs.Methods.{method_at, method_named, or_else}
+use Rattle.csi_types.proofs.method.method_named.Goals as goal
 
 pub returns-in-Some : goal.returns-in-Some
 returns-in-Some c =

@@ -1,0 +1,105 @@
+-- What comes of waiting for the reply to a call, read by read.
+use Rattle.std.proofs.Common.{◌≡◌, ◌≢◌, ℕ, ◌+◌, ◌-◌, ◌≤◌, ◌<◌, List, [], ◌∷◌, ◌++◌, length, take, drop, Option, Some, None, Result, Ok, Err, refl, sym, ap, subst, ◌∙◌, append_assoc, append-nil, arith, inl, inr, ◌⊎◌}
+use Rattle.std.specs.Prelude.{IsErr, IsNone, IfSome}
+use Rattle.std.specs.Io.KnownBytes.{Consumes, IsAtEnd}
+use Rattle.std.proofs.KnownBytes.{Consumes-trans}
+use Rattle.std.proofs.lemmas.List.{take_all}
+use Rattle.frames_core.specs.Envelope.{ReplyBytes, IsReply, reply}
+use Rattle.frames_core.specs.declared.reply_fault.ReplyFault.{ReplyFault}
+use Rattle.frames_core.specs.declared.reply_fault.ReplyWhy.{ReplyWhy}
+use Rattle.frames_core.specs.declared.reply_fault.ReplyWhy.TheVariants.{EndOfInput}
+use Rattle.frames_core.specs.ReplyFramer.{ReplyFramerState, IsReplyFrame, IsReplySettled, IsReplyCutShort, reply_cut_short, reply_start}
+use Rattle.frames_core.specs.ReplyStream.{FaultAt, IsUnfinished, BeginsReply}
+use Rattle.csi_client.specs.Receiving.{HasFault, Gathered, Gathers, IsGathering}
+use Rattle.csi_client.proofs.Feeding.{Fed, fault_of, not_at_end, known_break, all_held, took_all, no_some}
+
+pub gathering_start : (s : ReplyFramerState) → s ≡ reply_start → IsUnfinished s.held → IsGathering [] s
+gathering_start s e open_ = record {
+  past = ap (λ (x : ReplyFramerState). x.past) e;
+  held = ap (λ (x : ReplyFramerState). x.held) e;
+  unknown = ap (λ (x : ReplyFramerState). x.fault) e;
+  unfinished = subst IsUnfinished (ap (λ (x : ReplyFramerState). x.held) e) open_;
+}
+
+pub gathers_err : {X E : Type 0} (unread left : Option (List ℕ)) (s : ReplyFramerState) (x : Result X E) → IsErr x → (read : List ℕ) → Consumes unread left read → IsUnfinished read → Gathers unread left s x
+gathers_err unread left s (Ok x) is read c u = absurd cc
+gathers_err unread left s (Err e) is read c u = (read, c, u)
+
+fault_from_0 : (bytes : List ℕ) (f : ReplyFault) (past : ℕ) → past ≡ 0 → FaultAt bytes f.why (f.at - past) → FaultAt bytes f.why f.at
+fault_from_0 bytes f past e h = subst (λ (at : ℕ). FaultAt bytes f.why at) (omega (arith, e)) h
+
+-- ---- the end of the input
+
+no_fault : (o : Option ReplyFault) (f : ReplyFault) → o ≡ None → o ≡ Some f → ⊥
+no_fault None f none some = absurd cc
+no_fault (Some g) f none some = absurd cc
+
+ended_at : (read : List ℕ) (AtEnd : Type 0) (s t : ReplyFramerState) → IsGathering read s → (IsReplyCutShort s → t ≡ reply_cut_short s) → (¬ IsReplyCutShort s → t ≡ s) → AtEnd → Gathered read AtEnd t
+ended_at [] AtEnd s t g ends kept at_end =
+    let same : t ≡ s = kept (λ short. short.1 g.held) in
+    subst (λ (x : ReplyFramerState). Gathered [] AtEnd x) (sym same) (record {
+      rest = [];
+      whole = ap (λ (x : List ℕ). x ++ []) (sym g.held);
+      faulty = λ f e. absurd (no_fault s.fault f g.unknown e);
+      nothing = λ none whole. (refl, at_end);
+    })
+ended_at (b ∷ bs) AtEnd s t g ends kept at_end =
+    let none : IsNone s.fault = subst (λ (o : Option ReplyFault). IsNone o) (sym g.unknown) (search) in
+    let some : s.held ≢ [] = λ e. (let bad : b ∷ bs ≡ [] = sym g.held ∙ e in absurd cc) in
+    let open_ : IsUnfinished s.held = subst IsUnfinished (sym g.held) g.unfinished in
+    let cut : t ≡ reply_cut_short s = ends (none, some, λ f. open_.frameless (f.0, [], f.1, f.2 ∙ sym (append-nil (reply f.0)))) in
+    subst (λ (x : ReplyFramerState). Gathered (b ∷ bs) AtEnd x) (sym cut) (record {
+      rest = [];
+      whole = sym (append-nil s.held ∙ g.held);
+      faulty = λ f e. subst (λ (o : Option ReplyFault). IfSome o (λ x. HasFault (b ∷ bs) AtEnd x)) e ((omega (arith, g.past, ap length g.held), ((λ none. absurd cc), g.unfinished)), λ why. at_end);
+      nothing = λ known whole. absurd cc;
+    })
+
+pub ended : (read : List ℕ) (AtEnd : Type 0) (s t : ReplyFramerState) → IsGathering read s → (IsReplyCutShort s → t ≡ reply_cut_short s) → (¬ IsReplyCutShort s → t ≡ s) → AtEnd → Gathered read AtEnd t
+ended read AtEnd s t g ends kept at_end = ended_at read AtEnd s t g ends kept at_end
+
+-- ---- one piece more
+
+held_all : (read bytes : List ℕ) (s t : ReplyFramerState) (n : ℕ) → IsGathering read s → Fed s t bytes n → read ++ bytes ≡ t.held ++ drop n bytes
+held_all read bytes s t n g f = ap (λ (x : List ℕ). x ++ bytes) (sym g.held) ∙ all_held s t bytes n f
+
+pub settled : (read bytes : List ℕ) (AtEnd : Type 0) (s t : ReplyFramerState) (n : ℕ) → IsGathering read s → Fed s t bytes n → (t.fault ≡ None → ¬ IsReplyFrame t.held → ⊥) → Gathered (read ++ bytes) AtEnd t
+settled read bytes AtEnd s t n g f some = record {
+  rest = drop n bytes;
+  whole = held_all read bytes s t n g f;
+  faulty = λ x e.
+      let k = known_break s t bytes n x g.unknown f e in (
+        fault_from_0 (read ++ bytes) x t.past (f.past ∙ g.past) (subst (λ (b : List ℕ). FaultAt b x.why (x.at - t.past)) (sym (held_all read bytes s t n g f)) (fault_of t.past t.held (drop n bytes) x k).1),
+        λ why. absurd (not_at_end t.past t.held x k why),
+      );
+  nothing = λ none whole. absurd (some none whole);
+}
+
+pub one_more : (read bytes : List ℕ) (s t : ReplyFramerState) (n : ℕ) → n ≤ length bytes → IsGathering read s → Fed s t bytes n → t.fault ≡ None → IsUnfinished t.held → IsGathering (read ++ bytes) t
+one_more read bytes s t n le g f none open_ =
+    let all : n ≡ length bytes = took_all s t bytes n le none open_ f in
+    let held : t.held ≡ read ++ bytes = f.held ∙ (ap (λ (x : List ℕ). x ++ take n bytes) g.held ∙ ap (λ (x : List ℕ). read ++ x) (take_all n bytes (omega (arith, all)))) in
+    record {
+      past = f.past ∙ g.past;
+      held = held;
+      unknown = none;
+      unfinished = subst IsUnfinished held open_;
+    }
+
+pub settled_some : (t : ReplyFramerState) → IsReplySettled t → t.fault ≡ None → ¬ IsReplyFrame t.held → ⊥
+settled_some t (inl f) none frameless = frameless f
+settled_some t (inr some) none frameless = absurd (no_some t.fault some none)
+
+-- a read that gives nothing
+pub nothing_more : (a b c : Option (List ℕ)) (read buf : List ℕ) (n : ℕ) → Consumes a b read → n ≡ 0 → Consumes b c (take n buf) → Consumes a c read
+nothing_more a b c read buf n h e k =
+    subst (λ (x : List ℕ). Consumes a c x) (append-nil read)
+    (Consumes-trans a b c read [] h (subst (λ (x : List ℕ). Consumes b c x) (ap (λ (m : ℕ). take m buf) e) k))
+
+-- ---- what comes of it
+
+pub nothing_came : (read : List ℕ) (AtEnd : Type 0) (s : ReplyFramerState) → Gathered read AtEnd s → s.fault ≡ None → ¬ BeginsReply s.held → (read ≡ []) × AtEnd
+nothing_came read AtEnd s g none frameless = g.nothing none (λ f. frameless (f.0, [], f.1, f.2 ∙ sym (append-nil (reply f.0))))
+
+pub reply_came : (read : List ℕ) (AtEnd : Type 0) (s : ReplyFramerState) (r : ReplyBytes) → Gathered read AtEnd s → s.held ≡ reply r → (more : List ℕ) × (read ≡ reply r ++ more)
+reply_came read AtEnd s r g e = (g.rest, g.whole ∙ ap (λ (x : List ℕ). x ++ g.rest) e)

@@ -1,0 +1,41 @@
+use Rattle.std.proofs.Common.{rules, ℕ, ◌++◌, ◌≤◌, List, [], length, take, arith, subst, sym, ap, refl, ◌∙◌}
+use Rattle.std.specs.Io.KnownBytes.{Consumes, IsAtEnd}
+use Rattle.std.proofs.KnownBytes.{Consumes-nil, Consumes-trans, Consumes-kept}
+use Rattle.csi_client.proofs.Feeding.{Fed, fed_count}
+use Rattle.csi_client.proofs.Gathering.{ended, settled, settled_some, one_more, nothing_more}
+use Rattle.csi_client.proofs.receiving.gather.Goals as goal
+
+pub returns-then-count-eq0 : goal.returns-then-count-eq0
+returns-then-count-eq0 g c =
+    let r = g.R.Read.remaining in
+    let run = c.loop-turn.invariant.run in (
+      run.0,
+      nothing_more (r c.args.reader.now) (r c.loop-turn.reader) (r c.read.new.self) run.0 c.read.new.buf c.in_ok-count.count run.1 c.if-count-eq0.true c.in_ok-count.ensures.bytes.0,
+      ended run.0 (IsAtEnd (r c.read.new.self)) c.loop-turn.framer c.end.new.self run.2 c.end.ensures.ends c.end.ensures.kept (c.in_ok-count.ensures.bytes.1 c.if-count-eq0.true (search rules)),
+    )
+
+pub returns-then-is_settled : goal.returns-then-is_settled
+returns-then-is_settled g c =
+    let r = g.R.Read.remaining in
+    let run = c.loop-turn.invariant.run in
+    let f : Fed c.loop-turn.framer c.feed.new.self c.split_at.result.0.now c.feed.result = record { past = c.feed.ensures.past; held = c.feed.ensures.held; all = c.feed.ensures.all; known = c.feed.ensures.known; idle = c.feed.ensures.idle } in (
+      run.0 ++ c.split_at.result.0.now,
+      Consumes-trans (r c.args.reader.now) (r c.loop-turn.reader) (r c.read.new.self) run.0 c.split_at.result.0.now run.1 (subst (λ (x : List ℕ). Consumes (r c.loop-turn.reader) (r c.read.new.self) x) (sym c.split_at.ensures.front) c.in_ok-count.ensures.bytes.0),
+      settled run.0 c.split_at.result.0.now (IsAtEnd (r c.read.new.self)) c.loop-turn.framer c.feed.new.self c.feed.result run.2 f (settled_some c.feed.new.self (c.if-is_settled.ensures.settled refl)),
+    )
+
+pub loop-turn-preserved : goal.loop-turn-preserved
+loop-turn-preserved g c =
+    let r = g.R.Read.remaining in
+    let run = c.loop-turn.invariant.run in
+    let f : Fed c.loop-turn.framer c.feed.new.self c.split_at.result.0.now c.feed.result = record { past = c.feed.ensures.past; held = c.feed.ensures.held; all = c.feed.ensures.all; known = c.feed.ensures.known; idle = c.feed.ensures.idle } in
+    let open_ = c.if-is_settled.ensures.open refl in
+    let more = one_more run.0 c.split_at.result.0.now c.loop-turn.framer c.feed.new.self c.feed.result c.feed.ensures.within run.2 f open_.0 open_.1 in
+    record {
+      few = (let b : c.in_ok-count.count ≤ 4096 = search rules in let i = c.loop-turn.invariant.few in omega (arith, c.feed.ensures.within, c.split_at.ensures.front_len, fed_count c.loop-turn.framer c.feed.new.self c.split_at.result.0.now c.feed.result c.feed.ensures.within f));
+      run = (
+        run.0 ++ c.split_at.result.0.now,
+        Consumes-trans (r c.args.reader.now) (r c.loop-turn.reader) (r c.read.new.self) run.0 c.split_at.result.0.now run.1 (subst (λ (x : List ℕ). Consumes (r c.loop-turn.reader) (r c.read.new.self) x) (sym c.split_at.ensures.front) c.in_ok-count.ensures.bytes.0),
+        more,
+      );
+    }

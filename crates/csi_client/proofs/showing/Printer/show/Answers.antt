@@ -1,0 +1,13 @@
+use Rattle.std.proofs.Common.{◌++◌, List, ℕ, subst}
+use Rattle.std.specs.Io.KnownBytes.{Appends}
+use Rattle.frames_core.specs.Envelope.{reply_bytes_of}
+use Rattle.csi_client.proofs.Statuses.{code_of}
+use Rattle.csi_client.proofs.showing.Printer.show.Goals as goal
+
+pub returns-in-Ok-write_lines-2-clause-shows : goal.returns-in-Ok-write_lines-2-clause-shows
+returns-in-Ok-write_lines-2-clause-shows g c =
+    let status = code_of c.args.reply.now.status c.requires.status in (
+      c.make_lines.new.self.lines.items,
+      record { code = status.0; status = status.1; readable = c.in-Ok.ensures.readable; lines_are = c.in-Ok.ensures.ok status.0 status.1 },
+      c.in-Ok-write_lines-2.ensures,
+    )

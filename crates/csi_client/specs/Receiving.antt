@@ -1,0 +1,49 @@
+-- What comes of waiting for the reply to a call.
+use Rattle.std.specs.Prelude.{ℕ, ◌≡◌, ◌⊎◌, List, [], ◌++◌, Option, Some, None, Result, Ok, Err}
+use Rattle.std.specs.Io.KnownBytes.{Consumes, IsAtEnd}
+use Rattle.frames_core.specs.declared.reply_fault.ReplyFault.{ReplyFault}
+use Rattle.frames_core.specs.declared.reply_fault.ReplyWhy.TheVariants.{EndOfInput}
+use Rattle.frames_core.specs.Envelope.{ReplyBytes, IsReply, reply}
+use Rattle.frames_core.specs.ReplyStream.{BeginsReply, FaultAt, IsUnfinished}
+use Rattle.frames_core.specs.ReplyFramer.{ReplyFramerState, IsReplyFrame}
+use Rattle.csi_client.specs.declared.receiving.Received.{Received}
+use Rattle.csi_client.specs.declared.receiving.Received.TheVariants.{Reply, Nothing, Malformed, Failed, NoMemory}
+use Rattle.csi_client.specs.declared.receiving.ReceivedReply.{ReceivedReply}
+
+abbrev pub reply_of : ReceivedReply → ReplyBytes
+reply_of r = record { status = r.status; text = r.text.items; body = r.body.items }
+
+-- the bytes have this fault; that they end inside a frame is one only at the end of the input
+abbrev pub HasFault : List ℕ → Type 0 → ReplyFault → Type 0
+HasFault bytes AtEnd f = FaultAt bytes f.why f.at × (f.why ≡ EndOfInput → AtEnd)
+
+-- what the bytes that were read are: they begin with the first reply, or with none
+abbrev pub Comes : List ℕ → Type 0 → Received → Type 0
+Comes read AtEnd (Reply r) = (more : List ℕ) × IsReply (reply_of r) × (read ≡ reply (reply_of r) ++ more)
+Comes read AtEnd Nothing = (read ≡ []) × AtEnd
+Comes read AtEnd (Malformed f) = HasFault read AtEnd f
+Comes read AtEnd Failed = IsUnfinished read
+Comes read AtEnd NoMemory = (read ≡ []) ⊎ BeginsReply read
+
+-- What is read of the reader, and what comes of it.
+abbrev pub Receives : Option (List ℕ) → Option (List ℕ) → Received → Type 0
+Receives unread left received = (read : List ℕ) × Consumes unread left read × Comes read (IsAtEnd left) received
+
+-- All that was read is held, and may yet become a reply.
+pub record IsGathering (read : List ℕ) (s : ReplyFramerState) : Type 0 where
+  pub past : s.past ≡ 0
+  pub held : s.held ≡ read
+  pub unknown : s.fault ≡ None
+  pub unfinished : IsUnfinished read
+
+-- A framer that has taken of what was read all that it needs: a reply, or all up to a fault.
+pub record Gathered (read : List ℕ) (AtEnd : Type 0) (s : ReplyFramerState) : Type 0 where
+  pub rest : List ℕ
+  pub whole : read ≡ s.held ++ rest
+  pub faulty : (f : ReplyFault) → s.fault ≡ Some f → HasFault read AtEnd f
+  -- without a reply or a fault nothing came
+  pub nothing : s.fault ≡ None → ¬ IsReplyFrame s.held → (read ≡ []) × AtEnd
+
+abbrev pub Gathers : {X E : Type 0} → Option (List ℕ) → Option (List ℕ) → ReplyFramerState → Result X E → Type 0
+Gathers unread left s (Ok x) = (read : List ℕ) × Consumes unread left read × Gathered read (IsAtEnd left) s
+Gathers unread left s (Err e) = (read : List ℕ) × Consumes unread left read × IsUnfinished read

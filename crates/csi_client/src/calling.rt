@@ -1,0 +1,38 @@
+//! Calls, sent.
+
+ghost use Rattle.std.specs.Prelude.{◌≡◌, ◌≤◌, ◌++◌, OnOk, OnErr, length};
+ghost use Rattle.std.specs.Io.KnownBytes.{Appends};
+ghost use Rattle.frames_core.specs.Envelope.{frame};
+ghost use Rattle.frames_core.specs.declared.limits.TheConstants.{MAX_MESSAGE_BYTES};
+ghost use Rattle.csi_types.specs.Methods.{path_of};
+
+use csi_types::Method;
+use frames_core::put_request;
+use std::alloc::AllocError;
+use std::io::{self, Write};
+
+/// Appends the frame of a call of a method, whose message has at most 1,048,576 bytes.
+///
+/// # Errors
+///
+/// Where memory was refused: the vector is then as it was.
+#[tactic(auto, using(crate::proofs::Paths::is_call))]
+pub fn put_call(out: &mut Vec<u8>, method: Method, message: &[u8]) -> Result<(), AllocError>
+    requires { length message.now ≤ MAX_MESSAGE_BYTES }
+    ensures ok { OnOk result (out.new.items ≡ out.old.items ++ frame (record { path = path_of method; message = message.now })) }
+    ensures err { OnErr result (out.new.items ≡ out.old.items) }
+{
+    put_request(out, method.path().as_bytes(), message)
+}
+
+/// Writes a frame whole, and flushes.
+///
+/// # Errors
+///
+/// Where a write or the flush failed; a part of the frame may then have been written.
+pub fn send<W: Write>(writer: &mut W, frame: &[u8]) -> io::Result<()>
+    ensures { OnOk result (Appends (W.contents writer.old) (W.contents writer.new) frame.now) }
+{
+    writer.write_all(frame)?;
+    writer.flush()
+}

@@ -1,0 +1,123 @@
+//! The reply to a call.
+
+ghost use Rattle.std.specs.Prelude.{◌≡◌, None, false, IfOk, IsTrue};
+ghost use Rattle.frames_core.specs.Envelope.{reply_bytes_of};
+ghost use Rattle.frames_core.specs.ReplyFramer.{IsReplySettled, reply_start};
+ghost use Rattle.frames_core.specs.ReplyStream.{IsUnfinished};
+ghost use Rattle.csi_client.specs.Receiving.{Receives, Gathers, reply_of};
+
+use frames_core::{Reply, ReplyFault, ReplyFramer};
+use std::alloc::{AllocError, Global};
+use std::io::{self, ErrorKind, Read};
+
+// At most this many reads are made for one reply.
+const MAX_READS: u64 = 1 << 32;
+
+// The most bytes of one read.
+const PIECE_BYTES: usize = 4096;
+
+/// A reply that was received, with its own copy of the text and the body.
+#[derive(Debug, PartialEq, Eq, Drop)]
+pub struct ReceivedReply {
+    /// The status code: 0 where the call was done.
+    pub status: u8,
+    /// Why the call was refused: at most 1,024 bytes, each 0x20 to 0x7E.
+    pub text: Vec<u8>,
+    /// The response message, at most 4,194,304 bytes.
+    pub body: Vec<u8>,
+}
+
+impl ReceivedReply {
+    fn copied(alloc: Global, reply: &Reply<'_>) -> Result<ReceivedReply, AllocError>
+        ensures { IfOk result (λ r. reply_of r ≡ reply_bytes_of reply.now) }
+    {
+        let mut text = Vec::new(alloc);
+        text.extend_from_slice(reply.text)?;
+        let mut body = Vec::new(alloc);
+        body.extend_from_slice(reply.body)?;
+        Ok(ReceivedReply {
+            status: reply.status,
+            text,
+            body,
+        })
+    }
+
+    /// The reply, lent.
+    pub fn as_reply(&self) -> Reply<'_>
+        ensures { reply_bytes_of result ≡ reply_of self.now }
+    {
+        Reply {
+            status: self.status,
+            text: self.text.as_slice(),
+            body: self.body.as_slice(),
+        }
+    }
+}
+
+/// What came of waiting for the reply to a call.
+#[derive(Debug, PartialEq, Eq, Drop)]
+pub enum Received {
+    /// The first reply.
+    Reply(ReceivedReply),
+    /// The input ended before its first byte.
+    Nothing,
+    /// No reply stands first in the input.
+    Malformed(ReplyFault),
+    /// A read failed, or 2^32 reads were made, before the first reply was whole.
+    Failed,
+    /// Memory was refused: for the buffer, and then nothing was read, or for the reply.
+    NoMemory,
+}
+
+// Whether nothing more is taken: a reply is whole, or a fault is known.
+fn is_settled(framer: &ReplyFramer) -> bool
+    ensures settled { IsTrue result → IsReplySettled framer.now }
+    ensures open { (result ≡ false) → (framer.now.fault ≡ None) × IsUnfinished framer.now.held }
+{
+    framer.fault().is_some() || framer.reply().is_some()
+}
+
+// Reads until the framer has a reply or a fault, or the input ends.
+fn gather<R: Read>(framer: &mut ReplyFramer, reader: &mut R) -> io::Result<()>
+    requires start { framer.old ≡ reply_start }
+    requires open { IsUnfinished framer.old.held }
+    ensures { Gathers (R.remaining reader.old) (R.remaining reader.new) framer.new result }
+{
+    let mut piece = [0; PIECE_BYTES];
+    for turn in 0..MAX_READS {
+        let count = reader.read(&mut piece)?;
+        if count == 0 {
+            framer.end();
+            return Ok(());
+        }
+        let (bytes, _) = piece.split_at(count);
+        framer.feed(bytes);
+        if is_settled(framer) {
+            return Ok(());
+        }
+    }
+    Err(io::Error::from(ErrorKind::Other))
+}
+
+/// Reads the first reply of the input, and nothing behind the piece, of at most 4,096 bytes, in
+/// which it ends.
+pub fn receive<R: Read>(alloc: Global, reader: &mut R) -> Received
+    ensures { Receives (R.remaining reader.old) (R.remaining reader.new) result }
+{
+    let Ok(mut framer) = ReplyFramer::new(alloc) else {
+        return Received::NoMemory;
+    };
+    let Ok(()) = gather(&mut framer, reader) else {
+        return Received::Failed;
+    };
+    match framer.fault() {
+        Some(fault) => Received::Malformed(fault),
+        None => match framer.reply() {
+            None => Received::Nothing,
+            Some(reply) => match ReceivedReply::copied(alloc, &reply) {
+                Ok(reply) => Received::Reply(reply),
+                Err(_) => Received::NoMemory,
+            },
+        },
+    }
+}

@@ -1,0 +1,244 @@
+//! Replies of a stream, shown for people.
+
+ghost use Rattle.std.specs.Prelude.{◌≡◌, ◌<◌, ◌+◌, ◌^◌, ◌++◌, ◌||◌, ⊤, ℕ, List, Option, Err, OnOk, length};
+ghost use Rattle.std.specs.Io.KnownBytes.{Appends};
+ghost use Rattle.csi_codec.specs.declared.message.DecodeFault.TheVariants.{Malformed};
+ghost use Rattle.csi_types.specs.Codes.{number_of};
+ghost use Rattle.csi_types.specs.declared.code.Code.{Code};
+ghost use Rattle.csi_types.specs.declared.code.Code.TheVariants as Code;
+ghost use Rattle.frames_core.specs.Envelope.{IsReply, reply_bytes_of};
+ghost use Rattle.csi_client.specs.Replies.{first_line, body_lines};
+ghost use Rattle.csi_client.specs.Showing.{IsBad, is_refusal, Ended, Shows};
+ghost use Rattle.csi_client.specs.Live.{ShowsOne, end_of, IsReady, Live, Steps, AdvancesBy, IsAllFed};
+
+use crate::replies::{put_body_lines, put_reply_line};
+use csi_codec::DecodeFault;
+use csi_types::Method;
+use frames_core::{Reply, ReplyFault, ReplyFramer};
+use std::alloc::Global;
+use std::io::{self, Read, Write};
+
+// At most this many reads are made in one run.
+const MAX_READS: u64 = 1 << 32;
+
+// The most bytes of one read.
+const PIECE_BYTES: usize = 4096;
+
+/// How a run of [`show_all`] ended.
+#[derive(Clone, Copy, Debug, PartialEq, Eq)]
+pub enum ShowEnd {
+    /// The input ended behind a whole reply, and all were shown. Whether one of them was a refusal:
+    /// a status other than 0.
+    Done(bool),
+    /// The stream has this fault. All replies before it were shown.
+    Malformed(ReplyFault),
+    /// The body of a reply is no response of the method. Its first line was shown, behind all
+    /// replies before it.
+    BadBody,
+    /// A read failed, or 2^32 reads were made. The replies that were read whole were shown.
+    ReadFailed,
+    /// A write or a flush failed.
+    WriteFailed,
+    /// Memory was refused: for the buffer of frames, or for lines.
+    NoMemory,
+}
+
+// Why no more replies are shown.
+#[derive(Clone, Copy)]
+pub(crate) enum Halt {
+    BadBody,
+    WriteFailed,
+    NoMemory,
+}
+
+// What came of showing some bytes.
+#[derive(Clone, Copy)]
+pub(crate) enum Step {
+    Fed(usize),
+    Faulty(ReplyFault),
+    Halted(Halt),
+}
+
+// Shows replies; the lines of one are made in a buffer that is kept from reply to reply.
+#[derive(Drop)]
+pub(crate) struct Printer {
+    method: Option<Method>,
+    lines: Vec<u8>,
+    refused: bool,
+}
+
+impl Printer {
+    // Makes the lines of a reply.
+    fn make_lines(&mut self, alloc: Global, reply: &Reply<'_>) -> Result<(), DecodeFault>
+        ensures method { self.new.method ≡ self.old.method }
+        ensures refused { self.new.refused ≡ self.old.refused }
+        ensures ok { OnOk result ((code : Code) → reply.now.status ≡ number_of code → self.new.lines.items ≡ first_line code (reply_bytes_of reply.now) ++ body_lines self.old.method (reply_bytes_of reply.now)) }
+        ensures readable { OnOk result (¬ IsBad self.old.method (reply_bytes_of reply.now)) }
+        ensures bad { (at : ℕ) → result ≡ Err (Malformed at) → IsBad self.old.method (reply_bytes_of reply.now) × (self.new.lines.items ≡ first_line Code.Ok (reply_bytes_of reply.now)) }
+    {
+        self.lines.clear();
+        match put_reply_line(alloc, &mut self.lines, reply) {
+            Ok(()) => put_body_lines(alloc, &mut self.lines, self.method, reply),
+            Err(_) => Err(DecodeFault::NoMemory),
+        }
+    }
+
+    // Writes the lines that were made.
+    fn write_lines<W: Write>(&self, writer: &mut W) -> io::Result<()>
+        ensures { OnOk result (Appends (W.contents writer.old) (W.contents writer.new) self.now.lines.items) }
+    {
+        writer.write_all(&self.lines)?;
+        writer.flush()
+    }
+
+    // Shows one reply.
+    fn show<W: Write>(
+        &mut self,
+        alloc: Global,
+        reply: &Reply<'_>,
+        writer: &mut W,
+    ) -> Result<(), Halt>
+        requires { IsReply (reply_bytes_of reply.now) }
+        ensures method { self.new.method ≡ self.old.method }
+        ensures refused { OnOk result (self.new.refused ≡ (self.old.refused || is_refusal (reply_bytes_of reply.now))) }
+        ensures shows { ShowsOne self.old.method (reply_bytes_of reply.now) (W.contents writer.old) (W.contents writer.new) result }
+    {
+        match self.make_lines(alloc, reply) {
+            Err(DecodeFault::NoMemory) => Err(Halt::NoMemory),
+            Err(DecodeFault::Malformed { .. }) => match self.write_lines(writer) {
+                Ok(()) => Err(Halt::BadBody),
+                Err(_) => Err(Halt::WriteFailed),
+            },
+            Ok(()) => match self.write_lines(writer) {
+                Ok(()) => {
+                    self.refused |= reply.status != 0;
+                    Ok(())
+                }
+                Err(_) => Err(Halt::WriteFailed),
+            },
+        }
+    }
+
+    // Feeds these bytes up to the end of one frame, and shows its reply.
+    fn show_next<W: Write>(
+        &mut self,
+        alloc: Global,
+        framer: &mut ReplyFramer,
+        rest: &[u8],
+        writer: &mut W,
+    ) -> Step
+        requires room { framer.old.past + length framer.old.held + length rest.now < 2 ^ 63 }
+        requires ready { IsReady framer.old }
+        ensures method { self.new.method ≡ self.old.method }
+        ensures steps { (read : List ℕ) (held : Option (List ℕ))
+            → Live self.old.method read framer.old held (W.contents writer.old) self.old.refused
+            → Steps self.old.method read rest.now framer.new held (W.contents writer.new) self.new.refused result }
+        ensures count { AdvancesBy framer.old framer.new (length rest.now) result }
+    {
+        let count = framer.feed(rest);
+        if let Some(fault) = framer.fault() {
+            return Step::Faulty(fault);
+        }
+        let Some(reply) = framer.reply() else {
+            return Step::Fed(count);
+        };
+        match self.show(alloc, &reply, writer) {
+            Err(halt) => Step::Halted(halt),
+            Ok(()) => {
+                framer.next_frame();
+                Step::Fed(count)
+            }
+        }
+    }
+
+    // Feeds the piece and shows all its replies.
+    fn show_piece<W: Write>(
+        &mut self,
+        alloc: Global,
+        framer: &mut ReplyFramer,
+        piece: &[u8],
+        writer: &mut W,
+    ) -> Step
+        requires room { framer.old.past + length framer.old.held + length piece.now < 2 ^ 63 }
+        requires ready { IsReady framer.old }
+        ensures method { self.new.method ≡ self.old.method }
+        ensures steps { (read : List ℕ) (held : Option (List ℕ))
+            → Live self.old.method read framer.old held (W.contents writer.old) self.old.refused
+            → Steps self.old.method read piece.now framer.new held (W.contents writer.new) self.new.refused result }
+        ensures count { AdvancesBy framer.old framer.new (length piece.now) result }
+        ensures all { IsAllFed (length piece.now) result }
+    {
+        let mut at = 0;
+        while at < piece.len() {
+            let (_, rest) = piece.split_at(at);
+            match self.show_next(alloc, framer, rest, writer) {
+                Step::Fed(count) => at += count,
+                Step::Faulty(fault) => return Step::Faulty(fault),
+                Step::Halted(halt) => return Step::Halted(halt),
+            }
+        }
+        Step::Fed(at)
+    }
+
+    // The input ended.
+    fn finish(&self, framer: &mut ReplyFramer) -> ShowEnd
+        ensures { (read : List ℕ) (held holds : Option (List ℕ))
+            → Live self.now.method read framer.old held holds self.now.refused → Ended self.now.method read ⊤ held holds result }
+    {
+        framer.end();
+        match framer.fault() {
+            None => ShowEnd::Done(self.refused),
+            Some(fault) => ShowEnd::Malformed(fault),
+        }
+    }
+}
+
+fn halted(halt: Halt) -> ShowEnd
+    ensures { result ≡ end_of halt }
+{
+    match halt {
+        Halt::BadBody => ShowEnd::BadBody,
+        Halt::WriteFailed => ShowEnd::WriteFailed,
+        Halt::NoMemory => ShowEnd::NoMemory,
+    }
+}
+
+/// Writes what the replies of a reader say: of each the line of
+/// [`put_reply_line`](crate::put_reply_line), and where the method of their calls is given, the lines
+/// of [`put_body_lines`](crate::put_body_lines).
+///
+/// It reads at most 4,096 bytes a read and makes at most 2^32 reads. Each reply is shown in one write
+/// and flushed as soon as its frame is whole.
+pub fn show_all<R: Read, W: Write>(
+    alloc: Global,
+    method: Option<Method>,
+    reader: &mut R,
+    writer: &mut W,
+) -> ShowEnd
+    ensures { Shows method (R.remaining reader.old) (R.remaining reader.new) (W.contents writer.old) (W.contents writer.new) result }
+{
+    let Ok(mut framer) = ReplyFramer::new(alloc) else {
+        return ShowEnd::NoMemory;
+    };
+    let mut printer = Printer {
+        method,
+        lines: Vec::new(alloc),
+        refused: false,
+    };
+    let mut piece = [0; PIECE_BYTES];
+    for turn in 0..MAX_READS {
+        let Ok(count) = reader.read(&mut piece) else {
+            return ShowEnd::ReadFailed;
+        };
+        if count == 0 {
+            return printer.finish(&mut framer);
+        }
+        let (bytes, _) = piece.split_at(count);
+        match printer.show_piece(alloc, &mut framer, bytes, writer) {
+            Step::Fed(_) => {}
+            Step::Faulty(fault) => return ShowEnd::Malformed(fault),
+            Step::Halted(halt) => return halted(halt),
+        }
+    }
+    ShowEnd::ReadFailed
+}
