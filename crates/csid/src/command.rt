@@ -1,13 +1,55 @@
 //! The command line.
 
-use clap::{Arg, ArgMatches, Command, Error};
+use clap::{Arg, ArgMatches, Command, Error, value_parser};
 use std::alloc::Global;
 
-/// What the command line asks for: calls on standard input, replies on standard output.
+/// What the command line asks for.
 #[derive(Clone, Copy, Debug, PartialEq, Eq)]
-pub(crate) struct Pipe<'a> {
-    /// The file of the configuration; without it the sample configuration.
-    pub(crate) config: Option<&'a str>,
+pub(crate) enum Task<'a> {
+    /// Calls on standard input, replies on standard output.
+    Pipe {
+        /// The file of the configuration; without it the sample configuration.
+        config: Option<&'a str>,
+    },
+    /// Connections to a socket, one after the other.
+    Serve {
+        /// Where the socket is made.
+        socket: &'a str,
+        /// The file of the configuration; without it the sample configuration.
+        config: Option<&'a str>,
+        /// How many connections are served.
+        connections: u32,
+    },
+}
+
+fn config<'a>(alloc: Global) -> Arg<'a> {
+    Arg::new(alloc, "config")
+        .long("config")
+        .value_name("FILE")
+        .help("The configuration, a TOML file; without it the sample configuration")
+}
+
+fn serve<'a>(alloc: Global) -> Result<Command<'a>, Error> {
+    let socket = Arg::new(alloc, "socket")
+        .long("socket")
+        .value_name("PATH")
+        .help("The Unix socket to listen on, as /run/csid.sock; no file may stand there")
+        .required(true);
+    let connections = Arg::new(alloc, "connections")
+        .long("connections")
+        .value_name("N")
+        .help("How many connections are served until the server ends, 1 to 1000000")
+        .value_parser(value_parser!(u32).range(1..=1_000_000))
+        .default_value("1000000");
+    Ok(
+        Command::new(alloc, "serve")
+            .about(
+                "Answers the calls of connections to a Unix socket, one connection after the other",
+            )
+            .arg(socket)?
+            .arg(config(alloc))?
+            .arg(connections)?,
+    )
 }
 
 /// The command line of the program.
@@ -16,29 +58,31 @@ pub(crate) struct Pipe<'a> {
 ///
 /// Where memory is refused.
 pub(crate) fn command<'a>(alloc: Global) -> Result<Command<'a>, Error> {
-    let config = Arg::new(alloc, "config")
-        .long("config")
-        .value_name("FILE")
-        .help("The configuration, a TOML file; without it the sample configuration");
     let pipe = Command::new(alloc, "pipe")
         .about("Answers the calls of standard input on standard output, as no command does")
-        .arg(config)?;
+        .arg(config(alloc))?;
     Ok(
         Command::new(alloc, "csid")
             .version("0.1.0")
             .about(
                 "A CSI controller plugin: calls and replies are frames, as docs/PROTOCOL.md says",
             )
-            .subcommand(pipe)?,
+            .subcommand(pipe)?
+            .subcommand(serve(alloc)?)?,
     )
 }
 
 /// What the words that [`command`] takes ask for.
-pub(crate) fn asked<'a>(matches: &ArgMatches<'a>) -> Pipe<'a> {
+pub(crate) fn asked<'a>(matches: &ArgMatches<'a>) -> Task<'a> {
     match matches.subcommand() {
-        Some((_, pipe)) => Pipe {
-            config: pipe.get_str("config"),
+        Some(("serve", words)) => Task::Serve {
+            socket: words.get_str("socket").unwrap_or(""),
+            config: words.get_str("config"),
+            connections: words.get_one::<u32>("connections").unwrap_or(1),
         },
-        None => Pipe { config: None },
+        Some((_, words)) => Task::Pipe {
+            config: words.get_str("config"),
+        },
+        None => Task::Pipe { config: None },
     }
 }

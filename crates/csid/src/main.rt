@@ -1,8 +1,11 @@
-//! The server: calls on standard input, replies on standard output.
+//! The server: calls on standard input, replies on standard output, or both on a socket.
 #![tactic(auto)]
 
 mod command;
+mod config;
 mod run;
+mod say;
+mod socket;
 
 use std::process::ExitCode;
 

@@ -1,0 +1,27 @@
+//! What programs say of words that they do not understand.
+#![tactic(auto)]
+
+use clap::Error;
+use std::alloc::{AllocError, Global};
+
+/// Why words are refused, in one line: the first paragraph of what `clap` says, without the word
+/// `error` before it.
+///
+/// # Errors
+///
+/// Where memory was refused.
+pub fn refusal_line(alloc: Global, error: &Error) -> Result<String, AllocError> {
+    let text = format!(in alloc; "{error}")?;
+    let mut line = String::new(alloc);
+    for part in text.as_str().lines() {
+        if part.is_empty() {
+            break;
+        }
+        if !line.is_empty() {
+            line.push(' ')?;
+        }
+        let part = part.trim();
+        line.push_str(part.strip_prefix("error: ").unwrap_or(part))?;
+    }
+    Ok(line)
+}

@@ -1,0 +1,212 @@
+//! The fields of a message, as the words give them.
+
+use crate::command::FIELDS;
+use clap::ArgMatches;
+use csi_types::{Access, Capability, CapacityRange, Items, Map, Method, Mount, Requirement, Text};
+use std::alloc::{AllocError, AllocFailed, Global};
+
+/// Why words are no call.
+#[derive(Clone, Copy, Debug, PartialEq, Eq)]
+pub(crate) enum WordsFault {
+    /// No method has the name.
+    NoMethod,
+    /// The method has no field for this option.
+    NoField(&'static str),
+    /// The message is given beside this option.
+    BesideMessage(&'static str),
+    /// The message is not an even number of hexadecimal digits.
+    NotHex,
+    /// A pair has no `=`.
+    NotPair,
+    /// The message has more than 1,048,576 bytes.
+    TooLong,
+    /// Memory was refused.
+    NoMemory,
+}
+
+impl From<AllocError> for WordsFault {
+    fn from(_error: AllocError) -> WordsFault {
+        WordsFault::NoMemory
+    }
+}
+
+impl<T: Drop> From<AllocFailed<T>> for WordsFault {
+    fn from(_error: AllocFailed<T>) -> WordsFault {
+        WordsFault::NoMemory
+    }
+}
+
+// The options that a method has fields for.
+fn fields_of(method: Method) -> &'static [&'static str] {
+    match method {
+        Method::CreateVolume => &[
+            "name",
+            "required",
+            "limit",
+            "mode",
+            "fs",
+            "parameters",
+            "topology",
+        ],
+        Method::DeleteVolume => &["volume"],
+        Method::ControllerPublishVolume => &["volume", "node", "mode", "fs", "readonly"],
+        Method::ControllerUnpublishVolume => &["volume", "node"],
+        Method::ValidateVolumeCapabilities => &["volume", "mode", "fs", "parameters"],
+        Method::ListVolumes => &["max", "token"],
+        Method::GetCapacity => &["mode", "fs", "parameters", "topology"],
+        Method::GetPluginInfo
+        | Method::GetPluginCapabilities
+        | Method::Probe
+        | Method::ControllerGetCapabilities => &[],
+    }
+}
+
+// Whether an option is among the words.
+fn is_given(words: &ArgMatches<'_>, name: &str) -> bool {
+    if name == "readonly" {
+        words.get_flag(name)
+    } else {
+        words.get_str(name).is_some()
+    }
+}
+
+/// Whether the words give no field.
+///
+/// # Errors
+///
+/// Where they give one.
+pub(crate) fn give_none(words: &ArgMatches<'_>) -> Result<(), WordsFault> {
+    for name in FIELDS {
+        if is_given(words, name) {
+            return Err(WordsFault::BesideMessage(name));
+        }
+    }
+    Ok(())
+}
+
+/// The fields of a message, as the words of a command give them.
+#[derive(Clone, Copy)]
+pub(crate) struct Fields<'m, 'w> {
+    alloc: Global,
+    words: &'m ArgMatches<'w>,
+}
+
+impl<'m, 'w> Fields<'m, 'w> {
+    /// The fields that the words give.
+    ///
+    /// # Errors
+    ///
+    /// Where the method has no field for one of them.
+    pub(crate) fn new(
+        alloc: Global,
+        method: Method,
+        words: &'m ArgMatches<'w>,
+    ) -> Result<Fields<'m, 'w>, WordsFault> {
+        let known = fields_of(method);
+        for name in FIELDS {
+            if is_given(words, name) && !known.contains(&name) {
+                return Err(WordsFault::NoField(name));
+            }
+        }
+        Ok(Fields { alloc, words })
+    }
+
+    /// The text of an option, or the empty text.
+    pub(crate) fn text(&self, name: &str) -> Result<Text, WordsFault> {
+        Ok(Text::from_str(self.alloc, self.words.get_str(name).unwrap_or(""))?)
+    }
+
+    /// Whether the volume is attached for reading only.
+    pub(crate) fn readonly(&self) -> bool {
+        self.words.get_flag("readonly")
+    }
+
+    /// The most entries of a page.
+    pub(crate) fn max(&self) -> i32 {
+        self.words.get_one::<i32>("max").unwrap_or(0)
+    }
+
+    /// The range of sizes, where a bound is given.
+    pub(crate) fn range(&self) -> Option<CapacityRange> {
+        let required = self.words.get_one::<i64>("required");
+        let limit = self.words.get_one::<i64>("limit");
+        if required.is_none() && limit.is_none() {
+            return None;
+        }
+        Some(CapacityRange {
+            required: required.unwrap_or(0),
+            limit: limit.unwrap_or(0),
+        })
+    }
+
+    // A mount of the file system that is given, or else a block device.
+    fn access(&self) -> Result<Access, WordsFault> {
+        let Some(fs) = self.words.get_str("fs") else {
+            return Ok(Access::Block);
+        };
+        Ok(Access::Mount(Mount {
+            fs_type: Text::from_str(self.alloc, fs)?,
+            flags: Items::new(self.alloc),
+            group: Text::new(self.alloc),
+        }))
+    }
+
+    /// The one capability, where a mode is given.
+    pub(crate) fn capability(&self) -> Result<Option<Capability>, WordsFault> {
+        let Some(mode) = self.words.get_one::<i32>("mode") else {
+            return Ok(None);
+        };
+        Ok(Some(Capability {
+            access: self.access()?,
+            mode: Some(mode),
+        }))
+    }
+
+    /// The same as a list.
+    pub(crate) fn capabilities(&self) -> Result<Items<Capability>, WordsFault> {
+        let mut all = Items::new(self.alloc);
+        if let Some(capability) = self.capability()? {
+            all.push(capability)?;
+        }
+        Ok(all)
+    }
+
+    /// The pairs of an option, where it is given: between commas, each cut at its first `=`; of equal
+    /// keys the last.
+    pub(crate) fn pairs(&self, name: &str) -> Result<Option<Map>, WordsFault> {
+        let Some(text) = self.words.get_str(name) else {
+            return Ok(None);
+        };
+        let mut map = Map::new(self.alloc);
+        for pair in text.split(',') {
+            let (key, value) = pair.split_once('=').ok_or(WordsFault::NotPair)?;
+            let key = Text::from_str(self.alloc, key)?;
+            let value = Text::from_str(self.alloc, value)?;
+            map.insert(key, value)?;
+        }
+        Ok(Some(map))
+    }
+
+    /// The same, or no pairs.
+    pub(crate) fn map(&self, name: &str) -> Result<Map, WordsFault> {
+        Ok(self.pairs(name)?.unwrap_or(Map::new(self.alloc)))
+    }
+
+    /// One requisite topology, where it is given.
+    pub(crate) fn requirement(&self) -> Result<Option<Requirement>, WordsFault> {
+        let Some(segments) = self.pairs("topology")? else {
+            return Ok(None);
+        };
+        let mut requisite = Items::new(self.alloc);
+        requisite.push(segments)?;
+        Ok(Some(Requirement {
+            requisite,
+            preferred: Items::new(self.alloc),
+        }))
+    }
+
+    /// No pairs: csictl sends no secrets and no context.
+    pub(crate) fn no_map(&self) -> Map {
+        Map::new(self.alloc)
+    }
+}

@@ -1,0 +1,18 @@
+//! The client of csid: it makes calls, sends them, and shows replies.
+#![tactic(auto)]
+
+mod call;
+mod command;
+mod fields;
+mod frame;
+mod message;
+mod run;
+mod say;
+mod show;
+mod vectors;
+
+use std::process::ExitCode;
+
+fn main(rt: HostRuntime) -> ExitCode {
+    ExitCode::from(run::run(&rt))
+}

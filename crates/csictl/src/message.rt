@@ -1,0 +1,121 @@
+//! The frame of the call that the words ask for.
+
+use crate::fields::{Fields, WordsFault, give_none};
+use clap::ArgMatches;
+use csi_client::put_call;
+use csi_codec::encode_request;
+use csi_types::{
+    CreateVolume, DeleteVolume, GetCapacity, ListVolumes, Method, Publish, Request, Text,
+    Unpublish, Validate, method_named,
+};
+use frames_core::MAX_MESSAGE_BYTES;
+use hex::FromHexError;
+use std::alloc::Global;
+
+fn create(fields: Fields<'_, '_>) -> Result<Request, WordsFault> {
+    Ok(Request::Create(CreateVolume {
+        name: fields.text("name")?,
+        range: fields.range(),
+        capabilities: fields.capabilities()?,
+        parameters: fields.map("parameters")?,
+        secrets: fields.no_map(),
+        source: false,
+        topology: fields.requirement()?,
+    }))
+}
+
+fn publish(fields: Fields<'_, '_>) -> Result<Request, WordsFault> {
+    Ok(Request::Publish(Publish {
+        volume_id: fields.text("volume")?,
+        node_id: fields.text("node")?,
+        capability: fields.capability()?,
+        readonly: fields.readonly(),
+        secrets: fields.no_map(),
+        context: fields.no_map(),
+    }))
+}
+
+fn validate(fields: Fields<'_, '_>) -> Result<Request, WordsFault> {
+    Ok(Request::Validate(Validate {
+        volume_id: fields.text("volume")?,
+        context: fields.no_map(),
+        capabilities: fields.capabilities()?,
+        parameters: fields.map("parameters")?,
+        secrets: fields.no_map(),
+    }))
+}
+
+// The request of a method with these fields.
+fn request(method: Method, fields: Fields<'_, '_>) -> Result<Request, WordsFault> {
+    Ok(match method {
+        Method::GetPluginInfo => Request::PluginInfo,
+        Method::GetPluginCapabilities => Request::PluginCapabilities,
+        Method::Probe => Request::Probe,
+        Method::ControllerGetCapabilities => Request::ControllerCapabilities,
+        Method::CreateVolume => create(fields)?,
+        Method::DeleteVolume => Request::Delete(DeleteVolume {
+            volume_id: fields.text("volume")?,
+            secrets: fields.no_map(),
+        }),
+        Method::ControllerPublishVolume => publish(fields)?,
+        Method::ControllerUnpublishVolume => Request::Unpublish(Unpublish {
+            volume_id: fields.text("volume")?,
+            node_id: fields.text("node")?,
+            secrets: fields.no_map(),
+        }),
+        Method::ValidateVolumeCapabilities => validate(fields)?,
+        Method::ListVolumes => Request::List(ListVolumes {
+            max_entries: fields.max(),
+            token: fields.text("token")?,
+        }),
+        Method::GetCapacity => Request::Capacity(GetCapacity {
+            capabilities: fields.capabilities()?,
+            parameters: fields.map("parameters")?,
+            topology: fields.pairs("topology")?,
+        }),
+    })
+}
+
+// The bytes of the message.
+fn message(alloc: Global, method: Method, words: &ArgMatches<'_>) -> Result<Vec<u8>, WordsFault> {
+    if let Some(digits) = words.get_str("message") {
+        give_none(words)?;
+        return match hex::decode(alloc, digits) {
+            Ok(bytes) => Ok(bytes),
+            Err(FromHexError::OutOfMemory) => Err(WordsFault::NoMemory),
+            Err(_) => Err(WordsFault::NotHex),
+        };
+    }
+    let request = request(method, Fields::new(alloc, method, words)?)?;
+    let mut bytes = Vec::new(alloc);
+    encode_request(&request, &mut bytes)?;
+    Ok(bytes)
+}
+
+/// The method that the words name.
+///
+/// # Errors
+///
+/// Where no method has the name, or memory was refused.
+pub(crate) fn method(alloc: Global, name: &str) -> Result<Method, WordsFault> {
+    method_named(alloc, name)?.ok_or(WordsFault::NoMethod)
+}
+
+/// The frame of the call of a method that the words ask for.
+///
+/// # Errors
+///
+/// Where they ask for none, or memory was refused.
+pub(crate) fn frame(
+    alloc: Global,
+    method: Method,
+    words: &ArgMatches<'_>,
+) -> Result<Vec<u8>, WordsFault> {
+    let message = message(alloc, method, words)?;
+    if message.len() > MAX_MESSAGE_BYTES {
+        return Err(WordsFault::TooLong);
+    }
+    let mut frame = Vec::new(alloc);
+    put_call(&mut frame, method, &message)?;
+    Ok(frame)
+}

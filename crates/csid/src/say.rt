@@ -1,0 +1,109 @@
+//! What is said on standard error, and the statuses that the program ends with.
+
+use csi_server::RunEnd;
+use frames_core::fault_text;
+use std::io::Write;
+
+/// All went well.
+pub(crate) const DONE: u8 = 0;
+
+/// A frame is malformed.
+pub(crate) const MALFORMED: u8 = 1;
+
+/// The words are not understood.
+pub(crate) const USAGE: u8 = 2;
+
+/// The configuration cannot be had.
+pub(crate) const CONFIGURATION: u8 = 3;
+
+/// A read or a write failed.
+pub(crate) const INPUT_OUTPUT: u8 = 5;
+
+/// There is no memory.
+pub(crate) const NO_MEMORY: u8 = 6;
+
+/// The socket cannot be made, or gives no connection.
+pub(crate) const SOCKET: u8 = 7;
+
+/// Says one line on standard error. That it cannot be written changes no status.
+pub(crate) fn say(rt: &HostRuntime, text: &[u8]) {
+    let mut stderr = rt.stderr();
+    let _ = stderr.write_all(b"csid: ");
+    let _ = stderr.write_all(text);
+    let _ = stderr.write_all(b"\n");
+}
+
+/// Says that there is no memory.
+pub(crate) fn no_memory(rt: &HostRuntime) -> u8 {
+    say(rt, b"out of memory");
+    NO_MEMORY
+}
+
+/// Where calls come from and replies go to.
+#[derive(Clone, Copy)]
+pub(crate) enum Peer {
+    Pipe,
+    Connection,
+}
+
+// Why reading ended.
+fn read_failed(peer: Peer) -> &'static [u8] {
+    match peer {
+        Peer::Pipe => b"a read of standard input failed",
+        Peer::Connection => b"a read of a connection failed",
+    }
+}
+
+// Why writing ended.
+fn write_failed(peer: Peer) -> &'static [u8] {
+    match peer {
+        Peer::Pipe => b"a write to standard output failed",
+        Peer::Connection => b"a write to a connection failed",
+    }
+}
+
+/// Says why a run ended, where it is not done, and gives the exit status for it.
+pub(crate) fn report(rt: &HostRuntime, peer: Peer, end: RunEnd) -> u8 {
+    match end {
+        RunEnd::Done => DONE,
+        RunEnd::Malformed(fault) => {
+            say(rt, fault_text(&fault).bytes());
+            MALFORMED
+        }
+        RunEnd::ReadFailed => {
+            say(rt, read_failed(peer));
+            INPUT_OUTPUT
+        }
+        RunEnd::TurnsSpent => {
+            say(rt, b"the reads of one run are spent");
+            INPUT_OUTPUT
+        }
+        RunEnd::WriteFailed => {
+            say(rt, write_failed(peer));
+            INPUT_OUTPUT
+        }
+        RunEnd::NoMemory => no_memory(rt),
+    }
+}
+
+#[cfg(test)]
+mod tests {
+    use super::*;
+    use frames_core::{FrameFault, FrameWhy};
+
+    #[test]
+    fn gives_a_status_for_each_end(rt: HostRuntime) {
+        let fault = FrameFault {
+            why: FrameWhy::BadFlag,
+            at: 53,
+        };
+        for peer in [Peer::Pipe, Peer::Connection] {
+            assert_eq!(rt; report(&rt, peer, RunEnd::Done), 0);
+            assert_eq!(rt; report(&rt, peer, RunEnd::Malformed(fault)), 1);
+            assert_eq!(rt; report(&rt, peer, RunEnd::ReadFailed), 5);
+            assert_eq!(rt; report(&rt, peer, RunEnd::TurnsSpent), 5);
+            assert_eq!(rt; report(&rt, peer, RunEnd::WriteFailed), 5);
+            assert_eq!(rt; report(&rt, peer, RunEnd::NoMemory), 6);
+        }
+    }
+}
