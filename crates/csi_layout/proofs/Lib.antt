@@ -1,0 +1,5 @@
+mod TablesLemmas
+mod CreateLemmas
+mod FirstRowLemmas
+mod KeyCheckLemmas
+mod OursLemmas

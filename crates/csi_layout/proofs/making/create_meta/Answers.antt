@@ -1,0 +1,5 @@
+use Rattle.csi_layout.proofs.CreateLemmas.{meta_step}
+use Rattle.csi_layout.proofs.making.create_meta.Goals as goal
+
+pub returns-clause-ok : goal.returns-clause-ok
+returns-clause-ok g c clean inside = meta_step _ _ c.execute.result (c.execute.ensures.runs clean inside)

@@ -1,0 +1,30 @@
+-- How the tables come to be: three CREATEs, and the first row of meta.
+use Rattle.std.specs.Prelude.{◌≡◌, [], ◌∷◌, map}
+use Rattle.sqlite.specs.Change.{created, next_tree, KeepsRows}
+use Rattle.sqlite.specs.Effect.{Database, IsDatabase}
+use Rattle.sqlite.specs.Schema.{Schema}
+use Rattle.sqlite.specs.Table.{Table}
+use Rattle.csi_layout.specs.Rows.{seen_meta, meta_row}
+use Rattle.csi_layout.specs.Tables.{schema}
+
+-- an empty table is made
+pub record Creates (before : Schema) (table : Table) (old new : Database) : Type 0 where
+  pub schema : new.schema ≡ created before table
+  pub empty : new.trees (next_tree before) ≡ []
+  pub others : KeepsRows before.tables old.trees new.trees
+
+-- the first row of meta is put into the empty table: format 1, and the next number is 1
+pub record AddsFirst (old new : Database) : Type 0 where
+  pub schema : new.schema ≡ old.schema
+  pub sound : IsDatabase new
+  pub meta : old.trees 0 ≡ [] → map seen_meta (new.trees 0) ≡ meta_row 1 ∷ []
+  pub volumes : new.trees 1 ≡ old.trees 1
+  pub attachments : new.trees 3 ≡ old.trees 3
+
+-- the three tables are there, with the first row of meta, no volume and no attachment
+pub record MakesTables (old new : Database) : Type 0 where
+  pub schema : new.schema ≡ schema
+  pub sound : IsDatabase new
+  pub meta : map seen_meta (new.trees 0) ≡ meta_row 1 ∷ []
+  pub volumes : new.trees 1 ≡ []
+  pub attachments : new.trees 3 ≡ []

@@ -1,0 +1,35 @@
+-- The rows of the tables, as they are kept and as they are seen.
+use Rattle.std.specs.Prelude.{ℕ, Bool, [], ◌∷◌, List, pos, if◌then◌else◌}
+use Rattle.sqlite.specs.declared.types.Value.TheVariants.{Null, Int, Text, Blob}
+use Rattle.sqlite.specs.declared.types.Value.{Value}
+use Rattle.sqlite.specs.Order.{Row, column}
+
+abbrev pub number_value : ℕ → Value
+number_value n = Int (pos n)
+
+-- SQL has no type of its own for it
+abbrev pub bool_value : Bool → Value
+bool_value b = Int (if b then pos 1 else pos 0)
+
+-- the row of meta: its key, the number of the format, and the next number
+abbrev pub meta_row : ℕ → Row
+meta_row next = number_value 1 ∷ number_value 1 ∷ number_value next ∷ []
+
+-- a row of volumes as it is kept: the rowid first, whose own column is kept as NULL
+abbrev pub volume_row : ℕ → List ℕ → ℕ → List ℕ → List ℕ → List ℕ → Row
+volume_row number name bytes pool caps params =
+    number_value number ∷ Null ∷ Text name ∷ number_value bytes ∷ Text pool ∷ Blob caps ∷ Blob params ∷ []
+
+-- a row of attachments as it is seen, without the rowid that SQL gives it
+abbrev pub attachment_row : ℕ → List ℕ → List ℕ → Bool → Row
+attachment_row number node cap readonly = number_value number ∷ Text node ∷ Blob cap ∷ bool_value readonly ∷ []
+
+-- what a SELECT of all columns sees of a kept row
+abbrev pub seen_meta : Row → Row
+seen_meta r = column r 0 ∷ column r 2 ∷ column r 3 ∷ []
+
+abbrev pub seen_volume : Row → Row
+seen_volume r = column r 0 ∷ column r 2 ∷ column r 3 ∷ column r 4 ∷ column r 5 ∷ column r 6 ∷ []
+
+abbrev pub seen_attachment : Row → Row
+seen_attachment r = column r 1 ∷ column r 2 ∷ column r 3 ∷ column r 4 ∷ []

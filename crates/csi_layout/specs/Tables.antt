@@ -1,0 +1,90 @@
+-- The three tables: their texts, and the schema that these make.
+use Rattle.std.specs.Prelude.{true, false, [], ◌∷◌, Some, None, codes, List, ℕ, pos}
+use Rattle.sqlite.specs.Collation.TheVariants.{Binary}
+use Rattle.sqlite.specs.declared.types.Value.TheVariants.{Null, Int}
+use Rattle.sqlite.specs.Kind.TheVariants.{Integer, Text, Any}
+use Rattle.sqlite.specs.Term.{lit, col, op2}
+use Rattle.sqlite_sql.specs.declared.ops.BinaryOp.TheVariants.{Compare}
+use Rattle.sqlite_sql.specs.declared.ops.CompareOp.TheVariants.{Eq}
+use Rattle.sqlite_value.specs.Keys.{plain}
+use Rattle.sqlite.specs.Schema.{Schema}
+use Rattle.sqlite.specs.Table.{Table}
+use Rattle.sqlite_schema.specs.declared.schema.Column.{Column}
+use Rattle.sqlite_schema.specs.declared.schema.Kind.{Kind}
+use Rattle.sqlite.specs.Change.{created}
+
+abbrev pub meta_text : List ℕ
+meta_text = codes "CREATE TABLE meta (k INTEGER PRIMARY KEY CHECK (k = 1), format_no INTEGER NOT NULL, next_number INTEGER NOT NULL)"
+
+abbrev pub volumes_text : List ℕ
+volumes_text = codes "CREATE TABLE volumes (number INTEGER PRIMARY KEY, name TEXT NOT NULL UNIQUE, bytes INTEGER NOT NULL, pool TEXT NOT NULL, caps BLOB NOT NULL, params BLOB NOT NULL)"
+
+abbrev pub attachments_text : List ℕ
+attachments_text = codes "CREATE TABLE attachments (number INTEGER NOT NULL, node TEXT NOT NULL, cap BLOB NOT NULL, readonly INTEGER NOT NULL, PRIMARY KEY (number, node))"
+
+abbrev pub no_schema : Schema
+no_schema = record { tables = []; indexes = []; views = [] }
+
+abbrev pub key_column : List ℕ → Column
+key_column name = record { name = name; kind = Integer; is_strict = false; not_null = false; default = Null; collation = Binary }
+
+abbrev pub full_column : List ℕ → Kind → Column
+full_column name kind = record { name = name; kind = kind; is_strict = false; not_null = true; default = Null; collation = Binary }
+
+abbrev pub meta : Table
+meta = record {
+  name = codes "meta";
+  tree = 0;
+  columns = key_column (codes "k") ∷ full_column (codes "format_no") Integer ∷ full_column (codes "next_number") Integer ∷ [];
+  key = Some 0;
+  primary = 0 ∷ [];
+  uniques = [];
+  orders = [];
+  checks = op2 (Compare Eq Binary) (col 1 0) (lit (Int (pos 1))) ∷ [];
+  references = [];
+  computed = [];
+  stamps = record { places = []; terms = []; formats = [] };
+  is_counted = false;
+}
+
+abbrev pub volumes : Table
+volumes = record {
+  name = codes "volumes";
+  tree = 0;
+  columns = key_column (codes "number") ∷ full_column (codes "name") Text ∷ full_column (codes "bytes") Integer ∷ full_column (codes "pool") Text ∷ full_column (codes "caps") Any ∷ full_column (codes "params") Any ∷ [];
+  key = Some 0;
+  primary = 0 ∷ [];
+  uniques = (2 ∷ []) ∷ [];
+  orders = plain ∷ [];
+  checks = [];
+  references = [];
+  computed = [];
+  stamps = record { places = []; terms = []; formats = [] };
+  is_counted = false;
+}
+
+abbrev pub attachments : Table
+attachments = record {
+  name = codes "attachments";
+  tree = 0;
+  columns = full_column (codes "number") Integer ∷ full_column (codes "node") Text ∷ full_column (codes "cap") Any ∷ full_column (codes "readonly") Integer ∷ [];
+  key = None;
+  primary = 1 ∷ 2 ∷ [];
+  uniques = (1 ∷ 2 ∷ []) ∷ [];
+  orders = plain ∷ [];
+  checks = [];
+  references = [];
+  computed = [];
+  stamps = record { places = []; terms = []; formats = [] };
+  is_counted = false;
+}
+
+abbrev pub one_schema : Schema
+one_schema = created no_schema meta
+
+abbrev pub two_schema : Schema
+two_schema = created one_schema volumes
+
+-- meta is tree 0, volumes tree 1 with its index 2, attachments tree 3 with its index 4
+abbrev pub schema : Schema
+schema = created two_schema attachments

@@ -1,0 +1,82 @@
+//! The CHECK of meta, `k = 1`, read from its plan.
+
+ghost use Rattle.std.specs.Prelude.{◌≡◌, ◌≢◌, ◌↔◌, IsTrue, IfSome, None, ℕ, pos, [], ◌∷◌};
+ghost use Rattle.sqlite.specs.Collation.TheVariants.{Binary as ByBytes};
+ghost use Rattle.sqlite.specs.declared.types.Value.TheVariants.{Int};
+ghost use Rattle.sqlite_sql.specs.declared.ops.BinaryOp.TheVariants.{Compare};
+ghost use Rattle.sqlite_sql.specs.declared.ops.CompareOp.TheVariants.{Eq};
+ghost use Rattle.sqlite_schema.specs.declared.code.Op.TheVariants.{Binary, Column, Literal};
+ghost use Rattle.csi_layout.specs.Ours.{IsKeyCheck};
+ghost use Rattle.csi_layout.specs.Tables.{meta};
+
+use sqlite_schema::code::{Op, Terms};
+use sqlite_sql::ops::{BinaryOp, CompareOp};
+use sqlite_value::keys::Collation;
+use sqlite_value::value::Value;
+
+/// The places of the two sides of an `=`.
+fn sides_of(op: &Op) -> Option<(usize, usize)>
+    ensures some { IfSome result (λ p. op.now ≡ Binary (Compare Eq ByBytes) p.0 p.1) }
+    ensures none { result ≡ None → (a b : ℕ) → op.now ≢ Binary (Compare Eq ByBytes) a b }
+{
+    match op {
+        Op::Binary(BinaryOp::Compare(CompareOp::Eq, Collation::Binary), a, b) => Some((*a, *b)),
+        _ => None,
+    }
+}
+
+fn is_first_column(op: &Op) -> bool
+    ensures { IsTrue result ↔ op.now ≡ Column 1 0 }
+{
+    match op {
+        Op::Column(slot, at) => *slot == 1 && *at == 0,
+        _ => false,
+    }
+}
+
+fn is_one(op: &Op) -> bool
+    ensures { IsTrue result ↔ op.now ≡ Literal (Int (pos 1)) }
+{
+    match op {
+        Op::Literal(Value::Int(n)) => *n == 1,
+        _ => false,
+    }
+}
+
+fn says_key(nodes: &[Op], root: usize) -> bool
+    ensures { IsTrue result ↔ IsKeyCheck nodes.now root }
+{
+    let Some(op) = nodes.get(root) else {
+        return false;
+    };
+    let Some((a, b)) = sides_of(op) else {
+        return false;
+    };
+    let Some(first) = nodes.get(a) else {
+        return false;
+    };
+    let Some(second) = nodes.get(b) else {
+        return false;
+    };
+    is_first_column(first) && is_one(second)
+}
+
+fn only_root(roots: &[usize]) -> Option<usize>
+    ensures some { IfSome result (λ r. roots.now ≡ r ∷ []) }
+    ensures none { result ≡ None → (r : ℕ) → roots.now ≢ r ∷ [] }
+{
+    let [root] = roots else {
+        return None;
+    };
+    Some(*root)
+}
+
+/// Whether the checks are one, that the first column is 1.
+pub(super) fn is_key_check(checks: &Terms) -> bool
+    ensures { IsTrue result ↔ checks.now ≡ meta.checks }
+{
+    match only_root(checks.roots.as_slice()) {
+        Some(root) => says_key(checks.nodes.as_slice(), root),
+        None => false,
+    }
+}

@@ -1,0 +1,162 @@
+-- The texts of the statements, and what each computes to under the schema.
+use Rattle.std.proofs.Common.{◌≡◌, refl, false, [], ◌∷◌, codes, List, ℕ}
+use Rattle.sqlite.specs.Command.TheVariants.{Insert, Select, Update, Delete}
+use Rattle.sqlite.specs.Listing.{understood, reads_listing}
+use Rattle.sqlite.specs.Query.{Query, inner, end}
+use Rattle.sqlite.specs.Source.TheVariants.{Values}
+use Rattle.sqlite.specs.Collation.TheVariants.{Binary}
+use Rattle.sqlite.specs.Term.{Term, lit, col, op1, op2}
+use Rattle.sqlite.specs.declared.types.Value.TheVariants.{Null}
+use Rattle.sqlite_sql.specs.declared.ops.BinaryOp.TheVariants.{Compare}
+use Rattle.sqlite_sql.specs.declared.ops.CompareOp.TheVariants.{Eq}
+use Rattle.sqlite_sql.specs.declared.ops.UnaryOp.TheVariants.{ToNumeric}
+use Rattle.sqlite.proofs.Callers.{IsPlain, command_of}
+use Rattle.sqlite_tied.specs.Compute.{everything}
+use Rattle.csi_layout.specs.facts.Writes.{IsCommand}
+use Rattle.csi_statements.specs.Statements.{plain_query, number_query, volume_query, size_query, named_query, sizes_query, page_query, page_numbers_query, nodes_query, attached_query, places_query}
+use Rattle.csi_statements.specs.Tables.{schema}
+
+-- ---- writes
+
+abbrev pub attach_text : List ℕ
+attach_text = codes "INSERT INTO attachments (number, node, cap, readonly) VALUES (?1, ?2, ?3, ?4)"
+
+-- SQL gives the rowid
+abbrev pub attach_terms : List Term
+attach_terms = lit Null ∷ col 0 0 ∷ col 0 1 ∷ col 0 2 ∷ col 0 3 ∷ []
+
+pub attach_command : IsCommand attach_text (Insert 2 (Values attach_terms 5))
+unfolding understood everything
+attach_command = record { is = refl; plain = (refl, refl) }
+
+abbrev pub add_text : List ℕ
+add_text = codes "INSERT INTO volumes (number, name, bytes, pool, caps, params) VALUES (?1, ?2, ?3, ?4, ?5, ?6)"
+
+-- the number is the rowid, and its own column is kept as NULL
+abbrev pub add_terms : List Term
+add_terms = col 0 0 ∷ lit Null ∷ col 0 1 ∷ col 0 2 ∷ col 0 3 ∷ col 0 4 ∷ col 0 5 ∷ []
+
+pub add_command : IsCommand add_text (Insert 1 (Values add_terms 7))
+unfolding understood everything
+add_command = record { is = refl; plain = (refl, refl) }
+
+abbrev pub next_text : List ℕ
+next_text = codes "UPDATE meta SET next_number = ?1"
+
+-- the rowid, and then each column as it will be
+abbrev pub next_query : Query
+next_query = record plain_query { project = col 1 0 ∷ col 1 0 ∷ lit Null ∷ col 1 2 ∷ col 0 0 ∷ [] }
+
+pub next_command : IsCommand next_text (Update 0 (record { lets = []; body = next_query }))
+unfolding understood everything
+next_command = record { is = refl; plain = (refl, refl) }
+
+-- a DELETE asks for the rowids of what passes
+abbrev pub detach_text : List ℕ
+detach_text = codes "DELETE FROM attachments WHERE number = ?1 AND node = ?2"
+
+abbrev pub detach_query : Query
+detach_query = record plain_query { from = inner 3 end; filter = op2 (Compare Eq Binary) (col 1 1) (op1 ToNumeric (col 0 0)) ∷ op2 (Compare Eq Binary) (col 1 2) (col 0 1) ∷ []; project = col 1 0 ∷ [] }
+
+pub detach_command : IsCommand detach_text (Delete 2 (record { lets = []; body = detach_query }))
+unfolding understood everything
+detach_command = record { is = refl; plain = (refl, refl) }
+
+abbrev pub detach_all_text : List ℕ
+detach_all_text = codes "DELETE FROM attachments WHERE number = ?1"
+
+abbrev pub detach_all_query : Query
+detach_all_query = record plain_query { from = inner 3 end; filter = op2 (Compare Eq Binary) (col 1 1) (op1 ToNumeric (col 0 0)) ∷ []; project = col 1 0 ∷ [] }
+
+pub detach_all_command : IsCommand detach_all_text (Delete 2 (record { lets = []; body = detach_all_query }))
+unfolding understood everything
+detach_all_command = record { is = refl; plain = (refl, refl) }
+
+abbrev pub remove_text : List ℕ
+remove_text = codes "DELETE FROM volumes WHERE number = ?1"
+
+abbrev pub remove_query : Query
+remove_query = record plain_query { from = inner 1 end; filter = op2 (Compare Eq Binary) (col 1 0) (col 0 0) ∷ []; project = col 1 0 ∷ [] }
+
+pub remove_command : IsCommand remove_text (Delete 1 (record { lets = []; body = remove_query }))
+unfolding understood everything
+remove_command = record { is = refl; plain = (refl, refl) }
+
+-- ---- reads
+
+-- the text is the query under the schema, and reads no other table
+pub record IsSelect (text : List ℕ) (q : Query) : Type 0 where
+  pub names : List (List ℕ)
+  pub is : command_of (understood schema text) ≡ Select (record { lets = []; body = q }) names
+  pub plain : IsPlain (understood schema text)
+  pub unlisted : reads_listing schema text ≡ false
+
+abbrev pub number_text : List ℕ
+number_text = codes "SELECT next_number FROM meta"
+
+pub number_select : IsSelect number_text number_query
+unfolding understood everything
+number_select = record { names = codes "next_number" ∷ []; is = refl; plain = (refl, refl); unlisted = refl }
+
+abbrev pub volume_text : List ℕ
+volume_text = codes "SELECT number, name, bytes, pool, caps, params FROM volumes WHERE number = ?1"
+
+pub volume_select : IsSelect volume_text volume_query
+unfolding understood everything
+volume_select = record { names = codes "number" ∷ codes "name" ∷ codes "bytes" ∷ codes "pool" ∷ codes "caps" ∷ codes "params" ∷ []; is = refl; plain = (refl, refl); unlisted = refl }
+
+abbrev pub size_text : List ℕ
+size_text = codes "SELECT pool, bytes FROM volumes WHERE number = ?1"
+
+pub size_select : IsSelect size_text size_query
+unfolding understood everything
+size_select = record { names = codes "pool" ∷ codes "bytes" ∷ []; is = refl; plain = (refl, refl); unlisted = refl }
+
+abbrev pub named_text : List ℕ
+named_text = codes "SELECT number, name, bytes, pool, caps, params FROM volumes WHERE name = ?1 ORDER BY number"
+
+pub named_select : IsSelect named_text named_query
+unfolding understood everything
+named_select = record { names = codes "number" ∷ codes "name" ∷ codes "bytes" ∷ codes "pool" ∷ codes "caps" ∷ codes "params" ∷ []; is = refl; plain = (refl, refl); unlisted = refl }
+
+abbrev pub sizes_text : List ℕ
+sizes_text = codes "SELECT bytes FROM volumes WHERE pool = ?1 ORDER BY number"
+
+pub sizes_select : IsSelect sizes_text sizes_query
+unfolding understood everything
+sizes_select = record { names = codes "bytes" ∷ []; is = refl; plain = (refl, refl); unlisted = refl }
+
+abbrev pub page_text : List ℕ
+page_text = codes "SELECT number, name, bytes, pool, caps, params FROM volumes WHERE number > ?1 ORDER BY number LIMIT ?2"
+
+pub page_select : IsSelect page_text page_query
+unfolding understood everything
+page_select = record { names = codes "number" ∷ codes "name" ∷ codes "bytes" ∷ codes "pool" ∷ codes "caps" ∷ codes "params" ∷ []; is = refl; plain = (refl, refl); unlisted = refl }
+
+abbrev pub page_numbers_text : List ℕ
+page_numbers_text = codes "SELECT number FROM volumes WHERE number > ?1 ORDER BY number LIMIT ?2"
+
+pub page_numbers_select : IsSelect page_numbers_text page_numbers_query
+unfolding understood everything
+page_numbers_select = record { names = codes "number" ∷ []; is = refl; plain = (refl, refl); unlisted = refl }
+
+abbrev pub nodes_text : List ℕ
+nodes_text = codes "SELECT node, cap, readonly FROM attachments WHERE number = ?1 ORDER BY node"
+
+pub nodes_select : IsSelect nodes_text nodes_query
+unfolding understood everything
+nodes_select = record { names = codes "node" ∷ codes "cap" ∷ codes "readonly" ∷ []; is = refl; plain = (refl, refl); unlisted = refl }
+
+abbrev pub attached_text : List ℕ
+attached_text = codes "SELECT number FROM attachments WHERE node = ?1 ORDER BY number"
+
+pub attached_select : IsSelect attached_text attached_query
+unfolding understood everything
+attached_select = record { names = codes "number" ∷ []; is = refl; plain = (refl, refl); unlisted = refl }
+
+abbrev pub places_text : List ℕ
+places_text = codes "SELECT number, node FROM attachments WHERE number > ?1 AND number <= ?2 ORDER BY number, node"
+
+pub places_select : IsSelect places_text places_query
+unfolding understood everything
+places_select = record { names = codes "number" ∷ codes "node" ∷ []; is = refl; plain = (refl, refl); unlisted = refl }

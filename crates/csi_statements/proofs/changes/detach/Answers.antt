@@ -1,0 +1,12 @@
+use Rattle.std.proofs.Common.{rules}
+use Rattle.csi_layout.specs.facts.Steps.{survives_commit}
+use Rattle.csi_statements.specs.Deletes.{Drops, is_place}
+use Rattle.csi_statements.specs.Rows.{seen_attachment}
+use Rattle.csi_statements.specs.Tables.{schema}
+use Rattle.csi_statements.proofs.changes.detach.Goals as goal
+
+pub returns-clause-survives : goal.returns-clause-survives
+returns-clause-survives g c =
+    let begun = c.transaction-tx.ensures.begun in
+    let whole = survives_commit g.S.Store schema c.args.conn.now _ _ (Drops 3 seen_attachment (is_place c.args.volume c.args.node.now)) (rw begun at c.delete_attachment.ensures.survives) (λ clean. rw begun at (c.in_ok-delete_attachment.ensures.ok clean (rw begun))) c.commit.ensures.survives in
+    search (rules, whole)

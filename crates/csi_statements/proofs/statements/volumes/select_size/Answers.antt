@@ -1,0 +1,12 @@
+use Rattle.std.proofs.Common.{refl}
+use Rattle.csi_statements.specs.Statements.{size_query}
+use Rattle.csi_statements.proofs.ReadLemmas.{read_all, all_keeps, selects}
+use Rattle.csi_statements.proofs.TextLemmas.{size_text, size_select}
+use Rattle.csi_statements.proofs.statements.volumes.select_size.Goals as goal
+
+pub returns-clause-ok : goal.returns-clause-ok
+returns-clause-ok g c clean inside =
+    read_all (λ v. v.items) c.query_all.result _ _ (λ rows h. selects size_text 1 size_query.filter size_query.project size_query.order _ _ _ rows (λ db. refl) inside h size_select) (rw c.integer.ensures at (c.query_all.ensures.ok clean))
+
+pub returns-clause-kept : goal.returns-clause-kept
+returns-clause-kept g c clean inside = all_keeps (λ v. v.items) _ _ _ _ c.query_all.result inside (c.query_all.ensures.ok clean) (c.query_all.ensures.err clean)

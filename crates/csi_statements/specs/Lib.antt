@@ -1,0 +1,6 @@
+pub mod Cells
+pub mod Deletes
+pub mod Rows
+pub mod Shown
+pub mod Statements
+pub mod Tables

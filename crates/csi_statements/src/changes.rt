@@ -1,0 +1,114 @@
+//! The changes, each in one transaction.
+//!
+//! An error is the one of the statement that failed, or of the commit; nothing was changed then.
+//!
+//! Each asks that no transaction is open on the connection, and leaves it so.
+
+ghost use Rattle.std.specs.Prelude.{◌≡◌, ◌+◌, ◌<◌, ◌^◌, [], ◌∷◌, false, IfOk, OnErr, OnOk};
+ghost use Rattle.sqlite.specs.Held.{state};
+ghost use Rattle.sqlite.specs.State.{HasCleanDisk, Survives};
+ghost use Rattle.csi_statements.specs.Deletes.{Drops, is_numbered, is_of, is_place};
+ghost use Rattle.csi_statements.specs.Rows.{AddsAttachment, AddsNumbered, Changes, IsUndone, Leaves, Reads, attachment_row, number_value, seen_attachment, seen_volume, volume_row};
+ghost use Rattle.csi_statements.specs.Shown.{IsFoundBy};
+ghost use Rattle.csi_statements.specs.Statements.{size_query};
+
+use crate::statements::attachments::{delete_attachment, delete_attachments, insert_attachment};
+use crate::statements::meta::set_next;
+use crate::statements::volumes::{delete_volume, insert_volume, select_size};
+use crate::values::first;
+use sqlite::{Alter, Connection, Error, Row};
+
+/// Adds a volume, and makes its number plus 1 the next number.
+///
+/// The number is below 2^62, the size in bytes below 2^63. `caps` and `params` are kept as they are
+/// given. A number or a name that stands already is refused.
+pub fn add_volume<S: Alter>(
+    conn: &mut Connection<S>,
+    volume: u64,
+    name: &str,
+    bytes: u64,
+    pool: &str,
+    caps: &[u8],
+    params: &[u8],
+) -> Result<(), Error>
+    requires idle { conn.old.in_transaction ≡ false }
+    requires volume { volume < 2 ^ 62 }
+    requires bytes { bytes < 2 ^ 63 }
+    ensures idle { conn.new.in_transaction ≡ false }
+    ensures ok { HasCleanDisk (state S.Store conn.new) → OnOk result (Changes (AddsNumbered (volume_row volume name.now bytes pool.now caps.now params.now) (volume + 1)) (state S.Store conn.old) (state S.Store conn.new)) }
+    ensures err { HasCleanDisk (state S.Store conn.new) → OnErr result (IsUndone (state S.Store conn.old) (state S.Store conn.new)) }
+    ensures survives { Survives (state S.Store conn.old) (state S.Store conn.new) (Leaves (AddsNumbered (volume_row volume name.now bytes pool.now caps.now params.now) (volume + 1)) (state S.Store conn.old)) }
+{
+    let mut tx = conn.transaction();
+    insert_volume(&mut tx, volume, name, bytes, pool, caps, params)?;
+    set_next(&mut tx, volume + 1)?;
+    tx.commit()
+}
+
+/// Removes the volume of a number, which is below 2^63, and answers its pool and its bytes: `None`
+/// where no volume has the number. Its attachments are left alone.
+pub fn remove_volume<S: Alter>(conn: &mut Connection<S>, volume: u64) -> Result<Option<Row>, Error>
+    requires idle { conn.old.in_transaction ≡ false }
+    requires volume { volume < 2 ^ 63 }
+    ensures idle { conn.new.in_transaction ≡ false }
+    ensures ok { HasCleanDisk (state S.Store conn.new) → IfOk result (λ removed. Reads (λ db. IsFoundBy size_query (db.trees 1) (number_value volume ∷ []) removed) (state S.Store conn.old)
+        × Changes (Drops 1 seen_volume (is_numbered volume)) (state S.Store conn.old) (state S.Store conn.new)) }
+    ensures err { HasCleanDisk (state S.Store conn.new) → OnErr result (IsUndone (state S.Store conn.old) (state S.Store conn.new)) }
+    ensures survives { Survives (state S.Store conn.old) (state S.Store conn.new) (Leaves (Drops 1 seen_volume (is_numbered volume)) (state S.Store conn.old)) }
+{
+    let mut tx = conn.transaction();
+    let sizes = select_size(&mut tx, volume)?;
+    delete_volume(&mut tx, volume)?;
+    tx.commit()?;
+    Ok(first(sizes))
+}
+
+/// Attaches the volume of a number, which is below 2^63, at a node. `cap` is kept as it is given. A
+/// volume that is attached at the node already is refused.
+pub fn attach<S: Alter>(
+    conn: &mut Connection<S>,
+    volume: u64,
+    node: &str,
+    cap: &[u8],
+    readonly: bool,
+) -> Result<(), Error>
+    requires idle { conn.old.in_transaction ≡ false }
+    requires volume { volume < 2 ^ 63 }
+    ensures idle { conn.new.in_transaction ≡ false }
+    ensures ok { HasCleanDisk (state S.Store conn.new) → OnOk result (Changes (AddsAttachment (attachment_row volume node.now cap.now readonly)) (state S.Store conn.old) (state S.Store conn.new)) }
+    ensures err { HasCleanDisk (state S.Store conn.new) → OnErr result (IsUndone (state S.Store conn.old) (state S.Store conn.new)) }
+    ensures survives { Survives (state S.Store conn.old) (state S.Store conn.new) (Leaves (AddsAttachment (attachment_row volume node.now cap.now readonly)) (state S.Store conn.old)) }
+{
+    let mut tx = conn.transaction();
+    insert_attachment(&mut tx, volume, node, cap, readonly)?;
+    tx.commit()
+}
+
+/// Detaches the volume of a number, which is below 2^63, from a node. Where it is not attached there
+/// the tables stay.
+pub fn detach<S: Alter>(conn: &mut Connection<S>, volume: u64, node: &str) -> Result<(), Error>
+    requires idle { conn.old.in_transaction ≡ false }
+    requires volume { volume < 2 ^ 63 }
+    ensures idle { conn.new.in_transaction ≡ false }
+    ensures ok { HasCleanDisk (state S.Store conn.new) → OnOk result (Changes (Drops 3 seen_attachment (is_place volume node.now)) (state S.Store conn.old) (state S.Store conn.new)) }
+    ensures err { HasCleanDisk (state S.Store conn.new) → OnErr result (IsUndone (state S.Store conn.old) (state S.Store conn.new)) }
+    ensures survives { Survives (state S.Store conn.old) (state S.Store conn.new) (Leaves (Drops 3 seen_attachment (is_place volume node.now)) (state S.Store conn.old)) }
+{
+    let mut tx = conn.transaction();
+    delete_attachment(&mut tx, volume, node)?;
+    tx.commit()
+}
+
+/// Detaches the volume of a number, which is below 2^63, from all nodes.
+pub fn detach_all<S: Alter>(conn: &mut Connection<S>, volume: u64) -> Result<(), Error>
+    requires idle { conn.old.in_transaction ≡ false }
+    requires volume { volume < 2 ^ 63 }
+    ensures idle { conn.new.in_transaction ≡ false }
+    ensures ok { HasCleanDisk (state S.Store conn.new) → OnOk result (Changes (Drops 3 seen_attachment (is_of volume)) (state S.Store conn.old) (state S.Store conn.new)) }
+    ensures err { HasCleanDisk (state S.Store conn.new) → OnErr result (IsUndone (state S.Store conn.old) (state S.Store conn.new)) }
+    ensures survives { Survives (state S.Store conn.old) (state S.Store conn.new) (Leaves (Drops 3 seen_attachment (is_of volume)) (state S.Store conn.old)) }
+{
+    let mut tx = conn.transaction();
+    delete_attachments(&mut tx, volume)?;
+    tx.commit()
+}
