@@ -1,5 +1,5 @@
 -- Rows, index and totals stand for the State after a change.
-use Rattle.std.proofs.Common.{◌≡◌, ◌∙◌, inl, inr, ap, ap₂, sym, subst, cond, arith, refl, ℕ, ◌+◌, ◌-◌, ◌<◌, ◌≤◌, ◌^◌, List, length, sum, Bool, true, false, Some, None}
+use Rattle.std.proofs.Common.{◌≡◌, ◌∙◌, inl, inr, ap, sym, subst, cond, arith, refl, ℕ, ◌+◌, ◌-◌, ◌<◌, ◌≤◌, ◌^◌, List, Bool, true, false, Some, None}
 use Rattle.std.specs.BTreeMap.{is_at}
 use Rattle.std.specs.Cmp.{nat_cmp_total}
 use Rattle.std.specs.FinMap as fin
@@ -10,22 +10,15 @@ use Rattle.csi_types.specs.Maps.{same_text}
 use Rattle.csi_keeper.specs.declared.volume.Attachment.{Attachment}
 use Rattle.csi_keeper.specs.declared.change.Change.TheVariants.{AddVolume, RemoveVolume, Attach}
 use Rattle.csi_keeper.specs.declared.volume.Volume.{Volume}
-use Rattle.csi_keeper.specs.declared.totals.Total.{Total}
 use Rattle.csi_keeper.specs.declared.totals.Totals.{Totals}
 use Rattle.csi_keeper.specs.Memory.{Spot, spot_cmp, AreSpotted, IsKept, volumes_of, places_of}
-use Rattle.csi_keeper.specs.Totals.{total_of, the_total, more, less}
-use Rattle.csi_keeper.specs.State.{State, Place, place_cmp, changed, sizes, Allows}
+use Rattle.csi_keeper.specs.Totals.{total_of, more, less}
+use Rattle.csi_keeper.specs.State.{State, Place, place_cmp, changed, Allows}
 use Rattle.csi_keeper.specs.Texts.{Text, text_cmp}
 use Rattle.csi_keeper.specs.facts.Names.{nobody}
 use Rattle.csi_keeper.specs.facts.Finite.{inserted, removed}
 use Rattle.csi_keeper.proofs.SpotLemmas.{spotted_more}
-use Rattle.csi_keeper.specs.facts.Sums.{added_sum, added_count, taken_sum, taken_count}
-
-total_more : (t : Total) (n b m : ℕ) → t ≡ the_total n b → more t m ≡ the_total (1 + n) (m + b)
-total_more t n b m e = ap (λ (x : Total). more x m) e ∙ ap₂ the_total (omega arith) (omega arith)
-
-total_less : (t : Total) (n b m : ℕ) → t ≡ the_total (1 + n) (m + b) → less t m ≡ the_total n b
-total_less t n b m e = ap (λ (x : Total). less x m) e ∙ ap₂ the_total (omega arith) (omega arith)
+use Rattle.csi_keeper.specs.facts.Totals.{totals_added, totals_removed}
 
 module _ (next : ℕ) (volumes rows : List (ℕ × Volume)) (names : List (Text × ℕ)) (pools kept : Totals) (attachments : List (Place × Attachment)) (spots : List (Spot × Unit {0})) (s : State) where
   -- a volume more
@@ -48,7 +41,7 @@ module _ (next : ℕ) (volumes rows : List (ℕ × Volume)) (names : List (Text 
               is_index w.name ∙ ap (λ b. cond b (Some v.number) (lookup (is_at (text_cmp w.name)) names)) same ∙ ap Some (sym a.0)
           | inr b ↦ is_index w.name ∙ other n w b (same_text v.name w.name) refl
         ];
-        totals = λ pool. is_totals pool ∙ total pool (same_text v.pool pool) refl;
+        totals = totals_added pools kept s v allows.1 k.totals is_totals;
         few = let old = k.few in elim (fin.contains_key s.volumes v.number) as (λ b. fin.len (fin.insert s.volumes v.number v) ≡ cond b (fin.len s.volumes) (fin.len s.volumes + 1) → fin.len (fin.insert s.volumes v.number v) < s.next + 1) [
           | true ↦ λ l. omega (arith, l, old)
           | false ↦ λ l. omega (arith, l, old)
@@ -64,18 +57,6 @@ module _ (next : ℕ) (volumes rows : List (ℕ × Volume)) (names : List (Text 
       other n w e true t = absurd (nobody s v.name n w allows.2 e (sym ((bytes_decides v.name w.name).0 t)))
       other n w e false t = k.named n w e
 
-      total : (pool : Text) (b : Bool) → same_text v.pool pool ≡ b → cond b (more (total_of pools v.pool) v.bytes) (total_of pools pool) ≡ the_total (length (sizes (changed s (AddVolume v)) pool)) (sum (sizes (changed s (AddVolume v)) pool))
-      total pool true t =
-          let is : v.pool ≡ pool = (bytes_decides v.pool pool).0 t in
-          total_more (total_of pools v.pool) (length (sizes s pool)) (sum (sizes s pool)) v.bytes (subst (λ (p : Text). total_of pools v.pool ≡ the_total (length (sizes s p)) (sum (sizes s p))) is (k.totals v.pool))
-          ∙ sym (ap₂ the_total (added_count s v pool allows.1 ∙ ap (λ b. cond b 1 0 + length (sizes s pool)) t) (added_sum s v pool allows.1 ∙ ap (λ b. cond b v.bytes 0 + sum (sizes s pool)) t))
-      total pool false t =
-          let a = added_count s v pool allows.1 ∙ ap (λ (b : Bool). cond {A = ℕ} b 1 0 + length (sizes s pool)) t in
-          let b = added_sum s v pool allows.1 ∙ ap (λ (b : Bool). cond {A = ℕ} b v.bytes 0 + sum (sizes s pool)) t in
-          let n : length (sizes s pool) ≡ length (sizes (changed s (AddVolume v)) pool) = omega (arith, a) in
-          let m : sum (sizes s pool) ≡ sum (sizes (changed s (AddVolume v)) pool) = omega (arith, b) in
-          k.totals pool ∙ ap₂ the_total n m
-
   -- a volume less; the index may keep its name
   pub kept_remove : (n : ℕ) (v : Volume) → IsKept next volumes names pools attachments spots s → fin.get s.volumes n ≡ Some v
       → volumes_of rows ≡ fin.remove (volumes_of volumes) n
@@ -89,7 +70,7 @@ module _ (next : ℕ) (volumes rows : List (ℕ × Volume)) (names : List (Text 
         volumes_are = ap (λ (m : fin.FinMap nat_cmp Volume). fin.remove m n) k.volumes_are ∙ sym is_rows;
         attachments_are = k.attachments_are;
         named = λ m w e. k.named m w (old m w e).1;
-        totals = λ pool. is_totals pool ∙ total pool (same_text v.pool pool) refl;
+        totals = totals_removed pools kept s n v some k.totals is_totals;
         few = let less = k.few in elim (fin.contains_key s.volumes n) as (λ b. fin.len (fin.remove s.volumes n) ≡ cond b (fin.len s.volumes - 1) (fin.len s.volumes) → fin.len (fin.remove s.volumes n) < s.next) [
           | true ↦ λ l. omega (arith, l, less)
           | false ↦ λ l. omega (arith, l, less)
@@ -97,18 +78,6 @@ module _ (next : ℕ) (volumes rows : List (ℕ × Volume)) (names : List (Text 
         small = λ m w e. k.small m w (old m w e).1;
         spotted = k.spotted;
       }
-    where
-      total : (pool : Text) (b : Bool) → same_text v.pool pool ≡ b → cond b (less (total_of pools v.pool) v.bytes) (total_of pools pool) ≡ the_total (length (sizes (changed s (RemoveVolume n)) pool)) (sum (sizes (changed s (RemoveVolume n)) pool))
-      total pool true t =
-          let is : v.pool ≡ pool = (bytes_decides v.pool pool).0 t in
-          let before : total_of pools v.pool ≡ the_total (length (sizes s pool)) (sum (sizes s pool)) = subst (λ (p : Text). total_of pools v.pool ≡ the_total (length (sizes s p)) (sum (sizes s p))) is (k.totals v.pool) in
-          total_less (total_of pools v.pool) _ _ v.bytes (before ∙ ap₂ the_total (taken_count s n v pool some ∙ ap (λ b. cond b 1 0 + length (sizes (changed s (RemoveVolume n)) pool)) t) (taken_sum s n v pool some ∙ ap (λ b. cond b v.bytes 0 + sum (sizes (changed s (RemoveVolume n)) pool)) t))
-      total pool false t =
-          let a = taken_count s n v pool some ∙ ap (λ (b : Bool). cond {A = ℕ} b 1 0 + length (sizes (changed s (RemoveVolume n)) pool)) t in
-          let b = taken_sum s n v pool some ∙ ap (λ (b : Bool). cond {A = ℕ} b v.bytes 0 + sum (sizes (changed s (RemoveVolume n)) pool)) t in
-          let x : length (sizes s pool) ≡ length (sizes (changed s (RemoveVolume n)) pool) = omega (arith, a) in
-          let y : sum (sizes s pool) ≡ sum (sizes (changed s (RemoveVolume n)) pool) = omega (arith, b) in
-          k.totals pool ∙ ap₂ the_total x y
 
 module _ (next : ℕ) (volumes : List (ℕ × Volume)) (names : List (Text × ℕ)) (pools : Totals) (attachments : List (Place × Attachment)) (spots : List (Spot × Unit {0})) (s : State) where
   -- other attachments, that are in the index

@@ -1,5 +1,5 @@
 -- What rows in memory stand for.
-use Rattle.std.specs.Prelude.{◌≡◌, ℕ, ◌+◌, ◌-◌, ◌<◌, ◌≤◌, ◌^◌, ◌==◌, ◌&&◌, Bool, List, [], ◌∷◌, Option, Some, None, is_some, length, sum, map, filter, if◌then◌else◌}
+use Rattle.std.specs.Prelude.{◌≡◌, ℕ, ◌+◌, ◌-◌, ◌<◌, ◌≤◌, ◌^◌, ◌==◌, ◌&&◌, Bool, List, [], ◌∷◌, Option, Some, None, is_some, map, filter, if◌then◌else◌}
 use Rattle.std.specs.BTreeMap.{is_at}
 use Rattle.std.specs.FinMap.{FinMap, get, len, empty, remove, entries, from_entries}
 use Rattle.std.specs.Map.{lookup}
@@ -11,8 +11,8 @@ use Rattle.csi_types.specs.Maps.{same_text}
 use Rattle.csi_keeper.specs.declared.volume.Attachment.{Attachment}
 use Rattle.csi_keeper.specs.declared.volume.Volume.{Volume}
 use Rattle.csi_keeper.specs.declared.totals.Totals.{Totals}
-use Rattle.csi_keeper.specs.Totals.{total_of, the_total}
-use Rattle.csi_keeper.specs.State.{State, Place, place_cmp, sizes}
+use Rattle.csi_keeper.specs.Totals.{AreTotals}
+use Rattle.csi_keeper.specs.State.{State, Place, place_cmp}
 use Rattle.csi_keeper.specs.Texts.{Text, text_cmp}
 
 abbrev pub volumes_of : List (ℕ × Volume) → FinMap nat_cmp Volume
@@ -75,7 +75,7 @@ pub record IsKept (next : ℕ) (volumes : List (ℕ × Volume)) (names : List (T
   pub volumes_are : s.volumes ≡ volumes_of volumes
   pub attachments_are : s.attachments ≡ places_of attachments
   pub named : (n : ℕ) (v : Volume) → get s.volumes n ≡ Some v → lookup (is_at (text_cmp v.name)) names ≡ Some n
-  pub totals : (pool : Text) → total_of pools pool ≡ the_total (length (sizes s pool)) (sum (sizes s pool))
+  pub totals : AreTotals pools s
   pub spotted : AreSpotted attachments spots
   -- so that neither total passes what it is kept in
   pub few : len s.volumes < s.next

@@ -1,11 +1,11 @@
 -- The number of a pool's volumes and the sum of their bytes, kept from change to change.
-use Rattle.std.specs.Prelude.{ℕ, ◌+◌, ◌-◌, ◌<◌, ◌^◌, List, Option, Some, None}
+use Rattle.std.specs.Prelude.{◌≡◌, ℕ, ◌+◌, ◌-◌, ◌<◌, ◌^◌, List, Option, Some, None, length, sum}
 use Rattle.std.specs.BTreeMap.{is_at}
 use Rattle.std.specs.Map.{lookup}
 use Rattle.csi_keeper.specs.declared.change.Usage.{Usage}
 use Rattle.csi_keeper.specs.declared.totals.Total.{Total}
 use Rattle.csi_keeper.specs.declared.totals.Totals.{Totals}
-use Rattle.csi_keeper.specs.State.{up_to_u64}
+use Rattle.csi_keeper.specs.State.{State, sizes, up_to_u64}
 use Rattle.csi_keeper.specs.Texts.{Text, text_cmp}
 
 abbrev pub the_total : ℕ → ℕ → Total
@@ -41,3 +41,11 @@ HasRoom t bytes = (t.volumes + 1 < 2 ^ 64) × (t.bytes + bytes < 2 ^ 128)
 -- as a u64 tells it
 abbrev pub told : Total → Usage
 told t = record { volumes = up_to_u64 t.volumes; bytes = up_to_u64 t.bytes }
+
+-- the pool has an entry, so its total is set without memory
+abbrev pub IsReserved : Totals → Text → Type 0
+IsReserved t pool = (n : Total) × (lookup (is_at (text_cmp pool)) t.tree.entries ≡ Some n)
+
+-- what is kept of each pool is what its volumes sum to
+abbrev pub AreTotals : Totals → State → Type 0
+AreTotals t s = (pool : Text) → total_of t pool ≡ the_total (length (sizes s pool)) (sum (sizes s pool))

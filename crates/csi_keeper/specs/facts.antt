@@ -4,3 +4,4 @@ pub mod Names
 pub mod Orders
 pub mod Reads
 pub mod Sums
+pub mod Totals

@@ -1,8 +1,8 @@
 //! Running totals: how many volumes each pool has, and their bytes.
 
-ghost use Rattle.std.specs.Prelude.{◌≡◌, List, ℕ, OnOk, OnErr, if◌then◌else◌};
+ghost use Rattle.std.specs.Prelude.{◌≡◌, ◌↔◌, List, ℕ, IsTrue, OnOk, OnErr, if◌then◌else◌};
 ghost use Rattle.csi_types.specs.Maps.{same_text};
-ghost use Rattle.csi_keeper.specs.Totals.{total_of, told, more, less, zero_total, HasRoom};
+ghost use Rattle.csi_keeper.specs.Totals.{total_of, told, more, less, zero_total, HasRoom, IsReserved};
 
 use crate::change::Usage;
 use csi_types::Text;
@@ -71,6 +71,38 @@ impl Totals {
         let total = more_total(self.get(&pool), bytes);
         self.tree.insert(pool, total)?;
         Ok(())
+    }
+
+    /// Whether one volume more of this many bytes can be counted in a pool: it has fewer than
+    /// 2^64 - 1 volumes, and the sum stays below 2^128.
+    pub fn has_room(&self, pool: &Text, bytes: u64) -> bool
+        ensures { IsTrue result ↔ HasRoom (total_of self.now pool.now) bytes }
+    {
+        let total = self.get(pool);
+        total.volumes < u64::MAX && total.bytes <= u128::MAX - bytes as u128
+    }
+
+    /// Takes the memory that [`count`](Totals::count) wants for a pool. Each total stays.
+    #[tactic(auto, using(crate::proofs::TreeLemmas::same_set, crate::proofs::TreeLemmas::is_set))]
+    pub fn reserve(&mut self, pool: Text) -> Result<(), AllocError>
+        ensures reserved { OnOk result (IsReserved self.new pool) }
+        ensures same { (q : List ℕ) → total_of self.new q ≡ total_of self.old q }
+    {
+        let total = self.get(&pool);
+        self.tree.insert(pool, total)?;
+        Ok(())
+    }
+
+    /// Counts a volume of this many bytes in a pool that is reserved; the other pools stay. It takes
+    /// no memory. Nothing is said where [`has_room`](Totals::has_room) is false.
+    #[tactic(auto, using(crate::proofs::TreeLemmas::total_set))]
+    pub fn count(&mut self, pool: &Text, bytes: u64)
+        requires { IsReserved self.old pool.now }
+        ensures { HasRoom (total_of self.old pool.now) bytes → (q : List ℕ) → total_of self.new q ≡ (if same_text pool.now q then more (total_of self.old pool.now) bytes else total_of self.old q) }
+    {
+        if let Some(total) = self.tree.get_mut(pool) {
+            *total = more_total(*total, bytes);
+        }
     }
 
     /// Takes a volume of this many bytes out of a pool's total; the other pools stay. It takes no

@@ -1,0 +1,113 @@
+-- What is read of the bytes that were written of keys and of parameters.
+use Rattle.std.proofs.Common.{◌≡◌, ◌∙◌, refl, sym, ap, ℕ, ℤ, pos, Bool, true, false, List, [], ◌∷◌, map, Option, Some, None, Result, Ok, cond}
+use Rattle.std.specs.FinMap.{empty}
+use Rattle.csi_types.specs.Checks.{is_known_mode}
+use Rattle.csi_types.specs.Maps.{TextMap}
+use Rattle.csi_types.specs.declared.capability.Access.{Access}
+use Rattle.csi_types.specs.declared.capability.Access.TheVariants as access
+use Rattle.csi_types.specs.declared.capability.Capability.{Capability}
+use Rattle.csi_types.specs.declared.method.Method.TheVariants.{CreateVolume}
+use Rattle.csi_types.specs.declared.requests.CreateVolume as message
+use Rattle.csi_types.specs.declared.requests.Request.{Request}
+use Rattle.csi_types.specs.declared.requests.Request.TheVariants.{Create}
+use Rattle.csi_codec.specs.Reading.{read_request}
+use Rattle.csi_keeper.specs.Capability.{access_of, capability_of, key_of, key_with}
+use Rattle.csi_keeper.specs.declared.capability.CapKey.{CapKey}
+use Rattle.csi_keeper.specs.declared.capability.Kind.{Kind}
+use Rattle.csi_keeper.specs.declared.capability.Kind.TheVariants.{Block, Mount}
+use Rattle.csi_tables.specs.Encoding.{with_caps, with_params, caps_bytes, params_bytes, FitCaps, FitParams, ReadsBack}
+
+-- ---- the key that a capability was made of
+
+kind_back : Access → Kind
+kind_back access.Missing = Block
+kind_back access.Block = Block
+kind_back (access.Mount m) = Mount m.fs_type
+
+mode_back : Option ℤ → ℕ
+mode_back (Some (pos n)) = n
+mode_back _ = 0
+
+key_back : Capability → CapKey
+key_back c = record { kind = kind_back c.access; mode = mode_back c.mode }
+
+back_kind : (k : Kind) → kind_back (access_of k) ≡ k
+unfolding kind_back
+back_kind Block = refl
+back_kind (Mount t) = refl
+
+back_key : (k : CapKey) → key_back (capability_of k) ≡ k
+unfolding key_back mode_back
+back_key k = λ i. record { kind = back_kind k.kind i; mode = k.mode }
+
+back_keys : (ks : List CapKey) → map key_back (map capability_of ks) ≡ ks
+back_keys [] = refl
+back_keys (k ∷ ks) = ap (λ j. j ∷ map key_back (map capability_of ks)) (back_key k) ∙ ap (λ js. k ∷ js) (back_keys ks)
+
+-- ---- keys and parameters in bytes, as functions of the bytes
+
+keys_of : Result Request ℕ → List CapKey
+keys_of (Ok (Create v)) = map key_back v.capabilities
+keys_of _ = []
+
+params_of : Result Request ℕ → TextMap
+params_of (Ok (Create v)) = v.parameters
+params_of _ = empty
+
+pub keys_in : List ℕ → List CapKey
+keys_in bytes = keys_of (read_request CreateVolume bytes)
+
+pub params_in : List ℕ → TextMap
+params_in bytes = params_of (read_request CreateVolume bytes)
+
+pub keys_back : ReadsBack → (ks : List CapKey) → FitCaps ks → keys_in (caps_bytes ks) ≡ ks
+unfolding caps_bytes FitCaps keys_in keys_of
+keys_back back ks fit = ap keys_of (back (with_caps ks) fit) ∙ back_keys ks
+
+pub params_back : ReadsBack → (m : TextMap) → FitParams m → params_in (params_bytes m) ≡ m
+unfolding params_bytes FitParams params_in params_of
+params_back back m fit = ap params_of (back (with_params m) fit)
+
+-- ---- what the program reads
+
+some_key : (b : Bool) (k j : CapKey) → key_with (access_of k.kind) (cond b (Some k.mode) None) ≡ Some j → j ≡ k
+some_key false k j e = absurd (cc)
+some_key true k j e = go k.kind refl e
+  where
+    go : (d : Kind) → k.kind ≡ d → key_with (access_of d) (Some k.mode) ≡ Some j → j ≡ k
+    go Block is e = let made : record { kind = Block; mode = k.mode } ≡ j = cc in sym made ∙ (λ i. record { kind = sym is i; mode = k.mode })
+    go (Mount t) is e = let made : record { kind = Mount t; mode = k.mode } ≡ j = cc in sym made ∙ (λ i. record { kind = sym is i; mode = k.mode })
+
+same_keys : (ks js : List CapKey) → map Some js ≡ map key_of (map capability_of ks) → js ≡ ks
+same_keys [] [] e = refl
+same_keys [] (j ∷ js) e = absurd (cc)
+same_keys (k ∷ ks) [] e = absurd (cc)
+same_keys (k ∷ ks) (j ∷ js) e =
+    let first : Some j ≡ key_of (capability_of k) = cc in
+    let rest : map Some js ≡ map key_of (map capability_of ks) = cc in
+    ap (λ x. x ∷ js) (some_key (is_known_mode (Some (pos k.mode))) k j (sym first)) ∙ ap (λ xs. k ∷ xs) (same_keys ks js rest)
+
+capabilities_of : Request → List Capability
+capabilities_of (Create v) = v.capabilities
+capabilities_of _ = []
+
+parameters_of : Request → TextMap
+parameters_of (Create v) = v.parameters
+parameters_of _ = empty
+
+-- the request that bytes are read as is the one that they were written of
+made_of : (bytes : List ℕ) (v : message.CreateVolume) (r : Request) → read_request CreateVolume bytes ≡ Ok (Create v) → read_request CreateVolume bytes ≡ Ok r → Create v ≡ r
+made_of bytes v r one other = let both = sym one ∙ other in cc
+
+pub caps_read : ReadsBack → (bytes : List ℕ) (v : message.CreateVolume) (js : List CapKey) → read_request CreateVolume bytes ≡ Ok (Create v) → map Some js ≡ map key_of v.capabilities
+    → (ks : List CapKey) → FitCaps ks → bytes ≡ caps_bytes ks → js ≡ ks
+unfolding caps_bytes FitCaps capabilities_of
+caps_read back bytes v js read keys ks fit is =
+    let same = made_of bytes v (with_caps ks) read (ap (read_request CreateVolume) is ∙ back (with_caps ks) fit) in
+    same_keys ks js (keys ∙ ap (λ r. map key_of (capabilities_of r)) same)
+
+pub params_read : ReadsBack → (bytes : List ℕ) (v : message.CreateVolume) → read_request CreateVolume bytes ≡ Ok (Create v) → (m : TextMap) → FitParams m → bytes ≡ params_bytes m → v.parameters ≡ m
+unfolding params_bytes FitParams parameters_of
+params_read back bytes v read m fit is =
+    let same = made_of bytes v (with_params m) read (ap (read_request CreateVolume) is ∙ back (with_params m) fit) in
+    ap parameters_of same

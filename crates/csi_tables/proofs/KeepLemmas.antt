@@ -1,0 +1,164 @@
+-- What the clauses on rows say of the State.
+use Rattle.std.proofs.Common.{◌≡◌, inl, inr, ◌∙◌, refl, sym, ap, subst, IsTrue, arith, Result, Ok, Err, OnOk, OnErr}
+use Rattle.sqlite.specs.Effect.{Database}
+use Rattle.sqlite.specs.Held.{Held, state}
+use Rattle.sqlite.specs.State as sql
+use Rattle.sqlite.specs.State.{HasCleanDisk, Survives}
+use Rattle.sqlite.specs.Store.{Ghosts}
+use Rattle.sqlite.specs.Tree.{Trees}
+use Rattle.csi_keeper.specs.State.{State, changed, Allows}
+use Rattle.csi_keeper.specs.Totals.{AreTotals, total_of}
+use Rattle.csi_keeper.specs.Texts.{Text}
+use Rattle.csi_keeper.specs.declared.change.Change.{Change}
+use Rattle.csi_layout.specs.Tables.{schema}
+use Rattle.csi_statements.specs.Rows.{Changes, IsUndone, Leaves}
+use Rattle.csi_tables.specs.Encoding.{ReadsBack}
+use Rattle.csi_tables.specs.Holding.{IsRows, IsStorable, Holds, Store, conn_holds, conn_doubt, ConnIsQuiet, ConnMakes, ConnFails, StoreMakes, StoreFails}
+use Rattle.csi_tables.proofs.StateLemmas.{same_state}
+
+kept_holds : (old new : sql.State) → IsUndone old new → (s : State) → Holds old s → Holds new s
+kept_holds old new undone s h is_open =
+    let shows = h (undone.was_open is_open) in
+    let same : new.now ≡ old.now = undone.now is_open ∙ sym shows.settled in
+    record {
+      schema = ap (λ (d : Database). d.schema) same ∙ shows.schema;
+      settled = undone.now is_open ∙ sym (undone.committed is_open);
+      rows = subst (λ (d : Database). IsRows s d.trees) (sym same) shows.rows;
+    }
+
+module _ {S : Type 0} (g : Ghosts S) where
+  -- a read, or a change that was not begun
+  pub is_quiet : (old new : Held S) → (HasCleanDisk (state g new) → IsUndone (state g old) (state g new)) → Survives (state g old) (state g new) (λ _. ⊥)
+      → ConnIsQuiet g old new
+  is_quiet old new undone h = record {
+    clean = h.clean;
+    state = λ clean. kept_holds (state g old) (state g new) (undone clean);
+    crash = λ clean t it. elim (h.crash clean it.0 it.1) [ inl before ↦ (it.0, before, it.2) | inr none ↦ absurd none ];
+    ties = λ _ tied clean db may. elim (h.crash clean db may) [ inl before ↦ tied (omega (arith, h.clean)) db before | inr none ↦ absurd none ];
+    down = refl;
+  }
+
+  -- a change by one transaction
+  module _ (back : ReadsBack) (change : Change) (Effect : Database → Database → Type 0) (keeps : (old new : Database) → Effect old new → new.schema ≡ old.schema)
+      (steps : (s : State) (old new : Database) → old.schema ≡ schema → IsRows s old.trees → Allows s change → Effect old new → IsRows (changed s change) new.trees)
+      (old new : Held S) (h : Survives (state g old) (state g new) (Leaves Effect (state g old))) where
+    pub makes : ((s : S) (db : Trees) → IsTrue (g.view s).is_open → g.recovers s db → db ≡ (g.view s).committed) → (HasCleanDisk (state g new) → Changes Effect (state g old) (state g new))
+        → ConnMakes g old new change
+    makes settled made =
+        let after = λ (clean : HasCleanDisk (state g new)) (s : State) (held : conn_holds g old s) (allowed : Allows s change).
+        let it = made clean in
+        let shows = held it.was_open in
+        steps s (state g old).now (state g new).now shows.schema shows.rows allowed (it.effect shows.schema) in
+        record {
+          clean = h.clean;
+          state = λ clean s held allowed is_open.
+              let it = made clean in
+              let shows = held it.was_open in
+              record { schema = keeps _ _ (it.effect shows.schema) ∙ shows.schema; settled = sym it.committed; rows = after clean s held allowed };
+          settled = λ clean s held allowed t it.
+              let done = made clean in
+              let db : it.0 ≡ (state g new).now.trees = settled new.store it.0 done.is_open it.1 ∙ ap (λ (d : Database). d.trees) done.committed in
+              same_state back t (changed s change) (state g new).now.trees (subst (IsRows t) db it.2) (after clean s held allowed);
+          ties = λ clean s held allowed _ _ trees may.
+              let done = made clean in
+              let db : trees ≡ (state g new).now.trees = settled new.store trees done.is_open may ∙ ap (λ (d : Database). d.trees) done.committed in
+              (changed s change, subst (IsRows (changed s change)) (sym db) (after clean s held allowed));
+          down = refl;
+        }
+
+    pub fails : (HasCleanDisk (state g new) → IsUndone (state g old) (state g new)) → ConnFails g old new change
+    fails undone = record {
+      clean = h.clean;
+      state = λ clean s held allowed. kept_holds (state g old) (state g new) (undone clean) s held;
+      crash = λ clean s held allowed t it. elim (h.crash clean it.0 it.1) [
+        | inl before ↦ inl (it.0, before, it.2)
+        | inr left ↦
+            let shows = held left.0 in
+            inr (same_state back t (changed s change) left.1.trees (subst (IsRows t) left.3 it.2) (steps s (state g old).now left.1 shows.schema shows.rows allowed (left.2 shows.schema)))
+      ];
+      ties = λ clean s held allowed tied _ trees may. elim (h.crash clean trees may) [
+        | inl before ↦ tied (omega (arith, h.clean)) trees before
+        | inr left ↦ (changed s change, subst (IsRows (changed s change)) (sym left.3) (steps s (state g old).now left.1 (held left.0).schema (held left.0).rows allowed (left.2 (held left.0).schema)))
+      ];
+    }
+
+-- ---- a read before a change
+
+module _ {S : Type 0} (g : Ghosts S) (change : Change) (a b d : Held S) where
+  pub makes_after : ConnIsQuiet g a b → ConnMakes g b d change → ConnMakes g a d change
+  makes_after q m =
+      let before : conn_doubt g d ≡ 0 → conn_doubt g b ≡ 0 = λ z. omega (arith, m.clean) in
+      record {
+        clean = omega (arith, q.clean, m.clean);
+        state = λ z s held. m.state z s (q.state (before z) s held);
+        settled = λ z s held. m.settled z s (q.state (before z) s held);
+        ties = λ z s held allowed tied. m.ties z s (q.state (before z) s held) allowed (q.ties (before z) tied);
+        down = refl;
+      }
+
+  pub fails_after : ConnIsQuiet g a b → ConnFails g b d change → ConnFails g a d change
+  fails_after q m =
+      let before : conn_doubt g d ≡ 0 → conn_doubt g b ≡ 0 = λ z. omega (arith, m.clean) in
+      record {
+        clean = omega (arith, q.clean, m.clean);
+        state = λ z s held. m.state z s (q.state (before z) s held);
+        crash = λ z s held allowed t it. elim (m.crash z s (q.state (before z) s held) allowed t it) [ inl old ↦ inl (q.crash (before z) t old) | inr made ↦ inr made ];
+        ties = λ z s held allowed tied. m.ties z s (q.state (before z) s held) allowed (q.ties (before z) tied);
+      }
+
+module _ {S : Type 0} (g : Ghosts S) (change : Change) (old new : Held S) where
+  -- a read that fails makes no change
+  pub fails_quiet : ConnIsQuiet g old new → ConnFails g old new change
+  fails_quiet q = record { clean = q.clean; state = λ z s held allowed. q.state z s held; crash = λ z s held allowed t it. inl (q.crash z t it); ties = λ z s held allowed. q.ties z }
+
+  -- a change that changes nothing is made by a read that finds the connection open
+  pub makes_nothing : ReadsBack → ((s : S) (db : Trees) → IsTrue (g.view s).is_open → g.recovers s db → db ≡ (g.view s).committed) → ((s : State) → IsStorable s → changed s change ≡ s)
+      → ConnIsQuiet g old new → (conn_doubt g new ≡ 0 → IsTrue (state g old).is_open) → ConnMakes g old new change
+  makes_nothing back settled same q was_open = record {
+    clean = q.clean;
+    state = λ z s held allowed. subst (conn_holds g new) (sym (same s (held (was_open z)).rows.storable)) (q.state z s held);
+    settled = λ z s held allowed t it.
+        let shows = held (was_open z) in
+        let before = q.crash z t it in
+        let db : before.0 ≡ (state g old).now.trees = settled old.store before.0 (was_open z) before.1 ∙ ap (λ (d : Database). d.trees) (sym shows.settled) in
+        same_state back t s (state g old).now.trees (subst (IsRows t) db before.2) shows.rows ∙ sym (same s shows.rows.storable);
+    ties = λ z s held allowed. q.ties z;
+    down = refl;
+  }
+
+-- ---- the totals beside a connection
+
+module _ {S : Type 0} (g : Ghosts S) (change : Change) (old new : Store S) where
+  pub store_makes : ((s : State) → conn_doubt g new.0 ≡ 0 → conn_holds g old.0 s → Allows s change → IsStorable s → AreTotals old.1 s → AreTotals new.1 (changed s change))
+      → ((s : State) → Allows s change → IsStorable s → IsStorable (changed s change)) → ConnMakes g old.0 new.0 change → StoreMakes g old new change
+  store_makes totals storable h = record {
+    clean = h.clean;
+    state = λ clean s held allowed. (h.state clean s held.0 allowed, totals s clean held.0 allowed held.2 held.1, storable s allowed held.2);
+    settled = λ clean s held allowed. h.settled clean s held.0 allowed;
+    ties = λ clean s held allowed. h.ties clean s held.0 allowed;
+    down = refl;
+  }
+
+  pub store_fails : ((q : Text) → total_of new.1 q ≡ total_of old.1 q) → ConnFails g old.0 new.0 change → StoreFails g old new change
+  store_fails totals h = record {
+    clean = h.clean;
+    state = λ clean s held allowed. (h.state clean s held.0 allowed, (λ q. totals q ∙ held.1 q), held.2);
+    crash = λ clean s held allowed. h.crash clean s held.0 allowed;
+    ties = λ clean s held allowed. h.ties clean s held.0 allowed;
+  }
+
+pub on_err : {X E : Type 0} {P : Type 0} (r : Result X E) → P → OnErr r P
+on_err (Ok x) p = tt
+on_err (Err e) p = p
+
+pub on_ok_so : {X E : Type 0} {P Q : Type 0} → (P → Q) → (r : Result X E) → OnOk r P → OnOk r Q
+on_ok_so f (Ok x) p = f p
+on_ok_so f (Err e) p = tt
+
+pub on_ok_both : {X E : Type 0} {P Q R : Type 0} → (P → Q → R) → (r : Result X E) → OnOk r P → OnOk r Q → OnOk r R
+on_ok_both f (Ok x) p q = f p q
+on_ok_both f (Err e) p q = tt
+
+pub on_err_so : {X E : Type 0} {P Q : Type 0} → (P → Q) → (r : Result X E) → OnErr r P → OnErr r Q
+on_err_so f (Ok x) p = tt
+on_err_so f (Err e) p = f p

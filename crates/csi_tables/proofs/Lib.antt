@@ -1,0 +1,14 @@
+mod CellLemmas
+mod EncodingLemmas
+mod EntryLemmas
+mod KeepLemmas
+mod NewLemmas
+mod PageLemmas
+mod PlaceLemmas
+mod RowLemmas
+mod ShownLemmas
+mod SortedLemmas
+mod StateLemmas
+mod TablesLemmas
+mod TestLemmas
+mod TotalsLemmas

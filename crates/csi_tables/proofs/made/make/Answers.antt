@@ -1,0 +1,43 @@
+use Rattle.std.proofs.Common.{refl, sym, subst, OnOk, OnErr}
+use Rattle.csi_keeper.specs.declared.change.Change.{Change}
+use Rattle.csi_keeper.specs.declared.change.Change.TheVariants.{Attach, Detach, DetachAll}
+use Rattle.csi_tables.specs.Holding.{StoreMakes, StoreFails}
+use Rattle.csi_tables.proofs.KeepLemmas.{store_makes, store_fails, on_ok_so, on_ok_both, on_err_so}
+use Rattle.csi_tables.proofs.RowLemmas.{storable_attached, storable_detached, storable_detached_all}
+use Rattle.csi_tables.proofs.made.make.Goals as goal
+
+pub returns-in-Attach-clause-made : goal.returns-in-Attach-clause-made
+returns-in-Attach-clause-made g c =
+    let change = Attach c.in-Attach.number c.in-Attach.attachment in
+    subst (λ (x : Change). OnOk c.make_attachment.result (StoreMakes g.S.Store (c.args.conn.now, c.args.totals.now) (c.make_attachment.new.conn, c.args.totals.now) x)) (sym c.in-Attach.is)
+    (on_ok_both (λ made stored. store_makes g.S.Store change (c.args.conn.now, c.args.totals.now) (c.make_attachment.new.conn, c.args.totals.now) (λ s clean held allowed storable totals. totals) (λ s allowed h. storable_attached s c.in-Attach.number c.in-Attach.attachment stored.0 stored.1 allowed.1 h) made) c.make_attachment.result c.make_attachment.ensures.made c.make_attachment.ensures.stored)
+
+pub returns-in-Attach-clause-failed : goal.returns-in-Attach-clause-failed
+returns-in-Attach-clause-failed g c =
+    let change = Attach c.in-Attach.number c.in-Attach.attachment in
+    subst (λ (x : Change). OnErr c.make_attachment.result (StoreFails g.S.Store (c.args.conn.now, c.args.totals.now) (c.make_attachment.new.conn, c.args.totals.now) x)) (sym c.in-Attach.is)
+    (on_err_so (λ failed. store_fails g.S.Store change (c.args.conn.now, c.args.totals.now) (c.make_attachment.new.conn, c.args.totals.now) (λ q. refl) failed) c.make_attachment.result c.make_attachment.ensures.failed)
+
+pub returns-in-Detach-clause-made : goal.returns-in-Detach-clause-made
+returns-in-Detach-clause-made g c =
+    let change = Detach c.in-Detach.number c.in-Detach.node in
+    subst (λ (x : Change). OnOk c.unmake_attachment.result (StoreMakes g.S.Store (c.args.conn.now, c.args.totals.now) (c.unmake_attachment.new.conn, c.args.totals.now) x)) (sym c.in-Detach.is)
+    (on_ok_so (λ made. store_makes g.S.Store change (c.args.conn.now, c.args.totals.now) (c.unmake_attachment.new.conn, c.args.totals.now) (λ s clean held allowed storable totals. totals) (λ s allowed h. storable_detached s c.in-Detach.number c.in-Detach.node h) made) c.unmake_attachment.result c.unmake_attachment.ensures.made)
+
+pub returns-in-Detach-clause-failed : goal.returns-in-Detach-clause-failed
+returns-in-Detach-clause-failed g c =
+    let change = Detach c.in-Detach.number c.in-Detach.node in
+    subst (λ (x : Change). OnErr c.unmake_attachment.result (StoreFails g.S.Store (c.args.conn.now, c.args.totals.now) (c.unmake_attachment.new.conn, c.args.totals.now) x)) (sym c.in-Detach.is)
+    (on_err_so (λ failed. store_fails g.S.Store change (c.args.conn.now, c.args.totals.now) (c.unmake_attachment.new.conn, c.args.totals.now) (λ q. refl) failed) c.unmake_attachment.result c.unmake_attachment.ensures.failed)
+
+pub returns-in-DetachAll-clause-made : goal.returns-in-DetachAll-clause-made
+returns-in-DetachAll-clause-made g c =
+    let change = DetachAll c.in-DetachAll.number in
+    subst (λ (x : Change). OnOk c.unmake_attachments.result (StoreMakes g.S.Store (c.args.conn.now, c.args.totals.now) (c.unmake_attachments.new.conn, c.args.totals.now) x)) (sym c.in-DetachAll.is)
+    (on_ok_so (λ made. store_makes g.S.Store change (c.args.conn.now, c.args.totals.now) (c.unmake_attachments.new.conn, c.args.totals.now) (λ s clean held allowed storable totals. totals) (λ s allowed h. storable_detached_all s c.in-DetachAll.number h) made) c.unmake_attachments.result c.unmake_attachments.ensures.made)
+
+pub returns-in-DetachAll-clause-failed : goal.returns-in-DetachAll-clause-failed
+returns-in-DetachAll-clause-failed g c =
+    let change = DetachAll c.in-DetachAll.number in
+    subst (λ (x : Change). OnErr c.unmake_attachments.result (StoreFails g.S.Store (c.args.conn.now, c.args.totals.now) (c.unmake_attachments.new.conn, c.args.totals.now) x)) (sym c.in-DetachAll.is)
+    (on_err_so (λ failed. store_fails g.S.Store change (c.args.conn.now, c.args.totals.now) (c.unmake_attachments.new.conn, c.args.totals.now) (λ q. refl) failed) c.unmake_attachments.result c.unmake_attachments.ensures.failed)

@@ -1,0 +1,25 @@
+use Rattle.std.proofs.Common.{◌∙◌, ap, arith, ◌<◌, ◌≤◌, drop, map, length, get_or, nat_lt, filter}
+use Rattle.sqlite_trees.proofs.ListLemmas.{ascending-filter}
+use Rattle.csi_keeper.specs.State.{Place}
+use Rattle.csi_tables.specs.Places.{place_row}
+use Rattle.csi_tables.proofs.PlaceLemmas.{drop_row, each_more, later_same}
+use Rattle.csi_tables.proofs.nodes.nodes_of_each.Goals as goal
+
+pub loop-number-preserved : goal.loop-number-preserved
+loop-number-preserved c ps up rising are =
+    let ns = c.args.numbers.now in
+    let i = c.loop-number.number-index in
+    let low : i < length ns = omega arith in
+    let n = get_or ns i 0 in
+    let it = c.loop-number.invariant ps up rising are in
+    let qs = it.1.0 in
+    let later = later_same ps qs ns i rising low it.1.3 in
+    let behind = c.in_ok-nodes.ensures.passed qs it.1.1 it.1.2 in (
+      c.in_ok-push.ensures.ok ∙ each_more ps ns i c.loop-number.all c.in_ok-nodes.nodes low it.0 (c.in_ok-nodes.ensures.nodes qs it.1.1 it.1.2 ∙ later.0),
+      (
+        filter (λ (p : Place). nat_lt n p.0) qs,
+        ascending-filter (λ a b. a.0 ≤ b.0) (λ p. nat_lt n p.0) qs it.1.1,
+        c.split_at.ensures.back ∙ ap (drop c.in_ok-nodes.passed) it.1.2 ∙ drop_row place_row c.in_ok-nodes.passed qs ∙ ap (map place_row) behind,
+        later.1,
+      ),
+    )

@@ -1,0 +1,12 @@
+use Rattle.std.proofs.Common.{◌∙◌}
+use Rattle.sqlite.specs.Held.{state}
+use Rattle.csi_keeper.specs.facts.Reads.{if_ok}
+use Rattle.csi_tables.proofs.ShownLemmas.{number_found}
+use Rattle.csi_tables.proofs.read.by_number.Goals as goal
+
+pub returns-clause-value : goal.returns-clause-value
+returns-clause-value g c = if_ok (λ v read clean s held.
+    let told = c.in_ok-found.ensures.ok clean in
+    let shows = held told.was_open in
+    let it = number_found s (state g.S.Store c.args.conn.now).now.trees shows.rows c.args.number c.in_ok-found.found (told.what shows.schema) in
+    read it.0 it.1 it.2 ∙ it.3) c.volume_of.result c.volume_of.ensures

@@ -1,0 +1,47 @@
+-- How capabilities and parameters stand in a column: as the canonical bytes of a CreateVolumeRequest that has nothing else.
+use Rattle.std.specs.Prelude.{◌≡◌, ℕ, false, List, [], None, Ok, map}
+use Rattle.std.specs.FinMap.{empty}
+use Rattle.csi_types.specs.Maps.{TextMap}
+use Rattle.csi_types.specs.declared.capability.Capability.{Capability}
+use Rattle.csi_types.specs.declared.requests.Request.{Request}
+use Rattle.csi_types.specs.declared.requests.Request.TheVariants as request
+use Rattle.csi_codec.specs.Methods.{request_method, request_bytes, FitsRequest}
+use Rattle.csi_codec.specs.Reading.{read_request}
+use Rattle.csi_keeper.specs.Capability.{capability_of}
+use Rattle.csi_keeper.specs.declared.capability.CapKey.{CapKey}
+
+-- a request with these capabilities (field 3) and parameters (field 4) alone
+abbrev pub create_with : List Capability → TextMap → Request
+create_with capabilities parameters = request.Create (record {
+  name = [];
+  range = None;
+  capabilities = capabilities;
+  parameters = parameters;
+  secrets = empty;
+  source = false;
+  topology = None;
+})
+
+-- the capabilities of keys, without mount flags and mount group
+abbrev pub with_caps : List CapKey → Request
+with_caps keys = create_with (map capability_of keys) empty
+
+abbrev pub with_params : TextMap → Request
+with_params params = create_with [] params
+
+unfoldable pub caps_bytes : List CapKey → List ℕ
+caps_bytes keys = request_bytes (with_caps keys)
+
+unfoldable pub params_bytes : TextMap → List ℕ
+params_bytes params = request_bytes (with_params params)
+
+-- what can be read again
+unfoldable pub FitCaps : List CapKey → Type 0
+FitCaps keys = FitsRequest (with_caps keys)
+
+unfoldable pub FitParams : TextMap → Type 0
+FitParams params = FitsRequest (with_params params)
+
+-- what is written of a request is read as it
+abbrev pub ReadsBack : Type 0
+ReadsBack = (r : Request) → FitsRequest r → read_request (request_method r) (request_bytes r) ≡ Ok r

@@ -1,0 +1,143 @@
+-- The rows that stand for a State, and what a connection over them holds.
+use Rattle.std.specs.Prelude.{◌≡◌, ℕ, ◌<◌, ◌^◌, Bool, false, [], ◌∷◌, map, IsPermutation, IsTrue}
+use Rattle.std.specs.List.{AllByRecursion}
+use Rattle.std.specs.FinMap.{entries}
+use Rattle.sqlite.specs.Held.{Held, state}
+use Rattle.sqlite.specs.Order.{Row}
+use Rattle.sqlite.specs.State as sql
+use Rattle.sqlite.specs.State.{HasCleanDisk}
+use Rattle.sqlite.specs.Store.{Ghosts}
+use Rattle.sqlite.specs.Tree.{Trees}
+use Rattle.sqlite.specs.View.{doubt}
+use Rattle.sqlite.specs.declared.types.Value.TheVariants.{Text, Blob}
+use Rattle.sqlite_catalog.specs.Listing.{IsSound}
+use Rattle.csi_keeper.specs.Keeper.{Fails, IsQuiet, Makes, Tells}
+use Rattle.csi_keeper.specs.State.{State, Place}
+use Rattle.csi_keeper.specs.Totals.{AreTotals}
+use Rattle.csi_keeper.specs.declared.change.Change.{Change}
+use Rattle.csi_keeper.specs.declared.totals.Totals.{Totals}
+use Rattle.csi_keeper.specs.declared.volume.Attachment.{Attachment}
+use Rattle.csi_keeper.specs.declared.volume.Volume.{Volume}
+use Rattle.csi_layout.specs.Tables.{schema}
+use Rattle.csi_statements.specs.Rows.{number_value, bool_value, meta_row, seen_meta, seen_volume, seen_attachment, AreKeyed}
+use Rattle.csi_tables.specs.Encoding.{caps_bytes, params_bytes, FitCaps, FitParams}
+
+-- ---- rows
+
+-- number, name, bytes, pool, caps, params
+abbrev pub volume_entry : ℕ × Volume → Row
+volume_entry e = number_value e.0 ∷ Text e.1.name ∷ number_value e.1.bytes ∷ Text e.1.pool ∷ Blob (caps_bytes e.1.caps) ∷ Blob (params_bytes e.1.params) ∷ []
+
+-- number, node, cap, readonly
+abbrev pub attachment_entry : Place × Attachment → Row
+attachment_entry e = number_value e.0.0 ∷ Text e.0.1 ∷ Blob (caps_bytes (e.1.cap ∷ [])) ∷ bool_value e.1.readonly ∷ []
+
+-- what is shown of an attachment among those of its volume: node, cap, readonly
+abbrev pub node_entry : Place × Attachment → Row
+node_entry e = Text e.0.1 ∷ Blob (caps_bytes (e.1.cap ∷ [])) ∷ bool_value e.1.readonly ∷ []
+
+-- a volume that a row can say
+pub record IsStored (e : ℕ × Volume) : Type 0 where
+  pub number : e.1.number ≡ e.0
+  pub small : e.0 < 2 ^ 63
+  pub caps : FitCaps e.1.caps
+  pub params : FitParams e.1.params
+
+-- an attachment that a row can say
+pub record IsPlaced (e : Place × Attachment) : Type 0 where
+  pub node : e.1.node ≡ e.0.1
+  pub small : e.0.0 < 2 ^ 63
+  pub cap : FitCaps (e.1.cap ∷ [])
+
+-- a State that rows can say
+pub record IsStorable (s : State) : Type 0 where
+  pub volumes : AllByRecursion IsStored (entries s.volumes)
+  pub attachments : AllByRecursion IsPlaced (entries s.attachments)
+
+-- What a SELECT of all columns sees of the three tables is the State, in any order.
+pub record IsRows (s : State) (db : Trees) : Type 0 where
+  pub meta : map seen_meta (db 0) ≡ meta_row s.next ∷ []
+  pub volumes : IsPermutation (map volume_entry (entries s.volumes)) (map seen_volume (db 1))
+  pub attachments : IsPermutation (map attachment_entry (entries s.attachments)) (map seen_attachment (db 3))
+  -- the rows of attachments have rowids of their own
+  pub keyed : AreKeyed seen_attachment (db 3)
+  pub storable : IsStorable s
+  pub sound : IsSound schema db
+
+-- ---- a connection
+
+-- what an open connection shows between its transactions
+pub record Shows (now : sql.State) (s : State) : Type 0 where
+  pub schema : now.now.schema ≡ schema
+  pub settled : now.now ≡ now.committed
+  pub rows : IsRows s now.now.trees
+
+-- a connection that a fault has shut says nothing
+abbrev pub Holds : sql.State → State → Type 0
+Holds now s = IsTrue now.is_open → Shows now s
+
+-- the States that a stop may leave
+abbrev pub Survivors : sql.State → State → Type 0
+Survivors now s = (db : Trees) × now.may_leave db × IsRows s db
+
+-- each database that a stop may leave stands for a State
+abbrev pub Ties : sql.State → Type 0
+Ties now = HasCleanDisk now → (db : Trees) → now.may_leave db → (s : State) × IsRows s db
+
+module _ {S : Type 0} (g : Ghosts S) where
+  abbrev pub conn_holds : Held S → State → Type 0
+  conn_holds h s = Holds (state g h) s
+
+  -- 0 while the disk has returned what was written
+  abbrev pub conn_doubt : Held S → ℕ
+  conn_doubt h = doubt (state g h).is_clean
+
+  abbrev pub conn_survivors : Held S → State → Type 0
+  conn_survivors h s = Survivors (state g h) s
+
+  abbrev pub conn_tied : Held S → Type 0
+  conn_tied h = Ties (state g h)
+
+-- a connection is never down: what stands over it is
+abbrev pub never_down : {K : Type 0} → K → Bool
+never_down k = false
+
+-- ---- a connection, and the totals that are kept beside it
+
+abbrev pub Store : Type 0 → Type 0
+Store S = Held S × Totals
+
+module _ {S : Type 0} (g : Ghosts S) where
+  -- the totals are the State's also once the connection is shut, and rows can say it
+  abbrev pub store_holds : Store S → State → Type 0
+  store_holds t s = conn_holds g t.0 s × AreTotals t.1 s × IsStorable s
+
+  abbrev pub store_doubt : Store S → ℕ
+  store_doubt t = conn_doubt g t.0
+
+  abbrev pub store_survivors : Store S → State → Type 0
+  store_survivors t s = conn_survivors g t.0 s
+
+  abbrev pub store_tied : Store S → Type 0
+  store_tied t = conn_tied g t.0
+
+module _ {S : Type 0} (g : Ghosts S) (old new : Held S) where
+  -- what a read answers is so of each State that the connection may have
+  abbrev pub ConnTells : (State → Type 0) → Type 0
+  ConnTells P = Tells (conn_holds g) (conn_doubt g) old new P
+
+  abbrev pub ConnIsQuiet : Type 0
+  ConnIsQuiet = IsQuiet (conn_holds g) (conn_doubt g) (conn_survivors g) (conn_tied g) never_down old new
+
+  abbrev pub ConnMakes : Change → Type 0
+  ConnMakes change = Makes (conn_holds g) (conn_doubt g) (conn_survivors g) (conn_tied g) never_down old new change
+
+  abbrev pub ConnFails : Change → Type 0
+  ConnFails change = Fails (conn_holds g) (conn_doubt g) (conn_survivors g) (conn_tied g) old new change
+
+module _ {S : Type 0} (g : Ghosts S) (old new : Store S) where
+  abbrev pub StoreMakes : Change → Type 0
+  StoreMakes change = Makes (store_holds g) (store_doubt g) (store_survivors g) (store_tied g) never_down old new change
+
+  abbrev pub StoreFails : Change → Type 0
+  StoreFails change = Fails (store_holds g) (store_doubt g) (store_survivors g) (store_tied g) old new change

@@ -1,0 +1,5 @@
+pub mod Answers
+pub mod Encoding
+pub mod Holding
+pub mod Keeping
+pub mod Places

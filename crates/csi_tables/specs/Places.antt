@@ -1,0 +1,23 @@
+-- Places of attachments, as a listing of published nodes reads them.
+use Rattle.std.specs.Prelude.{ℕ, ◌<◌, ◌≤◌, ◌==◌, List, [], ◌∷◌, filter, map}
+use Rattle.sqlite.specs.Order.{Row}
+use Rattle.sqlite.specs.Tree.{IsAscending}
+use Rattle.sqlite.specs.declared.types.Value.TheVariants.{Text}
+use Rattle.csi_keeper.specs.State.{Place}
+use Rattle.csi_keeper.specs.Texts as texts
+use Rattle.csi_statements.specs.Rows.{number_value}
+
+-- number, node
+abbrev pub place_row : Place → Row
+place_row p = number_value p.0 ∷ Text p.1 ∷ []
+
+-- the places rise by their numbers
+abbrev pub IsRisen : List Place → Type 0
+IsRisen ps = IsAscending (λ a b. a.0 ≤ b.0) ps
+
+abbrev pub AreRising : List ℕ → Type 0
+AreRising ns = IsAscending (λ a b. a < b) ns
+
+-- the nodes of a number
+abbrev pub nodes_at : List Place → ℕ → List texts.Text
+nodes_at ps number = map (λ p. p.1) (filter (λ p. p.0 == number) ps)

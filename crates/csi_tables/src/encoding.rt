@@ -1,0 +1,121 @@
+//! Capabilities and parameters as they stand in a column: the canonical bytes of a
+//! `CreateVolumeRequest` that has nothing else.
+
+ghost use Rattle.std.specs.Prelude.{◌≡◌, List, Some, Ok, IfOk, OnOk, map};
+ghost use Rattle.csi_types.specs.Maps.{TextMap};
+ghost use Rattle.csi_types.specs.declared.method.Method.TheVariants.{CreateVolume as Creating};
+ghost use Rattle.csi_types.specs.declared.requests.Request.TheVariants.{Create};
+ghost use Rattle.csi_codec.specs.Methods.{request_bytes, FitsRequest};
+ghost use Rattle.csi_codec.specs.Reading.{read_request};
+ghost use Rattle.csi_keeper.specs.Capability.{capability_of, key_of};
+ghost use Rattle.csi_keeper.specs.declared.capability.CapKey.{CapKey as Key};
+ghost use Rattle.csi_tables.specs.Encoding.{create_with, caps_bytes, params_bytes, FitCaps, FitParams, ReadsBack};
+
+use crate::fault::Fault;
+use csi_codec::laws::{read_as_meant, round_trip};
+use csi_codec::{decode, encode_request};
+use csi_keeper::{CapKey, cap_key, capability_of};
+use csi_types::{Capability, CreateVolume, Items, Map, Method, Request, Text, copy_map};
+use std::alloc::{AllocError, Global};
+
+/// What is written of a request that fits is read as that request.
+#[inline(always)]
+pub(crate) fn read_back()
+    ensures { ReadsBack }
+{
+    round_trip();
+    read_as_meant();
+}
+
+fn create_with(alloc: Global, capabilities: Items<Capability>, parameters: Map) -> Request
+    ensures { result ≡ create_with capabilities parameters }
+{
+    Request::Create(CreateVolume {
+        name: Text::new(alloc),
+        range: None,
+        capabilities,
+        parameters,
+        secrets: Map::new(alloc),
+        source: false,
+        topology: None,
+    })
+}
+
+fn write(alloc: Global, request: &Request) -> Result<Vec<u8>, AllocError>
+    ensures bytes { IfOk result (λ out. out.items ≡ request_bytes request.now) }
+    ensures fits { OnOk result (FitsRequest request.now) }
+{
+    let mut out = Vec::new(alloc);
+    encode_request(request, &mut out)?;
+    Ok(out)
+}
+
+fn capabilities_of(alloc: Global, keys: &[CapKey]) -> Result<Items<Capability>, AllocError>
+    ensures { IfOk result (λ capabilities. capabilities ≡ map capability_of keys.now) }
+{
+    let mut capabilities = Items::new(alloc);
+    for key in keys {
+        capabilities.push(capability_of(alloc, key)?)?;
+    }
+    Ok(capabilities)
+}
+
+/// The bytes of capabilities.
+#[tactic(auto, unfolding(crate::specs::Encoding::caps_bytes, crate::specs::Encoding::FitCaps))]
+pub(crate) fn write_caps(alloc: Global, keys: &[CapKey]) -> Result<Vec<u8>, AllocError>
+    ensures bytes { IfOk result (λ out. out.items ≡ caps_bytes keys.now) }
+    ensures fits { OnOk result (FitCaps keys.now) }
+{
+    let request = create_with(alloc, capabilities_of(alloc, keys)?, Map::new(alloc));
+    write(alloc, &request)
+}
+
+/// The bytes of parameters.
+#[tactic(auto, unfolding(crate::specs::Encoding::params_bytes, crate::specs::Encoding::FitParams))]
+pub(crate) fn write_params(alloc: Global, params: &Map) -> Result<Vec<u8>, AllocError>
+    ensures bytes { IfOk result (λ out. out.items ≡ params_bytes params.now) }
+    ensures fits { OnOk result (FitParams params.now) }
+{
+    let request = create_with(alloc, Items::new(alloc), copy_map(alloc, params)?);
+    write(alloc, &request)
+}
+
+fn read(alloc: Global, bytes: &[u8]) -> Result<CreateVolume, Fault>
+    ensures { IfOk result (λ message. read_request Creating bytes.now ≡ Ok (Create message)) }
+{
+    match decode(alloc, Method::CreateVolume, bytes)? {
+        Request::Create(message) => Ok(message),
+        _ => Err(Fault::Refused),
+    }
+}
+
+fn keys_of(alloc: Global, capabilities: &[Capability]) -> Result<Items<CapKey>, Fault>
+    ensures { IfOk result (λ keys. map Some keys ≡ map key_of capabilities.now) }
+{
+    let mut keys = Items::new(alloc);
+    for capability in capabilities {
+        let Some(key) = cap_key(alloc, capability)? else {
+            return Err(Fault::Refused);
+        };
+        keys.push(key)?;
+    }
+    Ok(keys)
+}
+
+/// The keys whose bytes these are.
+#[tactic(auto, using(crate::proofs::EncodingLemmas::caps_read))]
+pub(crate) fn read_caps(alloc: Global, bytes: &[u8]) -> Result<Items<CapKey>, Fault>
+    ensures { IfOk result (λ keys. (ks : List Key) → FitCaps ks → bytes.now ≡ caps_bytes ks → keys ≡ ks) }
+{
+    read_back();
+    let message = read(alloc, bytes)?;
+    keys_of(alloc, message.capabilities.as_slice())
+}
+
+/// The parameters whose bytes these are.
+pub(crate) fn read_params(alloc: Global, bytes: &[u8]) -> Result<Map, Fault>
+    ensures { IfOk result (λ params. (m : TextMap) → FitParams m → bytes.now ≡ params_bytes m → params ≡ m) }
+{
+    read_back();
+    Ok(read(alloc, bytes)?.parameters)
+}

@@ -1,0 +1,196 @@
+//! Each change over a connection, with the totals that are kept beside it.
+//!
+//! Each function asks that no transaction is open on the connection, and leaves it so. After `Ok` the
+//! change is made and committed; after a fault the State stays, and a stop may leave the change made.
+//! The totals are moved only once the change is committed, and that takes no memory.
+
+ghost use Rattle.std.specs.Prelude.{◌≡◌, ◌<◌, ◌^◌, [], ◌∷◌, List, ℕ, false, OnErr, OnOk};
+ghost use Rattle.csi_keeper.specs.State.{State, IsBounded, changed};
+ghost use Rattle.csi_keeper.specs.Totals.{HasRoom, IsReserved, total_of};
+ghost use Rattle.csi_keeper.specs.declared.change.Change.{Change as Changing};
+ghost use Rattle.csi_keeper.specs.declared.change.Change.TheVariants.{AddVolume, RemoveVolume, Attach, Detach, DetachAll};
+ghost use Rattle.csi_tables.specs.Encoding.{FitCaps};
+ghost use Rattle.csi_tables.specs.Holding.{IsStorable, ConnMakes, ConnFails, StoreMakes, StoreFails};
+
+use crate::encoding::{read_back, write_caps, write_params};
+use crate::fault::Fault;
+use crate::read::by_number;
+use csi_keeper::{Attachment, Change, Totals, Volume};
+use csi_statements::changes::{add_volume, attach, detach, detach_all, remove_volume};
+use csi_statements::reads;
+use csi_types::{Text, copy_text};
+use sqlite::{Alter, Connection};
+use std::alloc::Global;
+use std::slice::from_ref;
+
+/// SQL integers end before it, so no row has such a number.
+pub(crate) const NUMBERS: u64 = 1 << 63;
+
+// Makes sure that one volume more can be counted in a pool without memory.
+fn reserve(alloc: Global, totals: &mut Totals, pool: &Text, bytes: u64) -> Result<(), Fault>
+    ensures room { OnOk result (HasRoom (total_of totals.old pool.now) bytes) }
+    ensures reserved { OnOk result (IsReserved totals.new pool.now) }
+    ensures same { (q : List ℕ) → total_of totals.new q ≡ total_of totals.old q }
+{
+    if !totals.has_room(pool, bytes) {
+        return Err(Fault::Refused);
+    }
+    totals.reserve(copy_text(alloc, pool.as_str())?)?;
+    Ok(())
+}
+
+/// Adds a volume.
+pub(crate) fn make_volume<S: Alter>(
+    alloc: Global,
+    conn: &mut Connection<S>,
+    totals: &mut Totals,
+    volume: &Volume,
+) -> Result<(), Fault>
+    requires idle { conn.old.in_transaction ≡ false }
+    requires bounded { IsBounded (AddVolume volume.now) }
+    ensures idle { conn.new.in_transaction ≡ false }
+    ensures made { OnOk result (StoreMakes S.Store (conn.old, totals.old) (conn.new, totals.new) (AddVolume volume.now)) }
+    ensures failed { OnErr result (StoreFails S.Store (conn.old, totals.old) (conn.new, totals.new) (AddVolume volume.now)) }
+{
+    read_back();
+    let caps = write_caps(alloc, volume.caps.as_slice())?;
+    let params = write_params(alloc, &volume.params)?;
+    reserve(alloc, totals, &volume.pool, volume.bytes)?;
+    add_volume(
+        conn,
+        volume.number,
+        volume.name.as_str(),
+        volume.bytes,
+        volume.pool.as_str(),
+        &caps,
+        &params,
+    )?;
+    totals.count(&volume.pool, volume.bytes);
+    Ok(())
+}
+
+// A change that changes nothing, as that of a number that no row has. A read tells whether the
+// connection is open, and what a stop leaves is the State then.
+fn make_nothing<S: Alter>(conn: &mut Connection<S>) -> Result<(), Fault>
+    requires idle { conn.old.in_transaction ≡ false }
+    ensures idle { conn.new.in_transaction ≡ false }
+    ensures made { OnOk result ((change : Changing) → ((s : State) → IsStorable s → changed s change ≡ s) → ConnMakes S.Store conn.old conn.new change) }
+    ensures failed { OnErr result ((change : Changing) → ConnFails S.Store conn.old conn.new change) }
+{
+    read_back();
+    reads::next_number(conn)?;
+    Ok(())
+}
+
+/// Attaches a volume at a node.
+pub(crate) fn make_attachment<S: Alter>(
+    alloc: Global,
+    conn: &mut Connection<S>,
+    number: u64,
+    attachment: &Attachment,
+) -> Result<(), Fault>
+    requires idle { conn.old.in_transaction ≡ false }
+    ensures idle { conn.new.in_transaction ≡ false }
+    ensures made { OnOk result (ConnMakes S.Store conn.old conn.new (Attach number attachment.now)) }
+    ensures stored { OnOk result ((number < 2 ^ 63) × FitCaps (attachment.now.cap ∷ [])) }
+    ensures failed { OnErr result (ConnFails S.Store conn.old conn.new (Attach number attachment.now)) }
+{
+    read_back();
+    if number >= NUMBERS {
+        return Err(Fault::Refused);
+    }
+    let cap = write_caps(alloc, from_ref(&attachment.cap))?;
+    attach(
+        conn,
+        number,
+        attachment.node.as_str(),
+        &cap,
+        attachment.readonly,
+    )?;
+    Ok(())
+}
+
+/// Detaches a volume at a node.
+pub(crate) fn unmake_attachment<S: Alter>(
+    conn: &mut Connection<S>,
+    number: u64,
+    node: &Text,
+) -> Result<(), Fault>
+    requires idle { conn.old.in_transaction ≡ false }
+    ensures idle { conn.new.in_transaction ≡ false }
+    ensures made { OnOk result (ConnMakes S.Store conn.old conn.new (Detach number node.now)) }
+    ensures failed { OnErr result (ConnFails S.Store conn.old conn.new (Detach number node.now)) }
+{
+    read_back();
+    if number >= NUMBERS {
+        return make_nothing(conn);
+    }
+    detach(conn, number, node.as_str())?;
+    Ok(())
+}
+
+/// Detaches a volume at each node.
+pub(crate) fn unmake_attachments<S: Alter>(
+    conn: &mut Connection<S>,
+    number: u64,
+) -> Result<(), Fault>
+    requires idle { conn.old.in_transaction ≡ false }
+    ensures idle { conn.new.in_transaction ≡ false }
+    ensures made { OnOk result (ConnMakes S.Store conn.old conn.new (DetachAll number)) }
+    ensures failed { OnErr result (ConnFails S.Store conn.old conn.new (DetachAll number)) }
+{
+    read_back();
+    if number >= NUMBERS {
+        return make_nothing(conn);
+    }
+    detach_all(conn, number)?;
+    Ok(())
+}
+
+/// Removes a volume. Its pool and its bytes are read first, so that the total takes no memory once
+/// the volume is removed.
+pub(crate) fn unmake_volume<S: Alter>(
+    alloc: Global,
+    conn: &mut Connection<S>,
+    totals: &mut Totals,
+    number: u64,
+) -> Result<(), Fault>
+    requires idle { conn.old.in_transaction ≡ false }
+    ensures idle { conn.new.in_transaction ≡ false }
+    ensures made { OnOk result (StoreMakes S.Store (conn.old, totals.old) (conn.new, totals.new) (RemoveVolume number)) }
+    ensures failed { OnErr result (StoreFails S.Store (conn.old, totals.old) (conn.new, totals.new) (RemoveVolume number)) }
+{
+    read_back();
+    if number >= NUMBERS {
+        return make_nothing(conn);
+    }
+    let found = by_number(alloc, conn, number)?;
+    remove_volume(conn, number)?;
+    let Some(volume) = found else {
+        return Ok(());
+    };
+    totals.remove(&volume.pool, volume.bytes);
+    Ok(())
+}
+
+/// Makes a change.
+pub(crate) fn make<S: Alter>(
+    alloc: Global,
+    conn: &mut Connection<S>,
+    totals: &mut Totals,
+    change: &Change,
+) -> Result<(), Fault>
+    requires idle { conn.old.in_transaction ≡ false }
+    requires bounded { IsBounded change.now }
+    ensures idle { conn.new.in_transaction ≡ false }
+    ensures made { OnOk result (StoreMakes S.Store (conn.old, totals.old) (conn.new, totals.new) change.now) }
+    ensures failed { OnErr result (StoreFails S.Store (conn.old, totals.old) (conn.new, totals.new) change.now) }
+{
+    match change {
+        Change::AddVolume(volume) => make_volume(alloc, conn, totals, volume),
+        Change::RemoveVolume(number) => unmake_volume(alloc, conn, totals, *number),
+        Change::Attach(number, attachment) => make_attachment(alloc, conn, *number, attachment),
+        Change::Detach(number, node) => unmake_attachment(conn, *number, node),
+        Change::DetachAll(number) => unmake_attachments(conn, *number),
+    }
+}

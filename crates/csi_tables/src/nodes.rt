@@ -1,0 +1,50 @@
+//! The nodes of the volumes of a page, of one list of places.
+
+ghost use Rattle.std.specs.Prelude.{◌≡◌, ◌==◌, ◌<◌, ◌≤◌, ℕ, List, IfOk, length, drop, filter, map, nat_lt};
+ghost use Rattle.csi_keeper.specs.State.{Place};
+ghost use Rattle.csi_tables.specs.Places.{place_row, nodes_at, IsRisen, AreRising};
+
+use crate::fault::Fault;
+use crate::rows::{number_in, text_in};
+use csi_types::{Items, Text};
+use sqlite::Row;
+use std::alloc::Global;
+
+// The nodes of a number, and how many places have no greater one. The places rise by number.
+fn nodes_of(alloc: Global, places: &[Row], number: u64) -> Result<(Items<Text>, usize), Fault>
+    ensures nodes { IfOk result (λ found. (ps : List Place) → IsRisen ps → places.now ≡ map place_row ps → found.0 ≡ nodes_at ps number) }
+    ensures passed { IfOk result (λ found. (ps : List Place) → IsRisen ps → places.now ≡ map place_row ps → drop found.1 ps ≡ filter (λ p. nat_lt number p.0) ps) }
+    ensures within { IfOk result (λ found. found.1 ≤ length places.now) }
+{
+    let mut nodes = Items::new(alloc);
+    for (passed, row) in places.iter().enumerate() {
+        let at = number_in(row, 0)?;
+        if at > number {
+            return Ok((nodes, passed));
+        }
+        if at == number {
+            nodes.push(text_in(row, 1)?)?;
+        }
+    }
+    Ok((nodes, places.len()))
+}
+
+/// The nodes of each number, in the order of the places. Numbers and places rise, so that each place
+/// is looked at once.
+pub(crate) fn nodes_of_each(
+    alloc: Global,
+    numbers: &[u64],
+    places: &[Row],
+) -> Result<Items<Items<Text>>, Fault>
+    ensures { IfOk result (λ all. (ps : List Place) → IsRisen ps → AreRising numbers.now → places.now ≡ map place_row ps → all ≡ map (nodes_at ps) numbers.now) }
+{
+    let mut all = Items::new(alloc);
+    let mut rest = places;
+    for number in numbers {
+        let (nodes, passed) = nodes_of(alloc, rest, *number)?;
+        all.push(nodes)?;
+        let (_, behind) = rest.split_at(passed);
+        rest = behind;
+    }
+    Ok(all)
+}

@@ -1,0 +1,61 @@
+//! How a keeper over tables comes to stand on a connection, and leaves it.
+
+ghost use Rattle.std.specs.Prelude.{◌≡◌, false, IfErr, IfOk};
+ghost use Rattle.sqlite.specs.Held.{state};
+ghost use Rattle.sqlite.specs.State.{HasCleanDisk, Survives};
+ghost use Rattle.csi_layout.specs.Making.{MakesTables};
+ghost use Rattle.csi_layout.specs.Tables.{no_schema};
+ghost use Rattle.csi_layout.specs.Transactions.{LeavesFrom};
+ghost use Rattle.csi_statements.specs.Rows.{IsUndone};
+ghost use Rattle.csi_tables.specs.Keeping.{connection_of, IsNewOver};
+
+use crate::encoding::read_back;
+use crate::tables::Tables;
+use csi_keeper::Totals;
+use csi_layout::make_tables;
+use sqlite::{Alter, Connection, Error};
+use std::alloc::Global;
+
+/// Why no tables were made, and the connection on which they were to be.
+#[derive(Drop)]
+pub struct MakeFault<S: Alter> {
+    /// What the database answered.
+    pub error: Error,
+    /// The connection. No transaction is open on it.
+    pub conn: Connection<S>,
+}
+
+impl<S: Alter> Tables<S> {
+    /// Makes the tables in a database that has none, and gives the keeper over them. It has no volume
+    /// and no attachment, and 1 as the next number; all of that is committed, so that a stop leaves
+    /// it. The keeper is not down, and has refused nothing.
+    ///
+    /// Of a database that has other tables nothing is promised.
+    ///
+    /// # Errors
+    ///
+    /// What the database answers, as where a table of such a name stands, or where memory is refused.
+    /// Nothing is made then, and the connection is given back; a stop leaves what it could leave before,
+    /// or the tables as they were to be made.
+    pub fn make(alloc: Global, mut conn: Connection<S>) -> Result<Tables<S>, MakeFault<S>>
+        requires idle { conn.in_transaction ≡ false }
+        ensures made { IfOk result (λ tables. IsNewOver S.Store conn tables) }
+        ensures undone { IfErr result (λ fault. HasCleanDisk (state S.Store fault.conn) → IsUndone (state S.Store conn) (state S.Store fault.conn)) }
+        ensures survives { IfErr result (λ fault. Survives (state S.Store conn) (state S.Store fault.conn) (LeavesFrom no_schema MakesTables (state S.Store conn))) }
+        ensures idle { IfErr result (λ fault. fault.conn.in_transaction ≡ false) }
+    {
+        read_back();
+        match make_tables(&mut conn) {
+            Ok(()) => Ok(Tables::new(conn, Totals::new(alloc))),
+            Err(error) => Err(MakeFault { error, conn }),
+        }
+    }
+
+    /// The connection, on which no transaction is open. The rows stay in its database.
+    pub fn into_connection(self) -> Connection<S>
+        ensures same { result ≡ connection_of S.Store self }
+        ensures idle { result.in_transaction ≡ false }
+    {
+        self.conn
+    }
+}

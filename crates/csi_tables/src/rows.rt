@@ -1,0 +1,134 @@
+//! Volumes, attachments and numbers of the rows that show them.
+
+ghost use Rattle.std.specs.Prelude.{◌≡◌, ℕ, List, [], ◌∷◌, Option, IfOk, IfSome, map, option_map};
+ghost use Rattle.std.specs.List.{AllByRecursion};
+ghost use Rattle.sqlite.specs.declared.types.Value.TheVariants.{Text as Words, Blob};
+ghost use Rattle.sqlite.specs.Order.{column};
+ghost use Rattle.csi_types.specs.Maps.{TextMap};
+ghost use Rattle.csi_keeper.specs.State.{Place};
+ghost use Rattle.csi_keeper.specs.declared.capability.CapKey.{CapKey as Key};
+ghost use Rattle.csi_keeper.specs.declared.volume.Attachment.{Attachment as Placed};
+ghost use Rattle.csi_keeper.specs.declared.volume.Volume.{Volume as Stored};
+ghost use Rattle.csi_statements.specs.Rows.{number_value};
+ghost use Rattle.csi_tables.specs.Encoding.{caps_bytes, params_bytes, FitCaps, FitParams};
+ghost use Rattle.csi_tables.specs.Holding.{volume_entry, node_entry, IsStored, IsPlaced};
+
+use crate::encoding::{read_caps, read_params};
+use crate::fault::Fault;
+use csi_keeper::{Attachment, CapKey, Volume};
+use csi_statements::values::{blob_at, flag_at};
+use csi_types::{Items, Map, Text};
+use sqlite::Row;
+use std::alloc::Global;
+
+/// The text in a cell.
+pub(crate) fn text_in(row: &Row, at: usize) -> Result<Text, Fault>
+    ensures { IfOk result (λ text. column row.now at ≡ Words text) }
+{
+    Ok(Text::from_string(row.get(at)?))
+}
+
+/// The number in a cell.
+pub(crate) fn number_in(row: &Row, at: usize) -> Result<u64, Fault>
+    ensures { IfOk result (λ n. column row.now at ≡ number_value n) }
+{
+    Ok(row.get(at)?)
+}
+
+fn caps_in(alloc: Global, row: &Row, at: usize) -> Result<Items<CapKey>, Fault>
+    ensures { IfOk result (λ keys. (ks : List Key) → FitCaps ks → column row.now at ≡ Blob (caps_bytes ks) → keys ≡ ks) }
+{
+    match blob_at(row, at) {
+        Some(bytes) => read_caps(alloc, bytes),
+        None => Err(Fault::Refused),
+    }
+}
+
+fn params_in(alloc: Global, row: &Row, at: usize) -> Result<Map, Fault>
+    ensures { IfOk result (λ params. (m : TextMap) → FitParams m → column row.now at ≡ Blob (params_bytes m) → params ≡ m) }
+{
+    match blob_at(row, at) {
+        Some(bytes) => read_params(alloc, bytes),
+        None => Err(Fault::Refused),
+    }
+}
+
+/// The volume that a row shows.
+pub(crate) fn volume_from(alloc: Global, row: &Row) -> Result<Volume, Fault>
+    ensures { IfOk result (λ v. (e : ℕ × Stored) → IsStored e → row.now ≡ volume_entry e → v ≡ e.1) }
+{
+    Ok(Volume {
+        number: number_in(row, 0)?,
+        name: text_in(row, 1)?,
+        bytes: number_in(row, 2)?,
+        pool: text_in(row, 3)?,
+        caps: caps_in(alloc, row, 4)?,
+        params: params_in(alloc, row, 5)?,
+    })
+}
+
+/// The volume of the row, if there is one.
+pub(crate) fn volume_of(alloc: Global, found: Option<Row>) -> Result<Option<Volume>, Fault>
+    ensures { IfOk result (λ v. (o : Option (ℕ × Stored)) → IfSome o IsStored → found ≡ option_map volume_entry o → v ≡ option_map (λ e. e.1) o) }
+{
+    match found {
+        Some(row) => Ok(Some(volume_from(alloc, &row)?)),
+        None => Ok(None),
+    }
+}
+
+fn cap_in(alloc: Global, row: &Row, at: usize) -> Result<CapKey, Fault>
+    ensures { IfOk result (λ key. (k : Key) → FitCaps (k ∷ []) → column row.now at ≡ Blob (caps_bytes (k ∷ [])) → key ≡ k) }
+{
+    match caps_in(alloc, row, at)?.into_vec().pop() {
+        Some(key) => Ok(key),
+        None => Err(Fault::Refused),
+    }
+}
+
+/// The attachment that a row of those of its volume shows.
+pub(crate) fn attachment_from(alloc: Global, row: &Row) -> Result<Attachment, Fault>
+    ensures { IfOk result (λ a. (e : Place × Placed) → IsPlaced e → row.now ≡ node_entry e → a ≡ e.1) }
+{
+    let Some(readonly) = flag_at(row, 2) else {
+        return Err(Fault::Refused);
+    };
+    Ok(Attachment {
+        node: text_in(row, 0)?,
+        cap: cap_in(alloc, row, 1)?,
+        readonly,
+    })
+}
+
+/// The volumes that rows show.
+pub(crate) fn volumes_from(alloc: Global, rows: &[Row]) -> Result<Items<Volume>, Fault>
+    ensures { IfOk result (λ vs. (es : List (ℕ × Stored)) → AllByRecursion IsStored es → rows.now ≡ map volume_entry es → vs ≡ map (λ e. e.1) es) }
+{
+    let mut volumes = Items::new(alloc);
+    for row in rows {
+        volumes.push(volume_from(alloc, row)?)?;
+    }
+    Ok(volumes)
+}
+
+/// The attachments that the rows of a volume show.
+pub(crate) fn attachments_from(alloc: Global, rows: &[Row]) -> Result<Items<Attachment>, Fault>
+    ensures { IfOk result (λ xs. (es : List (Place × Placed)) → AllByRecursion IsPlaced es → rows.now ≡ map node_entry es → xs ≡ map (λ e. e.1) es) }
+{
+    let mut attachments = Items::new(alloc);
+    for row in rows {
+        attachments.push(attachment_from(alloc, row)?)?;
+    }
+    Ok(attachments)
+}
+
+/// The numbers in the first column.
+pub(crate) fn numbers_from(alloc: Global, rows: &[Row]) -> Result<Items<u64>, Fault>
+    ensures { IfOk result (λ xs. (ns : List ℕ) → rows.now ≡ map (λ n. number_value n ∷ []) ns → xs ≡ ns) }
+{
+    let mut numbers = Items::new(alloc);
+    for row in rows {
+        numbers.push(number_in(row, 0)?)?;
+    }
+    Ok(numbers)
+}
