@@ -1,0 +1,5 @@
+mod EachLemmas
+mod JoinLemmas
+mod RisingLemmas
+mod StreamLemmas
+mod TableLemmas

@@ -1,0 +1,61 @@
+-- Steps of a query that is read row by row.
+use Rattle.std.proofs.Common.{◌≡◌, ◌⊎◌, inl, inr, ◌∙◌, List, ℕ, sym, subst, Ok, Err, Result, OnOk, Option, Some, None}
+use Rattle.sqlite.specs.Effect.{Database}
+use Rattle.sqlite.specs.Clock.{timed}
+use Rattle.sqlite.specs.Order.{Row}
+use Rattle.sqlite.specs.declared.error.Error.{Error}
+use Rattle.sqlite.specs.Given.{IsPlain}
+use Rattle.sqlite.specs.Listing.{understood, reads_listing, IsSourceOf}
+use Rattle.sqlite.specs.State.{State, HasCleanDisk, IsUnchanged, IsNotRun, IsRolledBack, KeepsCommit, Survives, CommitsShowing, Fails, FailsToQuery, FailsToShow, Shown, ShowsRows}
+use Rattle.sqlite_resolve.specs.declared.compiled.Compiled.{Compiled}
+use Rattle.sqlite_schema.specs.declared.command.Returning.{Returning}
+use Rattle.sqlite.proofs.StateLemmas.{survives_weaker}
+use Rattle.sqlite.proofs.Callers.{never_commits, unchanged_then}
+use Rattle.csi_looks.specs.Looks.{HasFolded}
+
+pub commits_nothing : (sql : List ℕ) (params : Row) (old new : State) → (HasCleanDisk new → IsPlain (understood old.now.schema sql)) → Survives old new (CommitsShowing sql params old) → Survives old new (λ _. ⊥)
+commits_nothing sql params old new plain = survives_weaker old new _ _ (λ clean db. never_commits sql params old db (plain clean))
+
+pub unchanged_keeps : (old new : State) → IsUnchanged old new → KeepsCommit old new
+unchanged_keeps old new h = record { was_open = λ _. h.0.was_open; committed = λ _. h.0.committed_is }
+
+pub failed_keeps : (old new : State) (e : Error) → Fails old new ⊥ e ⊎ IsUnchanged old new → KeepsCommit old new
+failed_keeps old new e (inl h) = record { was_open = h.3.was_open; committed = λ is_open. (h.3.undone is_open).1 }
+failed_keeps old new e (inr h) = unchanged_keeps old new h
+
+rolled_back_keeps : (old new : State) → IsRolledBack old new → KeepsCommit old new
+rolled_back_keeps old new h = record { was_open = h.was_open; committed = λ is_open. (h.undone is_open).1 }
+
+unshown_keeps : (old new : State) (sql : List ℕ) (c : Compiled) (params : Row) (e : Error) (what : Option Returning) → FailsToShow old new sql c params e what → KeepsCommit old new
+unshown_keeps old new sql c params e None h = unchanged_keeps old new h.3
+unshown_keeps old new sql c params e (Some what) (inl h) = unchanged_keeps old new h.1
+unshown_keeps old new sql c params e (Some what) (inr h) = rolled_back_keeps old new h.3
+
+-- a query that does not begin
+pub fails_keeps : (sql : List ℕ) (params : Row) (old new : State) (e : Error) → FailsToQuery sql params old new e → KeepsCommit old new
+unfolding FailsToQuery IsNotRun
+fails_keeps sql params old new e (inl (inl h)) = unchanged_keeps old new h.1
+fails_keeps sql params old new e (inl (inr h)) = rolled_back_keeps old new h.3
+fails_keeps sql params old new e (inr h) = unshown_keeps old new sql h.0 _ e h.0.returning h.2
+
+pub keeps_then : (a b c : State) → KeepsCommit a b → KeepsCommit b c → KeepsCommit a c
+keeps_then a b c p q = record { was_open = λ is_open. p.was_open (q.was_open is_open); committed = λ is_open. q.committed is_open ∙ p.committed (q.was_open is_open) }
+
+pub shown_from : (sql : List ℕ) (params : Row) (a b c : State) (rows : List Row) → IsPlain (understood a.now.schema sql) → IsUnchanged a b → Shown sql params b c rows → Shown sql params a c rows
+unfolding Shown
+shown_from sql params a b c rows plain same h =
+    let now : b.now ≡ a.now = same.0.now_is in
+    let none = (subst IsPlain h.1.is (subst (λ (d : Database). IsPlain (understood d.schema sql)) (sym now) plain)).0 in
+    let full = timed params h.0.formats h.1.now in
+    let it = subst (ShowsRows b c sql h.0 full rows) none h.2 in (
+      h.0,
+      record { is = subst (λ (d : Database). understood d.schema sql ≡ Ok h.0) now h.1.is; whole = h.1.whole; given = h.1.given; now = h.1.now },
+      subst (ShowsRows a c sql h.0 full rows) (sym none) (it.0, subst (λ (d : Database). IsSourceOf (reads_listing d.schema sql) d it.0) now it.1, it.2, unchanged_then a b c same it.3),
+    )
+
+-- ---- what was folded of rows, in other words of them
+
+pub looked : {F X E : Type 0} (folds : F → List Row → F → Type 0) (old new : F) (P Q : List Row → Type 0) (r : Result X E) → ((rows : List Row) → P rows → Q rows)
+    → OnOk r (HasFolded folds old new P) → OnOk r (HasFolded folds old new Q)
+looked folds old new P Q (Ok x) f h = (h.0, f h.0 h.1, h.2)
+looked folds old new P Q (Err e) f h = tt

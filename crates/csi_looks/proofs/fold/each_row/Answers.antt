@@ -1,0 +1,68 @@
+use Rattle.std.proofs.Common.{rules, refl, arith, []}
+use Rattle.sqlite.specs.State.{HasCleanDisk, Survives, CommitsShowing, FailsToQuery}
+use Rattle.sqlite.specs.Held.{state}
+use Rattle.sqlite.proofs.Callers.{begun_plain, unchanged_then}
+use Rattle.sqlite.proofs.StateLemmas.{survives_then}
+use Rattle.csi_looks.proofs.StreamLemmas.{commits_nothing, fails_keeps, unchanged_keeps, failed_keeps, keeps_then, shown_from}
+use Rattle.csi_looks.proofs.fold.each_row.Goals as goal
+
+pub returns-in_err-rows-clause-kept : goal.returns-in_err-rows-clause-kept
+returns-in_err-rows-clause-kept g c clean =
+    let old = state g.S.Store c.args.conn.now in
+    let new = state g.S.Store c.query.follows.lender-at-none in
+    let held = c.query.follows.holds-at-none in
+    let fails : FailsToQuery c.args.sql.now [] old new c.in_err-rows.field-0.0 = search rules in
+    fails_keeps c.args.sql.now [] old new c.in_err-rows.field-0.0 fails
+
+pub returns-in_err-rows-clause-survives : goal.returns-in_err-rows-clause-survives
+returns-in_err-rows-clause-survives g c =
+    let old = state g.S.Store c.args.conn.now in
+    let new = state g.S.Store c.query.follows.lender-at-none in
+    let held = c.query.follows.holds-at-none in
+    let kept : Survives old new (CommitsShowing c.args.sql.now [] old) = search rules in
+    commits_nothing c.args.sql.now [] old new (λ clean. c.requires.plain (omega (arith, kept.clean))) kept
+
+pub rows-init : goal.rows-init
+rows-init g c =
+    let made = c.in_ok-rows.ensures in (
+      refl,
+      made.mode c.requires.idle,
+      commits_nothing _ _ _ _ (λ clean. c.requires.plain (omega (arith, made.survives.clean))) made.survives,
+      λ clean. let b = begun_plain g.S.Store _ _ c.args.conn.now _ (c.requires.plain (omega (arith, made.survives.clean))) (made.begun clean) in ([], b.0, b.1, g.met.F.Fold.starts _),
+    )
+
+pub returns-in_err-row-clause-kept : goal.returns-in_err-row-clause-kept
+returns-in_err-row-clause-kept g c clean =
+    let moved = c.next.follows.holds-at-none in
+    let now = c.next.follows.lender-at-none.conn.now in
+    let late : HasCleanDisk (state g.S.Store now) = search rules in
+    let was = c.rows.invariant.3 (omega (arith, moved.survives.clean)) in
+    let fail = failed_keeps _ (state g.S.Store now) _ (rw c.in_err-row.was at (moved.kept late)) in
+    let all = keeps_then (state g.S.Store c.args.conn.now) _ (state g.S.Store now) (unchanged_keeps _ _ was.2) fail in
+    search rules
+
+pub returns-in_default-clause-ok : goal.returns-in_default-clause-ok
+returns-in_default-clause-ok g c clean =
+    let old = state g.S.Store c.args.conn.now in
+    let moved = c.next.follows.holds-at-none in
+    let now = c.next.follows.lender-at-none.conn.now in
+    let late : HasCleanDisk (state g.S.Store now) = search rules in
+    let was = c.rows.invariant.3 (omega (arith, moved.survives.clean)) in
+    let shown = (rw (c.in_ok-row.was, c.in_default.is) at (moved.ok late)) c.args.sql.now [] was.0 was.1 in
+    let first = c.requires.plain (omega (arith, moved.survives.clean, c.rows.invariant.2.clean)) in
+    let whole = shown_from c.args.sql.now [] old _ (state g.S.Store now) was.0 first was.2 shown in
+    (was.0, search rules, was.3)
+
+pub rows-preserved : goal.rows-preserved
+rows-preserved g c =
+    let moved = c.next.follows.holds-at-none in (
+      search rules,
+      moved.mode c.rows.invariant.1,
+      survives_then _ _ _ (λ _. ⊥) (λ _. ⊥) (λ _. ⊥) (λ _ db none. none) (λ _ db none. none) c.rows.invariant.2 moved.survives,
+      λ clean.
+          let was = c.rows.invariant.3 (omega (arith, moved.survives.clean)) in
+          let given = (rw (c.in_ok-row.was, c.in-Some.is) at (moved.ok clean)) c.args.sql.now [] was.0 was.1 in
+          let same = unchanged_then _ _ _ was.2 (rw c.in_ok-row.was at (moved.same clean)) in
+          let took = rw c.in_ok-take.was at c.take.ensures in
+          (_, given, same, took _ was.0 was.3),
+    )

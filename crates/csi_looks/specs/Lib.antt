@@ -1,0 +1,3 @@
+pub mod Folds
+pub mod Looks
+pub mod facts

@@ -1,0 +1,61 @@
+-- What the looks show of the tables: meta is tree 0, volumes tree 1, attachments tree 3.
+use Rattle.std.specs.Prelude.{Bool, ◌&&◌, [], ◌∷◌, List, map, filter, flat_map, IsPermutation, IsSorted}
+use Rattle.std.specs.declared.cmp.Ordering.{Ordering}
+use Rattle.std.specs.Ordering.{on}
+use Rattle.sqlite.specs.Collation.TheVariants.{Binary}
+use Rattle.sqlite.specs.declared.types.Value.{Value}
+use Rattle.sqlite.specs.Order.{Row, column, value_cmp}
+use Rattle.sqlite.specs.Ops.{binary, is_true}
+use Rattle.sqlite.specs.Query.{or_nulls}
+use Rattle.sqlite_sql.specs.declared.ops.BinaryOp.TheVariants.{Compare}
+use Rattle.sqlite_sql.specs.declared.ops.CompareOp.TheVariants.{Gt}
+use Rattle.csi_layout.specs.Rows.{seen_attachment}
+use Rattle.csi_statements.specs.Deletes.{is_same}
+
+-- a fold has become another over rows of which this is so
+abbrev pub HasFolded : {F : Type 0} → (F → List Row → F → Type 0) → F → F → (List Row → Type 0) → Type 0
+HasFolded folds old new What = (rows : List Row) × What rows × folds old rows new
+
+-- SQL's order of the first column
+abbrev pub first_cmp : Row → Row → Ordering
+first_cmp = on (λ r. column r 0) value_cmp
+
+-- each row once, in the order of the first column
+pub record IsInOrder (seen rows : List Row) : Type 0 where
+  pub same : IsPermutation seen rows
+  pub sorted : IsSorted first_cmp rows
+
+-- an attachment behind its rowid
+abbrev pub keyed_attachment : Row → Row
+keyed_attachment r = column r 0 ∷ seen_attachment r
+
+-- ---- each attachment with its volume
+
+-- the volume is that of the attachment
+abbrev pub owns : Row → Row → Bool
+owns attachment volume = is_same (column volume 0) (column attachment 1)
+
+-- number, node, cap and readonly of an attachment, and the caps of the volume
+abbrev pub with_owner : Row → Row → Row
+with_owner attachment volume = column attachment 1 ∷ column attachment 2 ∷ column attachment 3 ∷ column attachment 4 ∷ column volume 5 ∷ []
+
+-- each attachment with each volume that is its own, or with NULL where there is none
+abbrev pub owners : List Row → List Row → List Row
+owners attachments volumes = flat_map (λ r. map (with_owner r) (or_nulls (filter (owns r) volumes))) attachments
+
+-- ---- pairs of attachments
+
+abbrev pub is_above : Value → Value → Bool
+is_above a b = is_true (binary (Compare Gt Binary) a b)
+
+-- two attachments of one volume, the second at the later node
+abbrev pub are_pair : Row → Row → Bool
+are_pair a b = is_same (column b 1) (column a 1) && is_above (column b 2) (column a 2)
+
+-- cap and readonly of the first, and of the second
+abbrev pub pair_row : Row → Row → Row
+pair_row a b = column a 3 ∷ column a 4 ∷ column b 3 ∷ column b 4 ∷ []
+
+-- each two attachments of one volume, once
+abbrev pub pairs : List Row → List Row
+pairs attachments = flat_map (λ a. map (pair_row a) (filter (are_pair a) attachments)) attachments

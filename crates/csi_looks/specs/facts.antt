@@ -1,0 +1,4 @@
+pub mod Joins
+pub mod Keyed
+pub mod Rises
+pub mod Starts

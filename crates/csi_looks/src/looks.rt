@@ -1,0 +1,130 @@
+//! The looks: each a query with a fixed text over our tables.
+
+ghost use Rattle.std.specs.Prelude.{◌≡◌, IsPermutation, OnOk, false, map};
+ghost use Rattle.sqlite.specs.Held.{state};
+ghost use Rattle.sqlite.specs.State.{HasCleanDisk, IsUnchanged, KeepsCommit, Survives};
+ghost use Rattle.csi_layout.specs.Rows.{seen_meta, seen_volume};
+ghost use Rattle.csi_layout.specs.Tables.{schema as our_schema};
+ghost use Rattle.csi_looks.specs.Looks.{HasFolded, IsInOrder, keyed_attachment, owners, pairs};
+
+use crate::fold::{Fold, each_row};
+use sqlite::{Alter, Connection, Error};
+
+/// Folds each row of meta: `k`, `format_no` and `next_number`.
+///
+/// # Errors
+///
+/// Where the rows cannot be read, and what the fold answers.
+pub fn look_over_meta<S: Alter, F: Fold>(
+    conn: &mut Connection<S>,
+    fold: &mut F,
+) -> Result<(), Error>
+    requires idle { conn.old.in_transaction ≡ false }
+    requires ours { HasCleanDisk (state S.Store conn.old) → conn.old.schema ≡ our_schema }
+    ensures idle { conn.new.in_transaction ≡ false }
+    ensures ok { HasCleanDisk (state S.Store conn.new) → OnOk result (HasFolded F.folds fold.old fold.new (IsPermutation (map seen_meta ((state S.Store conn.old).now.trees 0)))) }
+    ensures same { HasCleanDisk (state S.Store conn.new) → OnOk result (IsUnchanged (state S.Store conn.old) (state S.Store conn.new)) }
+    ensures kept { HasCleanDisk (state S.Store conn.new) → KeepsCommit (state S.Store conn.old) (state S.Store conn.new) }
+    ensures survives { Survives (state S.Store conn.old) (state S.Store conn.new) (λ _. ⊥) }
+{
+    each_row(conn, "SELECT k, format_no, next_number FROM meta", fold)
+}
+
+/// Folds each row of volumes in the order of the numbers: number, name, bytes, pool, caps and params.
+///
+/// # Errors
+///
+/// Where the rows cannot be read, and what the fold answers.
+pub fn look_over_volumes<S: Alter, F: Fold>(
+    conn: &mut Connection<S>,
+    fold: &mut F,
+) -> Result<(), Error>
+    requires idle { conn.old.in_transaction ≡ false }
+    requires ours { HasCleanDisk (state S.Store conn.old) → conn.old.schema ≡ our_schema }
+    ensures idle { conn.new.in_transaction ≡ false }
+    ensures ok { HasCleanDisk (state S.Store conn.new) → OnOk result (HasFolded F.folds fold.old fold.new (IsInOrder (map seen_volume ((state S.Store conn.old).now.trees 1)))) }
+    ensures same { HasCleanDisk (state S.Store conn.new) → OnOk result (IsUnchanged (state S.Store conn.old) (state S.Store conn.new)) }
+    ensures kept { HasCleanDisk (state S.Store conn.new) → KeepsCommit (state S.Store conn.old) (state S.Store conn.new) }
+    ensures survives { Survives (state S.Store conn.old) (state S.Store conn.new) (λ _. ⊥) }
+{
+    each_row(
+        conn,
+        "SELECT number, name, bytes, pool, caps, params FROM volumes ORDER BY number",
+        fold,
+    )
+}
+
+/// Folds each row of attachments in the order of the rowids: the rowid, number, node, cap and
+/// readonly.
+///
+/// # Errors
+///
+/// Where the rows cannot be read, and what the fold answers.
+pub fn look_over_attachments<S: Alter, F: Fold>(
+    conn: &mut Connection<S>,
+    fold: &mut F,
+) -> Result<(), Error>
+    requires idle { conn.old.in_transaction ≡ false }
+    requires ours { HasCleanDisk (state S.Store conn.old) → conn.old.schema ≡ our_schema }
+    ensures idle { conn.new.in_transaction ≡ false }
+    ensures ok { HasCleanDisk (state S.Store conn.new) → OnOk result (HasFolded F.folds fold.old fold.new (IsInOrder (map keyed_attachment ((state S.Store conn.old).now.trees 3)))) }
+    ensures same { HasCleanDisk (state S.Store conn.new) → OnOk result (IsUnchanged (state S.Store conn.old) (state S.Store conn.new)) }
+    ensures kept { HasCleanDisk (state S.Store conn.new) → KeepsCommit (state S.Store conn.old) (state S.Store conn.new) }
+    ensures survives { Survives (state S.Store conn.old) (state S.Store conn.new) (λ _. ⊥) }
+{
+    each_row(
+        conn,
+        "SELECT rowid, number, node, cap, readonly FROM attachments ORDER BY rowid",
+        fold,
+    )
+}
+
+/// Folds each attachment with the caps of its volume: number, node, cap and readonly, and the
+/// volume's caps. They are NULL where no volume has the number.
+///
+/// # Errors
+///
+/// Where the rows cannot be read, and what the fold answers.
+pub fn look_over_owners<S: Alter, F: Fold>(
+    conn: &mut Connection<S>,
+    fold: &mut F,
+) -> Result<(), Error>
+    requires idle { conn.old.in_transaction ≡ false }
+    requires ours { HasCleanDisk (state S.Store conn.old) → conn.old.schema ≡ our_schema }
+    ensures idle { conn.new.in_transaction ≡ false }
+    ensures ok { HasCleanDisk (state S.Store conn.new) → OnOk result (HasFolded F.folds fold.old fold.new (IsPermutation (owners ((state S.Store conn.old).now.trees 3) ((state S.Store conn.old).now.trees 1)))) }
+    ensures same { HasCleanDisk (state S.Store conn.new) → OnOk result (IsUnchanged (state S.Store conn.old) (state S.Store conn.new)) }
+    ensures kept { HasCleanDisk (state S.Store conn.new) → KeepsCommit (state S.Store conn.old) (state S.Store conn.new) }
+    ensures survives { Survives (state S.Store conn.old) (state S.Store conn.new) (λ _. ⊥) }
+{
+    each_row(
+        conn,
+        "SELECT a.number, a.node, a.cap, a.readonly, v.caps FROM attachments AS a LEFT JOIN volumes AS v ON v.number = a.number",
+        fold,
+    )
+}
+
+/// Folds each two attachments of one volume, once: cap and readonly of the one at the earlier
+/// node, and then of the other.
+///
+/// # Errors
+///
+/// Where the rows cannot be read, and what the fold answers.
+pub fn look_over_pairs<S: Alter, F: Fold>(
+    conn: &mut Connection<S>,
+    fold: &mut F,
+) -> Result<(), Error>
+    requires idle { conn.old.in_transaction ≡ false }
+    requires ours { HasCleanDisk (state S.Store conn.old) → conn.old.schema ≡ our_schema }
+    ensures idle { conn.new.in_transaction ≡ false }
+    ensures ok { HasCleanDisk (state S.Store conn.new) → OnOk result (HasFolded F.folds fold.old fold.new (IsPermutation (pairs ((state S.Store conn.old).now.trees 3)))) }
+    ensures same { HasCleanDisk (state S.Store conn.new) → OnOk result (IsUnchanged (state S.Store conn.old) (state S.Store conn.new)) }
+    ensures kept { HasCleanDisk (state S.Store conn.new) → KeepsCommit (state S.Store conn.old) (state S.Store conn.new) }
+    ensures survives { Survives (state S.Store conn.old) (state S.Store conn.new) (λ _. ⊥) }
+{
+    each_row(
+        conn,
+        "SELECT a.cap, a.readonly, b.cap, b.readonly FROM attachments AS a JOIN attachments AS b ON b.number = a.number AND b.node > a.node",
+        fold,
+    )
+}

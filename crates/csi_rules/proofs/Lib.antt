@@ -1,0 +1,5 @@
+mod AgreementLemmas
+mod CodingLemmas
+mod NamedLemmas
+mod OrderLemmas
+mod TextLemmas

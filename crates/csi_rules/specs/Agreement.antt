@@ -1,0 +1,73 @@
+-- A row that stands for a volume, for an attachment or for the next number passes a rule exactly where the State may have it.
+use Rattle.std.specs.Prelude.{◌≡◌, ℕ, ◌≤◌, ◌<◌, true, false, List, [], ◌∷◌, ◌++◌, None, Some, IsSome, IsUtf8}
+use Rattle.std.specs.Bool.{Decides}
+use Rattle.sqlite.specs.Order.{Row}
+use Rattle.sqlite.specs.declared.types.Value.{Value}
+use Rattle.sqlite.specs.declared.types.Value.TheVariants.{Blob}
+use Rattle.csi_types.specs.Checks.{map_bytes}
+use Rattle.csi_types.specs.Names.{refused_name}
+use Rattle.csi_types.specs.declared.limits.TheConstants.{MAX_MAP_BYTES, MAX_NUMBER}
+use Rattle.csi_config.specs.Faults.{is_whole}
+use Rattle.csi_config.specs.declared.config.Config.{Config}
+use Rattle.csi_keeper.specs.Capability.{has_key, is_supported_key}
+use Rattle.csi_keeper.specs.Coexistence.{coexist}
+use Rattle.csi_keeper.specs.Invariant.{AreKeys}
+use Rattle.csi_keeper.specs.Lookup.{node_of, pool_named}
+use Rattle.csi_keeper.specs.State.{Place}
+use Rattle.csi_keeper.specs.declared.capability.CapKey.{CapKey}
+use Rattle.csi_keeper.specs.declared.volume.Attachment.{Attachment}
+use Rattle.csi_keeper.specs.declared.volume.Volume.{Volume}
+use Rattle.csi_statements.specs.Rows.{bool_value, meta_row}
+use Rattle.csi_looks.specs.Looks.{with_owner}
+use Rattle.csi_tables.specs.Encoding.{caps_bytes, FitCaps, FitParams}
+use Rattle.csi_tables.specs.Holding.{attachment_entry, volume_entry}
+use Rattle.csi_rules.specs.Attachments.{has_flag, is_at_node}
+use Rattle.csi_rules.specs.Coded.{has_cap, has_caps, has_params}
+use Rattle.csi_rules.specs.Joins.{is_beside, is_owned}
+use Rattle.csi_rules.specs.Kinds.{has_attachment_kinds, has_meta_kinds, has_volume_kinds}
+use Rattle.csi_rules.specs.Meta.{has_format, has_next}
+use Rattle.csi_rules.specs.Volumes.{is_in_pools, is_named, is_numbered, is_sized}
+
+-- an attachment's row behind its rowid
+abbrev pub keyed_entry : Value → Place × Attachment → Row
+keyed_entry rowid e = rowid ∷ attachment_entry e
+
+-- the row of meta
+pub record MetaAgrees (number : ℕ) : Type 0 where
+  pub kinds : has_meta_kinds (meta_row number) ≡ true
+  pub format : has_format 1 (meta_row number) ≡ true
+  pub next : Decides (has_next (meta_row number)) ((1 ≤ number) × (number ≤ MAX_NUMBER))
+
+-- the row of a volume, whose name and pool are texts
+pub record VolumeAgrees (config : Config) (next : ℕ) (e : ℕ × Volume) : Type 0 where
+  pub kinds : IsUtf8 e.1.name → IsUtf8 e.1.pool → has_volume_kinds (volume_entry e) ≡ true
+  pub number : Decides (is_numbered next (volume_entry e)) ((1 ≤ e.0) × (e.0 < next))
+  pub name : IsUtf8 e.1.name → Decides (is_named (volume_entry e)) (refused_name e.1.name ≡ None)
+  pub pool : Decides (is_in_pools config.pools (volume_entry e)) (IsSome (pool_named config.pools e.1.pool))
+  pub bytes : Decides (is_sized (volume_entry e)) (is_whole e.1.bytes ≡ true)
+  pub caps : FitCaps e.1.caps → Decides (has_caps (volume_entry e)) (AreKeys e.1.caps)
+  pub params : FitParams e.1.params → Decides (has_params (volume_entry e)) (map_bytes e.1.params ≤ MAX_MAP_BYTES)
+
+-- the row of an attachment, whose node is a text
+pub record AttachmentAgrees (config : Config) (rowid : Value) (e : Place × Attachment) : Type 0 where
+  pub kinds : IsUtf8 e.0.1 → has_attachment_kinds (keyed_entry rowid e) ≡ true
+  pub readonly : has_flag (keyed_entry rowid e) ≡ true
+  pub node : Decides (is_at_node config.nodes (keyed_entry rowid e)) (IsSome (node_of config e.0.1))
+  pub cap : FitCaps (e.1.cap ∷ []) → Decides (has_cap (keyed_entry rowid e)) (is_supported_key e.1.cap ≡ true)
+
+-- an attachment's row with the caps of a volume behind it
+abbrev pub owned_entry : Place × Attachment → List CapKey → Row
+owned_entry e «keys» = attachment_entry e ++ Blob (caps_bytes «keys») ∷ []
+
+-- an attachment with a volume, both of which have capabilities that pass; and one with none
+pub record OwnerAgrees (e : Place × Attachment) («keys» : List CapKey) : Type 0 where
+  pub owned : FitCaps (e.1.cap ∷ []) → is_supported_key e.1.cap ≡ true → FitCaps «keys» → AreKeys «keys» → is_owned (owned_entry e «keys») ≡ has_key «keys» (Some e.1.cap)
+  pub unowned : (row : Row) → is_owned (with_owner row []) ≡ false
+
+-- cap and readonly of two attachments
+abbrev pub pair_entry : Attachment → Attachment → Row
+pair_entry a b = Blob (caps_bytes (a.cap ∷ [])) ∷ bool_value a.readonly ∷ Blob (caps_bytes (b.cap ∷ [])) ∷ bool_value b.readonly ∷ []
+
+-- two attachments, both of which have a capability that passes
+pub record PairAgrees (a b : Attachment) : Type 0 where
+  pub beside : FitCaps (a.cap ∷ []) → is_supported_key a.cap ≡ true → FitCaps (b.cap ∷ []) → is_supported_key b.cap ≡ true → is_beside (pair_entry a b) ≡ coexist a b

@@ -1,0 +1,31 @@
+-- The rules of an attachment with the caps of its volume, and of two attachments of one volume.
+use Rattle.std.specs.Prelude.{ℕ, Bool, [], Option, None, Some}
+use Rattle.sqlite.specs.Order.{Row, column}
+use Rattle.csi_keeper.specs.Capability.{has_key}
+use Rattle.csi_keeper.specs.Coexistence.{coexist}
+use Rattle.csi_keeper.specs.declared.capability.CapKey.{CapKey}
+use Rattle.csi_keeper.specs.declared.volume.Attachment.{Attachment}
+use Rattle.csi_statements.specs.Cells.{as_flag}
+use Rattle.csi_rules.specs.Coded.{key_at, keys_at}
+use Rattle.csi_rules.specs.Values.{are_some_and}
+
+-- number, node, cap and readonly, and the caps of the volume: the volume stands, and the capability is one of its own
+abbrev pub is_owned : Row → Bool
+is_owned row = are_some_and (λ key ks. has_key ks (Some key)) (key_at 2 row) (keys_at 4 row)
+
+-- an attachment of which no node is told
+abbrev pub attached : CapKey → Bool → Attachment
+attached key readonly = record { node = []; cap = key; readonly = readonly }
+
+abbrev pub attached_with : Option CapKey → Option Bool → Option Attachment
+attached_with (Some key) (Some readonly) = Some (attached key readonly)
+attached_with (Some key) None = None
+attached_with None readonly = None
+
+-- the attachment whose cap and readonly stand in two cells
+abbrev pub attached_at : ℕ → ℕ → Row → Option Attachment
+attached_at cap readonly row = attached_with (key_at cap row) (as_flag (column row readonly))
+
+-- cap and readonly of the one, and of the other: they can stand at two nodes
+abbrev pub is_beside : Row → Bool
+is_beside row = are_some_and coexist (attached_at 0 1 row) (attached_at 2 3 row)

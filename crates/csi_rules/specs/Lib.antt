@@ -1,0 +1,11 @@
+pub mod Agreement
+pub mod Attachments
+pub mod Coded
+pub mod Coding
+pub mod Joins
+pub mod Kinds
+pub mod Meta
+pub mod Named
+pub mod Values
+pub mod Volumes
+pub mod facts

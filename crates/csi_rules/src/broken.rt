@@ -1,0 +1,88 @@
+//! Which rule stored rows break, and which row breaks it.
+
+use csi_types::Text;
+use thiserror::Error;
+
+/// A rule of a row of volumes.
+#[derive(Clone, Copy, Debug, PartialEq, Eq, Error)]
+pub enum VolumeRule {
+    /// The number is at least 1 and below the next number.
+    #[error("its number is not from 1 to below the next number")]
+    Number,
+    /// The name is one that a volume can be made with.
+    #[error("its name is not one that a volume can be made with")]
+    Name,
+    /// The pool is one of the configuration.
+    #[error("its pool is not one of the configuration")]
+    Pool,
+    /// The bytes are a positive multiple of 1 MiB.
+    #[error("its bytes are not a positive multiple of 1048576")]
+    Bytes,
+    /// `caps` says capabilities: at least one, in order, each supported.
+    #[error("its caps are not the bytes of supported capabilities in order")]
+    Caps,
+    /// `params` says parameters of at most 4,096 bytes.
+    #[error("its params are not the bytes of parameters of at most 4096 bytes")]
+    Params,
+}
+
+/// A rule of a row of attachments.
+#[derive(Clone, Copy, Debug, PartialEq, Eq, Error)]
+pub enum AttachmentRule {
+    /// `cap` says one capability, which is supported.
+    #[error("its cap is not the bytes of one supported capability")]
+    Cap,
+    /// `readonly` is 0 or 1.
+    #[error("its readonly is not 0 or 1")]
+    Readonly,
+    /// The volume stands, and has the capability.
+    #[error("no volume of its number has its capability")]
+    Owner,
+    /// The node is one of the configuration.
+    #[error("its node is not one of the configuration")]
+    Node,
+}
+
+/// Which rule stored rows break. Its `Display` names the row.
+#[derive(Debug, PartialEq, Eq, Drop, Error)]
+pub enum BrokenRule {
+    /// The next number is not 1 to 2^62.
+    #[error("the next number is not 1 to 2^62")]
+    Next,
+    /// A volume breaks a rule.
+    #[error("volume {number}: {rule}")]
+    Volume {
+        /// The volume's number, as it stands in the row.
+        number: i64,
+        /// The rule.
+        rule: VolumeRule,
+    },
+    /// The volumes of a pool together are larger than it.
+    #[error("pool {name}: its volumes have more bytes than it has")]
+    Pool {
+        /// The pool's name.
+        name: Text,
+    },
+    /// An attachment breaks a rule.
+    #[error("volume {number} at node {node}: {rule}")]
+    Attachment {
+        /// The volume's number, as it stands in the row.
+        number: i64,
+        /// The node's id.
+        node: Text,
+        /// The rule.
+        rule: AttachmentRule,
+    },
+    /// Two attachments of one volume cannot stand beside one another.
+    #[error("a volume is attached at two nodes that cannot have it together")]
+    Beside,
+    /// A node has more attachments than it can.
+    #[error("node {id}: more volumes are attached there than it can have")]
+    Node {
+        /// The node's id.
+        id: Text,
+    },
+    /// There are more than 100,000 volumes.
+    #[error("there are more than 100000 volumes")]
+    TooManyVolumes,
+}

@@ -1,0 +1,203 @@
+//! What capabilities and parameters bytes say: those whose canonical bytes they are.
+
+ghost use Rattle.std.specs.Prelude.{◌≡◌, ◌^◌, ◌-◌, ◌∷◌, [], min, Some, Ok, IfOk, IfSome, OnOk, bytes_eq, map};
+ghost use Rattle.std.specs.List.{list_all};
+ghost use Rattle.csi_types.specs.Checks.{map_bytes};
+ghost use Rattle.csi_types.specs.declared.method.Method.TheVariants.{CreateVolume as Creating};
+ghost use Rattle.csi_codec.specs.Methods.{request_bytes, FitsRequest};
+ghost use Rattle.csi_codec.specs.Reading.{read_request};
+ghost use Rattle.csi_keeper.specs.Capability.{capability_of, is_supported_key};
+ghost use Rattle.csi_tables.specs.Encoding.{create_with, caps_bytes, params_bytes, FitCaps, FitParams};
+ghost use Rattle.csi_rules.specs.Coding.{are_keys, are_params, created, each_key, is_before, key_in, keys_in, message_in, only, params_in, rise};
+
+use csi_codec::{DecodeFault, decode, encode_request};
+use csi_keeper::{CapKey, cap_key, capability_of, supported};
+use csi_types::{
+    Capability, CreateVolume, Items, MAX_MAP_BYTES, Map, Method, Request, Text, copy_map,
+};
+use sqlite::{Error, ErrorCode};
+use std::alloc::{AllocError, Global};
+use std::cmp::Ordering;
+
+// ---- what is read
+
+fn message_in(alloc: Global, bytes: &[u8]) -> Result<Option<CreateVolume>, Error>
+    ensures { IfOk result (λ message. message ≡ message_in bytes.now) }
+{
+    match decode(alloc, Method::CreateVolume, bytes) {
+        Ok(Request::Create(message)) => Ok(Some(message)),
+        Ok(_) | Err(DecodeFault::Malformed { .. }) => Ok(None),
+        Err(DecodeFault::NoMemory) => Err(Error::SqliteFailure(ErrorCode::OutOfMemory)),
+    }
+}
+
+fn each_key(alloc: Global, capabilities: &[Capability]) -> Result<Option<Items<CapKey>>, Error>
+    ensures { IfOk result (λ keys. keys ≡ each_key capabilities.now) }
+{
+    let mut keys = Items::new(alloc);
+    for capability in capabilities {
+        let Some(key) = cap_key(alloc, capability)? else {
+            return Ok(None);
+        };
+        keys.push(key)?;
+    }
+    Ok(Some(keys))
+}
+
+// ---- what is written
+
+fn create_with(alloc: Global, capabilities: Items<Capability>, parameters: Map) -> Request
+    ensures { result ≡ create_with capabilities parameters }
+{
+    Request::Create(CreateVolume {
+        name: Text::new(alloc),
+        range: None,
+        capabilities,
+        parameters,
+        secrets: Map::new(alloc),
+        source: false,
+        topology: None,
+    })
+}
+
+// Whether these bytes are the canonical ones of a request.
+fn is_written(alloc: Global, request: &Request, bytes: &[u8]) -> Result<bool, AllocError>
+    ensures same { IfOk result (λ same. same ≡ bytes_eq (request_bytes request.now) bytes.now) }
+    ensures fits { OnOk result (FitsRequest request.now) }
+{
+    let mut out = Vec::new(alloc);
+    encode_request(request, &mut out)?;
+    Ok(out.as_slice() == bytes)
+}
+
+fn capabilities_of(alloc: Global, keys: &[CapKey]) -> Result<Items<Capability>, AllocError>
+    ensures { IfOk result (λ capabilities. capabilities ≡ map capability_of keys.now) }
+{
+    let mut capabilities = Items::new(alloc);
+    for key in keys {
+        capabilities.push(capability_of(alloc, key)?)?;
+    }
+    Ok(capabilities)
+}
+
+#[tactic(auto, unfolding(csi_tables::specs::Encoding::caps_bytes, csi_tables::specs::Encoding::FitCaps))]
+fn are_caps(alloc: Global, keys: &[CapKey], bytes: &[u8]) -> Result<bool, AllocError>
+    ensures same { IfOk result (λ same. same ≡ bytes_eq (caps_bytes keys.now) bytes.now) }
+    ensures fits { OnOk result (FitCaps keys.now) }
+{
+    let request = create_with(alloc, capabilities_of(alloc, keys)?, Map::new(alloc));
+    is_written(alloc, &request, bytes)
+}
+
+#[tactic(auto, unfolding(csi_tables::specs::Encoding::params_bytes, csi_tables::specs::Encoding::FitParams))]
+fn are_params_of(alloc: Global, params: &Map, bytes: &[u8]) -> Result<bool, AllocError>
+    ensures same { IfOk result (λ same. same ≡ bytes_eq (params_bytes params.now) bytes.now) }
+    ensures fits { OnOk result (FitParams params.now) }
+{
+    let request = create_with(alloc, Items::new(alloc), copy_map(alloc, params)?);
+    is_written(alloc, &request, bytes)
+}
+
+// ---- what bytes say
+
+/// The keys whose canonical bytes these are.
+pub(crate) fn keys_in(alloc: Global, bytes: &[u8]) -> Result<Option<Items<CapKey>>, Error>
+    ensures value { IfOk result (λ keys. keys ≡ keys_in bytes.now) }
+    ensures fits { IfOk result (λ keys. IfSome keys FitCaps) }
+{
+    let Some(message) = message_in(alloc, bytes)? else {
+        return Ok(None);
+    };
+    let Some(keys) = each_key(alloc, message.capabilities.as_slice())? else {
+        return Ok(None);
+    };
+    if are_caps(alloc, keys.as_slice(), bytes)? {
+        Ok(Some(keys))
+    } else {
+        Ok(None)
+    }
+}
+
+// The only key of some.
+fn only(keys: Items<CapKey>) -> Option<CapKey>
+    ensures { result ≡ only keys }
+{
+    let mut keys = keys.into_vec();
+    if keys.len() == 1 { keys.pop() } else { None }
+}
+
+/// The one key whose canonical bytes these are.
+pub(crate) fn key_in(alloc: Global, bytes: &[u8]) -> Result<Option<CapKey>, Error>
+    ensures value { IfOk result (λ key. key ≡ key_in bytes.now) }
+    ensures fits { IfOk result (λ key. IfSome key (λ k. FitCaps (k ∷ []))) }
+{
+    match keys_in(alloc, bytes)? {
+        Some(keys) => Ok(only(keys)),
+        None => Ok(None),
+    }
+}
+
+/// The parameters whose canonical bytes these are.
+pub(crate) fn params_in(alloc: Global, bytes: &[u8]) -> Result<Option<Map>, Error>
+    ensures value { IfOk result (λ params. params ≡ params_in bytes.now) }
+    ensures fits { IfOk result (λ params. IfSome params FitParams) }
+{
+    let Some(message) = message_in(alloc, bytes)? else {
+        return Ok(None);
+    };
+    if are_params_of(alloc, &message.parameters, bytes)? {
+        Ok(Some(message.parameters))
+    } else {
+        Ok(None)
+    }
+}
+
+// ---- the rules of what is said
+
+fn is_before(one: &CapKey, next: &CapKey) -> bool
+    ensures { result ≡ is_before one.now next.now }
+{
+    matches!(one.cmp(next), Ordering::Less)
+}
+
+fn rise(keys: &[CapKey]) -> bool
+    ensures { result ≡ rise keys.now }
+{
+    for at in 1..keys.len() {
+        if !is_before(&keys[at - 1], &keys[at]) {
+            return false;
+        }
+    }
+    true
+}
+
+fn all_supported(keys: &[CapKey]) -> bool
+    ensures { result ≡ list_all is_supported_key keys.now }
+{
+    keys.iter().all(|key| supported(key))
+}
+
+/// Whether there is at least one key, they are in order, and each is supported.
+pub(crate) fn are_keys(keys: &[CapKey]) -> bool
+    ensures { result ≡ are_keys keys.now }
+{
+    !keys.is_empty() && rise(keys) && all_supported(keys)
+}
+
+// The bytes of all keys and values, as far as a number of 64 bits counts.
+fn bytes_of_map(map: &Map) -> usize
+    ensures { result ≡ min (map_bytes map.now) (2 ^ 64 - 1) }
+{
+    let mut bytes: usize = 0;
+    for (key, value) in map.iter() {
+        bytes = bytes.saturating_add(key.len()).saturating_add(value.len());
+    }
+    bytes
+}
+
+/// Whether parameters have at most 4,096 bytes.
+pub(crate) fn are_params(params: &Map) -> bool
+    ensures { result ≡ are_params params.now }
+{
+    bytes_of_map(params) <= MAX_MAP_BYTES
+}

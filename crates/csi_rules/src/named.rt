@@ -1,0 +1,112 @@
+//! The first row that breaks a rule, by its number and its text.
+
+ghost use Rattle.std.specs.Prelude.{◌≡◌, refl, IfOk};
+ghost use Rattle.std.specs.Str.{is_utf8};
+ghost use Rattle.sqlite.specs.Order.{column};
+ghost use Rattle.csi_looks.specs.Folds.{as_integer};
+ghost use Rattle.csi_statements.specs.Cells.{as_text};
+ghost use Rattle.csi_rules.specs.Values.{if_passes};
+ghost use Rattle.csi_rules.specs.facts.Starts.{still_found};
+
+use crate::cells::as_utf8;
+use crate::trial::RowTrial;
+use csi_looks::{Fold, RowTest};
+use csi_statements::values::text_at;
+use csi_types::Text;
+use sqlite::types::ValueRef;
+use sqlite::{Error, Row};
+use std::alloc::{AllocError, Global};
+
+/// What a row is named by.
+#[derive(Debug, PartialEq, Eq, Drop)]
+pub struct RowName {
+    /// Its number; `None` where there is no integer.
+    pub number: Option<i64>,
+    /// Its text; `None` where there is no text in UTF-8.
+    pub text: Option<Text>,
+}
+
+fn integer_at(row: &Row, at: usize) -> Option<i64>
+    ensures { result ≡ as_integer (column row.now at) }
+{
+    match row.get_ref(at) {
+        Ok(ValueRef::Int(integer)) => Some(integer),
+        _ => None,
+    }
+}
+
+fn words_at(alloc: Global, row: &Row, at: usize) -> Result<Option<Text>, AllocError>
+    ensures { IfOk result (λ text. text ≡ if_passes is_utf8 (as_text (column row.now at))) }
+{
+    let Some(bytes) = text_at(row, at) else {
+        return Ok(None);
+    };
+    match as_utf8(bytes) {
+        Some(text) => Ok(Some(Text::from_str(alloc, text)?)),
+        None => Ok(None),
+    }
+}
+
+/// The first row that breaks a rule.
+#[derive(Drop)]
+pub struct FirstBroken<T> {
+    /// What holds the text of the row.
+    pub alloc: Global,
+    /// The rule.
+    pub test: T,
+    /// The column of the number, counted from 0.
+    pub number: usize,
+    /// The column of the text, counted from 0.
+    pub text: usize,
+    /// The first row that breaks the rule; `None` where none has so far. It begins as `None`.
+    pub found: Option<RowName>,
+}
+
+impl<T: RowTrial> FirstBroken<T> {
+    ghost use Rattle.csi_rules.specs.Named.{name_if};
+
+    // The name of the row, if it breaks the rule.
+    fn name_if_broken(&self, row: &Row) -> Result<Option<RowName>, Error>
+        ensures { IfOk result (λ name. name ≡ name_if self.now.number self.now.text (T.accepts self.now.test) row.now) }
+    {
+        if self.test.try_test(row)? {
+            return Ok(None);
+        }
+        Ok(Some(RowName {
+            number: integer_at(row, self.number),
+            text: words_at(self.alloc, row, self.text)?,
+        }))
+    }
+}
+
+impl<T: RowTrial> Fold for FirstBroken<T> {
+    ghost use Rattle.csi_rules.specs.Named.{named_out};
+
+    ghost folds = { λ first rows now. (now.test ≡ first.test) × (now.number ≡ first.number) × (now.text ≡ first.text) × (now.found ≡ named_out first.number first.text (T.accepts first.test) first.found rows) };
+
+    ghost starts = { λ first. (refl, refl, refl, still_found first.found) };
+
+    fn take(&mut self, row: &Row) -> Result<(), Error> {
+        if self.found.is_none() {
+            self.found = self.name_if_broken(row)?;
+        }
+        Ok(())
+    }
+}
+
+/// A test that takes no memory, as one that may.
+#[derive(Debug, Drop)]
+pub struct Sure<T> {
+    /// The test.
+    pub test: T,
+}
+
+impl<T: RowTest> RowTrial for Sure<T> {
+    ghost accepts = { λ sure row. T.accepts sure.test row };
+
+    ghost knows = { λ _ _. Unit {0} };
+
+    fn try_test(&self, row: &Row) -> Result<bool, Error> {
+        Ok(self.test.test(row))
+    }
+}
