@@ -60,6 +60,16 @@ impl Totals {
         }
     }
 
+    /// Sets the total of a pool; the other pools stay. Where memory is refused each total stays.
+    #[tactic(auto, using(crate::proofs::TreeLemmas::total_set))]
+    pub fn set(&mut self, pool: Text, total: Total) -> Result<(), AllocError>
+        ensures set { OnOk result ((q : List ℕ) → total_of self.new q ≡ (if same_text pool q then total else total_of self.old q)) }
+        ensures same { OnErr result ((q : List ℕ) → total_of self.new q ≡ total_of self.old q) }
+    {
+        self.tree.insert(pool, total)?;
+        Ok(())
+    }
+
     /// Counts a volume of this many bytes in a pool; the other pools stay. Where memory is refused
     /// each total stays. Nothing is said where the pool has 2^64 - 1 volumes already, or the sum
     /// would pass the greatest `u128`.

@@ -32,13 +32,13 @@ owners_query = record plain_query {
 }
 
 abbrev pub pairs_text : List ℕ
-pairs_text = codes "SELECT a.cap, a.readonly, b.cap, b.readonly FROM attachments AS a JOIN attachments AS b ON b.number = a.number AND b.node > a.node"
+pairs_text = codes "SELECT a.cap, a.readonly, b.cap, b.readonly, a.number, a.node, b.node FROM attachments AS a JOIN attachments AS b ON b.number = a.number AND b.node > a.node"
 
 abbrev pairs_query : Query
 pairs_query = record plain_query {
   from = inner 3 (inner 3 end);
   filter = op2 (Compare Eq Binary) (col 2 1) (col 1 1) ∷ op2 (Compare Gt Binary) (col 2 2) (col 1 2) ∷ [];
-  project = col 1 3 ∷ col 1 4 ∷ col 2 3 ∷ col 2 4 ∷ [];
+  project = col 1 3 ∷ col 1 4 ∷ col 2 3 ∷ col 2 4 ∷ col 1 1 ∷ col 1 2 ∷ col 2 2 ∷ [];
 }
 
 pub owners_select : IsSelect owners_text owners_query
@@ -47,7 +47,7 @@ owners_select = record { names = codes "number" ∷ codes "node" ∷ codes "cap"
 
 pub pairs_select : IsSelect pairs_text pairs_query
 unfolding understood everything
-pairs_select = record { names = codes "cap" ∷ codes "readonly" ∷ codes "cap" ∷ codes "readonly" ∷ []; is = refl; plain = (refl, refl); unlisted = refl }
+pairs_select = record { names = codes "cap" ∷ codes "readonly" ∷ codes "cap" ∷ codes "readonly" ∷ codes "number" ∷ codes "node" ∷ codes "node" ∷ []; is = refl; plain = (refl, refl); unlisted = refl }
 
 map-append : {A B : Type 0} (f : A → B) (xs ys : List A) → map f (xs ++ ys) ≡ map f xs ++ map f ys
 map-append f [] ys = refl

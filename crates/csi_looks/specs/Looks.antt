@@ -52,9 +52,9 @@ is_above a b = is_true (binary (Compare Gt Binary) a b)
 abbrev pub are_pair : Row → Row → Bool
 are_pair a b = is_same (column b 1) (column a 1) && is_above (column b 2) (column a 2)
 
--- cap and readonly of the first, and of the second
+-- cap and readonly of the first, and of the second; and the number and both nodes
 abbrev pub pair_row : Row → Row → Row
-pair_row a b = column a 3 ∷ column a 4 ∷ column b 3 ∷ column b 4 ∷ []
+pair_row a b = column a 3 ∷ column a 4 ∷ column b 3 ∷ column b 4 ∷ column a 1 ∷ column a 2 ∷ column b 2 ∷ []
 
 -- each two attachments of one volume, once
 abbrev pub pairs : List Row → List Row

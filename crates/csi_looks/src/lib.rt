@@ -2,13 +2,14 @@
 //!
 //! A look is a query with a fixed text, and a `Fold` takes each row of its answer. Folds are put together
 //! by types: `Every` tests each row by itself, `Both` and `Each` take the same rows side by side,
-//! `TextSum` adds up and `Rising` tells whether integers rise. So one look judges a table by many rules.
+//! `TextSum` adds up, `RowCount` counts and `Rising` tells whether integers rise. So one look judges a table by many rules.
 //!
 //! What is promised of the rows is promised while the connection is clean as the call ends
 //! (`HasCleanDisk`), and under the schema that `csi_layout::make_tables` makes. A look leaves the
 //! tables, and adds nothing to what a stop may leave.
 #![tactic(auto)]
 
+mod count;
 mod each;
 mod fold;
 mod folds;
@@ -16,6 +17,7 @@ mod looks;
 mod rising;
 mod sums;
 
+pub use count::RowCount;
 pub use each::Each;
 pub use fold::{Fold, each_row};
 pub use folds::{Both, Every, RowTest};

@@ -105,7 +105,7 @@ pub fn look_over_owners<S: Alter, F: Fold>(
 }
 
 /// Folds each two attachments of one volume, once: cap and readonly of the one at the earlier
-/// node, and then of the other.
+/// node, and then of the other; and behind them the number and the two nodes, in the same order.
 ///
 /// # Errors
 ///
@@ -124,7 +124,7 @@ pub fn look_over_pairs<S: Alter, F: Fold>(
 {
     each_row(
         conn,
-        "SELECT a.cap, a.readonly, b.cap, b.readonly FROM attachments AS a JOIN attachments AS b ON b.number = a.number AND b.node > a.node",
+        "SELECT a.cap, a.readonly, b.cap, b.readonly, a.number, a.node, b.node FROM attachments AS a JOIN attachments AS b ON b.number = a.number AND b.node > a.node",
         fold,
     )
 }

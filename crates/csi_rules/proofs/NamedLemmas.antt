@@ -32,3 +32,7 @@ module _ (number text : ℕ) (test : Row → Bool) (first : Option RowName) (row
   found_now None none is n t p same_number same_text same_test now e =
       e ∙ (λ i. name_if (same_number i) (same_text i) (same_test i) row) ∙ ap (λ o. option_or o (name_if number text test row)) is ∙ sym one_more
   found_now (Some name) none is n t p same_number same_text same_test now e = absurd (cc)
+
+pub not_found : {A : Type 0} (o : Option A) → is_some o ≡ false → o ≡ None
+not_found None is = refl
+not_found (Some a) is = absurd (cc)

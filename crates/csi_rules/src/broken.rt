@@ -41,6 +41,9 @@ pub enum AttachmentRule {
     /// The node is one of the configuration.
     #[error("its node is not one of the configuration")]
     Node,
+    /// It can stand beside each other attachment of its volume.
+    #[error("the volume is attached at another node too, and the two cannot have it together")]
+    Beside,
 }
 
 /// Which rule stored rows break. Its `Display` names the row.
@@ -73,9 +76,6 @@ pub enum BrokenRule {
         /// The rule.
         rule: AttachmentRule,
     },
-    /// Two attachments of one volume cannot stand beside one another.
-    #[error("a volume is attached at two nodes that cannot have it together")]
-    Beside,
     /// A node has more attachments than it can.
     #[error("node {id}: more volumes are attached there than it can have")]
     Node {

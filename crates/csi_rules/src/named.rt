@@ -1,6 +1,7 @@
 //! The first row that breaks a rule, by its number and its text.
 
-ghost use Rattle.std.specs.Prelude.{◌≡◌, refl, IfOk};
+ghost use Rattle.std.specs.Prelude.{◌≡◌, refl, None, IfOk};
+ghost use Rattle.std.specs.List.{AllByRecursion};
 ghost use Rattle.std.specs.Str.{is_utf8};
 ghost use Rattle.sqlite.specs.Order.{column};
 ghost use Rattle.csi_looks.specs.Folds.{as_integer};
@@ -67,7 +68,8 @@ impl<T: RowTrial> FirstBroken<T> {
 
     // The name of the row, if it breaks the rule.
     fn name_if_broken(&self, row: &Row) -> Result<Option<RowName>, Error>
-        ensures { IfOk result (λ name. name ≡ name_if self.now.number self.now.text (T.accepts self.now.test) row.now) }
+        ensures value { IfOk result (λ name. name ≡ name_if self.now.number self.now.text (T.accepts self.now.test) row.now) }
+        ensures known { IfOk result (λ name. name ≡ None → T.knows self.now.test row.now) }
     {
         if self.test.try_test(row)? {
             return Ok(None);
@@ -82,9 +84,12 @@ impl<T: RowTrial> FirstBroken<T> {
 impl<T: RowTrial> Fold for FirstBroken<T> {
     ghost use Rattle.csi_rules.specs.Named.{named_out};
 
-    ghost folds = { λ first rows now. (now.test ≡ first.test) × (now.number ≡ first.number) × (now.text ≡ first.text) × (now.found ≡ named_out first.number first.text (T.accepts first.test) first.found rows) };
+    ghost folds = { λ first rows now.
+        (now.test ≡ first.test) × (now.number ≡ first.number) × (now.text ≡ first.text)
+        × (now.found ≡ named_out first.number first.text (T.accepts first.test) first.found rows)
+        × (now.found ≡ None → AllByRecursion (T.knows first.test) rows) };
 
-    ghost starts = { λ first. (refl, refl, refl, still_found first.found) };
+    ghost starts = { λ first. (refl, refl, refl, still_found first.found, λ none. tt) };
 
     fn take(&mut self, row: &Row) -> Result<(), Error> {
         if self.found.is_none() {

@@ -1,13 +1,15 @@
 //! How a keeper over tables comes to stand on a connection, and leaves it.
 
-ghost use Rattle.std.specs.Prelude.{◌≡◌, false, IfErr, IfOk};
+ghost use Rattle.std.specs.Prelude.{◌≡◌, false, IfErr, IfOk, IsTrue};
 ghost use Rattle.sqlite.specs.Held.{state};
 ghost use Rattle.sqlite.specs.State.{HasCleanDisk, Survives};
 ghost use Rattle.csi_layout.specs.Making.{MakesTables};
 ghost use Rattle.csi_layout.specs.Tables.{no_schema};
 ghost use Rattle.csi_layout.specs.Transactions.{LeavesFrom};
 ghost use Rattle.csi_statements.specs.Rows.{IsUndone};
-ghost use Rattle.csi_tables.specs.Keeping.{connection_of, IsNewOver};
+ghost use Rattle.csi_keeper.specs.State.{State};
+ghost use Rattle.csi_tables.specs.Holding.{conn_doubt, store_doubt, store_holds};
+ghost use Rattle.csi_tables.specs.Keeping.{connection_of, is_down, refusals, store_of, IsNewOver};
 
 use crate::encoding::read_back;
 use crate::tables::Tables;
@@ -40,6 +42,7 @@ impl<S: Alter> Tables<S> {
     pub fn make(alloc: Global, mut conn: Connection<S>) -> Result<Tables<S>, MakeFault<S>>
         requires idle { conn.in_transaction ≡ false }
         ensures made { IfOk result (λ tables. IsNewOver S.Store conn tables) }
+        ensures was_open { IfOk result (λ tables. store_doubt S.Store (store_of S.Store tables) ≡ 0 → IsTrue (state S.Store conn).is_open) }
         ensures undone { IfErr result (λ fault. HasCleanDisk (state S.Store fault.conn) → IsUndone (state S.Store conn) (state S.Store fault.conn)) }
         ensures survives { IfErr result (λ fault. Survives (state S.Store conn) (state S.Store fault.conn) (LeavesFrom no_schema MakesTables (state S.Store conn))) }
         ensures idle { IfErr result (λ fault. fault.conn.in_transaction ≡ false) }
@@ -49,6 +52,18 @@ impl<S: Alter> Tables<S> {
             Ok(()) => Ok(Tables::new(conn, Totals::new(alloc))),
             Err(error) => Err(MakeFault { error, conn }),
         }
+    }
+
+    /// A keeper over tables that stand for a State, with what the State's pools have used; it is not
+    /// down, and has refused nothing. Who takes a connection from elsewhere has to judge its rows
+    /// first, as `csi_adoption::adopt` does.
+    pub fn over(conn: Connection<S>, totals: Totals) -> Tables<S>
+        requires idle { conn.in_transaction ≡ false }
+        requires stands { conn_doubt S.Store conn ≡ 0 → (s : State) × store_holds S.Store (conn, totals) s }
+        ensures same { store_of S.Store result ≡ (conn, totals) }
+        ensures fresh { (is_down S.Store result ≡ false) × (refusals S.Store result ≡ 0) }
+    {
+        Tables::new(conn, totals)
     }
 
     /// The connection, on which no transaction is open. The rows stay in its database.

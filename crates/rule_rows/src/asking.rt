@@ -139,9 +139,9 @@ fn pairs<S: Alter>(alloc: Global, conn: &mut Connection<S>) -> Result<String, Ro
     requires idle { conn.old.in_transaction ≡ false }
     requires ours { conn.old.schema ≡ our_schema }
 {
-    let mut fold = folded(alloc, IsBeside { alloc }, 0, 0);
+    let mut fold = folded(alloc, IsBeside { alloc }, 4, 5);
     look_over_pairs(conn, &mut fold)?;
-    first_answer(alloc, fold.found)
+    attachment_answer(alloc, fold.found, AttachmentRule::Beside)
 }
 
 fn number_of(word: &str) -> Result<u64, RowFault> {
