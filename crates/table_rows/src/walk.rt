@@ -5,12 +5,14 @@ use crate::calls::{Reply, answered};
 use crate::fault::RowFault;
 use crate::random::Random;
 use crate::requests::{Source, request};
+use csi_adoption::adopt;
 use csi_config::Config;
 use csi_keeper::{Attachment, Keeper, MemKeeper, Volume};
 use csi_tables::Tables;
 use csi_types::{Items, Request};
 use sqlite::MemStore;
 use std::alloc::Global;
+use std::mem;
 
 // What comes so often shows something.
 const OFTEN: u32 = 10;
@@ -37,8 +39,9 @@ struct Walk {
     tallies: [Tally; 7],
 }
 
-/// So many requests of a seed: how many were answered otherwise over tables than in memory, whether
-/// both have the same State at the end, and whether each method was done and refused often.
+/// So many requests of a seed, with the tables adopted anew before the second half: how many were
+/// answered otherwise over tables than in memory, whether both have the same State at the end, and
+/// whether each method was done and refused often.
 pub(crate) fn walked(alloc: Global, seed: u64, count: u32) -> Result<String, RowFault> {
     let mut walk = Walk {
         config: Config::sample(alloc)?,
@@ -51,7 +54,10 @@ pub(crate) fn walked(alloc: Global, seed: u64, count: u32) -> Result<String, Row
             refused: 0,
         }; 7],
     };
-    for _ in 0..count {
+    for step in 0..count {
+        if step == count / 2 {
+            walk.adopt_anew(alloc)?;
+        }
         walk.step(alloc)?;
     }
     let state = if walk.is_same_state(alloc)? {
@@ -82,6 +88,19 @@ impl Walk {
             self.differ = self.differ.saturating_add(1);
         }
         self.note(&request, &expected);
+        Ok(())
+    }
+
+    // Takes the connection back, and goes on over the keeper that its tables are adopted as.
+    fn adopt_anew(&mut self, alloc: Global) -> Result<(), RowFault> {
+        let tables = mem::replace(&mut self.tables, new_tables(alloc)?);
+        match adopt(alloc, tables.into_connection(), &self.config) {
+            Ok(adopted) => self.tables = adopted,
+            Err(refused) => return Err(RowFault::from(refused.fault)),
+        }
+        if !self.is_same_state(alloc)? {
+            self.differ = self.differ.saturating_add(1);
+        }
         Ok(())
     }
 

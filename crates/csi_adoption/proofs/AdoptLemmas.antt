@@ -1,0 +1,178 @@
+-- What adoption promises, from what was judged.
+use Rattle.std.proofs.Common.{◌≡◌, ◌∙◌, inl, inr, refl, sym, ap, subst, arith, ℕ, ◌≤◌, true, false, true≢false, None, IsTrue, IsUtf8}
+use Rattle.std.specs.List.{AllByRecursion}
+use Rattle.std.specs.Ordering.{nat_cmp}
+use Rattle.sqlite.specs.Effect.{Database}
+use Rattle.sqlite.specs.Held.{Held, state}
+use Rattle.sqlite.specs.State.{HasCleanDisk, IsLive, IsUnchanged, KeepsCommit, Survives}
+use Rattle.sqlite.specs.Store.{Ghosts}
+use Rattle.sqlite.specs.Tree.{Trees}
+use Rattle.sqlite_catalog.specs.Listing.{IsSound}
+use Rattle.csi_config.specs.declared.config.Config.{Config}
+use Rattle.csi_keeper.specs.Invariant.{IsInvariant}
+use Rattle.csi_keeper.specs.State.{State}
+use Rattle.csi_keeper.specs.declared.totals.Totals.{Totals}
+use Rattle.csi_keeper.specs.Memory.{first_state}
+use Rattle.csi_keeper.specs.State.{Place, place_cmp}
+use Rattle.csi_keeper.specs.declared.volume.Attachment.{Attachment}
+use Rattle.csi_keeper.specs.declared.volume.Volume.{Volume}
+use Rattle.csi_keeper.specs.facts.Finite.{none_listed}
+use Rattle.csi_layout.specs.Making.{MakesTables}
+use Rattle.csi_layout.specs.Tables.{no_schema, schema}
+use Rattle.csi_layout.specs.Transactions.{LeavesFrom}
+use Rattle.csi_statements.specs.Rows.{IsUndone}
+use Rattle.csi_tables.specs.Holding.{IsRows, Shows, conn_doubt, store_doubt, store_holds, store_survivors, store_tied}
+use Rattle.csi_tables.specs.Keeping.{is_down, refusals, store_of, IsNewOver}
+use Rattle.csi_tables.specs.declared.tables.Tables.{Tables}
+use Rattle.csi_adoption.specs.Adopting.{committed, IsAdopted, IsFound, IsNotRefused, IsStateOf, IsUnadopted}
+use Rattle.csi_adoption.specs.Judging.{is_failure, IsFaultOf}
+use Rattle.csi_adoption.specs.Passing.{HasTexts}
+use Rattle.csi_adoption.specs.declared.fault.AdoptFault.{AdoptFault}
+
+-- ---- the first State
+
+pub first_texts : HasTexts (first_state 1)
+first_texts = record {
+  volumes = subst (AllByRecursion (λ (e : ℕ × Volume). IsUtf8 e.1.name × IsUtf8 e.1.pool)) (sym (none_listed nat_cmp)) tt;
+  attachments = subst (AllByRecursion (λ (e : Place × Attachment). IsUtf8 e.0.1)) (sym (none_listed place_cmp)) tt;
+}
+
+-- ---- a connection that was settled
+
+-- nothing but what was committed, and a stop leaves no more
+pub record IsSettled {S : Type 0} (g : Ghosts S) (old new : Held S) : Type 0 where
+  pub clean : conn_doubt g old ≤ conn_doubt g new
+  pub was_open : HasCleanDisk (state g new) → IsTrue (state g new).is_open → IsTrue (state g old).is_open
+  pub now : HasCleanDisk (state g new) → IsTrue (state g new).is_open → (state g new).now ≡ (state g old).committed
+  pub kept : HasCleanDisk (state g new) → IsTrue (state g new).is_open → (state g new).committed ≡ (state g old).committed
+  pub crash : HasCleanDisk (state g new) → (db : Trees) → (state g new).may_leave db → (state g old).may_leave db
+
+module _ {S : Type 0} (g : Ghosts S) (conn one two : Held S) (limit : one ≡ record conn { step_limit = None }) where
+  pub is_settled : (HasCleanDisk (state g two) → IsUndone (state g one) (state g two)) → Survives (state g one) (state g two) (λ _. ⊥) → IsSettled g conn two
+  is_settled undone survives =
+      let undone : HasCleanDisk (state g two) → IsUndone (state g (record conn { step_limit = None })) (state g two) = subst (λ (h : Held S). HasCleanDisk (state g two) → IsUndone (state g h) (state g two)) limit undone in
+      let survives : Survives (state g (record conn { step_limit = None })) (state g two) (λ _. ⊥) = subst (λ (h : Held S). Survives (state g h) (state g two) (λ _. ⊥)) limit survives in
+      record {
+        clean = survives.clean;
+        was_open = λ clean is_open. (undone clean).was_open is_open;
+        now = λ clean is_open. (undone clean).now is_open;
+        kept = λ clean is_open. (undone clean).committed is_open;
+        crash = λ clean db may. elim (survives.crash clean db may) [ inl before ↦ before | inr none ↦ absurd none ];
+      }
+
+-- ---- tables that stood
+
+module _ {S : Type 0} (g : Ghosts S) (config : Config) (conn two three : Held S) (totals : Totals) (settled : IsSettled g conn two) (live : IsLive (state g two))
+    (same : HasCleanDisk (state g three) → IsUnchanged (state g two) (state g three)) (survives : Survives (state g two) (state g three) (λ _. ⊥))
+    (found : HasCleanDisk (state g three) → IsFound config (state g two).now totals) where
+  before : HasCleanDisk (state g three) → HasCleanDisk (state g two)
+  before clean = omega (arith, survives.clean)
+
+  -- what is seen is what was committed
+  seen : HasCleanDisk (state g three) → (state g two).now ≡ (state g conn).committed
+  seen clean = settled.now (before clean) (same clean).0.was_open
+
+  now : HasCleanDisk (state g three) → (state g three).now ≡ (state g conn).committed
+  now clean = (same clean).0.now_is ∙ seen clean
+
+  kept : HasCleanDisk (state g three) → (state g three).committed ≡ (state g conn).committed
+  kept clean = (same clean).0.committed_is ∙ settled.kept (before clean) (same clean).0.was_open
+
+  sound : HasCleanDisk (state g three) → IsSound schema (state g two).now.trees
+  sound clean = subst (λ s. IsSound s (state g two).now.trees) (found clean).schema_is (live (same clean).0.was_open).0
+
+  abbrev TheState : Type 0
+  TheState = (s : State) × IsStateOf (committed g config conn) s × IsInvariant config s × HasTexts s × store_holds g (three, totals) s × IsRows s (state g conn).committed.trees
+
+  pub the_state : HasCleanDisk (state g three) → TheState
+  the_state clean =
+      let it = (found clean).found (sound clean) in
+      let rows : IsRows it.0 (state g conn).committed.trees = subst (λ (d : Database). IsRows it.0 d.trees) (seen clean) it.1 in
+      let ours : (state g conn).committed.schema ≡ schema = sym (ap (λ (d : Database). d.schema) (seen clean)) ∙ (found clean).schema_is in
+      let shows : IsTrue (state g three).is_open → Shows (state g three) it.0 = λ _. record {
+        schema = ap (λ (d : Database). d.schema) (now clean) ∙ ours;
+        settled = now clean ∙ sym (kept clean);
+        rows = subst (λ (d : Database). IsRows it.0 d.trees) (sym (now clean)) rows;
+      } in
+      (it.0, inl (ours, rows), it.2, it.3, (shows, it.4, rows.storable), rows)
+
+  pub stands : HasCleanDisk (state g three) → (s : State) × store_holds g (three, totals) s
+  stands clean = let it = the_state clean in (it.0, it.4)
+
+  pub is_adopted : ((s : S) (db : Trees) → IsTrue (g.view s).is_open → g.recovers s db → db ≡ (g.view s).committed) → (t : Tables S g) → store_of g t ≡ (three, totals) → (is_down g t ≡ false) × (refusals g t ≡ 0) → IsAdopted g config conn t
+  is_adopted law t over fresh =
+      let clean_of : store_doubt g (store_of g t) ≡ 0 → HasCleanDisk (state g three) = λ z. sym (ap (store_doubt g) over) ∙ z in
+      let left : (clean : HasCleanDisk (state g three)) (db : Trees) → (state g three).may_leave db → db ≡ (state g conn).committed.trees =
+      λ clean db may. law three.store db (same clean).0.is_open may ∙ ap (λ (d : Database). d.trees) (kept clean) in
+      record {
+        clean = subst (λ (x : Held S × Totals). conn_doubt g conn ≤ store_doubt g x) (sym over) (omega (arith, settled.clean, survives.clean));
+        held = λ z. let it = the_state (clean_of z) in (it.0, it.1, it.2, it.3, subst (λ (x : Held S × Totals). store_holds g x it.0) (sym over) it.4);
+        settled = λ z u it.
+            let clean = clean_of z in
+            let there = subst (λ (x : Held S × Totals). store_survivors g x u) over it in
+            let ours : (state g conn).committed.schema ≡ schema = sym (ap (λ (d : Database). d.schema) (seen clean)) ∙ (found clean).schema_is in
+            inl (ours, subst (IsRows u) (left clean there.0 there.1) there.2);
+        ties = λ z. subst (λ (x : Held S × Totals). store_tied g x) (sym over) (λ clean db may. let it = the_state clean in (it.0, subst (IsRows it.0) (sym (left clean db may)) it.5));
+        up = fresh.0;
+        uncounted = fresh.1;
+      }
+
+-- ---- a fault of the tables
+
+module _ {S : Type 0} (g : Ghosts S) (config : Config) (conn two back : Held S) (fault : AdoptFault) (settled : IsSettled g conn two) (idle : back.in_transaction ≡ false) where
+  -- the database is read and not written
+  pub is_refused : (HasCleanDisk (state g back) → KeepsCommit (state g two) (state g back)) → Survives (state g two) (state g back) (λ _. ⊥)
+      → (HasCleanDisk (state g back) → is_failure fault ≡ false → IsFaultOf config (state g two).now fault) → (HasCleanDisk (state g back) → IsNotRefused config (state g two).now fault) → IsUnadopted g config conn fault back
+  is_refused keeps survives first sound =
+      let before : HasCleanDisk (state g back) → HasCleanDisk (state g two) = λ clean. omega (arith, survives.clean) in
+      let seen : HasCleanDisk (state g back) → IsTrue (state g back).is_open → (state g two).now ≡ (state g conn).committed = λ clean is_open. settled.now (before clean) ((keeps clean).was_open is_open) in
+      record {
+        idle = idle;
+        clean = omega (arith, settled.clean, survives.clean);
+        kept = λ clean. record {
+          was_open = λ is_open. settled.was_open (before clean) ((keeps clean).was_open is_open);
+          committed = λ is_open. (keeps clean).committed is_open ∙ settled.kept (before clean) ((keeps clean).was_open is_open);
+        };
+        crash = λ clean db may. elim (survives.crash clean db may) [ inl there ↦ inl (settled.crash (before clean) db there) | inr none ↦ absurd none ];
+        first = λ clean is_open known. subst (λ (d : Database). IsFaultOf config d fault) (seen clean is_open) (first clean known);
+        sound = λ clean is_open. subst (λ (d : Database). IsNotRefused config d fault) (seen clean is_open) (sound clean);
+      }
+
+-- ---- tables that were made
+
+module _ {S : Type 0} (g : Ghosts S) (config : Config) (conn two : Held S) (settled : IsSettled g conn two) (blank : (state g two).now.schema ≡ no_schema) where
+  -- a keeper of the first State
+  pub is_made : IsInvariant config (first_state 1) × HasTexts (first_state 1) → (t : Tables S g) → IsNewOver g two t → (store_doubt g (store_of g t) ≡ 0 → IsTrue (state g two).is_open) → IsAdopted g config conn t
+  is_made new t made was_open =
+      let of_first : store_doubt g (store_of g t) ≡ 0 → IsStateOf (committed g config conn) (first_state 1) =
+      λ z. let before : HasCleanDisk (state g two) = omega (arith, z, made.clean) in inr (sym (ap (λ (d : Database). d.schema) (settled.now before (was_open z))) ∙ blank, refl) in
+      record {
+        clean = omega (arith, settled.clean, made.clean);
+        held = λ z. (first_state 1, of_first z, new.0, new.1, made.begun z blank);
+        settled = λ z u it. subst (IsStateOf (committed g config conn)) (sym (made.settled z blank u it)) (of_first z);
+        ties = λ z. made.ties z blank;
+        up = made.up;
+        uncounted = made.uncounted;
+      }
+
+  -- a failure to make them
+  pub is_unmade : (back : Held S) (fault : AdoptFault) → back.in_transaction ≡ false → is_failure fault ≡ true → (HasCleanDisk (state g back) → IsUndone (state g two) (state g back))
+      → Survives (state g two) (state g back) (LeavesFrom no_schema MakesTables (state g two)) → IsUnadopted g config conn fault back
+  is_unmade back fault idle failure undone survives =
+      let before : HasCleanDisk (state g back) → HasCleanDisk (state g two) = λ clean. omega (arith, survives.clean) in
+      record {
+        idle = idle;
+        clean = omega (arith, settled.clean, survives.clean);
+        kept = λ clean. record {
+          was_open = λ is_open. settled.was_open (before clean) ((undone clean).was_open is_open);
+          committed = λ is_open. (undone clean).committed is_open ∙ settled.kept (before clean) ((undone clean).was_open is_open);
+        };
+        crash = λ clean db may. elim (survives.crash clean db may) [
+          | inl there ↦ inl (settled.crash (before clean) db there)
+          | inr left ↦
+              let seen = settled.now (before clean) left.0 in
+              inr (left.1, λ none. subst (λ (d : Database). MakesTables d left.1) seen (left.2 blank), left.3)
+        ];
+        first = λ clean is_open known. absurd (true≢false (sym failure ∙ known));
+        sound = λ clean is_open s ours rows invariant texts. failure;
+      }

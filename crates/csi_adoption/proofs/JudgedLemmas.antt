@@ -1,0 +1,73 @@
+-- The fault of rows, from what was seen of them.
+use Rattle.std.proofs.Common.{◌≡◌, ◌∙◌, inr, refl, sym, ap₂, ℕ, false, List, map, Option, Some, None, Ok, Err, IsPermutation}
+use Rattle.std.proofs.lemmas.List.Sorted.{IsPermutation-refl}
+use Rattle.sqlite.specs.Order.{Row}
+use Rattle.sqlite.specs.Tree.{Trees}
+use Rattle.csi_config.specs.declared.config.Config.{Config}
+use Rattle.csi_layout.specs.Rows.{seen_meta}
+use Rattle.csi_looks.specs.Looks.{owners, pairs}
+use Rattle.csi_rules.specs.Joins.{is_beside, is_owned}
+use Rattle.csi_rules.specs.declared.named.RowName.{RowName}
+use Rattle.csi_adoption.specs.Judging.{all_faults, count_faults, first_named, is_failure, meta_judged, owner_faults, table_faults, told_attachments, told_volumes, with_rows, AreJudged, ArePassed, AttachmentsFound, JudgesRows, TablesAreSeen, VolumesFound}
+use Rattle.csi_adoption.specs.declared.adopting.TablesSeen.{TablesSeen}
+use Rattle.csi_adoption.specs.declared.fault.AdoptFault.{AdoptFault}
+use Rattle.csi_adoption.specs.declared.meta.MetaRows.TheVariants as meta
+use Rattle.csi_adoption.proofs.FaultLemmas.{fault_here, fault_later}
+
+pub judged_err : (config : Config) (db : Trees) (x : AdoptFault) → (is_failure x ≡ false → AreJudged config db (Some x)) → JudgesRows config db (Err x)
+judged_err config db x judged = λ known. inr (judged known)
+
+module _ (config : Config) (db : Trees) (next : ℕ) (rows : List Row) (same : IsPermutation (map seen_meta (db 0)) rows) (meta_is : meta_judged (with_rows meta.None rows) ≡ Ok next) (tables : TablesSeen) (seen : TablesAreSeen config next db tables) where
+  abbrev v : VolumesFound
+  v = told_volumes tables.volumes
+
+  abbrev a : AttachmentsFound
+  a = told_attachments tables.attachments
+
+  abbrev AreOwned : List Row → Type 0
+  AreOwned owned = IsPermutation (owners (db 3) (db 1)) owned
+
+  abbrev ArePaired : List Row → Type 0
+  ArePaired paired = IsPermutation (pairs (db 3)) paired
+
+  judged : (owned paired : List Row) → AreOwned owned → ArePaired paired → (unowned apart : Option RowName) → unowned ≡ first_named 0 1 is_owned owned → apart ≡ first_named 4 5 is_beside paired
+      → (fault : Option AdoptFault) → all_faults config next v a unowned apart ≡ fault → AreJudged config db fault
+  judged owned paired one two unowned apart first second fault e = record {
+    next = next;
+    meta_rows = rows;
+    volume_rows = seen.volume_rows;
+    attachment_rows = seen.attachment_rows;
+    owner_rows = owned;
+    pair_rows = paired;
+    seen = record { meta = same; volumes = seen.volumes; attachments = seen.attachments; owned = one; paired = two };
+    meta_is = meta_is;
+    fault_is = ap₂ (λ u w. all_faults config next u w (first_named 0 1 is_owned owned) (first_named 4 5 is_beside paired)) (sym seen.sees.found) (sym seen.placed.found)
+        ∙ ap₂ (λ u w. all_faults config next v a u w) (sym first) (sym second) ∙ e;
+  }
+
+  pub table_fault : (e : AdoptFault) → table_faults config next v a ≡ Some e → AreJudged config db (Some e)
+  table_fault e is =
+      judged (owners (db 3) (db 1)) (pairs (db 3)) (IsPermutation-refl _) (IsPermutation-refl _) (first_named 0 1 is_owned (owners (db 3) (db 1))) (first_named 4 5 is_beside (pairs (db 3))) refl refl (Some e)
+      (fault_here (table_faults config next v a) _ e is)
+
+  module _ (owned : List Row) (one : AreOwned owned) (unowned : Option RowName) (first : unowned ≡ first_named 0 1 is_owned owned) (fine : table_faults config next v a ≡ None) where
+    pub owner_fault : (e : AdoptFault) → owner_faults unowned a ≡ Some e → AreJudged config db (Some e)
+    owner_fault e is =
+        judged owned (pairs (db 3)) one (IsPermutation-refl _) unowned (first_named 4 5 is_beside (pairs (db 3))) first refl (Some e)
+        (fault_later (table_faults config next v a) _ fine ∙ fault_here (owner_faults unowned a) _ e is)
+
+    module _ (paired : List Row) (two : ArePaired paired) (apart : Option RowName) (second : apart ≡ first_named 4 5 is_beside paired) (at_home : owner_faults unowned a ≡ None) where
+      pub counts_fault : (e : AdoptFault) → count_faults config apart a v ≡ Some e → AreJudged config db (Some e)
+      counts_fault e is =
+          judged owned paired one two unowned apart first second (Some e)
+          (fault_later (table_faults config next v a) _ fine ∙ fault_later (owner_faults unowned a) _ at_home ∙ fault_here (count_faults config apart a v) _ e is)
+
+      pub none_broken : count_faults config apart a v ≡ None → ArePassed config db tables.volumes
+      unfolding judged
+      none_broken is = record {
+        judged = judged owned paired one two unowned apart first second None
+            (fault_later (table_faults config next v a) _ fine ∙ fault_later (owner_faults unowned a) _ at_home ∙ fault_later (count_faults config apart a v) _ is);
+        volumes = seen.sees;
+        attachments = tables.attachments;
+        placed = seen.placed;
+      }

@@ -1,0 +1,216 @@
+-- Tables that pass every rule have the rows of a State, which meets every rule; and the rows of such a State pass.
+use Rattle.std.proofs.Common.{◌≡◌, ◌∙◌, inl, inr, refl, sym, ap, ap₂, subst, arith, ℕ, ◌-◌, ◌^◌, ◌≤◌, ◌<◌, ℤ, pos, int_lt, ◌<ℤ◌, Bool, true, false, true≢false, cond, not, ◌||◌, List, [], ◌∷◌, length, map, sum, Option, Some, None, Result, Ok, Err, IsPermutation, slice_index_or}
+use Rattle.std.specs.List.{AllByRecursion}
+use Rattle.std.specs.Ordering.{int_cmp, int_eq, is_eq, MatchOrdering}
+use Rattle.std.specs.declared.cmp.Ordering.{Ordering}
+use Rattle.std.specs.declared.cmp.Ordering.TheVariants.{Less, Equal, Greater}
+use Rattle.std.specs.Cmp.{int_ranks}
+use Rattle.std.proofs.lemmas.List.Sorted.{length_permutation, IsPermutation-sym}
+use Rattle.sqlite.proofs.Callers.{one_permutation}
+use Rattle.sqlite.specs.Order.{Row, column}
+use Rattle.sqlite.specs.Tree.{Trees}
+use Rattle.sqlite.specs.declared.types.Value.{Value}
+use Rattle.sqlite.specs.declared.types.Value.TheVariants.{Null, Int, Real, Text, Blob}
+use Rattle.sqlite_catalog.specs.Listing.{IsSound}
+use Rattle.csi_types.specs.declared.limits.TheConstants.{MAX_NUMBER, MAX_VOLUMES}
+use Rattle.csi_config.specs.Values.{Has}
+use Rattle.csi_config.specs.declared.config.Config.{Config}
+use Rattle.csi_config.specs.declared.nodes.Node.{Node}
+use Rattle.csi_config.specs.declared.pools.Pool.{Pool}
+use Rattle.csi_keeper.specs.Invariant.{IsInvariant}
+use Rattle.csi_keeper.specs.State.{State}
+use Rattle.csi_types.specs.Maps.{same_text}
+use Rattle.csi_keeper.specs.Totals.{the_total}
+use Rattle.csi_layout.specs.Rows.{meta_row, seen_meta, seen_volume}
+use Rattle.csi_layout.specs.Tables.{schema}
+use Rattle.csi_looks.specs.Folds.{as_integer, sum_after}
+use Rattle.csi_looks.specs.Looks.{IsInOrder}
+use Rattle.csi_looks.specs.declared.sums.Weight.TheVariants.{Number, One}
+use Rattle.csi_rules.specs.Coded.{has_cap, has_caps, has_params}
+use Rattle.csi_rules.specs.Joins.{is_beside, is_owned}
+use Rattle.csi_tables.specs.Holding.{IsRows}
+use Rattle.csi_adoption.specs.Adopting.{FoundState}
+use Rattle.csi_adoption.specs.Found.{sizes_of, told_total, FoundVolumes}
+use Rattle.csi_adoption.specs.FoundAttachments.{AttachmentsAreFound, AttachmentsDoPass, OwnersDoPass, PairsDoPass}
+use Rattle.csi_adoption.specs.Judging.{all_faults, first_named, in_attachments, in_volumes, integers_judged, meta_judged, row_judged, total_in, valid_next, with_rows, AreJudged, ArePassed, AttachmentsFound, IsMetaFault, VolumesFound}
+use Rattle.csi_adoption.specs.Passing.{HasTexts, VolumesAreKnown, VolumesPass}
+use Rattle.csi_adoption.specs.declared.fault.AdoptFault.{AdoptFault}
+use Rattle.csi_adoption.specs.declared.fault.AdoptFault.TheVariants.{Foreign, Newer}
+use Rattle.csi_adoption.specs.declared.fault.Foreign.TheVariants as foreign
+use Rattle.csi_adoption.specs.declared.meta.MetaRows.TheVariants as meta
+use Rattle.csi_adoption.specs.declared.volumes.VolumesSeen.{VolumesSeen}
+use Rattle.csi_adoption.proofs.AttachmentFoundLemmas.{is_attached}
+use Rattle.csi_adoption.proofs.JudgingLemmas.{all_unnamed, is_valid, valid_is}
+use Rattle.csi_adoption.proofs.PassedLemmas.{rows_faultless, rows_pass, IsSmall, RowsPass}
+
+-- ---- what the laws of volumes say
+
+abbrev pub VolumesAreFound : Type 0
+VolumesAreFound = (config : Config) (next : ℕ) (db : Trees) (rows : List Row) → next ≤ MAX_NUMBER → IsSound schema db → IsInOrder (map seen_volume (db 1)) rows → VolumesPass config next rows → VolumesAreKnown rows → FoundVolumes config next rows
+
+abbrev pub VolumesDoPass : Type 0
+VolumesDoPass = (config : Config) (s : State) (db : Trees) (rows : List Row) → IsRows s db → IsInvariant config s → HasTexts s → IsInOrder (map seen_volume (db 1)) rows → VolumesPass config s.next rows
+
+abbrev pub MetaDoesPass : Type 0
+MetaDoesPass = (config : Config) (s : State) (db : Trees) → IsRows s db → IsInvariant config s → (rows : List Row) → IsPermutation (map seen_meta (db 0)) rows → rows ≡ meta_row s.next ∷ []
+
+abbrev pub TotalsAreFound : Type 0
+TotalsAreFound =
+    (config : Config) (next : ℕ) (rows : List Row) → VolumesPass config next rows → ((p : Pool) → Has config.pools p → p.bytes < 2 ^ 64 - 1) → (found : FoundVolumes config next rows) (name : List ℕ)
+    → told_total config.pools rows name ≡ the_total (length (sizes_of found.volumes name)) (sum (sizes_of found.volumes name))
+
+-- ---- the State that was found
+
+-- the totals of the sums that a look tells
+totals_told : (rows : List Row) (pools : List Pool) (name : List ℕ) → total_in pools (map (λ p. sum_after 3 p.name One 0 rows) pools) (map (λ p. sum_after 3 p.name (Number 2) 0 rows) pools) name ≡ told_total pools rows name
+totals_told rows [] name = refl
+totals_told rows (p ∷ pools) name = ap (λ t. cond (same_text p.name name) (the_total (sum_after 3 p.name One 0 rows) (sum_after 3 p.name (Number 2) 0 rows)) t) (totals_told rows pools name)
+
+-- ---- the row of meta
+
+same_integers : (x y : ℤ) → int_eq x y ≡ true → x ≡ y
+same_integers x y e = go (int_cmp x y) (int_ranks x y) e
+  where
+    go : (o : Ordering) → MatchOrdering o (x <ℤ y) (x ≡ y) (y <ℤ x) → is_eq o ≡ true → x ≡ y
+    go Less h e = absurd (true≢false (sym e))
+    go Equal h e = h
+    go Greater h e = absurd (true≢false (sym e))
+
+between : (x y : ℤ) → int_lt x y ≡ false → int_lt y x ≡ false → x ≡ y
+between x y low high =
+    let equal : int_cmp x y ≡ Equal = ap (λ b. cond b Less (cond (int_lt y x) Greater Equal)) low ∙ ap (λ b. cond b Greater Equal) high in
+    subst (λ o. MatchOrdering o (x <ℤ y) (x ≡ y) (y <ℤ x)) equal (int_ranks x y)
+
+neither_is : (a b : Bool) → (not a || b) ≡ false → (a ≡ true) × (b ≡ false)
+neither_is true b e = (refl, e)
+neither_is false b e = absurd (true≢false e)
+
+err_ok : {X Y : Type 0} (e : X) (y : Y) → Path (Result Y X) (Err e) (Ok y) → ⊥
+err_ok e y h = absurd (cc)
+
+ok_is : {X Y : Type 0} (a b : Y) → Path (Result Y X) (Ok a) (Ok b) → a ≡ b
+ok_is a b h = cc
+
+no_err : {X Y : Type 0} (b c : Bool) (e f : X) (x y : Y) → Path (Result Y X) (cond b (Err e) (cond c (Err f) (Ok x))) (Ok y) → (b ≡ false) × (c ≡ false) × (x ≡ y)
+no_err true c e f x y h = absurd (err_ok e y h)
+no_err false true e f x y h = absurd (err_ok f y h)
+no_err false false e f x y h = (refl, refl, ok_is x y h)
+
+integers_are : (key format next : ℤ) (n : ℕ) → integers_judged key format next ≡ Ok n → (key ≡ pos 1) × (format ≡ pos 1) × (valid_next next ≡ n)
+integers_are key format next n e =
+    let parts = no_err (not (int_eq key (pos 1)) || int_lt format (pos 1)) (int_lt (pos 1) format) (Foreign foreign.Meta) (Newer format) (valid_next next) n e in
+    let low = neither_is (int_eq key (pos 1)) (int_lt format (pos 1)) parts.0 in
+    (same_integers key (pos 1) low.0, between format (pos 1) low.1 parts.1, parts.2)
+
+integer_is : (v : Value) (n : ℤ) → as_integer v ≡ Some n → v ≡ Int n
+integer_is Null n e = absurd (cc)
+integer_is (Int m) n e = let same : m ≡ n = cc in ap Int same
+integer_is (Real x) n e = absurd (cc)
+integer_is (Text t) n e = absurd (cc)
+integer_is (Blob b) n e = absurd (cc)
+
+row_is : (key format next : Option ℤ) (n : ℕ) → 1 ≤ n → row_judged key format next ≡ Ok n → (key ≡ Some (pos 1)) × (format ≡ Some (pos 1)) × (next ≡ Some (pos n)) × (n ≤ MAX_NUMBER)
+row_is (Some key) (Some format) (Some next) n some e =
+    let parts = integers_are key format next n e in
+    let valid = valid_is next n parts.2 some in
+    (ap Some parts.0, ap Some parts.1, ap Some valid.0, valid.1)
+row_is (Some key) (Some format) None n some e = absurd (err_ok (Foreign foreign.Meta) n e)
+row_is (Some key) None next n some e = absurd (err_ok (Foreign foreign.Meta) n e)
+row_is None format next n some e = absurd (err_ok (Foreign foreign.Meta) n e)
+
+many_stay : (rows : List Row) → with_rows meta.Many rows ≡ meta.Many
+many_stay [] = refl
+many_stay (r ∷ rows) = many_stay rows
+
+-- the one row of meta
+one_row : (table rows : List Row) (n : ℕ) → length (map seen_meta table) ≡ length rows → IsPermutation (map seen_meta table) rows → 1 ≤ n → meta_judged (with_rows meta.None rows) ≡ Ok n → (map seen_meta table ≡ meta_row n ∷ []) × (n ≤ MAX_NUMBER)
+one_row table [] n size same some e = absurd (err_ok (Foreign foreign.Meta) n e)
+one_row table (r ∷ s ∷ rows) n size same some e = absurd (err_ok (Foreign foreign.Meta) n (sym (ap meta_judged (many_stay rows)) ∙ e))
+one_row [] (r ∷ []) n size same some e = absurd (omega (arith, size))
+one_row (x ∷ y ∷ table) (r ∷ []) n size same some e = absurd (omega (arith, size))
+one_row (x ∷ []) (r ∷ []) n size same some e =
+    let is : seen_meta x ≡ r = sym (ap (λ (rows : List Row). slice_index_or rows 0 r) (one_permutation (seen_meta x) (r ∷ []) same)) in
+    let parts = row_is (as_integer (column r 0)) (as_integer (column r 1)) (as_integer (column r 2)) n some e in
+    let at : (k : ℕ) (m : ℤ) → as_integer (column r k) ≡ Some m → column (seen_meta x) k ≡ Int m = λ k m h. ap (λ u. column u k) is ∙ integer_is (column r k) m h in
+    (ap (λ u. u ∷ []) (ap₂ (λ a b. a ∷ b) (at 0 (pos 1) parts.0) (ap₂ (λ a b. a ∷ b ∷ []) (at 1 (pos 1) parts.1) (at 2 (pos n) parts.2))), parts.3)
+
+module _ (config : Config) (small : IsSmall config) (bounded : (p : Pool) → Has config.pools p → p.bytes < 2 ^ 64 - 1)
+    (volumes_found : VolumesAreFound) (attachments_found : AttachmentsAreFound) (totals_found : TotalsAreFound) (db : Trees) (sound : IsSound schema db) (seen : VolumesSeen) where
+  pub found_state : ArePassed config db seen → FoundState config db seen
+  found_state passed =
+      let j = passed.judged in
+      let pass = rows_pass config small j.volume_rows j.attachment_rows j.owner_rows j.pair_rows j.next j.fault_is in
+      let n = j.next in
+      let row = one_row (db 0) j.meta_rows n (sym (length_permutation _ _ j.seen.meta)) j.seen.meta pass.0 j.meta_is in
+      let low : n ≤ MAX_NUMBER = row.1 in
+      let it : RowsPass config n j.volume_rows j.attachment_rows j.owner_rows j.pair_rows = pass.1 in
+      let fv = volumes_found config n db j.volume_rows low sound j.seen.volumes it.volumes (record {
+        rising = passed.volumes.rising;
+        caps = passed.volumes.caps (ap (λ (f : VolumesFound). f.caps) passed.volumes.found ∙ all_unnamed 0 1 has_caps j.volume_rows it.volumes.caps);
+        params = passed.volumes.params (ap (λ (f : VolumesFound). f.params) passed.volumes.found ∙ all_unnamed 0 1 has_params j.volume_rows it.volumes.params);
+      }) in
+      let fa = attachments_found config n db fv.volumes j.volume_rows j.attachment_rows j.owner_rows j.pair_rows sound j.seen.volumes fv.listed fv.stored fv.each j.seen.attachments it.attachments (record {
+        rising = passed.placed.rising;
+        caps = passed.placed.cap (ap (λ (f : AttachmentsFound). f.cap) passed.placed.found ∙ all_unnamed 1 2 has_cap j.attachment_rows it.attachments.caps);
+      }) j.seen.owned it.owned j.seen.paired it.paired in
+      let s : State = record { next = n; volumes = fv.volumes; attachments = fa.attachments } in
+      record {
+        state = s;
+        rows = record {
+          meta = row.0;
+          volumes = subst (λ rows. IsPermutation rows (map seen_volume (db 1))) (sym fv.listed) (IsPermutation-sym _ _ j.seen.volumes.same);
+          attachments = fa.listed;
+          keyed = fa.keyed;
+          storable = record { volumes = fv.stored; attachments = fa.placed };
+          sound = sound;
+        };
+        invariant = record {
+          next = (pass.0, low);
+          volumes = fv.each;
+          names = fv.names;
+          rooms = fv.rooms;
+          attachments = λ m node a e. is_attached config s m node a (fa.each m node a e);
+          beside = fa.beside;
+          nodes = fa.nodes;
+          few = fv.few;
+        };
+        texts = record { volumes = fv.texts; attachments = fa.texts };
+        totals = λ pool. ap₂ (λ a b. total_in config.pools a b pool) (ap (λ (f : VolumesFound). f.pool_volumes) passed.volumes.found) (ap (λ (f : VolumesFound). f.pool_bytes) passed.volumes.found)
+            ∙ totals_told j.volume_rows config.pools pool ∙ totals_found config n j.volume_rows it.volumes bounded fv pool;
+      }
+
+-- ---- a State that meets every rule is not refused
+
+module _ (config : Config) (small : IsSmall config) (volumes_pass : VolumesDoPass) (meta_pass : MetaDoesPass) (attachments_pass : AttachmentsDoPass) (owners_pass : OwnersDoPass) (pairs_pass : PairsDoPass)
+    (db : Trees) (s : State) (rows : IsRows s db) (invariant : IsInvariant config s) (texts : HasTexts s) where
+  judged_next : (meta_rows : List Row) → IsPermutation (map seen_meta (db 0)) meta_rows → meta_judged (with_rows meta.None meta_rows) ≡ Ok s.next
+  judged_next meta_rows same = ap (λ (u : List Row). meta_judged (with_rows meta.None u)) (meta_pass config s db rows invariant meta_rows same) ∙ ap Ok (is_valid s.next invariant.next.1)
+
+  pub no_meta_fault : (fault : AdoptFault) → IsMetaFault db fault → ⊥
+  no_meta_fault fault it = err_ok fault s.next (sym it.2 ∙ judged_next it.0 it.1)
+
+  pub no_fault : (fault : AdoptFault) → AreJudged config db (Some fault) → ⊥
+  no_fault fault j =
+      let next : j.next ≡ s.next = ok_is j.next s.next (sym j.meta_is ∙ judged_next j.meta_rows j.seen.meta) in
+      let none = rows_faultless config small j.volume_rows j.attachment_rows j.owner_rows j.pair_rows s.next invariant.next.0 (record {
+        volumes = volumes_pass config s db j.volume_rows rows invariant texts j.seen.volumes;
+        attachments = attachments_pass config s db j.attachment_rows rows invariant texts j.seen.attachments;
+        owned = owners_pass config s db j.owner_rows rows invariant j.seen.owned;
+        paired = pairs_pass config s db j.pair_rows rows invariant j.seen.paired;
+      }) in
+      some_none fault (sym j.fault_is ∙ ap (λ z. all_faults config z (in_volumes config z j.volume_rows) (in_attachments config j.attachment_rows) (first_named 0 1 is_owned j.owner_rows) (first_named 4 5 is_beside j.pair_rows)) next ∙ none)
+    where
+      some_none : (e : AdoptFault) → Path (Option AdoptFault) (Some e) None → ⊥
+      some_none e h = absurd (cc)
+
+-- ---- sums of a configuration are told
+
+all_of : {X : Type 0} (P : X → Type 0) (xs : List X) → ((x : X) → Has xs x → P x) → AllByRecursion P xs
+all_of P [] all = tt
+all_of P (x ∷ xs) all = (all x (inl refl), all_of P xs (λ y has. all y (inr has)))
+
+pub is_small : (config : Config) → ((p : Pool) → Has config.pools p → p.bytes ≤ 2 ^ 62) → ((m : Node) → Has config.nodes m → m.max_volumes ≤ MAX_VOLUMES) → IsSmall config
+is_small config bytes volumes = record {
+  pools = all_of (λ p. p.bytes < 2 ^ 64 - 1) config.pools (λ p has. omega (arith, bytes p has));
+  nodes = all_of (λ m. m.max_volumes < 2 ^ 64 - 1) config.nodes (λ m has. omega (arith, volumes m has));
+}

@@ -1,0 +1,40 @@
+use Rattle.std.proofs.Common.{rules, ◌≡◌, ◌∙◌, inl, inr, sym, ap, ap₂, subst, Err, IfErr}
+use Rattle.sqlite.specs.Held.{state}
+use Rattle.csi_layout.specs.Tables.{schema as our_schema}
+use Rattle.csi_adoption.specs.Adopting.{IsNotRefused}
+use Rattle.csi_adoption.specs.Judging.{sums_of, total_in}
+use Rattle.csi_adoption.proofs.FaultLemmas.{is_err, must_fail}
+use Rattle.csi_adoption.proofs.TurnLemmas.{ended}
+use Rattle.csi_adoption.proofs.adopting.judge.Goals as goal
+
+pub returns-in_err-volumes-clause-sound : goal.returns-in_err-volumes-clause-sound
+returns-in_err-volumes-clause-sound g c = λ clean.
+    let fault = c.in_err-volumes.field-0.0 in
+    let answer : c.from_residual.result ≡ Err fault = is_err c.from_residual.result fault c.from_residual.ensures.1 in
+    let db = (state g.S.Store c.args.conn.now).now in
+    subst (λ r. IfErr r (IsNotRefused c.args.config.now db)) (sym answer) (λ s _ rows invariant texts. must_fail fault (λ known. elim (c.in_err-volumes.ensures.judged clean known) [
+      | inl it ↦ c.rows_tell.ensures.no_meta_fault db.trees s rows invariant texts fault it
+      | inr it ↦ c.rows_tell.ensures.no_fault db.trees s rows invariant texts fault it
+    ]))
+
+pub returns-in_err-totals-clause-looks : goal.returns-in_err-totals-clause-looks
+returns-in_err-totals-clause-looks g c = ended g.S.Store c.args.conn.now c.judge_rows.new.conn c.in_ok-volumes.volumes c.from_residual-in_err-totals.result c.in_ok-volumes.ensures.looks
+
+pub returns-clause-found : goal.returns-clause-found
+returns-clause-found g c = λ clean.
+    let ours : c.args.conn.now.schema ≡ our_schema = search rules in
+    let db = (state g.S.Store c.args.conn.now).now in
+    record {
+      schema_is = ours;
+      found = λ sound.
+          let it = c.rows_tell.ensures.found db.trees c.in_ok-volumes.volumes sound (c.in_ok-volumes.ensures.judged clean) in (
+            it.state,
+            it.rows,
+            it.invariant,
+            it.texts,
+            λ pool. c.in_ok-totals.ensures pool
+                ∙ ap (λ ps. total_in ps (sums_of c.as_slice.result.now) (sums_of c.as_slice-2.result.now) pool) c.pools.ensures
+                ∙ ap₂ (λ a b. total_in c.args.config.now.pools (sums_of a) (sums_of b) pool) c.as_slice.ensures.value c.as_slice-2.ensures.value
+                ∙ it.totals pool,
+          );
+    }

@@ -1,0 +1,5 @@
+use Rattle.csi_adoption.proofs.AttachmentPassLemmas.{attachments_pass}
+use Rattle.csi_adoption.proofs.attachment_laws.attachments_pass.Goals as goal
+
+pub returns : goal.returns
+returns c = λ config s db rows are good texts order. attachments_pass config s db are good c.attachments.ensures texts rows order

@@ -1,0 +1,73 @@
+-- What adoption promises of a connection.
+use Rattle.std.specs.Prelude.{◌≡◌, ◌⊎◌, ℕ, ◌≤◌, true, false, List, length, sum, IsTrue}
+use Rattle.sqlite.specs.Effect.{Database}
+use Rattle.sqlite.specs.Held.{Held, state}
+use Rattle.sqlite.specs.State.{HasCleanDisk, KeepsCommit}
+use Rattle.sqlite.specs.Store.{Ghosts}
+use Rattle.sqlite.specs.Tree.{Trees}
+use Rattle.sqlite_catalog.specs.Listing.{IsSound}
+use Rattle.csi_config.specs.declared.config.Config.{Config}
+use Rattle.csi_keeper.specs.Invariant.{IsInvariant}
+use Rattle.csi_keeper.specs.Memory.{first_state}
+use Rattle.csi_keeper.specs.State.{State, sizes}
+use Rattle.csi_keeper.specs.Totals.{the_total, AreTotals}
+use Rattle.csi_keeper.specs.declared.totals.Totals.{Totals}
+use Rattle.csi_layout.specs.Making.{MakesTables}
+use Rattle.csi_layout.specs.Tables.{no_schema, schema}
+use Rattle.csi_tables.specs.Holding.{IsRows, conn_doubt, store_doubt, store_holds, store_survivors, store_tied}
+use Rattle.csi_tables.specs.Keeping.{is_down, refusals, store_of}
+use Rattle.csi_tables.specs.declared.tables.Tables.{Tables}
+use Rattle.csi_adoption.specs.Judging.{is_failure, sums_of, total_in, IsFaultOf}
+use Rattle.csi_adoption.specs.Passing.{HasTexts}
+use Rattle.csi_adoption.specs.declared.fault.AdoptFault.{AdoptFault}
+use Rattle.csi_adoption.specs.declared.volumes.VolumesSeen.{VolumesSeen}
+
+-- the State of a database: the one whose rows it has, or the first one where it has no table yet
+abbrev pub IsStateOf : Database → State → Type 0
+IsStateOf db s = ((db.schema ≡ schema) × IsRows s db.trees) ⊎ ((db.schema ≡ no_schema) × (s ≡ first_state 1))
+
+-- a State of the rows, which meets every rule, and its totals as the sums of the look tell them
+pub record FoundState (config : Config) (db : Trees) (seen : VolumesSeen) : Type 0 where
+  pub state : State
+  pub rows : IsRows state db
+  pub invariant : IsInvariant config state
+  pub texts : HasTexts state
+  pub totals : (pool : List ℕ) → total_in config.pools (sums_of seen.pool_volumes.items) (sums_of seen.pool_bytes.items) pool ≡ the_total (length (sizes state pool)) (sum (sizes state pool))
+
+-- a State of a database with our tables, which meets every rule, and its totals
+pub record IsFound (config : Config) (db : Database) (totals : Totals) : Type 0 where
+  pub schema_is : db.schema ≡ schema
+  pub found : IsSound schema db.trees → (s : State) × IsRows s db.trees × IsInvariant config s × HasTexts s × AreTotals totals s
+
+-- rows of such a State are refused only if something failed
+abbrev pub IsNotRefused : Config → Database → AdoptFault → Type 0
+IsNotRefused config db fault = (s : State) → db.schema ≡ schema → IsRows s db.trees → IsInvariant config s → HasTexts s → is_failure fault ≡ true
+
+module _ {S : Type 0} (g : Ghosts S) (config : Config) (conn : Held S) where
+  -- what was committed on the connection
+  abbrev pub committed : Database
+  committed = (state g conn).committed
+
+  -- a keeper of the State of what was committed
+  pub record IsAdopted (t : Tables S g) : Type 0 where
+    pub clean : conn_doubt g conn ≤ store_doubt g (store_of g t)
+    -- there is such a State, it meets every rule, and the keeper has it
+    pub held : store_doubt g (store_of g t) ≡ 0 → (s : State) × IsStateOf committed s × IsInvariant config s × HasTexts s × store_holds g (store_of g t) s
+    -- a stop leaves that State, and nothing else
+    pub settled : store_doubt g (store_of g t) ≡ 0 → (s : State) → store_survivors g (store_of g t) s → IsStateOf committed s
+    pub ties : store_doubt g (store_of g t) ≡ 0 → store_tied g (store_of g t)
+    pub up : is_down g t ≡ false
+    pub uncounted : refusals g t ≡ 0
+
+  -- a fault, and the connection that is given back
+  pub record IsUnadopted (fault : AdoptFault) (back : Held S) : Type 0 where
+    pub idle : back.in_transaction ≡ false
+    pub clean : conn_doubt g conn ≤ conn_doubt g back
+    -- what was committed stays
+    pub kept : HasCleanDisk (state g back) → KeepsCommit (state g conn) (state g back)
+    -- a stop leaves what it could leave before, or the new tables that were to be made
+    pub crash : HasCleanDisk (state g back) → (db : Trees) → (state g back).may_leave db → (state g conn).may_leave db ⊎ ((made : Database) × (committed.schema ≡ no_schema → MakesTables committed made) × (db ≡ made.trees))
+    -- the fault is the first one of what was committed, unless something failed
+    pub first : HasCleanDisk (state g back) → IsTrue (state g back).is_open → is_failure fault ≡ false → IsFaultOf config committed fault
+    -- and rows of a State that meets every rule are refused only if something failed
+    pub sound : HasCleanDisk (state g back) → IsTrue (state g back).is_open → IsNotRefused config committed fault

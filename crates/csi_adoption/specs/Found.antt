@@ -1,0 +1,40 @@
+-- What rows of volumes that pass say: the volumes of a State.
+use Rattle.std.specs.Prelude.{◌≡◌, ℕ, ◌≤◌, bytes_eq, if◌then◌else◌, List, [], ◌∷◌, Some, IsUtf8, filter, length, map, sum, sum_by}
+use Rattle.std.specs.FinMap.{FinMap, entries, get, len, values}
+use Rattle.std.specs.List.{AllByRecursion}
+use Rattle.std.specs.Ordering.{nat_cmp}
+use Rattle.sqlite.specs.Order.{Row}
+use Rattle.csi_types.specs.Maps.{same_text}
+use Rattle.csi_types.specs.declared.limits.TheConstants.{MAX_VOLUMES}
+use Rattle.csi_config.specs.Values.{Has}
+use Rattle.csi_config.specs.declared.config.Config.{Config}
+use Rattle.csi_config.specs.declared.pools.Pool.{Pool}
+use Rattle.csi_keeper.specs.Invariant.{IsVolume}
+use Rattle.csi_keeper.specs.Totals.{the_total, zero_total}
+use Rattle.csi_keeper.specs.declared.totals.Total.{Total}
+use Rattle.csi_keeper.specs.declared.volume.Volume.{Volume}
+use Rattle.csi_looks.specs.Folds.{added_by, sum_after}
+use Rattle.csi_looks.specs.declared.sums.Weight.TheVariants.{Number, One}
+use Rattle.csi_tables.specs.Holding.{IsStored, volume_entry}
+
+-- the bytes of a pool's volumes, as of a State that has these
+abbrev pub sizes_of : FinMap nat_cmp Volume → List ℕ → List ℕ
+sizes_of volumes pool = map (λ v. v.bytes) (filter (λ v. bytes_eq v.pool pool) (values volumes))
+
+pub record FoundVolumes (config : Config) (next : ℕ) (rows : List Row) : Type 0 where
+  pub volumes : FinMap nat_cmp Volume
+  pub listed : map volume_entry (entries volumes) ≡ rows
+  pub stored : AllByRecursion IsStored (entries volumes)
+  pub texts : AllByRecursion (λ e. IsUtf8 e.1.name × IsUtf8 e.1.pool) (entries volumes)
+  pub each : (n : ℕ) (v : Volume) → get volumes n ≡ Some v → IsVolume config next n v
+  pub names : (m n : ℕ) (v w : Volume) → get volumes m ≡ Some v → get volumes n ≡ Some w → v.name ≡ w.name → m ≡ n
+  pub few : len volumes ≤ MAX_VOLUMES
+  -- what is told of a pool is so of its volumes
+  pub counted : (pool : List ℕ) → length (sizes_of volumes pool) ≡ sum_by (added_by 3 pool One) rows
+  pub summed : (pool : List ℕ) → sum (sizes_of volumes pool) ≡ sum_by (added_by 3 pool (Number 2)) rows
+  pub rooms : (p : Pool) → Has config.pools p → sum (sizes_of volumes p.name) ≤ p.bytes
+
+-- what is told of the pool of a name; nothing, if there is none
+abbrev pub told_total : List Pool → List Row → List ℕ → Total
+told_total [] rows name = zero_total
+told_total (p ∷ pools) rows name = if same_text p.name name then the_total (sum_after 3 p.name One 0 rows) (sum_after 3 p.name (Number 2) 0 rows) else told_total pools rows name

@@ -1,0 +1,75 @@
+-- The attachments that rows stand for, beside the volumes that other rows stand for.
+use Rattle.std.specs.Prelude.{◌≡◌, ℕ, ◌≤◌, true, List, Some, IsSome, IsUtf8, IsPermutation, length, map, filter, bytes_eq}
+use Rattle.std.specs.FinMap.{FinMap, entries, get}
+use Rattle.std.specs.List.{AllByRecursion, list_all}
+use Rattle.std.specs.Ordering.{nat_cmp}
+use Rattle.sqlite.specs.Order.{Row}
+use Rattle.sqlite.specs.Tree.{Trees}
+use Rattle.sqlite_catalog.specs.Listing.{IsSound}
+use Rattle.csi_config.specs.Values.{Has}
+use Rattle.csi_config.specs.declared.config.Config.{Config}
+use Rattle.csi_config.specs.declared.nodes.Node.{Node}
+use Rattle.csi_keeper.specs.Capability.{has_key}
+use Rattle.csi_keeper.specs.Coexistence.{coexist}
+use Rattle.csi_keeper.specs.Invariant.{IsInvariant, IsVolume}
+use Rattle.csi_keeper.specs.Lookup.{node_of}
+use Rattle.csi_keeper.specs.State.{State, place_cmp}
+use Rattle.csi_keeper.specs.Texts.{Text}
+use Rattle.csi_keeper.specs.declared.volume.Attachment.{Attachment}
+use Rattle.csi_keeper.specs.declared.volume.Volume.{Volume}
+use Rattle.csi_layout.specs.Rows.{seen_attachment, seen_volume}
+use Rattle.csi_layout.specs.Tables.{schema}
+use Rattle.csi_looks.specs.Looks.{IsInOrder, keyed_attachment, owners, pairs}
+use Rattle.csi_rules.specs.Joins.{is_beside, is_owned}
+use Rattle.csi_statements.specs.Rows.{AreKeyed}
+use Rattle.csi_tables.specs.Holding.{attachment_entry, volume_entry, IsPlaced, IsRows, IsStored}
+use Rattle.csi_adoption.specs.Passing.{AttachmentsAreKnown, AttachmentsPass, HasTexts}
+
+-- an attachment that may stand at a number and a node, beside the volumes
+pub record StandsAmong (config : Config) (volumes : FinMap nat_cmp Volume) (n : ℕ) (node : Text) (a : Attachment) : Type 0 where
+  pub at : a.node ≡ node
+  pub known : IsSome (node_of config node)
+  pub volume : Volume
+  pub stands : get volumes n ≡ Some volume
+  pub cap : has_key volume.caps (Some a.cap) ≡ true
+
+-- attachments that the rows of their table stand for, as a State with the volumes may have them
+pub record FoundAttachments (config : Config) (volumes : FinMap nat_cmp Volume) (db : Trees) : Type 0 where
+  pub attachments : FinMap place_cmp Attachment
+  pub listed : IsPermutation (map attachment_entry (entries attachments)) (map seen_attachment (db 3))
+  pub placed : AllByRecursion IsPlaced (entries attachments)
+  pub keyed : AreKeyed seen_attachment (db 3)
+  pub texts : AllByRecursion (λ e. IsUtf8 e.0.1) (entries attachments)
+  pub each : (n : ℕ) (node : Text) (a : Attachment) → get attachments (n, node) ≡ Some a → StandsAmong config volumes n node a
+  -- any two attachments of a volume coexist
+  pub beside : (n : ℕ) (d e : Text) (a b : Attachment) → get attachments (n, d) ≡ Some a → get attachments (n, e) ≡ Some b → (d ≡ e → ⊥) → coexist a b ≡ true
+  -- no node holds more volumes than it can
+  pub nodes : (m : Node) → Has config.nodes m → length (map (λ e. e.0.0) (filter (λ e. bytes_eq e.0.1 m.id) (entries attachments))) ≤ m.max_volumes
+
+-- ---- laws
+
+-- tables that pass every rule have attachments, where the rows of volumes stand for these volumes
+abbrev pub AttachmentsAreFound : Type 0
+AttachmentsAreFound =
+    (config : Config) (next : ℕ) (db : Trees) (volumes : FinMap nat_cmp Volume) (standing rows owned paired : List Row)
+    → IsSound schema db
+    → IsInOrder (map seen_volume (db 1)) standing → map volume_entry (entries volumes) ≡ standing → AllByRecursion IsStored (entries volumes)
+    → ((n : ℕ) (v : Volume) → get volumes n ≡ Some v → IsVolume config next n v)
+    → IsInOrder (map keyed_attachment (db 3)) rows → AttachmentsPass config rows → AttachmentsAreKnown rows
+    → IsPermutation (owners (db 3) (db 1)) owned → list_all is_owned owned ≡ true
+    → IsPermutation (pairs (db 3)) paired → list_all is_beside paired ≡ true
+    → FoundAttachments config volumes db
+
+-- the rows of a State's attachments pass every rule of theirs
+abbrev pub AttachmentsDoPass : Type 0
+AttachmentsDoPass =
+    (config : Config) (s : State) (db : Trees) (rows : List Row)
+    → IsRows s db → IsInvariant config s → HasTexts s → IsInOrder (map keyed_attachment (db 3)) rows → AttachmentsPass config rows
+
+-- each with its volume
+abbrev pub OwnersDoPass : Type 0
+OwnersDoPass = (config : Config) (s : State) (db : Trees) (owned : List Row) → IsRows s db → IsInvariant config s → IsPermutation (owners (db 3) (db 1)) owned → list_all is_owned owned ≡ true
+
+-- and any two of one volume
+abbrev pub PairsDoPass : Type 0
+PairsDoPass = (config : Config) (s : State) (db : Trees) (paired : List Row) → IsRows s db → IsInvariant config s → IsPermutation (pairs (db 3)) paired → list_all is_beside paired ≡ true

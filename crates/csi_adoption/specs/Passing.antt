@@ -1,0 +1,74 @@
+-- What looks over the tables have to show for adoption.
+use Rattle.std.specs.Prelude.{◌≡◌, ℕ, ◌≤◌, true, List, None, IfSome, IsUtf8, IsPermutation, [], ◌∷◌, length, map, sum_by}
+use Rattle.std.specs.FinMap.{entries}
+use Rattle.std.specs.List.{AllByRecursion, list_all}
+use Rattle.sqlite.specs.Order.{Row}
+use Rattle.sqlite.specs.Tree.{Trees}
+use Rattle.csi_types.specs.declared.limits.TheConstants.{MAX_NUMBER, MAX_VOLUMES}
+use Rattle.csi_config.specs.declared.config.Config.{Config}
+use Rattle.csi_keeper.specs.State.{State}
+use Rattle.csi_layout.specs.Rows.{meta_row, seen_meta, seen_volume}
+use Rattle.csi_looks.specs.Folds.{IsRising, added_by}
+use Rattle.csi_looks.specs.Looks.{IsInOrder, keyed_attachment, owners, pairs}
+use Rattle.csi_looks.specs.declared.sums.Weight.TheVariants.{Number, One}
+use Rattle.csi_tables.specs.Encoding.{FitCaps, FitParams}
+use Rattle.csi_rules.specs.Attachments.{has_flag, is_at_node}
+use Rattle.csi_rules.specs.Coded.{has_cap, has_caps, has_params, key_at, keys_at, params_at}
+use Rattle.csi_rules.specs.Joins.{is_beside, is_owned}
+use Rattle.csi_rules.specs.Kinds.{has_attachment_kinds, has_volume_kinds}
+use Rattle.csi_rules.specs.Volumes.{is_in_pools, is_named, is_numbered, is_sized}
+
+-- the rows of volumes meet each rule of their own
+pub record VolumesPass (config : Config) (next : ℕ) (rows : List Row) : Type 0 where
+  pub kinds : list_all has_volume_kinds rows ≡ true
+  pub numbers : list_all (is_numbered next) rows ≡ true
+  pub names : list_all is_named rows ≡ true
+  pub pools : list_all (is_in_pools config.pools) rows ≡ true
+  pub sizes : list_all is_sized rows ≡ true
+  -- no pool is overcommitted
+  pub rooms : AllByRecursion (λ p. sum_by (added_by 3 p.name (Number 2)) rows ≤ p.bytes) config.pools
+  pub caps : list_all has_caps rows ≡ true
+  pub params : list_all has_params rows ≡ true
+  pub few : length rows ≤ MAX_VOLUMES
+
+-- the numbers rise, and what is read of bytes can be written again
+pub record VolumesAreKnown (rows : List Row) : Type 0 where
+  pub rising : IsRising 0 None rows
+  pub caps : AllByRecursion (λ r. IfSome (keys_at 4 r) FitCaps) rows
+  pub params : AllByRecursion (λ r. IfSome (params_at 5 r) FitParams) rows
+
+-- the rows of attachments, behind their rowids, meet each rule of their own
+pub record AttachmentsPass (config : Config) (rows : List Row) : Type 0 where
+  pub kinds : list_all has_attachment_kinds rows ≡ true
+  pub caps : list_all has_cap rows ≡ true
+  pub flags : list_all has_flag rows ≡ true
+  pub nodes : list_all (is_at_node config.nodes) rows ≡ true
+  -- no node has more than it can
+  pub counts : AllByRecursion (λ m. sum_by (added_by 2 m.id One) rows ≤ m.max_volumes) config.nodes
+
+-- the rowids rise, and what is read of bytes can be written again
+pub record AttachmentsAreKnown (rows : List Row) : Type 0 where
+  pub rising : IsRising 0 None rows
+  pub caps : AllByRecursion (λ r. IfSome (key_at 3 r) (λ key. FitCaps (key ∷ []))) rows
+
+-- what five looks over the tables show
+pub record Seen (db : Trees) (meta_rows volume_rows attachment_rows owner_rows pair_rows : List Row) : Type 0 where
+  pub meta : IsPermutation (map seen_meta (db 0)) meta_rows
+  pub volumes : IsInOrder (map seen_volume (db 1)) volume_rows
+  pub attachments : IsInOrder (map keyed_attachment (db 3)) attachment_rows
+  pub owned : IsPermutation (owners (db 3) (db 1)) owner_rows
+  pub paired : IsPermutation (pairs (db 3)) pair_rows
+
+-- the rows meet every rule
+pub record Pass (config : Config) (number : ℕ) (meta_rows volume_rows attachment_rows owner_rows pair_rows : List Row) : Type 0 where
+  pub meta : meta_rows ≡ meta_row number ∷ []
+  pub next : (1 ≤ number) × (number ≤ MAX_NUMBER)
+  pub volumes : VolumesPass config number volume_rows
+  pub attachments : AttachmentsPass config attachment_rows
+  pub owned : list_all is_owned owner_rows ≡ true
+  pub paired : list_all is_beside pair_rows ≡ true
+
+-- the texts of a State are UTF-8
+pub record HasTexts (s : State) : Type 0 where
+  pub volumes : AllByRecursion (λ e. IsUtf8 e.1.name × IsUtf8 e.1.pool) (entries s.volumes)
+  pub attachments : AllByRecursion (λ e. IsUtf8 e.0.1) (entries s.attachments)

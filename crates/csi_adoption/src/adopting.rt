@@ -1,0 +1,309 @@
+//! The tables on a connection, judged and taken.
+
+ghost use Rattle.std.specs.Prelude.{◌≡◌, false, Some, IfErr, IfOk, IsTrue};
+ghost use Rattle.sqlite.specs.Held.{state};
+ghost use Rattle.sqlite.specs.State.{HasCleanDisk, Survives};
+ghost use Rattle.csi_layout.specs.Tables.{no_schema, schema as our_schema};
+ghost use Rattle.csi_statements.specs.Rows.{IsUndone};
+ghost use Rattle.sqlite.specs.Tree.{Trees};
+ghost use Rattle.sqlite_catalog.specs.Listing.{IsSound};
+ghost use Rattle.csi_keeper.specs.Invariant.{IsInvariant};
+ghost use Rattle.csi_keeper.specs.Memory.{first_state};
+ghost use Rattle.csi_keeper.specs.State.{State};
+ghost use Rattle.csi_tables.specs.Holding.{IsRows};
+ghost use Rattle.csi_adoption.specs.Adopting.{FoundState, IsAdopted, IsFound, IsNotRefused, IsUnadopted};
+ghost use Rattle.csi_adoption.specs.Passing.{HasTexts};
+ghost use Rattle.csi_adoption.specs.Looking.{Looks};
+ghost use Rattle.csi_adoption.specs.Judging.{is_failure, AreJudged, ArePassed, IsFaultOf, IsMetaFault, JudgesBehind, JudgesRows, SeesNext, Says, TablesAreSeen, code_faults, count_fault, count_faults, kinds_faults, owner_faults, table_faults, told_attachments, told_volumes};
+
+use crate::attachment_laws::{attachments_found, attachments_pass, owners_pass, pairs_pass};
+use crate::attachments::{
+    AttachmentsSeen, check_attachment, check_nodes, see_attachments, see_owners, see_pairs,
+};
+use crate::fault::{AdoptFault, Foreign};
+use crate::laws::{meta_pass, totals_found, volumes_found, volumes_pass};
+use crate::meta::{judge_meta, see_meta};
+use crate::volumes::{
+    VolumesSeen, check_numbers, check_sizes, check_volume, see_volumes, totals_of,
+};
+use csi_config::Config;
+use csi_config::laws::{node_volumes_few, pool_bytes_whole};
+use csi_keeper::Totals;
+use csi_keeper::laws::first;
+use csi_layout::is_our_schema;
+use csi_rules::{AttachmentRule, BrokenRule, RowName, VolumeRule};
+use csi_tables::{MakeFault, Tables};
+use csi_types::MAX_VOLUMES;
+use sqlite::{Alter, Connection, Error};
+use sqlite_schema::schema::Schema;
+use std::alloc::Global;
+
+/// Why tables were not adopted, and the connection that they are on.
+#[derive(Drop)]
+pub struct AdoptError<S: Alter> {
+    /// Why.
+    pub fault: AdoptFault,
+    /// The connection. No transaction is open on it.
+    pub conn: Connection<S>,
+}
+
+// Whether a database has no table, no index and no view.
+fn is_blank(schema: &Schema) -> bool
+    ensures is { IsTrue result → schema.now ≡ no_schema }
+    ensures whole { schema.now ≡ no_schema → IsTrue result }
+{
+    schema.tables.is_empty() & schema.indexes.is_empty() & schema.views.is_empty()
+}
+
+fn check_kinds(volumes: &VolumesSeen, attachments: &AttachmentsSeen) -> Result<(), AdoptFault>
+    ensures { Says (kinds_faults (told_volumes volumes.now) (told_attachments attachments.now)) result }
+{
+    if let Some(name) = &volumes.kinds {
+        let number = name.number.unwrap_or(0);
+        return Err(AdoptFault::Foreign(Foreign::Volume { number }));
+    }
+    if let Some(name) = &attachments.kinds {
+        let rowid = name.number.unwrap_or(0);
+        return Err(AdoptFault::Foreign(Foreign::Attachment { rowid }));
+    }
+    Ok(())
+}
+
+fn check_codes(
+    alloc: Global,
+    volumes: &VolumesSeen,
+    attachments: &AttachmentsSeen,
+) -> Result<(), AdoptFault>
+    ensures { Says (code_faults (told_volumes volumes.now) (told_attachments attachments.now)) result }
+{
+    check_volume(&volumes.caps, VolumeRule::Caps)?;
+    check_volume(&volumes.params, VolumeRule::Params)?;
+    check_attachment(alloc, &attachments.cap, AttachmentRule::Cap)?;
+    check_attachment(alloc, &attachments.readonly, AttachmentRule::Readonly)
+}
+
+// The rules of one table alone.
+fn check_tables(
+    alloc: Global,
+    config: &Config,
+    next: u64,
+    volumes: &VolumesSeen,
+    attachments: &AttachmentsSeen,
+) -> Result<(), AdoptFault>
+    ensures { Says (table_faults config.now next (told_volumes volumes.now) (told_attachments attachments.now)) result }
+{
+    check_kinds(volumes, attachments)?;
+    check_numbers(next, volumes)?;
+    check_sizes(alloc, config, volumes)?;
+    check_codes(alloc, volumes, attachments)
+}
+
+// The rules of an attachment's volume and node.
+fn check_owners(
+    alloc: Global,
+    unowned: &Option<RowName>,
+    attachments: &AttachmentsSeen,
+) -> Result<(), AdoptFault>
+    ensures { Says (owner_faults unowned.now (told_attachments attachments.now)) result }
+{
+    check_attachment(alloc, unowned, AttachmentRule::Owner)?;
+    check_attachment(alloc, &attachments.node, AttachmentRule::Node)
+}
+
+fn check_count(rows: u64) -> Result<(), AdoptFault>
+    ensures { Says (count_fault rows) result }
+{
+    if rows > MAX_VOLUMES {
+        return Err(AdoptFault::Broken(BrokenRule::TooManyVolumes));
+    }
+    Ok(())
+}
+
+// The rules of the attachments of a volume and of a node, and of all volumes.
+fn check_counts(
+    alloc: Global,
+    config: &Config,
+    apart: &Option<RowName>,
+    attachments: &AttachmentsSeen,
+    volumes: &VolumesSeen,
+) -> Result<(), AdoptFault>
+    ensures { Says (count_faults config.now apart.now (told_attachments attachments.now) (told_volumes volumes.now)) result }
+{
+    check_attachment(alloc, apart, AttachmentRule::Beside)?;
+    check_nodes(alloc, config.nodes(), attachments.node_volumes.as_slice())?;
+    check_count(volumes.rows)
+}
+
+/// What the looks over volumes and attachments show.
+#[derive(Drop)]
+pub(crate) struct TablesSeen {
+    pub(crate) volumes: VolumesSeen,
+    pub(crate) attachments: AttachmentsSeen,
+}
+
+fn see_tables<S: Alter>(
+    alloc: Global,
+    conn: &mut Connection<S>,
+    config: &Config,
+    next: u64,
+) -> Result<TablesSeen, Error>
+    requires idle { conn.old.in_transaction ≡ false }
+    requires ours { HasCleanDisk (state S.Store conn.old) → conn.old.schema ≡ our_schema }
+    ensures looks { Looks S.Store conn.old conn.new result }
+    ensures seen { HasCleanDisk (state S.Store conn.new) → IfOk result (λ tables. TablesAreSeen config.now next (state S.Store conn.old).now.trees tables) }
+{
+    let volumes = see_volumes(alloc, conn, config, next)?;
+    let attachments = see_attachments(alloc, conn, config)?;
+    Ok(TablesSeen {
+        volumes,
+        attachments,
+    })
+}
+
+// Judges the rows behind that of meta by the rules in their order. Two attachments of a volume are
+// looked at together only once each is known to be at a node of the configuration: so they are few.
+fn judge_behind<S: Alter>(
+    alloc: Global,
+    conn: &mut Connection<S>,
+    config: &Config,
+    next: u64,
+) -> Result<VolumesSeen, AdoptFault>
+    requires idle { conn.old.in_transaction ≡ false }
+    requires ours { HasCleanDisk (state S.Store conn.old) → conn.old.schema ≡ our_schema }
+    ensures looks { Looks S.Store conn.old conn.new result }
+    ensures judged { HasCleanDisk (state S.Store conn.new) → JudgesBehind config.now (state S.Store conn.old).now.trees next result }
+{
+    let tables = see_tables(alloc, conn, config, next)?;
+    check_tables(alloc, config, next, &tables.volumes, &tables.attachments)?;
+    let unowned = see_owners(alloc, conn)?;
+    check_owners(alloc, &unowned, &tables.attachments)?;
+    let apart = see_pairs(alloc, conn)?;
+    check_counts(alloc, config, &apart, &tables.attachments, &tables.volumes)?;
+    let TablesSeen { volumes, .. } = tables;
+    Ok(volumes)
+}
+
+fn see_next<S: Alter>(conn: &mut Connection<S>) -> Result<u64, AdoptFault>
+    requires idle { conn.old.in_transaction ≡ false }
+    requires ours { HasCleanDisk (state S.Store conn.old) → conn.old.schema ≡ our_schema }
+    ensures looks { Looks S.Store conn.old conn.new result }
+    ensures seen { HasCleanDisk (state S.Store conn.new) → SeesNext (state S.Store conn.old).now.trees result }
+{
+    let rows = see_meta(conn)?;
+    judge_meta(rows)
+}
+
+// Judges all rows, that of meta first.
+fn judge_rows<S: Alter>(
+    alloc: Global,
+    conn: &mut Connection<S>,
+    config: &Config,
+) -> Result<VolumesSeen, AdoptFault>
+    requires idle { conn.old.in_transaction ≡ false }
+    requires ours { HasCleanDisk (state S.Store conn.old) → conn.old.schema ≡ our_schema }
+    ensures looks { Looks S.Store conn.old conn.new result }
+    ensures judged { HasCleanDisk (state S.Store conn.new) → JudgesRows config.now (state S.Store conn.old).now.trees result }
+{
+    let next = see_next(conn)?;
+    judge_behind(alloc, conn, config, next)
+}
+
+// What the laws of the rows tell: rows that break no rule are those of a State that meets every rule,
+// and the rows of such a State break none.
+#[inline(always)]
+fn rows_tell(config: &Config)
+    ensures found { (db : Trees) (seen : VolumesSeen) → IsSound our_schema db → ArePassed config.now db seen → FoundState config.now db seen }
+    ensures no_meta_fault { (db : Trees) (s : State) → IsRows s db → IsInvariant config.now s → HasTexts s → (fault : AdoptFault) → IsMetaFault db fault → ⊥ }
+    ensures no_fault { (db : Trees) (s : State) → IsRows s db → IsInvariant config.now s → HasTexts s → (fault : AdoptFault) → AreJudged config.now db (Some fault) → ⊥ }
+    ensures new { IsInvariant config.now (first_state 1) × HasTexts (first_state 1) }
+{
+    volumes_found();
+    attachments_found();
+    totals_found();
+    volumes_pass();
+    meta_pass();
+    attachments_pass();
+    owners_pass();
+    pairs_pass();
+    pool_bytes_whole(config);
+    node_volumes_few(config);
+    first(config);
+}
+
+// The totals of the pools, where the tables have our schema and their rows break no rule.
+fn judge<S: Alter>(
+    alloc: Global,
+    conn: &mut Connection<S>,
+    config: &Config,
+) -> Result<Totals, AdoptFault>
+    requires idle { conn.old.in_transaction ≡ false }
+    ensures looks { Looks S.Store conn.old conn.new result }
+    ensures found { HasCleanDisk (state S.Store conn.new) → IfOk result (λ totals. IsFound config.now (state S.Store conn.old).now totals) }
+    ensures first { HasCleanDisk (state S.Store conn.new) → IfErr result (λ fault. is_failure fault ≡ false → IsFaultOf config.now (state S.Store conn.old).now fault) }
+    ensures sound { HasCleanDisk (state S.Store conn.new) → IfErr result (IsNotRefused config.now (state S.Store conn.old).now) }
+{
+    rows_tell(config);
+    if !is_our_schema(conn.schema()) {
+        return Err(AdoptFault::Foreign(Foreign::Schema));
+    }
+    let volumes = judge_rows(alloc, conn, config)?;
+    let totals = totals_of(
+        alloc,
+        config.pools(),
+        volumes.pool_volumes.as_slice(),
+        volumes.pool_bytes.as_slice(),
+    )?;
+    Ok(totals)
+}
+
+// Undoes nothing, as no transaction is open: what is seen then is what was committed.
+fn settle<S: Alter>(conn: &mut Connection<S>)
+    requires idle { conn.old.in_transaction ≡ false }
+    ensures idle { conn.new.in_transaction ≡ false }
+    ensures undone { HasCleanDisk (state S.Store conn.new) → IsUndone (state S.Store conn.old) (state S.Store conn.new) }
+    ensures survives { Survives (state S.Store conn.old) (state S.Store conn.new) (λ _. ⊥) }
+{
+    conn.transaction().rollback();
+}
+
+/// Takes the tables that a database has, and gives a keeper over them; a database that has no table
+/// gets new ones, with no volume and 1 as the next number.
+///
+/// What was committed is judged: the tables have to be exactly those that are made here, each value of
+/// the kind of its column, and the rows have to meet every rule of the configuration (docs/TABLES.md,
+/// "What is judged when a file is opened"). After `Ok` there is one State whose rows were committed; it
+/// meets the rules, the keeper has it, and a stop leaves it and nothing else. Rows are looked at one by
+/// one and none is kept, so memory does not grow with them. A limit on the connection's steps is taken
+/// away.
+///
+/// # Errors
+///
+/// The first rule that is broken, with the row that a look finds first; or that the database or memory
+/// failed, which says nothing of the rows: those of a State that meets every rule are refused for
+/// nothing else. What was committed stays, and the connection is given back.
+pub fn adopt<S: Alter>(
+    alloc: Global,
+    mut conn: Connection<S>,
+    config: &Config,
+) -> Result<Tables<S>, AdoptError<S>>
+    requires idle { conn.in_transaction ≡ false }
+    ensures adopted { IfOk result (λ tables. IsAdopted S.Store config.now conn tables) }
+    ensures unadopted { IfErr result (λ error. IsUnadopted S.Store config.now conn error.fault error.conn) }
+{
+    rows_tell(config);
+    conn.set_step_limit(None);
+    settle(&mut conn);
+    if is_blank(conn.schema()) {
+        return match Tables::make(alloc, conn) {
+            Ok(tables) => Ok(tables),
+            Err(MakeFault { error, conn }) => Err(AdoptError {
+                fault: AdoptFault::from(error),
+                conn,
+            }),
+        };
+    }
+    match judge(alloc, &mut conn, config) {
+        Ok(totals) => Ok(Tables::over(conn, totals)),
+        Err(fault) => Err(AdoptError { fault, conn }),
+    }
+}

@@ -1,0 +1,35 @@
+//! Laws of the attachments: tables that pass have them, and the rows of a State's attachments pass.
+
+ghost use Rattle.csi_adoption.specs.FoundAttachments.{AttachmentsAreFound, AttachmentsDoPass, OwnersDoPass, PairsDoPass};
+
+use csi_rules::laws::{attachments, owners, pairs};
+
+/// Rows of attachments that pass every rule are the attachments of a State with the volumes.
+pub fn attachments_found()
+    ensures { AttachmentsAreFound }
+{
+    attachments();
+    owners();
+    pairs();
+}
+
+/// The rows of a State's attachments pass the rules of one row.
+pub fn attachments_pass()
+    ensures { AttachmentsDoPass }
+{
+    attachments();
+}
+
+/// A State's attachments with their volumes pass.
+pub fn owners_pass()
+    ensures { OwnersDoPass }
+{
+    owners();
+}
+
+/// Any two of a State's attachments of one volume pass.
+pub fn pairs_pass()
+    ensures { PairsDoPass }
+{
+    pairs();
+}

@@ -1,0 +1,237 @@
+//! What looks over attachments show, and the rules that their rows break.
+
+ghost use Rattle.std.specs.Prelude.{◌≡◌, ℕ, List, None, IsPermutation, IfOk, true, false, map, option_copied, unwrap_or, []};
+ghost use Rattle.std.specs.List.{AllZip};
+ghost use Rattle.sqlite.specs.Held.{state};
+ghost use Rattle.sqlite.specs.State.{HasCleanDisk};
+ghost use Rattle.csi_layout.specs.Tables.{schema as our_schema};
+ghost use Rattle.csi_looks.specs.Looks.{IsInOrder, keyed_attachment, owners, pairs};
+ghost use Rattle.csi_looks.specs.declared.sums.Weight.TheVariants.{One as Ones};
+ghost use Rattle.csi_rules.specs.Joins.{is_beside, is_owned};
+ghost use Rattle.csi_adoption.specs.Judging.{Says, SeesAttachments, attachment_fault, first_named, full_node, node_fault, sums_of};
+ghost use Rattle.csi_adoption.specs.Looking.{IsBegun, Looks, SeenBy};
+
+use crate::fault::AdoptFault;
+use crate::sums::node_sums;
+use csi_config::{Config, Node};
+use csi_looks::{
+    Both, Each, Rising, TextSum, look_over_attachments, look_over_owners, look_over_pairs,
+};
+use csi_rules::{
+    AttachmentRule, BrokenRule, FirstBroken, HasAttachmentKinds, HasCap, HasFlag, IsAtNode,
+    IsBeside, IsOwned, RowName, Sure,
+};
+use csi_types::{Text, copy_text};
+use sqlite::{Alter, Connection, Error, ErrorCode};
+use std::alloc::{AllocError, Global};
+
+/// What a look over attachments shows, whose rowids rise.
+#[derive(Drop)]
+pub(crate) struct AttachmentsSeen {
+    // The first row that breaks each rule; of the first rule it is named by its rowid.
+    pub(crate) kinds: Option<RowName>,
+    pub(crate) cap: Option<RowName>,
+    pub(crate) readonly: Option<RowName>,
+    pub(crate) node: Option<RowName>,
+    // The number of each node's attachments.
+    pub(crate) node_volumes: Vec<TextSum>,
+}
+
+type Kinds = Both<FirstBroken<Sure<HasAttachmentKinds>>, Rising>;
+
+type Codes = Both<FirstBroken<HasCap>, FirstBroken<Sure<HasFlag>>>;
+
+type Nodes<'a> = Both<FirstBroken<Sure<IsAtNode<'a>>>, Each<TextSum>>;
+
+type AttachmentsFold<'a> = Both<Both<Kinds, Codes>, Nodes<'a>>;
+
+// A rule that no row has broken yet, which is named by the integer and the text in these columns.
+fn unbroken<T>(alloc: Global, test: T, number: usize, text: usize) -> FirstBroken<T>
+    ensures test { result.test ≡ test }
+    ensures number { result.number ≡ number }
+    ensures text { result.text ≡ text }
+    ensures none { result.found ≡ None }
+{
+    FirstBroken {
+        alloc,
+        test,
+        number,
+        text,
+        found: None,
+    }
+}
+
+fn kinds(alloc: Global) -> Kinds
+    ensures number { result.first.number ≡ 0 }
+    ensures text { result.first.text ≡ 2 }
+    ensures none { result.first.found ≡ None }
+    ensures column { result.second.column ≡ 0 }
+    ensures last { result.second.last ≡ None }
+    ensures good { result.second.good ≡ true }
+{
+    let test = Sure {
+        test: HasAttachmentKinds,
+    };
+    Both {
+        first: unbroken(alloc, test, 0, 2),
+        second: Rising {
+            column: 0,
+            last: None,
+            good: true,
+        },
+    }
+}
+
+fn codes(alloc: Global) -> Codes
+    ensures number_first { result.first.number ≡ 1 }
+    ensures text_first { result.first.text ≡ 2 }
+    ensures none_first { result.first.found ≡ None }
+    ensures number_second { result.second.number ≡ 1 }
+    ensures text_second { result.second.text ≡ 2 }
+    ensures none_second { result.second.found ≡ None }
+{
+    Both {
+        first: unbroken(alloc, HasCap { alloc }, 1, 2),
+        second: unbroken(alloc, Sure { test: HasFlag }, 1, 2),
+    }
+}
+
+fn nodes(alloc: Global, config: &Config) -> Result<Nodes<'_>, AllocError>
+    ensures config { IfOk result (λ nodes. nodes.first.test.test.config.now ≡ config.now) }
+    ensures number { IfOk result (λ nodes. nodes.first.number ≡ 1) }
+    ensures text { IfOk result (λ nodes. nodes.first.text ≡ 2) }
+    ensures none { IfOk result (λ nodes. nodes.first.found ≡ None) }
+    ensures sums { IfOk result (λ nodes. AllZip (λ m sum. IsBegun 2 m.id Ones sum) config.now.nodes nodes.second.parts.items) }
+{
+    let test = Sure {
+        test: IsAtNode { config },
+    };
+    Ok(Both {
+        first: unbroken(alloc, test, 1, 2),
+        second: node_sums(alloc, config.nodes())?,
+    })
+}
+
+/// Looks over attachments, each behind its rowid.
+pub(crate) fn see_attachments<S: Alter>(
+    alloc: Global,
+    conn: &mut Connection<S>,
+    config: &Config,
+) -> Result<AttachmentsSeen, Error>
+    requires idle { conn.old.in_transaction ≡ false }
+    requires ours { HasCleanDisk (state S.Store conn.old) → conn.old.schema ≡ our_schema }
+    ensures looks { Looks S.Store conn.old conn.new result }
+    ensures seen { SeenBy S.Store conn.old conn.new result (λ db rows. IsInOrder (map keyed_attachment (db 3)) rows) (λ rows seen. SeesAttachments config.now rows seen) }
+{
+    let mut fold: AttachmentsFold<'_> = Both {
+        first: Both {
+            first: kinds(alloc),
+            second: codes(alloc),
+        },
+        second: nodes(alloc, config)?,
+    };
+    look_over_attachments(conn, &mut fold)?;
+    let Both {
+        first: Both {
+            first: kinds,
+            second: codes,
+        },
+        second: nodes,
+    } = fold;
+    if !kinds.second.good {
+        return Err(Error::SqliteFailure(ErrorCode::DatabaseCorrupt));
+    }
+    Ok(AttachmentsSeen {
+        kinds: kinds.first.found,
+        cap: codes.first.found,
+        readonly: codes.second.found,
+        node: nodes.first.found,
+        node_volumes: nodes.second.parts,
+    })
+}
+
+/// The first attachment whose volume does not stand, or has not its capability.
+pub(crate) fn see_owners<S: Alter>(
+    alloc: Global,
+    conn: &mut Connection<S>,
+) -> Result<Option<RowName>, Error>
+    requires idle { conn.old.in_transaction ≡ false }
+    requires ours { HasCleanDisk (state S.Store conn.old) → conn.old.schema ≡ our_schema }
+    ensures looks { Looks S.Store conn.old conn.new result }
+    ensures seen { SeenBy S.Store conn.old conn.new result (λ db rows. IsPermutation (owners (db 3) (db 1)) rows) (λ rows found. found ≡ first_named 0 1 is_owned rows) }
+{
+    let mut fold = unbroken(alloc, IsOwned { alloc }, 0, 1);
+    look_over_owners(conn, &mut fold)?;
+    Ok(fold.found)
+}
+
+/// The first attachment that cannot stand beside another of its volume.
+pub(crate) fn see_pairs<S: Alter>(
+    alloc: Global,
+    conn: &mut Connection<S>,
+) -> Result<Option<RowName>, Error>
+    requires idle { conn.old.in_transaction ≡ false }
+    requires ours { HasCleanDisk (state S.Store conn.old) → conn.old.schema ≡ our_schema }
+    ensures looks { Looks S.Store conn.old conn.new result }
+    ensures seen { SeenBy S.Store conn.old conn.new result (λ db rows. IsPermutation (pairs (db 3)) rows) (λ rows found. found ≡ first_named 4 5 is_beside rows) }
+{
+    let mut fold = unbroken(alloc, IsBeside { alloc }, 4, 5);
+    look_over_pairs(conn, &mut fold)?;
+    Ok(fold.found)
+}
+
+// The text that a row is named by, and none where it has no text.
+fn text_of(alloc: Global, text: &Option<Text>) -> Result<Text, AllocError>
+    ensures { IfOk result (λ copy. copy ≡ unwrap_or text.now []) }
+{
+    match text {
+        Some(text) => copy_text(alloc, text.as_str()),
+        None => Ok(Text::new(alloc)),
+    }
+}
+
+/// The fault of an attachment that breaks a rule.
+pub(crate) fn check_attachment(
+    alloc: Global,
+    found: &Option<RowName>,
+    rule: AttachmentRule,
+) -> Result<(), AdoptFault>
+    ensures { Says (attachment_fault rule found.now) result }
+{
+    let Some(name) = found else {
+        return Ok(());
+    };
+    Err(AdoptFault::Broken(BrokenRule::Attachment {
+        number: name.number.unwrap_or(0),
+        node: text_of(alloc, &name.text)?,
+        rule,
+    }))
+}
+
+// The first node that has more attachments than it can.
+fn full_node<'a>(nodes: &'a [Node], volumes: &[TextSum]) -> Option<&'a Node>
+    ensures { option_copied result ≡ full_node nodes.now (sums_of volumes.now) }
+{
+    for (node, volumes) in nodes.iter().zip(volumes.iter()) {
+        if volumes.sum > node.max_volumes {
+            return Some(node);
+        }
+    }
+    None
+}
+
+/// The fault of a node that has more attachments than it can.
+pub(crate) fn check_nodes(
+    alloc: Global,
+    nodes: &[Node],
+    volumes: &[TextSum],
+) -> Result<(), AdoptFault>
+    ensures { Says (node_fault nodes.now (sums_of volumes.now)) result }
+{
+    match full_node(nodes, volumes) {
+        Some(node) => Err(AdoptFault::Broken(BrokenRule::Node {
+            id: copy_text(alloc, node.id.as_str())?,
+        })),
+        None => Ok(()),
+    }
+}

@@ -1,0 +1,137 @@
+//! The row of meta.
+
+ghost use Rattle.std.specs.Prelude.{◌≡◌, false, refl, IsPermutation, OnOk, IfOk, map};
+ghost use Rattle.sqlite.specs.Held.{state};
+ghost use Rattle.sqlite.specs.Order.{column};
+ghost use Rattle.sqlite.specs.State.{HasCleanDisk};
+ghost use Rattle.csi_layout.specs.Rows.{seen_meta};
+ghost use Rattle.csi_layout.specs.Tables.{schema as our_schema};
+ghost use Rattle.csi_looks.specs.Folds.{as_integer};
+ghost use Rattle.csi_adoption.specs.Judging.{Says, integers_judged, meta_judged, next_fault, valid_next, with_row, with_rows};
+ghost use Rattle.csi_adoption.specs.Looking.{Looks, SeenBy};
+ghost use Rattle.csi_adoption.specs.declared.meta.MetaRows.TheVariants as meta;
+
+use crate::fault::{AdoptFault, Foreign};
+use csi_looks::{Fold, look_over_meta};
+use csi_rules::BrokenRule;
+use csi_types::MAX_NUMBER;
+use sqlite::types::ValueRef;
+use sqlite::{Alter, Connection, Error, Row};
+
+/// The integers in a row of meta; `None` where another value stands.
+#[derive(Clone, Copy, Debug, PartialEq, Eq)]
+pub(crate) struct MetaRow {
+    pub(crate) key: Option<i64>,
+    pub(crate) format: Option<i64>,
+    pub(crate) next: Option<i64>,
+}
+
+/// The rows of meta.
+#[derive(Clone, Copy, Debug, PartialEq, Eq)]
+pub(crate) enum MetaRows {
+    None,
+    One(MetaRow),
+    Many,
+}
+
+fn integer_at(row: &Row, at: usize) -> Option<i64>
+    ensures { result ≡ as_integer (column row.now at) }
+{
+    match row.get_ref(at) {
+        Ok(ValueRef::Int(integer)) => Some(integer),
+        _ => None,
+    }
+}
+
+fn with_row(rows: MetaRows, row: &Row) -> MetaRows
+    ensures { result ≡ with_row rows row.now }
+{
+    match rows {
+        MetaRows::None => MetaRows::One(MetaRow {
+            key: integer_at(row, 0),
+            format: integer_at(row, 1),
+            next: integer_at(row, 2),
+        }),
+        MetaRows::One(_) | MetaRows::Many => MetaRows::Many,
+    }
+}
+
+#[derive(Drop)]
+struct MetaFold {
+    rows: MetaRows,
+}
+
+impl Fold for MetaFold {
+    ghost folds = { λ first rows now. now.rows ≡ with_rows first.rows rows };
+
+    ghost starts = { λ first. refl };
+
+    #[tactic(auto, using(crate::proofs::LookLemmas::one_more))]
+    fn take(&mut self, row: &Row) -> Result<(), Error> {
+        self.rows = with_row(self.rows, row);
+        Ok(())
+    }
+}
+
+// The next number, if it is 1 to 2^62; else 0, below which no number is.
+fn valid_next(next: i64) -> u64
+    ensures { result ≡ valid_next next }
+{
+    match u64::try_from(next) {
+        Ok(next) if next <= MAX_NUMBER => next,
+        _ => 0,
+    }
+}
+
+// The next number of tables of format 1.
+fn judge_integers(key: i64, format: i64, next: i64) -> Result<u64, AdoptFault>
+    ensures { result ≡ integers_judged key format next }
+{
+    if key != 1 || format < 1 {
+        return Err(AdoptFault::Foreign(Foreign::Meta));
+    }
+    if format > 1 {
+        return Err(AdoptFault::Newer { format });
+    }
+    Ok(valid_next(next))
+}
+
+/// The next number of tables of format 1, and 0 where it is not 1 to 2^62.
+pub(crate) fn judge_meta(rows: MetaRows) -> Result<u64, AdoptFault>
+    ensures { result ≡ meta_judged rows }
+{
+    match rows {
+        MetaRows::One(
+            MetaRow {
+                key: Some(key),
+                format: Some(format),
+                next: Some(next),
+            },
+        ) => judge_integers(key, format, next),
+        _ => Err(AdoptFault::Foreign(Foreign::Meta)),
+    }
+}
+
+/// The fault of a next number that is 0, as one stands that is not 1 to 2^62.
+pub(crate) fn check_next(next: u64) -> Result<(), AdoptFault>
+    ensures { Says (next_fault next) result }
+{
+    if next == 0 {
+        return Err(AdoptFault::Broken(BrokenRule::Next));
+    }
+    Ok(())
+}
+
+/// Looks over meta.
+pub(crate) fn see_meta<S: Alter>(conn: &mut Connection<S>) -> Result<MetaRows, Error>
+    requires idle { conn.old.in_transaction ≡ false }
+    requires ours { HasCleanDisk (state S.Store conn.old) → conn.old.schema ≡ our_schema }
+    ensures looks { Looks S.Store conn.old conn.new result }
+    ensures seen { SeenBy S.Store conn.old conn.new result (λ db rows. IsPermutation (map seen_meta (db 0)) rows) (λ rows seen. seen ≡ with_rows meta.None rows) }
+{
+    let mut fold = MetaFold {
+        rows: MetaRows::None,
+    };
+    look_over_meta(conn, &mut fold)?;
+    Ok(fold.rows)
+}

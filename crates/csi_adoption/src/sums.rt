@@ -1,0 +1,50 @@
+//! Sums over the rows of each pool and of each node.
+
+ghost use Rattle.std.specs.Prelude.{◌≡◌, IfOk};
+ghost use Rattle.std.specs.List.{AllZip};
+ghost use Rattle.csi_looks.specs.declared.sums.Weight.TheVariants.{One as Ones};
+ghost use Rattle.csi_adoption.specs.Looking.{IsBegun};
+
+use csi_config::{Node, Pool};
+use csi_looks::{Each, TextSum, Weight};
+use std::alloc::{AllocError, Global};
+
+// A sum over no row yet.
+fn sum_of(alloc: Global, column: usize, text: &[u8], weight: Weight) -> Result<TextSum, AllocError>
+    ensures { IfOk result (λ sum. IsBegun column text.now weight sum) }
+{
+    let mut bytes = Vec::new(alloc);
+    bytes.extend_from_slice(text)?;
+    Ok(TextSum {
+        column,
+        text: bytes,
+        weight,
+        sum: 0,
+    })
+}
+
+/// A sum for each pool, over rows that have its name in the fourth column.
+pub(crate) fn pool_sums(
+    alloc: Global,
+    pools: &[Pool],
+    weight: Weight,
+) -> Result<Each<TextSum>, AllocError>
+    ensures { IfOk result (λ each. AllZip (λ p sum. IsBegun 3 p.name weight sum) pools.now each.parts.items) }
+{
+    let mut parts = Vec::new(alloc);
+    for pool in pools {
+        parts.push(sum_of(alloc, 3, pool.name.as_bytes(), weight)?)?;
+    }
+    Ok(Each { parts })
+}
+
+/// The number of rows for each node, of those that have its id in the third column.
+pub(crate) fn node_sums(alloc: Global, nodes: &[Node]) -> Result<Each<TextSum>, AllocError>
+    ensures { IfOk result (λ each. AllZip (λ m sum. IsBegun 2 m.id Ones sum) nodes.now each.parts.items) }
+{
+    let mut parts = Vec::new(alloc);
+    for node in nodes {
+        parts.push(sum_of(alloc, 2, node.id.as_bytes(), Weight::One)?)?;
+    }
+    Ok(Each { parts })
+}

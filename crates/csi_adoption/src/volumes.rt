@@ -1,0 +1,305 @@
+//! What a look over volumes shows, and the rules that their rows break.
+
+ghost use Rattle.std.specs.Prelude.{◌≡◌, ℕ, List, None, IfOk, true, false, map, option_copied};
+ghost use Rattle.sqlite.specs.Held.{state};
+ghost use Rattle.sqlite.specs.State.{HasCleanDisk};
+ghost use Rattle.csi_layout.specs.Rows.{seen_volume};
+ghost use Rattle.csi_layout.specs.Tables.{schema as our_schema};
+ghost use Rattle.std.specs.List.{AllZip};
+ghost use Rattle.csi_looks.specs.Looks.{IsInOrder};
+ghost use Rattle.csi_looks.specs.declared.sums.Weight.TheVariants as weight;
+ghost use Rattle.csi_keeper.specs.Totals.{total_of};
+ghost use Rattle.csi_adoption.specs.Judging.{Says, SeesVolumes, full_pool, number_faults, pool_fault, size_faults, sums_of, told_volumes, total_in, volume_fault};
+ghost use Rattle.csi_adoption.specs.Looking.{IsBegun, Looks, SeenBy};
+
+use crate::fault::AdoptFault;
+use crate::meta::check_next;
+use crate::sums::pool_sums;
+use csi_config::{Config, Pool};
+use csi_keeper::{Total, Totals};
+use csi_looks::{Both, Each, Rising, RowCount, TextSum, Weight, look_over_volumes};
+use csi_rules::{
+    BrokenRule, FirstBroken, HasCaps, HasParams, HasVolumeKinds, IsInPools, IsNamed, IsNumbered,
+    IsSized, RowName, Sure, VolumeRule,
+};
+use csi_types::copy_text;
+use sqlite::{Alter, Connection, Error, ErrorCode};
+use std::alloc::{AllocError, Global};
+
+/// What a look over volumes shows, whose numbers rise.
+#[derive(Drop)]
+pub(crate) struct VolumesSeen {
+    // The first row that breaks each rule.
+    pub(crate) kinds: Option<RowName>,
+    pub(crate) number: Option<RowName>,
+    pub(crate) name: Option<RowName>,
+    pub(crate) pool: Option<RowName>,
+    pub(crate) bytes: Option<RowName>,
+    pub(crate) caps: Option<RowName>,
+    pub(crate) params: Option<RowName>,
+    // The bytes and the number of each pool's volumes, and the number of all.
+    pub(crate) pool_bytes: Vec<TextSum>,
+    pub(crate) pool_volumes: Vec<TextSum>,
+    pub(crate) rows: u64,
+}
+
+type Kinds = Both<FirstBroken<Sure<HasVolumeKinds>>, Rising>;
+
+type Names = Both<FirstBroken<Sure<IsNumbered>>, FirstBroken<Sure<IsNamed>>>;
+
+type Sizes<'a> = Both<FirstBroken<Sure<IsInPools<'a>>>, FirstBroken<Sure<IsSized>>>;
+
+type Codes = Both<FirstBroken<HasCaps>, FirstBroken<HasParams>>;
+
+type Sums = Both<Both<Each<TextSum>, Each<TextSum>>, RowCount>;
+
+type VolumesFold<'a> = Both<Both<Both<Kinds, Names>, Both<Sizes<'a>, Codes>>, Sums>;
+
+// A rule that no volume has broken yet.
+fn unbroken<T>(alloc: Global, test: T) -> FirstBroken<T>
+    ensures test { result.test ≡ test }
+    ensures number { result.number ≡ 0 }
+    ensures text { result.text ≡ 1 }
+    ensures none { result.found ≡ None }
+{
+    FirstBroken {
+        alloc,
+        test,
+        number: 0,
+        text: 1,
+        found: None,
+    }
+}
+
+fn kinds(alloc: Global) -> Kinds
+    ensures number { result.first.number ≡ 0 }
+    ensures text { result.first.text ≡ 1 }
+    ensures none { result.first.found ≡ None }
+    ensures column { result.second.column ≡ 0 }
+    ensures last { result.second.last ≡ None }
+    ensures good { result.second.good ≡ true }
+{
+    Both {
+        first: unbroken(
+            alloc,
+            Sure {
+                test: HasVolumeKinds,
+            },
+        ),
+        second: Rising {
+            column: 0,
+            last: None,
+            good: true,
+        },
+    }
+}
+
+fn names(alloc: Global, next: u64) -> Names
+    ensures next { result.first.test.test.next ≡ next }
+    ensures number_first { result.first.number ≡ 0 }
+    ensures text_first { result.first.text ≡ 1 }
+    ensures none_first { result.first.found ≡ None }
+    ensures number_second { result.second.number ≡ 0 }
+    ensures text_second { result.second.text ≡ 1 }
+    ensures none_second { result.second.found ≡ None }
+{
+    Both {
+        first: unbroken(
+            alloc,
+            Sure {
+                test: IsNumbered { next },
+            },
+        ),
+        second: unbroken(alloc, Sure { test: IsNamed }),
+    }
+}
+
+fn sizes(alloc: Global, config: &Config) -> Sizes<'_>
+    ensures config { result.first.test.test.config.now ≡ config.now }
+    ensures number_first { result.first.number ≡ 0 }
+    ensures text_first { result.first.text ≡ 1 }
+    ensures none_first { result.first.found ≡ None }
+    ensures number_second { result.second.number ≡ 0 }
+    ensures text_second { result.second.text ≡ 1 }
+    ensures none_second { result.second.found ≡ None }
+{
+    Both {
+        first: unbroken(
+            alloc,
+            Sure {
+                test: IsInPools { config },
+            },
+        ),
+        second: unbroken(alloc, Sure { test: IsSized }),
+    }
+}
+
+fn codes(alloc: Global) -> Codes
+    ensures number_first { result.first.number ≡ 0 }
+    ensures text_first { result.first.text ≡ 1 }
+    ensures none_first { result.first.found ≡ None }
+    ensures number_second { result.second.number ≡ 0 }
+    ensures text_second { result.second.text ≡ 1 }
+    ensures none_second { result.second.found ≡ None }
+{
+    Both {
+        first: unbroken(alloc, HasCaps { alloc }),
+        second: unbroken(alloc, HasParams { alloc }),
+    }
+}
+
+fn sums(alloc: Global, config: &Config) -> Result<Sums, AllocError>
+    ensures bytes { IfOk result (λ sums. AllZip (λ p sum. IsBegun 3 p.name (weight.Number 2) sum) config.now.pools sums.first.first.parts.items) }
+    ensures volumes { IfOk result (λ sums. AllZip (λ p sum. IsBegun 3 p.name weight.One sum) config.now.pools sums.first.second.parts.items) }
+    ensures rows { IfOk result (λ sums. sums.second.rows ≡ 0) }
+{
+    Ok(Both {
+        first: Both {
+            first: pool_sums(alloc, config.pools(), Weight::Number(2))?,
+            second: pool_sums(alloc, config.pools(), Weight::One)?,
+        },
+        second: RowCount { rows: 0 },
+    })
+}
+
+/// Looks over volumes.
+pub(crate) fn see_volumes<S: Alter>(
+    alloc: Global,
+    conn: &mut Connection<S>,
+    config: &Config,
+    next: u64,
+) -> Result<VolumesSeen, Error>
+    requires idle { conn.old.in_transaction ≡ false }
+    requires ours { HasCleanDisk (state S.Store conn.old) → conn.old.schema ≡ our_schema }
+    ensures looks { Looks S.Store conn.old conn.new result }
+    ensures seen { SeenBy S.Store conn.old conn.new result (λ db rows. IsInOrder (map seen_volume (db 1)) rows) (λ rows seen. SeesVolumes config.now next rows seen) }
+{
+    let mut fold: VolumesFold<'_> = Both {
+        first: Both {
+            first: Both {
+                first: kinds(alloc),
+                second: names(alloc, next),
+            },
+            second: Both {
+                first: sizes(alloc, config),
+                second: codes(alloc),
+            },
+        },
+        second: sums(alloc, config)?,
+    };
+    look_over_volumes(conn, &mut fold)?;
+    let Both {
+        first: Both {
+            first: Both {
+                first: kinds,
+                second: names,
+            },
+            second: Both {
+                first: sizes,
+                second: codes,
+            },
+        },
+        second: sums,
+    } = fold;
+    if !kinds.second.good {
+        return Err(Error::SqliteFailure(ErrorCode::DatabaseCorrupt));
+    }
+    Ok(VolumesSeen {
+        kinds: kinds.first.found,
+        number: names.first.found,
+        name: names.second.found,
+        pool: sizes.first.found,
+        bytes: sizes.second.found,
+        caps: codes.first.found,
+        params: codes.second.found,
+        pool_bytes: sums.first.first.parts,
+        pool_volumes: sums.first.second.parts,
+        rows: sums.second.rows,
+    })
+}
+
+/// The fault of a volume that breaks a rule.
+pub(crate) fn check_volume(found: &Option<RowName>, rule: VolumeRule) -> Result<(), AdoptFault>
+    ensures { Says (volume_fault rule found.now) result }
+{
+    match found {
+        Some(name) => Err(AdoptFault::Broken(BrokenRule::Volume {
+            number: name.number.unwrap_or(0),
+            rule,
+        })),
+        None => Ok(()),
+    }
+}
+
+// The first pool that has fewer bytes than its volumes.
+fn full_pool<'a>(pools: &'a [Pool], bytes: &[TextSum]) -> Option<&'a Pool>
+    ensures { option_copied result ≡ full_pool pools.now (sums_of bytes.now) }
+{
+    for (pool, bytes) in pools.iter().zip(bytes.iter()) {
+        if bytes.sum > pool.bytes {
+            return Some(pool);
+        }
+    }
+    None
+}
+
+// The fault of a pool that has fewer bytes than its volumes.
+fn check_pools(alloc: Global, pools: &[Pool], bytes: &[TextSum]) -> Result<(), AdoptFault>
+    ensures { Says (pool_fault pools.now (sums_of bytes.now)) result }
+{
+    match full_pool(pools, bytes) {
+        Some(pool) => Err(AdoptFault::Broken(BrokenRule::Pool {
+            name: copy_text(alloc, pool.name.as_str())?,
+        })),
+        None => Ok(()),
+    }
+}
+
+/// The fault of the next number, or of a volume's number or name.
+pub(crate) fn check_numbers(next: u64, seen: &VolumesSeen) -> Result<(), AdoptFault>
+    ensures { Says (number_faults next (told_volumes seen.now)) result }
+{
+    check_next(next)?;
+    check_volume(&seen.number, VolumeRule::Number)?;
+    check_volume(&seen.name, VolumeRule::Name)
+}
+
+/// The fault of a volume's pool or size, or of a pool.
+pub(crate) fn check_sizes(
+    alloc: Global,
+    config: &Config,
+    seen: &VolumesSeen,
+) -> Result<(), AdoptFault>
+    ensures { Says (size_faults config.now (told_volumes seen.now)) result }
+{
+    check_volume(&seen.pool, VolumeRule::Pool)?;
+    check_volume(&seen.bytes, VolumeRule::Bytes)?;
+    check_pools(alloc, config.pools(), seen.pool_bytes.as_slice())
+}
+
+/// The total of each pool. Of pools of one name the first counts, so it is set last.
+pub(crate) fn totals_of(
+    alloc: Global,
+    pools: &[Pool],
+    volumes: &[TextSum],
+    bytes: &[TextSum],
+) -> Result<Totals, AllocError>
+    ensures { IfOk result (λ totals. (pool : List ℕ) → total_of totals pool ≡ total_in pools.now (sums_of volumes.now) (sums_of bytes.now) pool) }
+{
+    let Some((pool, more_pools)) = pools.split_first() else {
+        return Ok(Totals::new(alloc));
+    };
+    let Some((count, more_volumes)) = volumes.split_first() else {
+        return Ok(Totals::new(alloc));
+    };
+    let Some((sum, more_bytes)) = bytes.split_first() else {
+        return Ok(Totals::new(alloc));
+    };
+    let mut totals = totals_of(alloc, more_pools, more_volumes, more_bytes)?;
+    let total = Total {
+        volumes: count.sum,
+        bytes: sum.sum as u128,
+    };
+    totals.set(copy_text(alloc, pool.name.as_str())?, total)?;
+    Ok(totals)
+}
