@@ -10,11 +10,15 @@ pub(crate) enum Task<'a> {
     Pipe {
         /// The file of the configuration; without it the sample configuration.
         config: Option<&'a str>,
+        /// The file of the tables; without it the volumes are in memory.
+        tables: Option<&'a str>,
     },
     /// Connections to a socket, one after the other.
     Serve {
         /// Where the socket is made.
         socket: &'a str,
+        /// The file of the tables.
+        tables: &'a str,
         /// The file of the configuration; without it the sample configuration.
         config: Option<&'a str>,
         /// How many connections are served.
@@ -27,6 +31,13 @@ fn config<'a>(alloc: Global) -> Arg<'a> {
         .long("config")
         .value_name("FILE")
         .help("The configuration, a TOML file; without it the sample configuration")
+}
+
+fn tables<'a>(alloc: Global) -> Arg<'a> {
+    Arg::new(alloc, "tables")
+        .long("tables")
+        .value_name("FILE")
+        .help("The volumes, an SQLite database; it is made where there is none")
 }
 
 fn serve<'a>(alloc: Global) -> Result<Command<'a>, Error> {
@@ -47,6 +58,7 @@ fn serve<'a>(alloc: Global) -> Result<Command<'a>, Error> {
                 "Answers the calls of connections to a Unix socket, one connection after the other",
             )
             .arg(socket)?
+            .arg(tables(alloc).required(true))?
             .arg(config(alloc))?
             .arg(connections)?,
     )
@@ -59,8 +71,11 @@ fn serve<'a>(alloc: Global) -> Result<Command<'a>, Error> {
 /// Where memory is refused.
 pub(crate) fn command<'a>(alloc: Global) -> Result<Command<'a>, Error> {
     let pipe = Command::new(alloc, "pipe")
-        .about("Answers the calls of standard input on standard output, as no command does")
-        .arg(config(alloc))?;
+        .about(
+            "Answers the calls of standard input on standard output, as no command does; without --tables the volumes are forgotten at the end",
+        )
+        .arg(config(alloc))?
+        .arg(tables(alloc))?;
     Ok(
         Command::new(alloc, "csid")
             .version("0.1.0")
@@ -77,12 +92,17 @@ pub(crate) fn asked<'a>(matches: &ArgMatches<'a>) -> Task<'a> {
     match matches.subcommand() {
         Some(("serve", words)) => Task::Serve {
             socket: words.get_str("socket").unwrap_or(""),
+            tables: words.get_str("tables").unwrap_or(""),
             config: words.get_str("config"),
             connections: words.get_one::<u32>("connections").unwrap_or(1),
         },
         Some((_, words)) => Task::Pipe {
             config: words.get_str("config"),
+            tables: words.get_str("tables"),
         },
-        None => Task::Pipe { config: None },
+        None => Task::Pipe {
+            config: None,
+            tables: None,
+        },
     }
 }

@@ -6,6 +6,7 @@ mod config;
 mod run;
 mod say;
 mod socket;
+mod tables;
 
 use std::process::ExitCode;
 

@@ -4,9 +4,11 @@ use crate::command::{Task, asked, command};
 use crate::config::configuration;
 use crate::say::{DONE, INPUT_OUTPUT, Peer, USAGE, no_memory, report, say};
 use crate::socket::{listen, serve_all};
+use crate::tables::{close, open};
 use clap::error::ErrorKind as WordsKind;
 use command_line::refusal_line;
-use csi_machine::MemKeeper;
+use csi_config::Config;
+use csi_machine::{Keeper, MemKeeper};
 use csi_server::serve;
 use std::env;
 use std::io::{self, ErrorKind};
@@ -40,32 +42,61 @@ fn end_words(rt: &HostRuntime, error: &clap::Error) -> u8 {
     }
 }
 
-// Answers the calls of standard input, and keeps the volumes in memory.
-fn pipe(rt: &HostRuntime, path: Option<&str>) -> u8 {
-    let config = match configuration(rt, path) {
-        Ok(config) => config,
-        Err(status) => return status,
-    };
-    let Ok(mut keeper) = MemKeeper::new(rt.alloc(), FIRST_NUMBER) else {
-        return no_memory(rt);
-    };
+// Answers the calls of standard input over a keeper.
+fn serve_pipe<K: Keeper>(rt: &HostRuntime, config: &Config, keeper: &mut K) -> u8 {
     let mut reader = rt.stdin();
     let mut writer = rt.stdout();
-    let end = serve(rt.alloc(), &config, &mut keeper, &mut reader, &mut writer);
+    let end = serve(rt.alloc(), config, keeper, &mut reader, &mut writer);
     report(rt, Peer::Pipe, end)
 }
 
-// Answers the calls of connections, and keeps the volumes in memory from one to the next.
-fn listening(rt: &HostRuntime, socket: &str, path: Option<&str>, connections: u32) -> u8 {
-    let config = match configuration(rt, path) {
+// Answers the calls of standard input, and keeps the volumes in memory.
+fn pipe_over_memory(rt: &HostRuntime, config: &Config) -> u8 {
+    match MemKeeper::new(rt.alloc(), FIRST_NUMBER) {
+        Ok(mut keeper) => serve_pipe(rt, config, &mut keeper),
+        Err(_) => no_memory(rt),
+    }
+}
+
+// Answers the calls of standard input, and keeps the volumes in a file.
+fn pipe_over_tables(rt: &HostRuntime, config: &Config, path: &str) -> u8 {
+    match open(rt, path, config) {
+        Ok(mut tables) => {
+            let status = serve_pipe(rt, config, &mut tables);
+            match close(rt, path, tables) {
+                Ok(()) => status,
+                Err(closing) => closing,
+            }
+        }
+        Err(status) => status,
+    }
+}
+
+fn pipe(rt: &HostRuntime, config: Option<&str>, tables: Option<&str>) -> u8 {
+    let config = match configuration(rt, config) {
         Ok(config) => config,
         Err(status) => return status,
     };
-    let Ok(mut keeper) = MemKeeper::new(rt.alloc(), FIRST_NUMBER) else {
-        return no_memory(rt);
+    match tables {
+        Some(path) => pipe_over_tables(rt, &config, path),
+        None => pipe_over_memory(rt, &config),
+    }
+}
+
+// Answers the calls of connections, and keeps the volumes in a file.
+fn listening(
+    rt: &HostRuntime,
+    socket: &str,
+    tables: &str,
+    config: Option<&str>,
+    connections: u32,
+) -> u8 {
+    let config = match configuration(rt, config) {
+        Ok(config) => config,
+        Err(status) => return status,
     };
     match listen(rt, socket) {
-        Ok(listener) => serve_all(rt, &config, &mut keeper, socket, &listener, connections),
+        Ok(listener) => serve_all(rt, &config, tables, socket, &listener, connections),
         Err(status) => status,
     }
 }
@@ -86,12 +117,13 @@ pub(crate) fn run(rt: &HostRuntime) -> u8 {
     };
     match command.try_get_matches_from(words.as_slice()) {
         Ok(matches) => match asked(&matches) {
-            Task::Pipe { config } => pipe(rt, config),
+            Task::Pipe { config, tables } => pipe(rt, config, tables),
             Task::Serve {
                 socket,
+                tables,
                 config,
                 connections,
-            } => listening(rt, socket, config, connections),
+            } => listening(rt, socket, tables, config, connections),
         },
         Err(error) => end_words(rt, &error),
     }

@@ -1,5 +1,8 @@
 //! What is said on standard error, and the statuses that the program ends with.
 
+ghost use Rattle.std.specs.Prelude.{◌≡◌};
+ghost use Rattle.csid.specs.Statuses.{status_of};
+
 use csi_server::RunEnd;
 use frames_core::fault_text;
 use std::io::Write;
@@ -15,6 +18,9 @@ pub(crate) const USAGE: u8 = 2;
 
 /// The configuration cannot be had.
 pub(crate) const CONFIGURATION: u8 = 3;
+
+/// The tables cannot be had.
+pub(crate) const TABLES: u8 = 4;
 
 /// A read or a write failed.
 pub(crate) const INPUT_OUTPUT: u8 = 5;
@@ -34,7 +40,9 @@ pub(crate) fn say(rt: &HostRuntime, text: &[u8]) {
 }
 
 /// Says that there is no memory.
-pub(crate) fn no_memory(rt: &HostRuntime) -> u8 {
+pub(crate) fn no_memory(rt: &HostRuntime) -> u8
+    ensures { result ≡ 6 }
+{
     say(rt, b"out of memory");
     NO_MEMORY
 }
@@ -63,7 +71,9 @@ fn write_failed(peer: Peer) -> &'static [u8] {
 }
 
 /// Says why a run ended, where it is not done, and gives the exit status for it.
-pub(crate) fn report(rt: &HostRuntime, peer: Peer, end: RunEnd) -> u8 {
+pub(crate) fn report(rt: &HostRuntime, peer: Peer, end: RunEnd) -> u8
+    ensures { result ≡ status_of end }
+{
     match end {
         RunEnd::Done => DONE,
         RunEnd::Malformed(fault) => {
@@ -83,27 +93,5 @@ pub(crate) fn report(rt: &HostRuntime, peer: Peer, end: RunEnd) -> u8 {
             INPUT_OUTPUT
         }
         RunEnd::NoMemory => no_memory(rt),
-    }
-}
-
-#[cfg(test)]
-mod tests {
-    use super::*;
-    use frames_core::{FrameFault, FrameWhy};
-
-    #[test]
-    fn gives_a_status_for_each_end(rt: HostRuntime) {
-        let fault = FrameFault {
-            why: FrameWhy::BadFlag,
-            at: 53,
-        };
-        for peer in [Peer::Pipe, Peer::Connection] {
-            assert_eq!(rt; report(&rt, peer, RunEnd::Done), 0);
-            assert_eq!(rt; report(&rt, peer, RunEnd::Malformed(fault)), 1);
-            assert_eq!(rt; report(&rt, peer, RunEnd::ReadFailed), 5);
-            assert_eq!(rt; report(&rt, peer, RunEnd::TurnsSpent), 5);
-            assert_eq!(rt; report(&rt, peer, RunEnd::WriteFailed), 5);
-            assert_eq!(rt; report(&rt, peer, RunEnd::NoMemory), 6);
-        }
     }
 }

@@ -1,0 +1,67 @@
+//! The tables in a file.
+
+ghost use Rattle.std.specs.Prelude.{◌≡◌, false, IfOk};
+
+use crate::say::{TABLES, no_memory, say};
+use csi_adoption::{AdoptError, AdoptFault, adopt};
+use csi_config::Config;
+use csi_tables::Tables;
+use sqlite::{Connection, Error, ErrorCode, File, FileStore};
+use std::fmt::Display;
+
+/// The store of a file on the disk.
+pub(crate) type Store = FileStore<File>;
+
+// Says what is wrong with the tables in a file.
+fn refuse<T: Display>(rt: &HostRuntime, path: &str, why: &T) -> u8 {
+    match format!(in rt.alloc(); "{path}: {why}") {
+        Ok(line) => {
+            say(rt, line.as_bytes());
+            TABLES
+        }
+        Err(_) => no_memory(rt),
+    }
+}
+
+// Says why a file cannot be opened or closed.
+fn refuse_file(rt: &HostRuntime, path: &str, error: &Error) -> u8 {
+    match error {
+        Error::SqliteFailure(ErrorCode::OutOfMemory) => no_memory(rt),
+        _ => refuse(rt, path, error),
+    }
+}
+
+fn connect(rt: &HostRuntime, path: &str) -> Result<Connection<Store>, u8>
+    ensures { IfOk result (λ conn. conn.in_transaction ≡ false) }
+{
+    if path.is_empty() {
+        say(rt, b"the path of the tables is empty");
+        return Err(TABLES);
+    }
+    match Connection::open(rt, path) {
+        Ok(conn) => Ok(conn),
+        Err(error) => Err(refuse_file(rt, path, &error)),
+    }
+}
+
+/// A keeper over the tables in a file, which are made where the file is new; else the status to end
+/// with, and why is said.
+pub(crate) fn open(rt: &HostRuntime, path: &str, config: &Config) -> Result<Tables<Store>, u8> {
+    let conn = connect(rt, path)?;
+    match adopt(rt.alloc(), conn, config) {
+        Ok(tables) => Ok(tables),
+        Err(AdoptError { fault, .. }) => match fault {
+            AdoptFault::NoMemory => Err(no_memory(rt)),
+            fault => Err(refuse(rt, path, &fault)),
+        },
+    }
+}
+
+/// Copies what was committed into the file itself, and closes it. Where that fails, nothing is lost:
+/// it stays in the log beside the file.
+pub(crate) fn close(rt: &HostRuntime, path: &str, tables: Tables<Store>) -> Result<(), u8> {
+    tables
+        .into_connection()
+        .close()
+        .map_err(|error| refuse_file(rt, path, &error))
+}
