@@ -1,0 +1,106 @@
+package main
+
+import (
+	"bufio"
+	"bytes"
+	"encoding/hex"
+	"io"
+	"strings"
+	"testing"
+
+	"google.golang.org/grpc/codes"
+)
+
+func fromHex(t *testing.T, text string) []byte {
+	t.Helper()
+	all, err := hex.DecodeString(strings.ReplaceAll(text, " ", ""))
+	if err != nil {
+		t.Fatal(err)
+	}
+	return all
+}
+
+// The example of docs/PROTOCOL.md, and the greatest length.
+func TestRequestHead(t *testing.T) {
+	rows := []struct {
+		path   string
+		length int
+		want   string
+	}{
+		{"/csi.v1.Identity/Probe", 0, "0016 2f6373692e76312e4964656e746974792f50726f6265 00 00000000"},
+		{"/a/b", 258, "0004 2f612f62 00 00000102"},
+		{"/a/b", 1048576, "0004 2f612f62 00 00100000"},
+	}
+	for _, row := range rows {
+		if got := requestHead(row.path, row.length); !bytes.Equal(got, fromHex(t, row.want)) {
+			t.Errorf("%s, %d bytes: %x", row.path, row.length, got)
+		}
+	}
+}
+
+func TestPath(t *testing.T) {
+	rows := []struct {
+		path string
+		want bool
+	}{
+		{"", false}, {"!", true}, {"~", true}, {"/a/b", true}, {"/a /b", false}, {"/a/\x7f", false}, {"/a/\t", false}, {"/a/\x80", false},
+		{strings.Repeat("a", 128), true}, {strings.Repeat("a", 129), false},
+	}
+	for _, row := range rows {
+		if isPath(row.path) != row.want {
+			t.Errorf("%q: not %v", row.path, row.want)
+		}
+	}
+}
+
+func TestGoodReply(t *testing.T) {
+	rows := []struct {
+		bytes string
+		want  reply
+	}{
+		{"00 0000 00 00000004 0a020801", reply{codes.OK, "", []byte{0x0a, 2, 8, 1}}},
+		{"00 0000 00 00000000", reply{codes.OK, "", []byte{}}},
+		{"05 0004 20217d7e 00 00000000", reply{codes.NotFound, " !}~", []byte{}}},
+		{"0d 0000 00 00000000", reply{codes.Internal, "", []byte{}}},
+	}
+	for _, row := range rows {
+		got, err := readReply(bufio.NewReader(bytes.NewReader(fromHex(t, row.bytes))))
+		if err != nil || got.code != row.want.code || got.text != row.want.text || !bytes.Equal(got.body, row.want.body) {
+			t.Errorf("%s: %v, %v", row.bytes, got, err)
+		}
+	}
+}
+
+// Each fault is told though nothing follows: a csid that stays silent behind it would else hold up the call.
+func TestMalformedReply(t *testing.T) {
+	rows := []struct{ bytes, want string }{
+		{"01", "status 1"}, {"02", "status 2"}, {"04", "status 4"}, {"07", "status 7"}, {"0e", "status 14"}, {"10", "status 16"}, {"ff", "status 255"},
+		{"00 0001", "text length"}, {"03 0401", "text length"}, {"03 ffff", "text length"},
+		{"03 0001 1f", "text"}, {"03 0001 7f", "text"},
+		{"00 0000 01", "flag"}, {"03 0001 41 80", "flag"},
+		{"03 0000 00 00000001", "body length"}, {"00 0000 00 00400001", "body length"}, {"00 0000 00 ffffffff", "body length"},
+	}
+	for _, row := range rows {
+		silent, other := io.Pipe()
+		go other.Write(fromHex(t, row.bytes))
+		if _, err := readReply(bufio.NewReader(silent)); err != malformed(row.want) {
+			t.Errorf("%s: %v", row.bytes, err)
+		}
+	}
+}
+
+// An end behind any byte of a reply but the last is told, and only that behind none is a clean one.
+func TestReplyCutShort(t *testing.T) {
+	for _, whole := range []string{"00 0000 00 00000004 0a020801", "05 0002 4142 00 00000000"} {
+		all := fromHex(t, whole)
+		for length := range all {
+			want := io.ErrUnexpectedEOF
+			if length == 0 {
+				want = io.EOF
+			}
+			if _, err := readReply(bufio.NewReader(bytes.NewReader(all[:length]))); err != want {
+				t.Errorf("%s, %d bytes: %v", whole, length, err)
+			}
+		}
+	}
+}

@@ -1,0 +1,82 @@
+// front answers gRPC over HTTP/2 on a Unix socket by a csid that listens on another one.
+//
+// It knows no message and no method: a call's path and bytes go on as one frame, and the reply's status, text and body come back.
+package main
+
+import (
+	"errors"
+	"flag"
+	"fmt"
+	"log"
+	"net"
+	"os"
+	"os/signal"
+	"syscall"
+	"time"
+
+	"google.golang.org/grpc"
+)
+
+// Exit statuses; those that csid has too have the same numbers there.
+const (
+	done     = 0
+	cutOff   = 1
+	badWords = 2
+	noSocket = 7
+)
+
+func main() {
+	os.Exit(run(log.New(os.Stderr, "front: ", 0)))
+}
+
+func run(log *log.Logger) int {
+	asked, err := readOptions(os.Args[1:], os.Getenv("CSI_ENDPOINT"), os.Stdout)
+	if errors.Is(err, flag.ErrHelp) {
+		return done
+	}
+	if err != nil {
+		log.Print(err)
+		return badWords
+	}
+	stop := make(chan os.Signal, 2)
+	signal.Notify(stop, syscall.SIGTERM, syscall.SIGINT)
+	listener, err := listen(asked.listen)
+	if err != nil {
+		log.Print(err)
+		return noSocket
+	}
+	server := newServer(&handler{backend: newBackend(asked.csid), log: log})
+	failed := make(chan error, 1)
+	go func() { failed <- serve(server, listener) }()
+	select {
+	case err := <-failed:
+		log.Print(err)
+		return noSocket
+	case <-stop:
+		return end(server, stop, asked.grace, log)
+	}
+}
+
+func serve(server *grpc.Server, listener net.Listener) error {
+	if err := server.Serve(listener); err != nil {
+		return fmt.Errorf("taking connections: %w", err)
+	}
+	return errors.New("taking connections ended")
+}
+
+// end takes no further calls, and waits for those that run: for so long, or until a second signal.
+func end(server *grpc.Server, stop <-chan os.Signal, grace time.Duration, log *log.Logger) int {
+	ended := make(chan struct{})
+	go func() {
+		server.GracefulStop()
+		close(ended)
+	}()
+	select {
+	case <-ended:
+		return done
+	case <-stop:
+	case <-time.After(grace):
+	}
+	log.Print("ended, and cut calls off")
+	return cutOff
+}

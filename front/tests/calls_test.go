@@ -1,0 +1,206 @@
+package tests
+
+import (
+	"context"
+	"net"
+	"strings"
+	"testing"
+	"time"
+
+	"google.golang.org/grpc"
+	"google.golang.org/grpc/codes"
+)
+
+// A deadline ends a call that csid does not answer; the next one meets neither the late reply nor the connection.
+func TestDeadline(t *testing.T) {
+	t.Parallel()
+	csid := startFake(t, step{mute: true})
+	process := startFront(t, csid.socket)
+	front := newClient(t, process.socket)
+	begin := time.Now()
+	if got := front.send(soon(t, 200*time.Millisecond), "/a/b", nil); got.code != codes.DeadlineExceeded {
+		t.Errorf("%v, wanted DEADLINE_EXCEEDED", got)
+	}
+	if spent := time.Since(begin); spent > patience/2 {
+		t.Errorf("it took %v", spent)
+	}
+	csid.ended(t, 1)
+	front.wants(t, probe, "", ok(ready))
+	csid.sees(t, "/a/b ", probe+" ")
+	eventually(t, "the call in the log", func() bool { return gaveUp(process, "/a/b") })
+}
+
+// gaveUp tells whether the front logged that a call ended by its deadline or its caller: a client whose deadline is over cancels its
+// call, which the front may learn before its own clock says so.
+func gaveUp(front *process, path string) bool {
+	log := front.log.String()
+	return strings.Contains(log, "front: "+path+" 4 ") || strings.Contains(log, "front: "+path+" 1 ")
+}
+
+// So does a caller that gives up without a deadline.
+func TestCancelledCall(t *testing.T) {
+	t.Parallel()
+	csid, front := behindFront(t, step{mute: true})
+	ctx, cancel := context.WithCancel(context.Background())
+	go func() {
+		csid.called(t, 1)
+		cancel()
+	}()
+	if got := front.send(ctx, "/a/b", nil); got.code != codes.Canceled {
+		t.Errorf("%v, wanted CANCELLED", got)
+	}
+	csid.ended(t, 1)
+	front.wants(t, probe, "", ok(ready))
+}
+
+// And so does one whose connection goes away.
+func TestClientThatGoesAway(t *testing.T) {
+	t.Parallel()
+	csid := startFake(t, step{mute: true})
+	process := startFront(t, csid.socket)
+	leaving := newClient(t, process.socket)
+	go func() {
+		csid.called(t, 1)
+		leaving.Close()
+	}()
+	leaving.send(context.Background(), "/a/b", nil)
+	csid.ended(t, 1)
+	newClient(t, process.socket).wants(t, probe, "", ok(ready))
+}
+
+// What speaks no HTTP/2, or says nothing, is nobody's trouble but its own.
+func TestClientThatSpeaksNothing(t *testing.T) {
+	t.Parallel()
+	csid := startFake(t)
+	process := startFront(t, csid.socket)
+	for _, said := range []string{"", "PRI * HT", "GET / HTTP/1.1\r\n\r\n", "PRI * HTTP/2.0\r\n\r\nSM\r\n\r\n", strings.Repeat("\xff", 100)} {
+		conn, err := net.Dial("unix", process.socket)
+		if err != nil {
+			t.Fatal(err)
+		}
+		defer conn.Close()
+		conn.Write([]byte(said))
+	}
+	newClient(t, process.socket).wants(t, probe, "", ok(ready))
+}
+
+// A call that ended while half of its frame was written leaves no half frame before the next one.
+func TestHalfFrame(t *testing.T) {
+	t.Parallel()
+	listening := make(chan struct{})
+	csid := (&fake{deaf: listening}).start(t)
+	process := startFront(t, csid.socket)
+	front := newClient(t, process.socket)
+	if got := front.send(soon(t, 300*time.Millisecond), "/a/b", make([]byte, 1048576)); got.code != codes.DeadlineExceeded {
+		t.Errorf("%v, wanted DEADLINE_EXCEEDED", got)
+	}
+	eventually(t, "the call in the log", func() bool { return gaveUp(process, "/a/b") })
+	close(listening)
+	csid.ended(t, 1)
+	if csid.rest == 0 || csid.rest > 1048576 {
+		t.Errorf("csid got %d bytes of a frame", csid.rest)
+	}
+	front.wants(t, probe, "", ok(ready))
+	csid.sees(t, probe+" ")
+}
+
+// A call that waits for its turn ends with its own deadline, or when its caller gives up, and csid never sees it.
+func TestWaitingForTheTurn(t *testing.T) {
+	t.Parallel()
+	answered := make(chan struct{})
+	csid := startFake(t, step{wait: answered, write: okFrame("01")})
+	process := startFront(t, csid.socket)
+	front := newClient(t, process.socket)
+	first := make(chan answer)
+	go func() { first <- front.send(context.Background(), "/a/first", nil) }()
+	csid.called(t, 1)
+	if got := front.send(soon(t, 100*time.Millisecond), "/a/deadline", nil); got.code != codes.DeadlineExceeded {
+		t.Errorf("%v, wanted DEADLINE_EXCEEDED", got)
+	}
+	ctx, cancel := context.WithCancel(context.Background())
+	time.AfterFunc(100*time.Millisecond, cancel)
+	if got := front.send(ctx, "/a/cancel", nil); got.code != codes.Canceled {
+		t.Errorf("%v, wanted CANCELLED", got)
+	}
+	eventually(t, "both in the log", func() bool { return gaveUp(process, "/a/deadline") && gaveUp(process, "/a/cancel") })
+	close(answered)
+	if got := <-first; got != ok("01") {
+		t.Errorf("the first call: %v", got)
+	}
+	front.wants(t, probe, "", ok(ready))
+	csid.sees(t, "/a/first ", probe+" ")
+	if _, ends := csid.seen(); ends != 0 {
+		t.Errorf("%d connections ended", ends)
+	}
+}
+
+// What no frame can have is refused in the front: csid never sees it, and its stream goes on.
+func TestWhatNoFrameCanHave(t *testing.T) {
+	t.Parallel()
+	csid, front := behindFront(t)
+	longest := "/a/" + strings.Repeat("b", 125)
+	unknown := refused(codes.Unimplemented, "unknown method")
+	for _, path := range []string{longest + "b", "/a/ b", "/a /b", "/a/b ", "/a/\tb", "/a/\x80", "/\xff/b", "/" + strings.Repeat("a/", 5000)} {
+		front.wants(t, path, "", unknown)
+	}
+	// HTTP/2 has no such bytes, and a path of one part is none of gRPC: they don't come as far as the front's own check.
+	for _, path := range []string{"/a/\x7f", "/a/\x00", "/a/\n", "/a"} {
+		if got := front.call(t, path, ""); got.code == codes.OK {
+			t.Errorf("%q: %v", path, got)
+		}
+	}
+	for _, size := range []int{1048577, 1048578, 4194304, 5000000} {
+		if got := front.send(soon(t, patience), "/a/b", make([]byte, size)); got.code != codes.ResourceExhausted {
+			t.Errorf("a message of %d bytes: %v", size, got)
+		}
+	}
+	csid.sees(t)
+	front.wants(t, longest, strings.Repeat("00", 1048576), ok(ready))
+	csid.sees(t, longest+" "+strings.Repeat("00", 1048576))
+}
+
+// A unary call has one message.
+func TestOneMessageACall(t *testing.T) {
+	t.Parallel()
+	csid, front := behindFront(t)
+	for count := 0; count <= 2; count++ {
+		stream, err := front.NewStream(soon(t, patience), &grpc.StreamDesc{ClientStreams: true}, "/a/b")
+		if err != nil {
+			t.Fatal(err)
+		}
+		for sent := 0; sent < count; sent++ {
+			stream.SendMsg([]byte{1})
+		}
+		stream.CloseSend()
+		var body []byte
+		err = stream.RecvMsg(&body)
+		if want := map[int]codes.Code{0: codes.Unimplemented, 1: codes.OK, 2: codes.Unimplemented}[count]; grpc.Code(err) != want {
+			t.Errorf("%d messages: %v, wanted %v", count, err, want)
+		}
+	}
+	csid.sees(t, "/a/b 01")
+}
+
+// Each refused call is one line, with its path, code, text and milliseconds, and never its message; done ones are none.
+func TestLog(t *testing.T) {
+	t.Parallel()
+	csid := startFake(t, step{write: okFrame("")}, step{write: refusalFrame(9, "volume is in use")}, step{close: true})
+	process := startFront(t, csid.socket)
+	front := newClient(t, process.socket)
+	secret := "2a070a0168120270772a" // any bytes: the front reads none
+	front.call(t, "/a/done", secret)
+	front.call(t, "/a/refused", secret)
+	front.call(t, "/a/lost", secret)
+	front.call(t, "/a/no path", secret)
+	eventually(t, "three lines", func() bool { return strings.Count(process.log.String(), "\n") >= 3 })
+	lines := strings.SplitAfter(process.log.String(), "\n")
+	want := []string{`front: /a/refused 9 "volume is in use" `, `front: /a/lost 14 "csid: reading the reply: `, `front: "/a/no path" 12 "unknown method" `, ""}
+	if len(lines) != len(want) {
+		t.Fatalf("logged: %q", lines)
+	}
+	for i, line := range lines {
+		if !strings.HasPrefix(line, want[i]) || (line != "" && !strings.HasSuffix(line, " ms\n")) {
+			t.Errorf("logged %q, wanted %q", line, want[i])
+		}
+	}
+}

@@ -1,0 +1,109 @@
+package tests
+
+import (
+	"context"
+	"encoding/hex"
+	"net"
+	"strings"
+	"testing"
+	"time"
+
+	"google.golang.org/grpc"
+	"google.golang.org/grpc/codes"
+	"google.golang.org/grpc/status"
+)
+
+const (
+	identity   = "/csi.v1.Identity/"
+	controller = "/csi.v1.Controller/"
+	probe      = identity + "Probe"
+	ready      = "0a020801"
+)
+
+// bytesCodec sends and receives messages as they are.
+type bytesCodec struct{}
+
+func (bytesCodec) Marshal(v interface{}) ([]byte, error)      { return v.([]byte), nil }
+func (bytesCodec) Unmarshal(data []byte, v interface{}) error { *v.(*[]byte) = data; return nil }
+func (bytesCodec) Name() string                               { return "proto" }
+
+// answer is what a call came to: the body in hexadecimal, or a code and a text.
+type answer struct {
+	code codes.Code
+	text string
+	body string
+}
+
+func ok(body string) answer { return answer{codes.OK, "", strings.ReplaceAll(body, " ", "")} }
+
+func refused(code codes.Code, text string) answer { return answer{code, text, ""} }
+
+// client is an orchestrator's sidecar, as far as the front can tell.
+type client struct{ *grpc.ClientConn }
+
+func newClient(t *testing.T, socket string) *client {
+	t.Helper()
+	ctx, cancel := context.WithTimeout(context.Background(), patience)
+	defer cancel()
+	dial := func(ctx context.Context, _ string) (net.Conn, error) {
+		return (&net.Dialer{}).DialContext(ctx, "unix", socket)
+	}
+	conn, err := grpc.DialContext(ctx, "passthrough:///csi", grpc.WithInsecure(), grpc.WithBlock(), grpc.WithContextDialer(dial),
+		grpc.WithDefaultCallOptions(grpc.ForceCodec(bytesCodec{})))
+	if err != nil {
+		t.Fatal(err)
+	}
+	t.Cleanup(func() { conn.Close() })
+	return &client{conn}
+}
+
+// send makes a call under a context.
+func (c *client) send(ctx context.Context, path string, message []byte) answer {
+	var body []byte
+	if err := c.Invoke(ctx, path, message, &body); err != nil {
+		why := status.Convert(err)
+		return refused(why.Code(), why.Message())
+	}
+	return ok(hex.EncodeToString(body))
+}
+
+// call makes a call with a message in hexadecimal, and no deadline that matters.
+func (c *client) call(t *testing.T, path, message string) answer {
+	t.Helper()
+	ctx, cancel := context.WithTimeout(context.Background(), patience)
+	defer cancel()
+	return c.send(ctx, path, fromHex(t, message))
+}
+
+// wants makes a call and compares its answer.
+func (c *client) wants(t *testing.T, path, message string, want answer) {
+	t.Helper()
+	if got := c.call(t, path, message); got != want {
+		t.Errorf("%s %.80s: %v, wanted %v", path, message, got, want)
+	}
+}
+
+// isLost makes a call whose outcome has to stay open, so that an orchestrator repeats it.
+func (c *client) isLost(t *testing.T, path, message string) {
+	t.Helper()
+	if got := c.call(t, path, message); got.code != codes.Unavailable || !strings.HasPrefix(got.text, "csid: ") {
+		t.Errorf("%s: %v, wanted UNAVAILABLE", path, got)
+	}
+}
+
+func fromHex(t *testing.T, text string) []byte {
+	t.Helper()
+	all, err := hex.DecodeString(strings.ReplaceAll(text, " ", ""))
+	if err != nil {
+		t.Fatal(err)
+	}
+	return all
+}
+
+// soon is a context for so long.
+func soon(t *testing.T, length time.Duration) context.Context {
+	t.Helper()
+	ctx, cancel := context.WithTimeout(context.Background(), length)
+	t.Cleanup(cancel)
+	return ctx
+}

@@ -1,0 +1,345 @@
+package tests
+
+import (
+	"context"
+	"encoding/hex"
+	"fmt"
+	"regexp"
+	"strings"
+	"sync"
+	"sync/atomic"
+	"testing"
+	"time"
+
+	"google.golang.org/grpc/codes"
+)
+
+// Parts of messages, worked out by hand from docs/PROTOCOL.md, "Messages".
+const (
+	block   = "1a06 0a00 1a020801"                 // volume_capabilities of one block device with mode 1; volume_capability of one likewise
+	vol1    = "0a05 766f6c2d31"                    // volume_id "vol-1"
+	vol2    = "0a05 766f6c2d32"                    // volume_id "vol-2"
+	n1      = "1202 6e31"                          // node_id "n1"
+	createA = "0a0161" + block                     // the name "a"
+	threeB  = "1205 088080c001"                    // capacity_range of at least 3 MiB
+	zoneB   = "3a0d 0a0b 0a09 0a047a6f6e65 120162" // one requisite topology
+	// 'vol-1', 1 MiB of the pool p1 in zone a; 'vol-2', 3 MiB of the pool p2 in zone b.
+	volume1 = "0a24 08808040 1205 766f6c2d31 1a0a 0a04706f6f6c 12027031 2a0b 0a09 0a047a6f6e65 120161"
+	volume2 = "0a25 088080c001 1205 766f6c2d32 1a0a 0a04706f6f6c 12027032 2a0b 0a09 0a047a6f6e65 120162"
+)
+
+// A day of an orchestrator, under the sample configuration (docs/OPERATING.md). The rows go over one another's volumes.
+func TestCallsOfVolumes(t *testing.T) {
+	t.Parallel()
+	rows := []struct {
+		path, message string
+		want          answer
+	}{
+		{probe, "", ok(ready)},
+		{identity + "GetPluginInfo", "", ok("0a11 706f6f6c732e6578616d706c652e6f7267 1205 312e302e30")},
+		{identity + "GetPluginCapabilities", "", ok("0a040a020801 0a040a020802")},
+		{controller + "ControllerGetCapabilities", "", ok("0a040a020801 0a040a020802 0a040a020803 0a040a020804 0a040a020808 0a040a02080a")},
+		{controller + "GetCapacity", "", ok("0880808007 1205 0880808004")},
+		{controller + "CreateVolume", createA, ok(volume1)},
+		{controller + "CreateVolume", createA, ok(volume1)},
+		{controller + "CreateVolume", "0a0162" + threeB + block + zoneB, ok(volume2)},
+		{controller + "CreateVolume", "0a0161" + threeB + "1a06 0a00 1a020801", refused(codes.AlreadyExists, "volume exists and is not compatible")},
+		{controller + "CreateVolume", block, refused(codes.InvalidArgument, "name is missing")},
+		{controller + "CreateVolume", createA + "0a", refused(codes.InvalidArgument, "malformed message in the field at byte 11")},
+		{controller + "CreateVolume", "0a0163 1206 088080808001" + block, refused(codes.OutOfRange, "capacity is out of range")},
+		{controller + "CreateVolume", "0a0163 1205 0880808002" + block + zoneB, refused(codes.ResourceExhausted, "no room in the topology")},
+		{controller + "GetCapacity", "", ok("0880808005 1205 0880808004")},
+		{controller + "ControllerPublishVolume", vol1 + n1 + block, ok("0a11 0a08 726561646f6e6c79 1205 66616c7365")},
+		{controller + "ControllerPublishVolume", vol1 + "1202 6e32" + block, refused(codes.FailedPrecondition, "volume is published elsewhere")},
+		{controller + "ControllerPublishVolume", vol2 + "1202 6e39" + block, refused(codes.NotFound, "node not found")},
+		{controller + "ListVolumes", "0801", ok("0a2c" + volume1 + "1204 0a026e31 120131")},
+		{controller + "ListVolumes", "120131", ok("0a29" + volume2 + "1200")},
+		{controller + "ListVolumes", "120139", refused(codes.Aborted, "bad starting token")},
+		{controller + "ValidateVolumeCapabilities", vol1 + block, ok("0a08 1206 0a00 1a020801")},
+		{controller + "DeleteVolume", vol1, refused(codes.FailedPrecondition, "volume is in use")},
+		{controller + "ControllerUnpublishVolume", vol1, ok("")},
+		{controller + "DeleteVolume", vol1, ok("")},
+		{controller + "DeleteVolume", vol1, ok("")},
+		{controller + "ListVolumes", "", ok("0a29" + volume2 + "1200")},
+		{controller + "CreateSnapshot", "", refused(codes.Unimplemented, "unknown method")},
+		{"/csi.v1.Node/NodeGetInfo", "", refused(codes.Unimplemented, "unknown method")},
+		{"/grpc.health.v1.Health/Check", "", refused(codes.Unimplemented, "unknown method")},
+		{probe + "/", "", refused(codes.Unimplemented, "unknown method")},
+		{"/~/" + strings.Repeat("~", 125), "", refused(codes.Unimplemented, "unknown method")},
+		{"/~/" + strings.Repeat("~", 126), "", refused(codes.Unimplemented, "unknown method")},
+		// One unknown field of 1,048,576 bytes: its tag, a length of three bytes, and so many bytes. Then one of a byte more.
+		{probe, "7a fcff3f" + strings.Repeat("78", 1048572), ok(ready)},
+		{probe, "7a fdff3f" + strings.Repeat("78", 1048573), refused(codes.ResourceExhausted, "grpc: received message larger than max (1048577 vs. 1048576)")},
+		{probe, "", ok(ready)},
+	}
+	csid := startCsid(t)
+	front := newClient(t, startFront(t, csid.socket()).socket)
+	for _, row := range rows {
+		front.wants(t, row.path, row.message, row.want)
+	}
+	if log := csid.current.log.String(); log != "" {
+		t.Errorf("csid said: %s", log)
+	}
+}
+
+// One pool in which many volumes have room.
+const roomy = `name = "pools.example.org"
+vendor_version = "1.0.0"
+default_bytes = 1048576
+greatest_bytes = 8388608
+
+[[pool]]
+name = "p1"
+bytes = 1099511627776
+`
+
+// create makes a volume of a name of fewer than 128 bytes, and gives its id.
+func create(ctx context.Context, front *client, name string) (string, answer) {
+	message := append([]byte{0x0a, byte(len(name))}, name...)
+	message = append(message, 0x1a, 6, 0x0a, 0, 0x1a, 2, 8, 1)
+	got := front.send(ctx, controller+"CreateVolume", message)
+	body, _ := hex.DecodeString(got.body)
+	return string(volumeID.Find(body)), got
+}
+
+var volumeID = regexp.MustCompile(`vol-[0-9]+`)
+
+// list gives the ids of all volumes, page after page: a page that begins behind the last volume is empty.
+func list(t *testing.T, front *client) (ids []string) {
+	t.Helper()
+	for token := ""; ; {
+		got := front.call(t, controller+"ListVolumes", fmt.Sprintf("12%02x%x", len(token), token))
+		if got.code != codes.OK {
+			t.Fatalf("listing: %v", got)
+		}
+		body, _ := hex.DecodeString(got.body)
+		page := volumeID.FindAllString(string(body), -1)
+		if len(page) == 0 {
+			return ids
+		}
+		ids = append(ids, page...)
+		token = strings.TrimPrefix(page[len(page)-1], "vol-")
+	}
+}
+
+// book is the volumes that callers were told of, by name.
+type book struct {
+	mutex sync.Mutex
+	ids   map[string]string
+}
+
+// note notes a volume that was told, and says so where the name was told another one before.
+func (b *book) note(t *testing.T, name, id string) {
+	b.mutex.Lock()
+	defer b.mutex.Unlock()
+	if b.ids == nil {
+		b.ids = map[string]string{}
+	}
+	if before, is := b.ids[name]; is && before != id {
+		t.Errorf("%s is %s, and was told to be %s", name, id, before)
+	}
+	b.ids[name] = id
+}
+
+// isListed compares the volumes that were told with those that stand: each once, and no others.
+func (b *book) isListed(t *testing.T, front *client) {
+	t.Helper()
+	stand := map[string]bool{}
+	for _, id := range list(t, front) {
+		if stand[id] {
+			t.Errorf("%s is listed twice", id)
+		}
+		stand[id] = true
+	}
+	told := map[string]bool{}
+	for name, id := range b.ids {
+		if told[id] || !stand[id] {
+			t.Errorf("%s, %s: told twice %v, listed %v", name, id, told[id], stand[id])
+		}
+		told[id] = true
+	}
+	if len(told) != len(stand) {
+		t.Errorf("%d volumes were told, %d stand", len(told), len(stand))
+	}
+}
+
+// together runs so many callers at once, and waits for them.
+func together(callers int, call func(caller int)) {
+	var all sync.WaitGroup
+	for caller := 0; caller < callers; caller++ {
+		all.Add(1)
+		go func(caller int) {
+			defer all.Done()
+			call(caller)
+		}(caller)
+	}
+	all.Wait()
+}
+
+// Callers who share names are told the same volume, and each name has one.
+func TestConcurrentCallers(t *testing.T) {
+	t.Parallel()
+	const callers, names = 8, 40
+	csid := newServer(t, roomy).start(t)
+	socket := startFront(t, csid.socket()).socket
+	told := &book{}
+	together(callers, func(caller int) {
+		front := newClient(t, socket)
+		for i := 0; i < names; i++ {
+			for _, owner := range []int{caller, (caller + 1) % callers} {
+				name := fmt.Sprintf("pvc-%d-%d", owner, i)
+				id, got := create(soon(t, patience), front, name)
+				if got.code != codes.OK {
+					t.Errorf("%s: %v", name, got)
+				}
+				told.note(t, name, id)
+			}
+		}
+	})
+	if len(told.ids) != callers*names {
+		t.Errorf("%d names", len(told.ids))
+	}
+	told.isListed(t, newClient(t, socket))
+}
+
+// createThrough makes volumes while csid is killed and started again several times. A caller is told of an open outcome at
+// worst, and repeats.
+func createThrough(t *testing.T, csid *server, socket string) *book {
+	const callers, names, kills = 4, 150, 3
+	told, lost, made := &book{}, int32(0), int32(0)
+	over := make(chan struct{})
+	go func() {
+		defer close(over)
+		together(callers, func(caller int) {
+			front := newClient(t, socket)
+			for i := 0; i < names; {
+				name := fmt.Sprintf("pvc-%d-%d", caller, i)
+				id, got := create(soon(t, patience), front, name)
+				switch got.code {
+				case codes.OK:
+					told.note(t, name, id)
+					atomic.AddInt32(&made, 1)
+					i++
+				case codes.Unavailable:
+					atomic.AddInt32(&lost, 1)
+					time.Sleep(2 * time.Millisecond)
+				default:
+					t.Errorf("%s: %v", name, got)
+					return
+				}
+			}
+		})
+	}()
+	for kill := int32(1); kill <= kills; kill++ {
+		eventually(t, "volumes before a kill", func() bool { return atomic.LoadInt32(&made) >= kill*callers*names/(kills+1) })
+		before := atomic.LoadInt32(&lost)
+		csid.kill(t)
+		eventually(t, "a call that is lost", func() bool { return atomic.LoadInt32(&lost) > before })
+		csid.start(t)
+	}
+	<-over
+	return told
+}
+
+// A csid that is killed costs the calls of that time; the front finds the next one by itself.
+func TestCsidThatIsKilled(t *testing.T) {
+	t.Parallel()
+	csid := newServer(t, roomy).start(t)
+	socket := startFront(t, csid.socket()).socket
+	told := createThrough(t, csid, socket)
+	t.Run("its volumes outlive it", func(t *testing.T) {
+		if !hasTables(t) {
+			t.Skip("left out: this csid keeps its volumes in memory alone (csid serve --help has no --tables)")
+		}
+		told.isListed(t, newClient(t, socket))
+	})
+}
+
+// Callers who give up at any moment, and repeat, still get each volume once.
+func TestImpatientCallers(t *testing.T) {
+	t.Parallel()
+	const callers, names = 4, 20
+	csid := newServer(t, roomy).start(t)
+	socket := startFront(t, csid.socket()).socket
+	told, gaveUp := &book{}, int32(0)
+	together(callers, func(caller int) {
+		front := newClient(t, socket)
+		for i := 0; i < names; i++ {
+			name := fmt.Sprintf("pvc-%d-%d", caller, i)
+			// Each try has a little more time than the one before.
+			for length := 50 * time.Microsecond; ; length += length / 4 {
+				ctx, cancel := context.WithTimeout(context.Background(), length)
+				id, got := create(ctx, front, name)
+				cancel()
+				if got.code == codes.OK {
+					told.note(t, name, id)
+					break
+				}
+				if got.code != codes.DeadlineExceeded && got.code != codes.Canceled && got.code != codes.Unavailable {
+					t.Errorf("%s: %v", name, got)
+					return
+				}
+				atomic.AddInt32(&gaveUp, 1)
+			}
+		}
+	})
+	t.Logf("%d calls ended before their replies", gaveUp)
+	told.isListed(t, newClient(t, socket))
+}
+
+// A csid that was killed and started again between two calls costs none.
+func TestCsidThatIsStartedAgain(t *testing.T) {
+	t.Parallel()
+	csid := startCsid(t)
+	front := newClient(t, startFront(t, csid.socket()).socket)
+	for round := 0; round < 5; round++ {
+		front.wants(t, probe, "", ok(ready))
+		csid.kill(t)
+		csid.start(t)
+	}
+	front.wants(t, probe, "", ok(ready))
+}
+
+// While there is no csid, calls are told so at once, and it may come later than the front.
+func TestCsidThatIsAway(t *testing.T) {
+	t.Parallel()
+	csid := newServer(t, "")
+	front := newClient(t, startFront(t, csid.socket()).socket)
+	front.isLost(t, probe, "")
+	csid.start(t)
+	front.wants(t, probe, "", ok(ready))
+	csid.current.kill()
+	front.isLost(t, probe, "")
+	front.isLost(t, probe, "")
+}
+
+// Ten thousand calls leave no more memory taken and no more files open than two thousand did.
+func TestTenThousandCalls(t *testing.T) {
+	t.Parallel()
+	csid := startCsid(t)
+	running := startFront(t, csid.socket())
+	front := newClient(t, running.socket)
+	calls := func(count int) {
+		together(8, func(caller int) {
+			for i := 0; i < count/8; i++ {
+				front.wants(t, probe, "", ok(ready))
+			}
+		})
+	}
+	calls(2000)
+	for _, each := range []struct {
+		name    string
+		process *process
+	}{{"front", running}, {"csid", csid.current}} {
+		each := each
+		files, memory := each.process.openFiles(t), each.process.residentBytes(t)
+		defer func() {
+			filesAfter, memoryAfter := each.process.openFiles(t), each.process.residentBytes(t)
+			t.Logf("%s: %d files, %d KiB; before %d files, %d KiB", each.name, filesAfter, memoryAfter>>10, files, memory>>10)
+			if filesAfter > files || memoryAfter > memory+(4<<20) {
+				t.Errorf("%s grew: %d files, %d KiB; before %d files, %d KiB", each.name, filesAfter, memoryAfter>>10, files, memory>>10)
+			}
+		}()
+	}
+	calls(10000)
+}

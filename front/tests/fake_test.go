@@ -1,0 +1,174 @@
+package tests
+
+import (
+	"encoding/binary"
+	"encoding/hex"
+	"io"
+	"net"
+	"path/filepath"
+	"strings"
+	"sync"
+	"testing"
+)
+
+// step is what a fake csid does with one frame that it read.
+type step struct {
+	// Waits until this is closed, before anything else.
+	wait <-chan struct{}
+	// Writes these bytes.
+	write []byte
+	// Then closes the connection.
+	close bool
+	// Or answers nothing, and reads on until the front closes the connection.
+	mute bool
+}
+
+// fake stands for a csid: it serves one connection at a time, and takes a step a frame; once there are no more it is ready.
+type fake struct {
+	socket string
+	mutex  sync.Mutex
+	steps  []step
+	// The messages of the frames that were read, in hexadecimal, behind their paths.
+	calls []string
+	// How many connections came to an end, and how many bytes of a frame were left when the last one did.
+	ends int
+	rest int
+	// Until this is closed nothing is read from a connection; nil does not hold up anything.
+	deaf <-chan struct{}
+}
+
+func startFake(t *testing.T, steps ...step) *fake {
+	t.Helper()
+	return (&fake{steps: steps}).start(t)
+}
+
+// behindFront is a front before a fake csid that takes these steps, and a client of it.
+func behindFront(t *testing.T, steps ...step) (*fake, *client) {
+	t.Helper()
+	csid := startFake(t, steps...)
+	return csid, newClient(t, startFront(t, csid.socket).socket)
+}
+
+func (f *fake) start(t *testing.T) *fake {
+	t.Helper()
+	f.socket = filepath.Join(folder(t), "csid.sock")
+	listener, err := net.Listen("unix", f.socket)
+	if err != nil {
+		t.Fatal(err)
+	}
+	t.Cleanup(func() { listener.Close() })
+	go func() {
+		for {
+			conn, err := listener.Accept()
+			if err != nil {
+				return
+			}
+			f.serve(conn)
+		}
+	}()
+	return f
+}
+
+func (f *fake) serve(conn net.Conn) {
+	if f.deaf != nil {
+		<-f.deaf
+	}
+	rest := 0
+	for {
+		call, size, err := readFrame(conn)
+		if err != nil {
+			rest = size
+			break
+		}
+		if !f.answer(conn, call) {
+			break
+		}
+	}
+	conn.Close()
+	f.mutex.Lock()
+	defer f.mutex.Unlock()
+	f.ends++
+	f.rest = rest
+}
+
+// answer takes a step, and tells whether the connection goes on.
+func (f *fake) answer(conn net.Conn, call string) bool {
+	f.mutex.Lock()
+	f.calls = append(f.calls, call)
+	next := step{write: okFrame(ready)}
+	if len(f.steps) > 0 {
+		next, f.steps = f.steps[0], f.steps[1:]
+	}
+	f.mutex.Unlock()
+	if next.wait != nil {
+		<-next.wait
+	}
+	if next.mute {
+		io.Copy(io.Discard, conn)
+		return false
+	}
+	conn.Write(next.write)
+	return !next.close
+}
+
+// readFrame reads one frame, and gives how many bytes of it came.
+func readFrame(in io.Reader) (call string, size int, err error) {
+	head := make([]byte, 2)
+	if size, err = io.ReadFull(in, head); err != nil {
+		return "", size, err
+	}
+	path := make([]byte, int(binary.BigEndian.Uint16(head))+5)
+	count, err := io.ReadFull(in, path)
+	if size += count; err != nil {
+		return "", size, err
+	}
+	message := make([]byte, binary.BigEndian.Uint32(path[len(path)-4:]))
+	count, err = io.ReadFull(in, message)
+	return string(path[:len(path)-5]) + " " + hex.EncodeToString(message), size + count, err
+}
+
+// seen is the calls that were read, and the connections that ended.
+func (f *fake) seen() (calls []string, ends int) {
+	f.mutex.Lock()
+	defer f.mutex.Unlock()
+	return append([]string(nil), f.calls...), f.ends
+}
+
+func (f *fake) sees(t *testing.T, want ...string) {
+	t.Helper()
+	if calls, _ := f.seen(); strings.Join(calls, ", ") != strings.Join(want, ", ") {
+		t.Errorf("csid saw %.300q, wanted %.300q", calls, want)
+	}
+}
+
+// ended waits until so many connections came to an end.
+func (f *fake) ended(t *testing.T, count int) {
+	t.Helper()
+	eventually(t, "the end of a connection to csid", func() bool {
+		_, ends := f.seen()
+		return ends >= count
+	})
+}
+
+// called waits until so many calls were read.
+func (f *fake) called(t *testing.T, count int) {
+	t.Helper()
+	eventually(t, "a call at csid", func() bool {
+		calls, _ := f.seen()
+		return len(calls) >= count
+	})
+}
+
+// okFrame and refusalFrame spell replies (docs/PROTOCOL.md, "Envelope").
+func okFrame(body string) []byte {
+	all, err := hex.DecodeString(strings.ReplaceAll(body, " ", ""))
+	if err != nil {
+		panic(err)
+	}
+	return append(binary.BigEndian.AppendUint32([]byte{0, 0, 0, 0}, uint32(len(all))), all...)
+}
+
+func refusalFrame(code byte, text string) []byte {
+	frame := binary.BigEndian.AppendUint16([]byte{code}, uint16(len(text)))
+	return append(append(frame, text...), 0, 0, 0, 0, 0)
+}

@@ -1,0 +1,116 @@
+package tests
+
+import (
+	"strings"
+	"testing"
+
+	"google.golang.org/grpc/codes"
+)
+
+// Every status, and the greatest parts of a reply, come back as they are.
+func TestEveryReplyComesBack(t *testing.T) {
+	t.Parallel()
+	text := strings.Repeat(" ~", 512)
+	rows := []struct {
+		reply []byte
+		want  answer
+	}{
+		{okFrame("0a020801"), ok("0a020801")},
+		{okFrame(""), ok("")},
+		{okFrame(strings.Repeat("ff", 4194304)), ok(strings.Repeat("ff", 4194304))},
+		{refusalFrame(3, "name is missing"), refused(codes.InvalidArgument, "name is missing")},
+		{refusalFrame(5, "volume not found"), refused(codes.NotFound, "volume not found")},
+		{refusalFrame(6, "100% \"a\" \\ b"), refused(codes.AlreadyExists, "100% \"a\" \\ b")},
+		{refusalFrame(8, "no room in the topology"), refused(codes.ResourceExhausted, "no room in the topology")},
+		{refusalFrame(9, "volume is in use"), refused(codes.FailedPrecondition, "volume is in use")},
+		{refusalFrame(10, "bad starting token"), refused(codes.Aborted, "bad starting token")},
+		{refusalFrame(11, "capacity is out of range"), refused(codes.OutOfRange, "capacity is out of range")},
+		{refusalFrame(12, ""), refused(codes.Unimplemented, "")},
+		{refusalFrame(13, text), refused(codes.Internal, text)},
+	}
+	var steps []step
+	for _, row := range rows {
+		steps = append(steps, step{write: row.reply})
+	}
+	csid, front := behindFront(t, steps...)
+	for _, row := range rows {
+		if got := front.call(t, "/a/b", "0102"); got != row.want {
+			t.Errorf("%.80v, wanted %.80v", got, row.want)
+		}
+	}
+	if calls, ends := csid.seen(); len(calls) != len(rows) || ends != 0 || calls[0] != "/a/b 0102" {
+		t.Errorf("csid saw %d calls %q and %d ends", len(calls), calls[0], ends)
+	}
+}
+
+// A reply that breaks a rule, or breaks off, leaves the outcome open, and ends the connection: the next call has a new one.
+func TestMalformedReplies(t *testing.T) {
+	t.Parallel()
+	rows := map[string][]byte{
+		"no status of the table":           fromHex(t, "01"),
+		"UNAVAILABLE, which csid never is": fromHex(t, "0e 0000 00 00000000"),
+		"a text beside an OK":              fromHex(t, "00 0001 41 00 00000000"),
+		"a text of 1025 bytes":             refusalFrame(3, strings.Repeat("a", 1025)),
+		"a text with a control character":  fromHex(t, "03 0001 1f"),
+		"a flag":                           fromHex(t, "00 0000 01 00000000"),
+		"a body beside a refusal":          fromHex(t, "03 0000 00 00000001 41"),
+		"a body of more than 4 MiB":        fromHex(t, "00 0000 00 00400001"),
+	}
+	for name, reply := range rows {
+		name, reply := name, reply
+		t.Run(name, func(t *testing.T) {
+			t.Parallel()
+			csid, front := behindFront(t, step{write: reply})
+			front.isLost(t, "/a/b", "01")
+			csid.ended(t, 1)
+			front.wants(t, probe, "", ok(ready))
+			csid.sees(t, "/a/b 01", probe+" ")
+		})
+	}
+}
+
+// A connection that breaks in a call leaves the outcome open, and the front doesn't send the call again by itself.
+func TestConnectionThatBreaks(t *testing.T) {
+	t.Parallel()
+	rows := map[string][]byte{
+		"before the reply":  nil,
+		"in the text":       fromHex(t, "05 0004 41"),
+		"before the flag":   fromHex(t, "00 0000"),
+		"in the body":       fromHex(t, "00 0000 00 00000004 0a02"),
+		"before the body":   fromHex(t, "00 0000 00 00000004"),
+		"behind the status": fromHex(t, "00"),
+	}
+	for name, reply := range rows {
+		name, reply := name, reply
+		t.Run(name, func(t *testing.T) {
+			t.Parallel()
+			csid, front := behindFront(t, step{write: reply, close: true})
+			front.isLost(t, "/a/b", "01")
+			csid.ended(t, 1)
+			csid.sees(t, "/a/b 01")
+			front.wants(t, probe, "", ok(ready))
+			csid.sees(t, "/a/b 01", probe+" ")
+		})
+	}
+}
+
+// What comes unasked behind a good reply is no reply of the next call.
+func TestReplyThatNobodyAskedFor(t *testing.T) {
+	t.Parallel()
+	csid, front := behindFront(t, step{write: append(okFrame("01"), okFrame("02")...)})
+	front.wants(t, "/a/b", "", ok("01"))
+	front.wants(t, probe, "", ok(ready))
+	csid.ended(t, 1)
+}
+
+// A connection that csid closed between two calls costs no call anything.
+func TestConnectionThatEndsBetweenCalls(t *testing.T) {
+	t.Parallel()
+	csid, front := behindFront(t, step{write: okFrame("01"), close: true}, step{write: okFrame("02"), close: true})
+	front.wants(t, "/a/b", "", ok("01"))
+	csid.ended(t, 1)
+	front.wants(t, "/a/c", "", ok("02"))
+	csid.ended(t, 2)
+	front.wants(t, probe, "", ok(ready))
+	csid.sees(t, "/a/b ", "/a/c ", probe+" ")
+}

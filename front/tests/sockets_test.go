@@ -1,0 +1,188 @@
+package tests
+
+import (
+	"context"
+	"net"
+	"os"
+	"os/exec"
+	"path/filepath"
+	"strings"
+	"testing"
+	"time"
+
+	"google.golang.org/grpc/codes"
+)
+
+// deadSocket makes a socket that nobody answers on, as a program leaves that was killed.
+func deadSocket(t *testing.T) string {
+	t.Helper()
+	path := filepath.Join(folder(t), "csi.sock")
+	listener, err := net.ListenUnix("unix", &net.UnixAddr{Name: path, Net: "unix"})
+	if err != nil {
+		t.Fatal(err)
+	}
+	listener.SetUnlinkOnClose(false)
+	listener.Close()
+	return path
+}
+
+// frontAt is a front that is to listen there.
+func frontAt(t *testing.T, csid, socket string) *process {
+	t.Helper()
+	return start(t, socket, exec.Command(frontProgram(t), "--csid", csid, "--listen", socket))
+}
+
+// refuses waits until a front ends with the status of a socket that cannot be made, and one line about it.
+func (p *process) refuses(t *testing.T, status int, part string) {
+	t.Helper()
+	if got := p.status(t); got != status {
+		t.Errorf("status %d, wanted %d", got, status)
+	}
+	if log := p.log.String(); !strings.HasPrefix(log, "front: ") || strings.Count(log, "\n") != 1 || !strings.Contains(log, part) {
+		t.Errorf("logged %q, wanted a line with %q", log, part)
+	}
+}
+
+func TestDeadSocketGivesWay(t *testing.T) {
+	t.Parallel()
+	csid := startFake(t)
+	front := frontAt(t, csid.socket, deadSocket(t)).answers(t)
+	newClient(t, front.socket).wants(t, probe, "", ok(ready))
+}
+
+func TestLiveSocketStays(t *testing.T) {
+	t.Parallel()
+	csid := startFake(t)
+	front := startFront(t, csid.socket)
+	frontAt(t, csid.socket, front.socket).refuses(t, 7, "somebody answers")
+	newClient(t, front.socket).wants(t, probe, "", ok(ready))
+}
+
+func TestOtherFilesStay(t *testing.T) {
+	t.Parallel()
+	place := folder(t)
+	plain, link := filepath.Join(place, "plain"), filepath.Join(place, "link")
+	if err := os.WriteFile(plain, []byte("text"), 0o600); err != nil {
+		t.Fatal(err)
+	}
+	if err := os.Symlink(deadSocket(t), link); err != nil {
+		t.Fatal(err)
+	}
+	for _, path := range []string{plain, link, place} {
+		frontAt(t, "csid.sock", path).refuses(t, 7, "no socket")
+	}
+	if text, err := os.ReadFile(plain); err != nil || string(text) != "text" {
+		t.Errorf("the plain file: %q, %v", text, err)
+	}
+	if _, err := os.Lstat(link); err != nil {
+		t.Error(err)
+	}
+}
+
+func TestSocketThatCannotBeMade(t *testing.T) {
+	t.Parallel()
+	frontAt(t, "csid.sock", filepath.Join(folder(t), "absent", "csi.sock")).refuses(t, 7, "absent")
+	frontAt(t, "csid.sock", filepath.Join(folder(t), strings.Repeat("a", 120))).refuses(t, 7, "aaa")
+}
+
+// Of fronts that start together over a dead socket exactly one gets it, and keeps it.
+func TestFrontsThatStartTogether(t *testing.T) {
+	t.Parallel()
+	csid, socket := startFake(t), deadSocket(t)
+	var fronts []*process
+	for len(fronts) < 6 {
+		fronts = append(fronts, frontAt(t, csid.socket, socket))
+	}
+	left := func() (living []*process) {
+		for _, front := range fronts {
+			select {
+			case <-front.ended:
+			default:
+				living = append(living, front)
+			}
+		}
+		return living
+	}
+	eventually(t, "one front", func() bool { return len(left()) <= 1 })
+	if len(left()) != 1 {
+		t.Fatal("no front lives")
+	}
+	newClient(t, left()[0].answers(t).socket).wants(t, probe, "", ok(ready))
+}
+
+func TestEndpoint(t *testing.T) {
+	t.Parallel()
+	for _, scheme := range []string{"", "unix:", "unix://"} {
+		csid, socket := startFake(t), filepath.Join(folder(t), "csi.sock")
+		command := exec.Command(frontProgram(t), "--csid", csid.socket)
+		command.Env = append(os.Environ(), "CSI_ENDPOINT="+scheme+socket)
+		newClient(t, start(t, socket, command).answers(t).socket).wants(t, probe, "", ok(ready))
+	}
+	command := exec.Command(frontProgram(t), "--csid", "csid.sock")
+	command.Env = append(os.Environ(), "CSI_ENDPOINT=tcp://127.0.0.1:10000")
+	start(t, "", command).refuses(t, 2, "no Unix socket")
+}
+
+// After SIGTERM the call that runs is answered, no further one is taken, and the socket is gone.
+func TestTermDuringACall(t *testing.T) {
+	t.Parallel()
+	answered := make(chan struct{})
+	csid := startFake(t, step{wait: answered, write: okFrame("01")})
+	process := startFront(t, csid.socket)
+	front := newClient(t, process.socket)
+	running := make(chan answer)
+	go func() { running <- front.send(context.Background(), "/a/b", nil) }()
+	csid.called(t, 1)
+	process.terminate(t)
+	eventually(t, "the end of the socket", func() bool { return !isAnswered(process.socket) })
+	close(answered)
+	if got := <-running; got != ok("01") {
+		t.Errorf("the call that ran: %v", got)
+	}
+	if status := process.status(t); status != 0 || process.log.String() != "" {
+		t.Errorf("status %d, logged %q", status, process.log)
+	}
+	if _, err := os.Lstat(process.socket); !os.IsNotExist(err) {
+		t.Errorf("the socket: %v", err)
+	}
+	csid.sees(t, "/a/b ")
+}
+
+func TestTermWithoutACall(t *testing.T) {
+	t.Parallel()
+	csid := startFake(t)
+	process := startFront(t, csid.socket)
+	newClient(t, process.socket).wants(t, probe, "", ok(ready))
+	process.terminate(t)
+	if status := process.status(t); status != 0 || process.log.String() != "" {
+		t.Errorf("status %d, logged %q", status, process.log)
+	}
+}
+
+// A call that never ends holds the front up no longer than its grace, or until a second signal.
+func TestTermWithACallThatNeverEnds(t *testing.T) {
+	t.Parallel()
+	for name, grace := range map[string]string{"grace": "300ms", "second signal": "1h"} {
+		grace := grace
+		t.Run(name, func(t *testing.T) {
+			t.Parallel()
+			csid := startFake(t, step{mute: true})
+			process := startFront(t, csid.socket, "--grace", grace)
+			front := newClient(t, process.socket)
+			lost := make(chan answer)
+			go func() { lost <- front.send(soon(t, 3*patience), "/a/b", nil) }()
+			csid.called(t, 1)
+			process.terminate(t)
+			if grace == "1h" {
+				time.Sleep(100 * time.Millisecond)
+				process.terminate(t)
+			}
+			if got := <-lost; got.code != codes.Unavailable {
+				t.Errorf("%v, wanted UNAVAILABLE", got)
+			}
+			if status := process.status(t); status != 1 {
+				t.Errorf("status %d", status)
+			}
+		})
+	}
+}
