@@ -1,7 +1,11 @@
-//! What programs say of words that they do not understand.
+//! What programs say of words that they do not understand, and what they do where standard input, output
+//! or error is closed.
 #![tactic(auto)]
 
+mod standard;
+
 use clap::Error;
+pub use standard::take_closed;
 use std::alloc::{AllocError, Global};
 
 /// Why words are refused, in one line: the first paragraph of what `clap` says, without the word

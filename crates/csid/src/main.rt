@@ -8,8 +8,10 @@ mod say;
 mod socket;
 mod tables;
 
+use command_line::take_closed;
 use std::process::ExitCode;
 
 fn main(rt: HostRuntime) -> ExitCode {
+    let _standard = take_closed(&rt);
     ExitCode::from(run::run(&rt))
 }

@@ -4,7 +4,7 @@ use crate::command::{Task, asked, command};
 use crate::config::configuration;
 use crate::say::{DONE, INPUT_OUTPUT, Peer, USAGE, no_memory, report, say};
 use crate::socket::{listen, serve_all};
-use crate::tables::{close, open};
+use crate::tables::{close, no_path, open};
 use clap::error::ErrorKind as WordsKind;
 use command_line::refusal_line;
 use csi_config::Config;
@@ -91,6 +91,9 @@ fn listening(
     config: Option<&str>,
     connections: u32,
 ) -> u8 {
+    if tables.is_empty() {
+        return no_path(rt);
+    }
     let config = match configuration(rt, config) {
         Ok(config) => config,
         Err(status) => return status,

@@ -31,12 +31,17 @@ fn refuse_file(rt: &HostRuntime, path: &str, error: &Error) -> u8 {
     }
 }
 
+/// Says that no file is named.
+pub(crate) fn no_path(rt: &HostRuntime) -> u8 {
+    say(rt, b"the path of the tables is empty");
+    TABLES
+}
+
 fn connect(rt: &HostRuntime, path: &str) -> Result<Connection<Store>, u8>
     ensures { IfOk result (λ conn. conn.in_transaction ≡ false) }
 {
     if path.is_empty() {
-        say(rt, b"the path of the tables is empty");
-        return Err(TABLES);
+        return Err(no_path(rt));
     }
     match Connection::open(rt, path) {
         Ok(conn) => Ok(conn),

@@ -1,0 +1,21 @@
+//! Standard input, output and error that are closed.
+
+use std::fs::File;
+use std::os::fd::AsRawFd;
+
+// The numbers of the three are those below.
+const NEXT: i32 = 3;
+
+// A folder in the place of the first of the three that is closed: nothing can be read from it or
+// written to it, as it is of what is closed.
+fn in_place(rt: &HostRuntime) -> Option<File> {
+    let folder = File::open(rt, "/").ok()?;
+    (folder.as_raw_fd() < NEXT).then_some(folder)
+}
+
+/// Takes the places of those of the three that are closed, so that no file or connection that is opened
+/// later gets one of them, and with it what is meant for standard output or standard error. Reading and
+/// writing them fails as before. A program calls it first, and keeps what it is given to its end.
+pub fn take_closed(rt: &HostRuntime) -> [Option<File>; 3] {
+    [in_place(rt), in_place(rt), in_place(rt)]
+}
