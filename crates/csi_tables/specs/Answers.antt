@@ -1,9 +1,24 @@
--- How a fault over the tables is told by the keeper.
+-- Which fault an error below is, and how a fault over the tables is told by the keeper.
 use Rattle.std.specs.Prelude.{Result, Ok, Err}
+use Rattle.sqlite.specs.declared.error.Error.{Error}
+use Rattle.sqlite.specs.declared.error.Error.TheVariants.{SqliteFailure}
+use Rattle.sqlite.specs.declared.error.ErrorCode.TheVariants.{OutOfMemory}
+use Rattle.csi_codec.specs.declared.message.DecodeFault.{DecodeFault}
+use Rattle.csi_codec.specs.declared.message.DecodeFault.TheVariants as decoding
 use Rattle.csi_keeper.specs.declared.change.StoreFault.{StoreFault}
 use Rattle.csi_keeper.specs.declared.change.StoreFault.TheVariants as store
 use Rattle.csi_tables.specs.declared.fault.Fault.{Fault}
 use Rattle.csi_tables.specs.declared.fault.Fault.TheVariants.{NoMemory, Refused}
+
+-- want of memory in the database is want of memory, and each other error of it a refusal
+abbrev pub of_database : Error → Fault
+of_database (SqliteFailure OutOfMemory) = NoMemory
+of_database _ = Refused
+
+-- bytes that are read of a column and mean nothing are a refusal
+abbrev pub of_decoder : DecodeFault → Fault
+of_decoder decoding.NoMemory = NoMemory
+of_decoder (decoding.Malformed at) = Refused
 
 abbrev pub told : Fault → StoreFault
 told NoMemory = store.NoMemory
