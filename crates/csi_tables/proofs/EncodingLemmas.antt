@@ -1,5 +1,5 @@
 -- What is read of the bytes that were written of keys and of parameters.
-use Rattle.std.proofs.Common.{◌≡◌, ◌∙◌, refl, sym, ap, ℕ, ℤ, pos, Bool, true, false, List, [], ◌∷◌, map, Option, Some, None, Result, Ok, cond}
+use Rattle.std.proofs.Common.{◌≡◌, ◌∙◌, refl, sym, ap, arith, ℕ, ℤ, zero, suc, ◌<◌, pos, Bool, true, false, List, [], ◌∷◌, map, length, get_or, Option, Some, None, Result, Ok, cond}
 use Rattle.std.specs.FinMap.{empty}
 use Rattle.csi_types.specs.Checks.{is_known_mode}
 use Rattle.csi_types.specs.Maps.{TextMap}
@@ -15,7 +15,7 @@ use Rattle.csi_keeper.specs.Capability.{access_of, capability_of, key_of, key_wi
 use Rattle.csi_keeper.specs.declared.capability.CapKey.{CapKey}
 use Rattle.csi_keeper.specs.declared.capability.Kind.{Kind}
 use Rattle.csi_keeper.specs.declared.capability.Kind.TheVariants.{Block, Mount}
-use Rattle.csi_tables.specs.Encoding.{with_caps, with_params, caps_bytes, params_bytes, FitCaps, FitParams, ReadsBack}
+use Rattle.csi_tables.specs.Encoding.{with_caps, with_params, caps_bytes, params_bytes, AreKnown, FitCaps, FitParams, ReadsBack}
 
 -- ---- the key that a capability was made of
 
@@ -111,3 +111,41 @@ unfolding params_bytes FitParams parameters_of
 params_read back bytes v read m fit is =
     let same = made_of bytes v (with_params m) read (ap (read_request CreateVolume) is ∙ back (with_params m) fit) in
     ap parameters_of same
+
+-- ---- what the program does not read
+
+known_key : (b : Bool) (k : CapKey) → b ≡ true → key_with (access_of k.kind) (cond b (Some k.mode) None) ≡ Some k
+known_key false k e = absurd (cc)
+known_key true k e = go k.kind refl
+  where
+    go : (d : Kind) → k.kind ≡ d → key_with (access_of d) (Some k.mode) ≡ Some k
+    go Block is = let same : record { kind = Block; mode = k.mode } ≡ k = (λ i. record { kind = sym is i; mode = k.mode }) in ap Some same
+    go (Mount t) is = let same : record { kind = Mount t; mode = k.mode } ≡ k = (λ i. record { kind = sym is i; mode = k.mode }) in ap Some same
+
+known_keys : (ks : List CapKey) → AreKnown ks → map Some ks ≡ map key_of (map capability_of ks)
+known_keys [] known = refl
+known_keys (k ∷ ks) known =
+    ap (λ x. x ∷ map Some ks) (sym (known_key (is_known_mode (Some (pos k.mode))) k known.0))
+    ∙ ap (λ xs. key_of (capability_of k) ∷ xs) (known_keys ks known.1)
+
+-- a capability that has no key
+pub no_key : (cs : List Capability) (i : ℕ) (d : Capability) → i < length cs → key_of (get_or cs i d) ≡ None → (ks : List CapKey) → map Some ks ≡ map key_of cs → ⊥
+no_key [] i d low none ks same = omega (arith, low)
+no_key (c ∷ cs) i d low none [] same = cc
+no_key (c ∷ cs) zero d low none (k ∷ ks) same = let first : Some k ≡ key_of c = cc in cc
+no_key (c ∷ cs) (suc i) d low none (k ∷ ks) same = no_key cs i d (omega (arith, low)) none ks (cc)
+
+pub caps_not_read : ReadsBack → (bytes : List ℕ) → ((v : message.CreateVolume) → read_request CreateVolume bytes ≡ Ok (Create v) → ⊥) → (ks : List CapKey) → FitCaps ks → bytes ≡ caps_bytes ks → ⊥
+unfolding caps_bytes FitCaps
+caps_not_read back bytes none ks fit is = none _ (ap (read_request CreateVolume) is ∙ back (with_caps ks) fit)
+
+pub caps_without_keys : ReadsBack → (bytes : List ℕ) (v : message.CreateVolume) → read_request CreateVolume bytes ≡ Ok (Create v) → ((js : List CapKey) → map Some js ≡ map key_of v.capabilities → ⊥)
+    → (ks : List CapKey) → FitCaps ks → AreKnown ks → bytes ≡ caps_bytes ks → ⊥
+unfolding caps_bytes FitCaps capabilities_of
+caps_without_keys back bytes v read none ks fit known is =
+    let same = made_of bytes v (with_caps ks) read (ap (read_request CreateVolume) is ∙ back (with_caps ks) fit) in
+    none ks (known_keys ks known ∙ ap (λ r. map key_of (capabilities_of r)) (sym same))
+
+pub params_not_read : ReadsBack → (bytes : List ℕ) → ((v : message.CreateVolume) → read_request CreateVolume bytes ≡ Ok (Create v) → ⊥) → (m : TextMap) → FitParams m → bytes ≡ params_bytes m → ⊥
+unfolding params_bytes FitParams
+params_not_read back bytes none m fit is = none _ (ap (read_request CreateVolume) is ∙ back (with_params m) fit)

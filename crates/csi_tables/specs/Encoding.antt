@@ -1,6 +1,8 @@
 -- How capabilities and parameters stand in a column: as the canonical bytes of a CreateVolumeRequest that has nothing else.
-use Rattle.std.specs.Prelude.{◌≡◌, ℕ, false, List, [], None, Ok, map}
+use Rattle.std.specs.Prelude.{◌≡◌, ℕ, pos, true, false, List, [], None, Some, Ok, map}
+use Rattle.std.specs.List.{AllByRecursion}
 use Rattle.std.specs.FinMap.{empty}
+use Rattle.csi_types.specs.Checks.{is_known_mode}
 use Rattle.csi_types.specs.Maps.{TextMap}
 use Rattle.csi_types.specs.declared.capability.Capability.{Capability}
 use Rattle.csi_types.specs.declared.requests.Request.{Request}
@@ -41,6 +43,10 @@ FitCaps keys = FitsRequest (with_caps keys)
 
 unfoldable pub FitParams : TextMap → Type 0
 FitParams params = FitsRequest (with_params params)
+
+-- the modes are known, so that the capability of each key has that key
+abbrev pub AreKnown : List CapKey → Type 0
+AreKnown keys = AllByRecursion (λ key. is_known_mode (Some (pos key.mode)) ≡ true) keys
 
 -- what is written of a request is read as it
 abbrev pub ReadsBack : Type 0

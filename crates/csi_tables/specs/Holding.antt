@@ -1,5 +1,5 @@
 -- The rows that stand for a State, and what a connection over them holds.
-use Rattle.std.specs.Prelude.{◌≡◌, ℕ, ◌<◌, ◌^◌, Bool, false, [], ◌∷◌, map, IsPermutation, IsTrue}
+use Rattle.std.specs.Prelude.{◌≡◌, ℕ, ◌<◌, ◌^◌, Bool, false, [], ◌∷◌, map, IsPermutation, IsTrue, IsUtf8}
 use Rattle.std.specs.List.{AllByRecursion}
 use Rattle.std.specs.FinMap.{entries}
 use Rattle.sqlite.specs.Held.{Held, state}
@@ -20,7 +20,7 @@ use Rattle.csi_keeper.specs.declared.volume.Attachment.{Attachment}
 use Rattle.csi_keeper.specs.declared.volume.Volume.{Volume}
 use Rattle.csi_layout.specs.Tables.{schema}
 use Rattle.csi_statements.specs.Rows.{number_value, bool_value, meta_row, seen_meta, seen_volume, seen_attachment, AreKeyed}
-use Rattle.csi_tables.specs.Encoding.{caps_bytes, params_bytes, FitCaps, FitParams}
+use Rattle.csi_tables.specs.Encoding.{caps_bytes, params_bytes, AreKnown, FitCaps, FitParams}
 
 -- ---- rows
 
@@ -48,6 +48,19 @@ pub record IsPlaced (e : Place × Attachment) : Type 0 where
   pub node : e.1.node ≡ e.0.1
   pub small : e.0.0 < 2 ^ 63
   pub cap : FitCaps (e.1.cap ∷ [])
+
+-- a volume whose row is read again, where memory is there: its texts are UTF-8, its modes known
+pub record IsReadable (e : ℕ × Volume) : Type 0 where
+  pub stored : IsStored e
+  pub name : IsUtf8 e.1.name
+  pub pool : IsUtf8 e.1.pool
+  pub caps : AreKnown e.1.caps
+
+-- an attachment whose row is read again
+pub record IsReadablePlace (e : Place × Attachment) : Type 0 where
+  pub placed : IsPlaced e
+  pub node : IsUtf8 e.0.1
+  pub cap : AreKnown (e.1.cap ∷ [])
 
 -- a State that rows can say
 pub record IsStorable (s : State) : Type 0 where

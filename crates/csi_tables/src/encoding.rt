@@ -1,15 +1,17 @@
 //! Capabilities and parameters as they stand in a column: the canonical bytes of a
 //! `CreateVolumeRequest` that has nothing else.
 
-ghost use Rattle.std.specs.Prelude.{◌≡◌, List, Some, Ok, IfOk, OnOk, map};
+ghost use Rattle.std.specs.Prelude.{◌≡◌, ◌≢◌, List, Some, Ok, IfOk, IsErrOf, OnOk, map};
 ghost use Rattle.csi_types.specs.Maps.{TextMap};
 ghost use Rattle.csi_types.specs.declared.method.Method.TheVariants.{CreateVolume as Creating};
+ghost use Rattle.csi_types.specs.declared.requests.CreateVolume.{CreateVolume as Message};
 ghost use Rattle.csi_types.specs.declared.requests.Request.TheVariants.{Create};
 ghost use Rattle.csi_codec.specs.Methods.{request_bytes, FitsRequest};
 ghost use Rattle.csi_codec.specs.Reading.{read_request};
 ghost use Rattle.csi_keeper.specs.Capability.{capability_of, key_of};
 ghost use Rattle.csi_keeper.specs.declared.capability.CapKey.{CapKey as Key};
-ghost use Rattle.csi_tables.specs.Encoding.{create_with, caps_bytes, params_bytes, FitCaps, FitParams, ReadsBack};
+ghost use Rattle.csi_tables.specs.Encoding.{create_with, caps_bytes, params_bytes, AreKnown, FitCaps, FitParams, ReadsBack};
+ghost use Rattle.csi_tables.specs.declared.fault.Fault.TheVariants.{Refused};
 
 use crate::fault::Fault;
 use csi_codec::laws::{read_as_meant, round_trip};
@@ -81,7 +83,8 @@ pub(crate) fn write_params(alloc: Global, params: &Map) -> Result<Vec<u8>, Alloc
 }
 
 fn read(alloc: Global, bytes: &[u8]) -> Result<CreateVolume, Fault>
-    ensures { IfOk result (λ message. read_request Creating bytes.now ≡ Ok (Create message)) }
+    ensures ok { IfOk result (λ message. read_request Creating bytes.now ≡ Ok (Create message)) }
+    ensures refused { IsErrOf result Refused → (m : Message) → read_request Creating bytes.now ≢ Ok (Create m) }
 {
     match decode(alloc, Method::CreateVolume, bytes)? {
         Request::Create(message) => Ok(message),
@@ -90,7 +93,8 @@ fn read(alloc: Global, bytes: &[u8]) -> Result<CreateVolume, Fault>
 }
 
 fn keys_of(alloc: Global, capabilities: &[Capability]) -> Result<Items<CapKey>, Fault>
-    ensures { IfOk result (λ keys. map Some keys ≡ map key_of capabilities.now) }
+    ensures ok { IfOk result (λ keys. map Some keys ≡ map key_of capabilities.now) }
+    ensures refused { IsErrOf result Refused → (ks : List Key) → map Some ks ≢ map key_of capabilities.now }
 {
     let mut keys = Items::new(alloc);
     for capability in capabilities {
@@ -105,7 +109,8 @@ fn keys_of(alloc: Global, capabilities: &[Capability]) -> Result<Items<CapKey>, 
 /// The keys whose bytes these are.
 #[tactic(auto, using(crate::proofs::EncodingLemmas::caps_read))]
 pub(crate) fn read_caps(alloc: Global, bytes: &[u8]) -> Result<Items<CapKey>, Fault>
-    ensures { IfOk result (λ keys. (ks : List Key) → FitCaps ks → bytes.now ≡ caps_bytes ks → keys ≡ ks) }
+    ensures ok { IfOk result (λ keys. (ks : List Key) → FitCaps ks → bytes.now ≡ caps_bytes ks → keys ≡ ks) }
+    ensures refused { IsErrOf result Refused → (ks : List Key) → FitCaps ks → AreKnown ks → bytes.now ≢ caps_bytes ks }
 {
     read_back();
     let message = read(alloc, bytes)?;
@@ -114,7 +119,8 @@ pub(crate) fn read_caps(alloc: Global, bytes: &[u8]) -> Result<Items<CapKey>, Fa
 
 /// The parameters whose bytes these are.
 pub(crate) fn read_params(alloc: Global, bytes: &[u8]) -> Result<Map, Fault>
-    ensures { IfOk result (λ params. (m : TextMap) → FitParams m → bytes.now ≡ params_bytes m → params ≡ m) }
+    ensures ok { IfOk result (λ params. (m : TextMap) → FitParams m → bytes.now ≡ params_bytes m → params ≡ m) }
+    ensures refused { IsErrOf result Refused → (m : TextMap) → FitParams m → bytes.now ≢ params_bytes m }
 {
     read_back();
     Ok(read(alloc, bytes)?.parameters)

@@ -1,6 +1,6 @@
 //! Volumes, attachments and numbers of the rows that show them.
 
-ghost use Rattle.std.specs.Prelude.{◌≡◌, ℕ, List, [], ◌∷◌, Option, IfOk, IfSome, map, option_map};
+ghost use Rattle.std.specs.Prelude.{◌≡◌, ◌≢◌, ℕ, List, [], ◌∷◌, Option, IfOk, IfSome, IsErrOf, IsUtf8, map, option_map};
 ghost use Rattle.std.specs.List.{AllByRecursion};
 ghost use Rattle.sqlite.specs.declared.types.Value.TheVariants.{Text as Words, Blob};
 ghost use Rattle.sqlite.specs.Order.{column};
@@ -10,8 +10,9 @@ ghost use Rattle.csi_keeper.specs.declared.capability.CapKey.{CapKey as Key};
 ghost use Rattle.csi_keeper.specs.declared.volume.Attachment.{Attachment as Placed};
 ghost use Rattle.csi_keeper.specs.declared.volume.Volume.{Volume as Stored};
 ghost use Rattle.csi_statements.specs.Rows.{number_value};
-ghost use Rattle.csi_tables.specs.Encoding.{caps_bytes, params_bytes, FitCaps, FitParams};
-ghost use Rattle.csi_tables.specs.Holding.{volume_entry, node_entry, IsStored, IsPlaced};
+ghost use Rattle.csi_tables.specs.Encoding.{caps_bytes, params_bytes, AreKnown, FitCaps, FitParams};
+ghost use Rattle.csi_tables.specs.Holding.{volume_entry, node_entry, IsStored, IsPlaced, IsReadable, IsReadablePlace};
+ghost use Rattle.csi_tables.specs.declared.fault.Fault.TheVariants.{Refused};
 
 use crate::encoding::{read_caps, read_params};
 use crate::fault::Fault;
@@ -23,20 +24,23 @@ use std::alloc::Global;
 
 /// The text in a cell.
 pub(crate) fn text_in(row: &Row, at: usize) -> Result<Text, Fault>
-    ensures { IfOk result (λ text. column row.now at ≡ Words text) }
+    ensures ok { IfOk result (λ text. column row.now at ≡ Words text) }
+    ensures refused { IsErrOf result Refused → (text : List ℕ) → IsUtf8 text → column row.now at ≢ Words text }
 {
     Ok(Text::from_string(row.get(at)?))
 }
 
 /// The number in a cell.
 pub(crate) fn number_in(row: &Row, at: usize) -> Result<u64, Fault>
-    ensures { IfOk result (λ n. column row.now at ≡ number_value n) }
+    ensures ok { IfOk result (λ n. column row.now at ≡ number_value n) }
+    ensures refused { IsErrOf result Refused → (n : ℕ) → column row.now at ≢ number_value n }
 {
     Ok(row.get(at)?)
 }
 
 fn caps_in(alloc: Global, row: &Row, at: usize) -> Result<Items<CapKey>, Fault>
-    ensures { IfOk result (λ keys. (ks : List Key) → FitCaps ks → column row.now at ≡ Blob (caps_bytes ks) → keys ≡ ks) }
+    ensures ok { IfOk result (λ keys. (ks : List Key) → FitCaps ks → column row.now at ≡ Blob (caps_bytes ks) → keys ≡ ks) }
+    ensures refused { IsErrOf result Refused → (ks : List Key) → FitCaps ks → AreKnown ks → column row.now at ≢ Blob (caps_bytes ks) }
 {
     match blob_at(row, at) {
         Some(bytes) => read_caps(alloc, bytes),
@@ -45,7 +49,8 @@ fn caps_in(alloc: Global, row: &Row, at: usize) -> Result<Items<CapKey>, Fault>
 }
 
 fn params_in(alloc: Global, row: &Row, at: usize) -> Result<Map, Fault>
-    ensures { IfOk result (λ params. (m : TextMap) → FitParams m → column row.now at ≡ Blob (params_bytes m) → params ≡ m) }
+    ensures ok { IfOk result (λ params. (m : TextMap) → FitParams m → column row.now at ≡ Blob (params_bytes m) → params ≡ m) }
+    ensures refused { IsErrOf result Refused → (m : TextMap) → FitParams m → column row.now at ≢ Blob (params_bytes m) }
 {
     match blob_at(row, at) {
         Some(bytes) => read_params(alloc, bytes),
@@ -55,7 +60,8 @@ fn params_in(alloc: Global, row: &Row, at: usize) -> Result<Map, Fault>
 
 /// The volume that a row shows.
 pub(crate) fn volume_from(alloc: Global, row: &Row) -> Result<Volume, Fault>
-    ensures { IfOk result (λ v. (e : ℕ × Stored) → IsStored e → row.now ≡ volume_entry e → v ≡ e.1) }
+    ensures ok { IfOk result (λ v. (e : ℕ × Stored) → IsStored e → row.now ≡ volume_entry e → v ≡ e.1) }
+    ensures refused { IsErrOf result Refused → (e : ℕ × Stored) → IsReadable e → row.now ≢ volume_entry e }
 {
     Ok(Volume {
         number: number_in(row, 0)?,
@@ -69,7 +75,8 @@ pub(crate) fn volume_from(alloc: Global, row: &Row) -> Result<Volume, Fault>
 
 /// The volume of the row, if there is one.
 pub(crate) fn volume_of(alloc: Global, found: Option<Row>) -> Result<Option<Volume>, Fault>
-    ensures { IfOk result (λ v. (o : Option (ℕ × Stored)) → IfSome o IsStored → found ≡ option_map volume_entry o → v ≡ option_map (λ e. e.1) o) }
+    ensures ok { IfOk result (λ v. (o : Option (ℕ × Stored)) → IfSome o IsStored → found ≡ option_map volume_entry o → v ≡ option_map (λ e. e.1) o) }
+    ensures refused { IsErrOf result Refused → (o : Option (ℕ × Stored)) → IfSome o IsReadable → found ≢ option_map volume_entry o }
 {
     match found {
         Some(row) => Ok(Some(volume_from(alloc, &row)?)),
@@ -78,7 +85,8 @@ pub(crate) fn volume_of(alloc: Global, found: Option<Row>) -> Result<Option<Volu
 }
 
 fn cap_in(alloc: Global, row: &Row, at: usize) -> Result<CapKey, Fault>
-    ensures { IfOk result (λ key. (k : Key) → FitCaps (k ∷ []) → column row.now at ≡ Blob (caps_bytes (k ∷ [])) → key ≡ k) }
+    ensures ok { IfOk result (λ key. (k : Key) → FitCaps (k ∷ []) → column row.now at ≡ Blob (caps_bytes (k ∷ [])) → key ≡ k) }
+    ensures refused { IsErrOf result Refused → (k : Key) → FitCaps (k ∷ []) → AreKnown (k ∷ []) → column row.now at ≢ Blob (caps_bytes (k ∷ [])) }
 {
     match caps_in(alloc, row, at)?.into_vec().pop() {
         Some(key) => Ok(key),
@@ -88,7 +96,8 @@ fn cap_in(alloc: Global, row: &Row, at: usize) -> Result<CapKey, Fault>
 
 /// The attachment that a row of those of its volume shows.
 pub(crate) fn attachment_from(alloc: Global, row: &Row) -> Result<Attachment, Fault>
-    ensures { IfOk result (λ a. (e : Place × Placed) → IsPlaced e → row.now ≡ node_entry e → a ≡ e.1) }
+    ensures ok { IfOk result (λ a. (e : Place × Placed) → IsPlaced e → row.now ≡ node_entry e → a ≡ e.1) }
+    ensures refused { IsErrOf result Refused → (e : Place × Placed) → IsReadablePlace e → row.now ≢ node_entry e }
 {
     let Some(readonly) = flag_at(row, 2) else {
         return Err(Fault::Refused);
@@ -102,7 +111,8 @@ pub(crate) fn attachment_from(alloc: Global, row: &Row) -> Result<Attachment, Fa
 
 /// The volumes that rows show.
 pub(crate) fn volumes_from(alloc: Global, rows: &[Row]) -> Result<Items<Volume>, Fault>
-    ensures { IfOk result (λ vs. (es : List (ℕ × Stored)) → AllByRecursion IsStored es → rows.now ≡ map volume_entry es → vs ≡ map (λ e. e.1) es) }
+    ensures ok { IfOk result (λ vs. (es : List (ℕ × Stored)) → AllByRecursion IsStored es → rows.now ≡ map volume_entry es → vs ≡ map (λ e. e.1) es) }
+    ensures refused { IsErrOf result Refused → (es : List (ℕ × Stored)) → AllByRecursion IsReadable es → rows.now ≢ map volume_entry es }
 {
     let mut volumes = Items::new(alloc);
     for row in rows {
@@ -113,7 +123,8 @@ pub(crate) fn volumes_from(alloc: Global, rows: &[Row]) -> Result<Items<Volume>,
 
 /// The attachments that the rows of a volume show.
 pub(crate) fn attachments_from(alloc: Global, rows: &[Row]) -> Result<Items<Attachment>, Fault>
-    ensures { IfOk result (λ xs. (es : List (Place × Placed)) → AllByRecursion IsPlaced es → rows.now ≡ map node_entry es → xs ≡ map (λ e. e.1) es) }
+    ensures ok { IfOk result (λ xs. (es : List (Place × Placed)) → AllByRecursion IsPlaced es → rows.now ≡ map node_entry es → xs ≡ map (λ e. e.1) es) }
+    ensures refused { IsErrOf result Refused → (es : List (Place × Placed)) → AllByRecursion IsReadablePlace es → rows.now ≢ map node_entry es }
 {
     let mut attachments = Items::new(alloc);
     for row in rows {
@@ -124,7 +135,8 @@ pub(crate) fn attachments_from(alloc: Global, rows: &[Row]) -> Result<Items<Atta
 
 /// The numbers in the first column.
 pub(crate) fn numbers_from(alloc: Global, rows: &[Row]) -> Result<Items<u64>, Fault>
-    ensures { IfOk result (λ xs. (ns : List ℕ) → rows.now ≡ map (λ n. number_value n ∷ []) ns → xs ≡ ns) }
+    ensures ok { IfOk result (λ xs. (ns : List ℕ) → rows.now ≡ map (λ n. number_value n ∷ []) ns → xs ≡ ns) }
+    ensures refused { IsErrOf result Refused → (ns : List ℕ) → rows.now ≢ map (λ n. number_value n ∷ []) ns }
 {
     let mut numbers = Items::new(alloc);
     for row in rows {

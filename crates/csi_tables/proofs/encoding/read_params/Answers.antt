@@ -1,5 +1,11 @@
-use Rattle.csi_tables.proofs.EncodingLemmas.{params_read}
+use Rattle.csi_tables.specs.declared.fault.Fault.TheVariants.{Refused}
+use Rattle.csi_tables.proofs.CellLemmas.{handed_on}
+use Rattle.csi_tables.proofs.EncodingLemmas.{params_read, params_not_read}
 use Rattle.csi_tables.proofs.encoding.read_params.Goals as goal
 
-pub returns : goal.returns
-returns c = params_read c.read_back.ensures c.args.bytes.now c.in_ok-read.field-0 c.in_ok-read.ensures
+pub returns-in_err-read-clause-refused : goal.returns-in_err-read-clause-refused
+returns-in_err-read-clause-refused c is m fit = params_not_read c.read_back.ensures c.args.bytes.now
+    (c.read.ensures.refused (handed_on c.from_residual.result c.read.result c.in_err-read.field-0.0 Refused c.from_residual.ensures.1 is c.in_err-read.was)) m fit
+
+pub returns-clause-ok : goal.returns-clause-ok
+returns-clause-ok c = params_read c.read_back.ensures c.args.bytes.now c.in_ok-read.field-0 c.in_ok-read.ensures.ok

@@ -9,13 +9,13 @@ use Rattle.csi_tables.proofs.nodes.nodes_of.Goals.{then-at-number-2+in_ok-text_i
 pub returns-then-at-number-clause-nodes : goal.returns-then-at-number-clause-nodes
 returns-then-at-number-clause-nodes c ps up are =
     let i = c.loop-passed.passed in
-    let beyond = stopped c.args.places.now ps i c.index-places-passed.result (omega arith) are c.index-places-passed.is c.in_ok-at.at c.in_ok-at.ensures c.args.number c.if-at-number.true up in
+    let beyond = stopped c.args.places.now ps i c.index-places-passed.result (omega arith) are c.index-places-passed.is c.in_ok-at.at c.in_ok-at.ensures.ok c.args.number c.if-at-number.true up in
     (c.loop-passed.invariant ps are).0 ∙ split_nodes c.args.number ps i beyond
 
 pub returns-then-at-number-clause-passed : goal.returns-then-at-number-clause-passed
 returns-then-at-number-clause-passed c ps up are =
     let i = c.loop-passed.passed in
-    let beyond = stopped c.args.places.now ps i c.index-places-passed.result (omega arith) are c.index-places-passed.is c.in_ok-at.at c.in_ok-at.ensures c.args.number c.if-at-number.true up in
+    let beyond = stopped c.args.places.now ps i c.index-places-passed.result (omega arith) are c.index-places-passed.is c.in_ok-at.at c.in_ok-at.ensures.ok c.args.number c.if-at-number.true up in
     split_rest c.args.number ps i (c.loop-passed.invariant ps are).1 beyond
 
 pub loop-passed-preserved : goal.loop-passed-preserved
@@ -26,14 +26,14 @@ loop-passed-preserved c ps are =
     let low : i < length rows = omega arith in
     let n = c.args.number in
     let p = place_at rows ps i d low are in
-    let is = number_at rows ps i d low are c.index-places-passed.is c.in_ok-at.at c.in_ok-at.ensures in
+    let is = number_at rows ps i d low are c.index-places-passed.is c.in_ok-at.at c.in_ok-at.ensures.ok in
     let more = one_more_place rows ps i d low are in
     let before = c.loop-passed.invariant ps are in
     let below : p.0 ≤ n = let h = c.if-at-number.false in omega (arith, h, is) in
     let all = subst (λ (xs : List Place). AllByRecursion (λ q. q.0 ≤ n) xs) (sym more) (all_more n (take i ps) p below before.1) in
     elim c.if-at-number-2.branch [
       | then-at-number-2+in_ok-text_in+in_ok-push w ↦
-          let text = text_at rows ps i d low are c.index-places-passed.is w.in_ok-text_in.field-0 w.in_ok-text_in.ensures in
+          let text = text_at rows ps i d low are c.index-places-passed.is w.in_ok-text_in.field-0 w.in_ok-text_in.ensures.ok in
           let here : p.0 ≡ n = let h = w.if-at-number-2.true in omega (arith, h, is) in
           (w.nodes-is ∙ w.in_ok-push.ensures.ok ∙ ap (λ x. c.loop-passed.nodes ++ x ∷ []) (sym text) ∙ nodes_more n (take i ps) p c.loop-passed.nodes here before.0 ∙ ap (λ xs. nodes_at xs n) (sym more), all)
       | else-at-number-2 w ↦

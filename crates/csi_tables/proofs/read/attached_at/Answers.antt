@@ -9,4 +9,4 @@ pub returns-clause-value : goal.returns-clause-value
 returns-clause-value g c = if_ok (λ xs read clean s held.
     let told = c.in_ok-rows.ensures.ok clean in
     let shows = held told.was_open in
-    read (attached_at s c.args.node.now) (c.deref.ensures.value ∙ attached_rows s (state g.S.Store c.args.conn.now).now.trees shows.rows c.args.node.now c.in_ok-rows.rows.items (told.what shows.schema))) c.numbers_from.result c.numbers_from.ensures
+    read (attached_at s c.args.node.now) (c.deref.ensures.value ∙ attached_rows s (state g.S.Store c.args.conn.now).now.trees shows.rows c.args.node.now c.in_ok-rows.rows.items (told.what shows.schema))) c.numbers_from.result c.numbers_from.ensures.ok

@@ -9,4 +9,4 @@ returns-clause-value g c = if_ok (λ xs read clean s held.
     let told = c.in_ok-rows.ensures.ok clean in
     let shows = held told.was_open in
     let it = node_rows s (state g.S.Store c.args.conn.now).now.trees shows.rows c.args.number c.in_ok-rows.rows.items (told.what shows.schema) in
-    read it.0 it.1 (c.deref.ensures.value ∙ it.2) ∙ it.3) c.attachments_from.result c.attachments_from.ensures
+    read it.0 it.1 (c.deref.ensures.value ∙ it.2) ∙ it.3) c.attachments_from.result c.attachments_from.ensures.ok

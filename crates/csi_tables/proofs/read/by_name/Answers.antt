@@ -9,4 +9,4 @@ returns-clause-value g c = if_ok (λ v read clean s held.
     let told = c.in_ok-found.ensures.ok clean in
     let shows = held told.was_open in
     let it = name_found s (state g.S.Store c.args.conn.now).now.trees shows.rows c.args.name.now c.in_ok-found.found (told.what shows.schema) in
-    read it.0 it.1 it.2 ∙ it.3) c.volume_of.result c.volume_of.ensures
+    read it.0 it.1 it.2 ∙ it.3) c.volume_of.result c.volume_of.ensures.ok

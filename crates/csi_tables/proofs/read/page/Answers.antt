@@ -9,4 +9,4 @@ returns-clause-value g c = if_ok (λ xs read clean s held.
     let told = c.in_ok-rows.ensures.ok clean in
     let shows = held told.was_open in
     let it = page_rows s (state g.S.Store c.args.conn.now).now.trees shows.rows c.args.after c.args.count c.in_ok-rows.rows.items (told.what shows.schema) in
-    read it.0 it.1 (c.deref.ensures.value ∙ it.2) ∙ it.3) c.volumes_from.result c.volumes_from.ensures
+    read it.0 it.1 (c.deref.ensures.value ∙ it.2) ∙ it.3) c.volumes_from.result c.volumes_from.ensures.ok
