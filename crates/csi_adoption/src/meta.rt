@@ -2,20 +2,17 @@
 
 ghost use Rattle.std.specs.Prelude.{◌≡◌, false, refl, IsPermutation, OnOk, IfOk, map};
 ghost use Rattle.sqlite.specs.Held.{state};
-ghost use Rattle.sqlite.specs.Order.{column};
 ghost use Rattle.sqlite.specs.State.{HasCleanDisk};
 ghost use Rattle.csi_layout.specs.Rows.{seen_meta};
 ghost use Rattle.csi_layout.specs.Tables.{schema as our_schema};
-ghost use Rattle.csi_looks.specs.Folds.{as_integer};
 ghost use Rattle.csi_adoption.specs.Judging.{Says, integers_judged, meta_judged, next_fault, valid_next, with_row, with_rows};
 ghost use Rattle.csi_adoption.specs.Looking.{Looks, SeenBy};
 ghost use Rattle.csi_adoption.specs.declared.meta.MetaRows.TheVariants as meta;
 
 use crate::fault::{AdoptFault, Foreign};
-use csi_looks::{Fold, look_over_meta};
+use csi_looks::{Fold, integer_at, look_over_meta};
 use csi_rules::BrokenRule;
 use csi_types::MAX_NUMBER;
-use sqlite::types::ValueRef;
 use sqlite::{Alter, Connection, Error, Row};
 
 /// The integers in a row of meta; `None` where another value stands.
@@ -32,15 +29,6 @@ pub(crate) enum MetaRows {
     None,
     One(MetaRow),
     Many,
-}
-
-fn integer_at(row: &Row, at: usize) -> Option<i64>
-    ensures { result ≡ as_integer (column row.now at) }
-{
-    match row.get_ref(at) {
-        Ok(ValueRef::Int(integer)) => Some(integer),
-        _ => None,
-    }
 }
 
 fn with_row(rows: MetaRows, row: &Row) -> MetaRows

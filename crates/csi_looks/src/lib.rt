@@ -9,6 +9,7 @@
 //! tables, and adds nothing to what a stop may leave.
 #![tactic(auto)]
 
+mod cells;
 mod count;
 mod each;
 mod fold;
@@ -17,6 +18,7 @@ mod looks;
 mod rising;
 mod sums;
 
+pub use cells::integer_at;
 pub use count::RowCount;
 pub use each::Each;
 pub use fold::{Fold, each_row};

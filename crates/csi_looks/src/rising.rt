@@ -1,22 +1,12 @@
 //! Integers that rise.
 
 ghost use Rattle.std.specs.Prelude.{◌≡◌, refl};
-ghost use Rattle.sqlite.specs.Order.{column};
-ghost use Rattle.csi_looks.specs.Folds.{Rises, as_integer, is_above};
+ghost use Rattle.csi_looks.specs.Folds.{Rises, is_above};
 ghost use Rattle.csi_looks.specs.facts.Starts.{rises_none};
 
+use crate::cells::integer_at;
 use crate::fold::Fold;
-use sqlite::types::ValueRef;
 use sqlite::{Error, Row};
-
-fn integer_at(row: &Row, at: usize) -> Option<i64>
-    ensures { result ≡ as_integer (column row.now at) }
-{
-    match row.get_ref(at) {
-        Ok(ValueRef::Int(integer)) => Some(integer),
-        _ => None,
-    }
-}
 
 fn is_above_last(last: Option<i64>, integer: i64) -> bool
     ensures { result ≡ is_above last integer }

@@ -4,17 +4,15 @@ ghost use Rattle.std.specs.Prelude.{◌≡◌, refl, None, IfOk};
 ghost use Rattle.std.specs.List.{AllByRecursion};
 ghost use Rattle.std.specs.Str.{is_utf8};
 ghost use Rattle.sqlite.specs.Order.{column};
-ghost use Rattle.csi_looks.specs.Folds.{as_integer};
 ghost use Rattle.csi_statements.specs.Cells.{as_text};
 ghost use Rattle.csi_rules.specs.Values.{if_passes};
 ghost use Rattle.csi_rules.specs.facts.Starts.{still_found};
 
 use crate::cells::as_utf8;
 use crate::trial::RowTrial;
-use csi_looks::{Fold, RowTest};
+use csi_looks::{Fold, RowTest, integer_at};
 use csi_statements::values::text_at;
 use csi_types::Text;
-use sqlite::types::ValueRef;
 use sqlite::{Error, Row};
 use std::alloc::{AllocError, Global};
 
@@ -25,15 +23,6 @@ pub struct RowName {
     pub number: Option<i64>,
     /// Its text; `None` where there is no text in UTF-8.
     pub text: Option<Text>,
-}
-
-fn integer_at(row: &Row, at: usize) -> Option<i64>
-    ensures { result ≡ as_integer (column row.now at) }
-{
-    match row.get_ref(at) {
-        Ok(ValueRef::Int(integer)) => Some(integer),
-        _ => None,
-    }
 }
 
 fn words_at(alloc: Global, row: &Row, at: usize) -> Result<Option<Text>, AllocError>
