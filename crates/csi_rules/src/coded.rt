@@ -3,6 +3,7 @@
 ghost use Rattle.std.specs.Prelude.{◌≡◌, IfOk, IfSome, ◌∷◌, []};
 ghost use Rattle.csi_tables.specs.Encoding.{FitCaps, FitParams};
 ghost use Rattle.csi_rules.specs.Coded.{has_cap, has_caps, has_params, key_at, keys_at, params_at};
+ghost use Rattle.csi_rules.specs.Trying.{FailsForMemory};
 
 use crate::coding::{are_keys, are_params, key_in, keys_in, params_in};
 use crate::trial::RowTrial;
@@ -16,6 +17,7 @@ use std::alloc::Global;
 pub(crate) fn keys_at(alloc: Global, row: &Row, at: usize) -> Result<Option<Items<CapKey>>, Error>
     ensures value { IfOk result (λ keys. keys ≡ keys_at at row.now) }
     ensures fits { IfOk result (λ keys. IfSome keys FitCaps) }
+    ensures memory { FailsForMemory result }
 {
     match blob_at(row, at) {
         Some(bytes) => keys_in(alloc, bytes),
@@ -27,6 +29,7 @@ pub(crate) fn keys_at(alloc: Global, row: &Row, at: usize) -> Result<Option<Item
 pub(crate) fn key_at(alloc: Global, row: &Row, at: usize) -> Result<Option<CapKey>, Error>
     ensures value { IfOk result (λ key. key ≡ key_at at row.now) }
     ensures fits { IfOk result (λ key. IfSome key (λ k. FitCaps (k ∷ []))) }
+    ensures memory { FailsForMemory result }
 {
     match blob_at(row, at) {
         Some(bytes) => key_in(alloc, bytes),
@@ -37,6 +40,7 @@ pub(crate) fn key_at(alloc: Global, row: &Row, at: usize) -> Result<Option<CapKe
 fn params_at(alloc: Global, row: &Row, at: usize) -> Result<Option<Map>, Error>
     ensures value { IfOk result (λ params. params ≡ params_at at row.now) }
     ensures fits { IfOk result (λ params. IfSome params FitParams) }
+    ensures memory { FailsForMemory result }
 {
     match blob_at(row, at) {
         Some(bytes) => params_in(alloc, bytes),

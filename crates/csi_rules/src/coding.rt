@@ -9,6 +9,7 @@ ghost use Rattle.csi_codec.specs.Reading.{read_request};
 ghost use Rattle.csi_keeper.specs.Capability.{capability_of, is_supported_key};
 ghost use Rattle.csi_tables.specs.Encoding.{create_with, caps_bytes, params_bytes, FitCaps, FitParams};
 ghost use Rattle.csi_rules.specs.Coding.{are_keys, are_params, created, each_key, is_before, key_in, keys_in, message_in, only, params_in, rise};
+ghost use Rattle.csi_rules.specs.Trying.{FailsForMemory};
 
 use csi_codec::{DecodeFault, decode, encode_request};
 use csi_keeper::{CapKey, cap_key, capability_of, supported};
@@ -22,7 +23,8 @@ use std::cmp::Ordering;
 // ---- what is read
 
 fn message_in(alloc: Global, bytes: &[u8]) -> Result<Option<CreateVolume>, Error>
-    ensures { IfOk result (λ message. message ≡ message_in bytes.now) }
+    ensures value { IfOk result (λ message. message ≡ message_in bytes.now) }
+    ensures memory { FailsForMemory result }
 {
     match decode(alloc, Method::CreateVolume, bytes) {
         Ok(Request::Create(message)) => Ok(Some(message)),
@@ -32,7 +34,8 @@ fn message_in(alloc: Global, bytes: &[u8]) -> Result<Option<CreateVolume>, Error
 }
 
 fn each_key(alloc: Global, capabilities: &[Capability]) -> Result<Option<Items<CapKey>>, Error>
-    ensures { IfOk result (λ keys. keys ≡ each_key capabilities.now) }
+    ensures value { IfOk result (λ keys. keys ≡ each_key capabilities.now) }
+    ensures memory { FailsForMemory result }
 {
     let mut keys = Items::new(alloc);
     for capability in capabilities {
@@ -104,6 +107,7 @@ fn are_params_of(alloc: Global, params: &Map, bytes: &[u8]) -> Result<bool, Allo
 pub(crate) fn keys_in(alloc: Global, bytes: &[u8]) -> Result<Option<Items<CapKey>>, Error>
     ensures value { IfOk result (λ keys. keys ≡ keys_in bytes.now) }
     ensures fits { IfOk result (λ keys. IfSome keys FitCaps) }
+    ensures memory { FailsForMemory result }
 {
     let Some(message) = message_in(alloc, bytes)? else {
         return Ok(None);
@@ -130,6 +134,7 @@ fn only(keys: Items<CapKey>) -> Option<CapKey>
 pub(crate) fn key_in(alloc: Global, bytes: &[u8]) -> Result<Option<CapKey>, Error>
     ensures value { IfOk result (λ key. key ≡ key_in bytes.now) }
     ensures fits { IfOk result (λ key. IfSome key (λ k. FitCaps (k ∷ []))) }
+    ensures memory { FailsForMemory result }
 {
     match keys_in(alloc, bytes)? {
         Some(keys) => Ok(only(keys)),
@@ -141,6 +146,7 @@ pub(crate) fn key_in(alloc: Global, bytes: &[u8]) -> Result<Option<CapKey>, Erro
 pub(crate) fn params_in(alloc: Global, bytes: &[u8]) -> Result<Option<Map>, Error>
     ensures value { IfOk result (λ params. params ≡ params_in bytes.now) }
     ensures fits { IfOk result (λ params. IfSome params FitParams) }
+    ensures memory { FailsForMemory result }
 {
     let Some(message) = message_in(alloc, bytes)? else {
         return Ok(None);

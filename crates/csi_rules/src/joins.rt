@@ -5,6 +5,7 @@ ghost use Rattle.csi_keeper.specs.Capability.{has_key};
 ghost use Rattle.csi_keeper.specs.declared.volume.Attachment.{Attachment as Placed};
 ghost use Rattle.std.specs.Option.{option_map};
 ghost use Rattle.csi_rules.specs.Joins.{attached, attached_at, is_beside, is_owned};
+ghost use Rattle.csi_rules.specs.Trying.{FailsForMemory};
 
 use crate::coded::{key_at, keys_at};
 use crate::trial::RowTrial;
@@ -51,7 +52,8 @@ fn attached_at(
     cap: usize,
     readonly: usize,
 ) -> Result<Option<Attachment>, Error>
-    ensures { IfOk result (λ a. a ≡ attached_at cap readonly row.now) }
+    ensures value { IfOk result (λ a. a ≡ attached_at cap readonly row.now) }
+    ensures memory { FailsForMemory result }
 {
     let Some(cap) = key_at(alloc, row, cap)? else {
         return Ok(None);

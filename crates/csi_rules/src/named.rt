@@ -6,6 +6,7 @@ ghost use Rattle.std.specs.Str.{is_utf8};
 ghost use Rattle.sqlite.specs.Order.{column};
 ghost use Rattle.csi_statements.specs.Cells.{as_text};
 ghost use Rattle.csi_rules.specs.Values.{if_passes};
+ghost use Rattle.csi_rules.specs.Trying.{FailsForMemory};
 ghost use Rattle.csi_rules.specs.facts.Starts.{still_found};
 
 use crate::cells::as_utf8;
@@ -59,6 +60,7 @@ impl<T: RowTrial> FirstBroken<T> {
     fn name_if_broken(&self, row: &Row) -> Result<Option<RowName>, Error>
         ensures value { IfOk result (λ name. name ≡ name_if self.now.number self.now.text (T.accepts self.now.test) row.now) }
         ensures known { IfOk result (λ name. name ≡ None → T.knows self.now.test row.now) }
+        ensures memory { FailsForMemory result }
     {
         if self.test.try_test(row)? {
             return Ok(None);

@@ -3,6 +3,7 @@
 ghost use Rattle.std.specs.Prelude.{◌≡◌, ◌&&◌, Bool, refl, IfOk, IsTrue};
 ghost use Rattle.std.specs.List.{AllByRecursion, list_all};
 ghost use Rattle.sqlite.specs.Order.{Row as Values};
+ghost use Rattle.csi_rules.specs.Trying.{FailsForMemory};
 ghost use Rattle.csi_rules.specs.facts.Starts.{still_good};
 
 use csi_looks::Fold;
@@ -23,7 +24,8 @@ pub trait RowTrial {
     /// Where memory was refused.
     fn try_test(&self, row: &Row) -> Result<bool, Error>
         ensures exact { IfOk result (λ passed. passed ≡ accepts self.now row.now) }
-        ensures known { IfOk result (λ passed. IsTrue passed → knows self.now row.now) };
+        ensures known { IfOk result (λ passed. IsTrue passed → knows self.now row.now) }
+        ensures memory { FailsForMemory result };
 }
 
 /// Whether every row has passed a test that takes memory.
