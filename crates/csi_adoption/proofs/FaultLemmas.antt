@@ -1,7 +1,9 @@
 -- Checks one after the other, each of which ends them by its fault.
-use Rattle.std.proofs.Common.{◌≡◌, ◌∙◌, refl, Bool, true, false, List, [], ◌∷◌, Option, Some, None, Result, Ok, Err, IsErrAnd, ap}
-use Rattle.csi_adoption.specs.Judging.{Says, first_fault, is_failure}
+use Rattle.std.proofs.Common.{◌≡◌, ◌∙◌, refl, Bool, true, false, List, [], ◌∷◌, Option, Some, None, Result, Ok, Err, IsErrAnd, ap, cond}
+use Rattle.sqlite.specs.declared.error.Error.{Error}
+use Rattle.csi_adoption.specs.Judging.{Says, failure_of, first_fault, is_failure, is_no_memory, wants_memory}
 use Rattle.csi_adoption.specs.declared.fault.AdoptFault.{AdoptFault}
+use Rattle.csi_adoption.specs.declared.fault.AdoptFault.TheVariants.{Foreign, Newer, Broken, Store, NoMemory}
 
 pub fault_here : (f : Option AdoptFault) (rest : List (Option AdoptFault)) (e : AdoptFault) → f ≡ Some e → first_fault (f ∷ rest) ≡ Some e
 fault_here None rest e is = absurd (cc)
@@ -17,7 +19,7 @@ fault_alone (Some x) = refl
 
 module _ (f : Option AdoptFault) (rest : List (Option AdoptFault)) where
   -- the check fails
-  pub says_here : (e : AdoptFault) → (is_failure e ≡ false → f ≡ Some e) → is_failure e ≡ false → first_fault (f ∷ rest) ≡ Some e
+  pub says_here : (e : AdoptFault) → (is_no_memory e ≡ false → f ≡ Some e) → is_no_memory e ≡ false → first_fault (f ∷ rest) ≡ Some e
   says_here e says known = fault_here f rest e (says known)
 
   -- the check passes, and the others answer
@@ -34,6 +36,22 @@ says_last f (Err e) says = λ known. fault_alone f ∙ says known
 pub is_err : {X E : Type 0} (r : Result X E) (x : E) → IsErrAnd r (λ e. e ≡ x) → r ≡ Err x
 is_err (Ok y) x h = absurd h
 is_err (Err e) x h = ap Err h
+
+-- what is no failure is not told for want of memory
+pub not_memory : (e : AdoptFault) → is_failure e ≡ false → is_no_memory e ≡ false
+not_memory (Foreign what) known = refl
+not_memory (Newer format) known = refl
+not_memory (Broken rule) known = refl
+not_memory (Store error) known = refl
+not_memory NoMemory known = known
+
+-- an error of the database is a failure
+pub error_fails : (error : Error) → is_failure (failure_of error) ≡ true
+error_fails error = go (wants_memory error)
+  where
+    go : (b : Bool) → is_failure (cond b NoMemory (Store error)) ≡ true
+    go true = refl
+    go false = refl
 
 pub must_fail : (e : AdoptFault) → (is_failure e ≡ false → ⊥) → is_failure e ≡ true
 must_fail e none = go (is_failure e) none

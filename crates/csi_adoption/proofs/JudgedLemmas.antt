@@ -1,21 +1,28 @@
 -- The fault of rows, from what was seen of them.
-use Rattle.std.proofs.Common.{◌≡◌, ◌∙◌, inr, refl, sym, ap₂, ℕ, false, List, map, Option, Some, None, Ok, Err, IsPermutation}
+use Rattle.std.proofs.Common.{◌≡◌, ◌∙◌, inr, refl, sym, ap, ap₂, ℕ, false, true≢false, List, map, Option, Some, None, Result, Ok, Err, IsErrAnd, IsPermutation}
 use Rattle.std.proofs.lemmas.List.Sorted.{IsPermutation-refl}
 use Rattle.sqlite.specs.Order.{Row}
 use Rattle.sqlite.specs.Tree.{Trees}
+use Rattle.sqlite.specs.declared.error.Error.{Error}
 use Rattle.csi_config.specs.declared.config.Config.{Config}
 use Rattle.csi_layout.specs.Rows.{seen_meta}
 use Rattle.csi_looks.specs.Looks.{owners, pairs}
 use Rattle.csi_rules.specs.Joins.{is_beside, is_owned}
 use Rattle.csi_rules.specs.declared.named.RowName.{RowName}
-use Rattle.csi_adoption.specs.Judging.{all_faults, count_faults, first_named, is_failure, meta_judged, owner_faults, table_faults, told_attachments, told_volumes, with_rows, AreJudged, ArePassed, AttachmentsFound, JudgesRows, TablesAreSeen, VolumesFound}
+use Rattle.csi_adoption.specs.Judging.{all_faults, count_faults, failure_of, first_named, is_failure, meta_judged, owner_faults, table_faults, told_attachments, told_volumes, with_rows, AreJudged, ArePassed, AttachmentsFound, JudgesRows, TablesAreSeen, VolumesFound}
 use Rattle.csi_adoption.specs.declared.adopting.TablesSeen.{TablesSeen}
 use Rattle.csi_adoption.specs.declared.fault.AdoptFault.{AdoptFault}
 use Rattle.csi_adoption.specs.declared.meta.MetaRows.TheVariants as meta
-use Rattle.csi_adoption.proofs.FaultLemmas.{fault_here, fault_later}
+use Rattle.csi_adoption.specs.declared.volumes.VolumesSeen.{VolumesSeen}
+use Rattle.csi_adoption.proofs.FaultLemmas.{error_fails, fault_here, fault_later}
 
 pub judged_err : (config : Config) (db : Trees) (x : AdoptFault) → (is_failure x ≡ false → AreJudged config db (Some x)) → JudgesRows config db (Err x)
 judged_err config db x judged = λ known. inr (judged known)
+
+-- a failure of the database says nothing of the rows
+pub judged_failure : (config : Config) (db : Trees) (r : Result VolumesSeen AdoptFault) (x : Error) → IsErrAnd r (λ e. e ≡ failure_of x) → JudgesRows config db r
+judged_failure config db (Ok seen) x h = absurd h
+judged_failure config db (Err e) x h = λ known. absurd (true≢false (sym (ap is_failure h ∙ error_fails x) ∙ known))
 
 module _ (config : Config) (db : Trees) (next : ℕ) (rows : List Row) (same : IsPermutation (map seen_meta (db 0)) rows) (meta_is : meta_judged (with_rows meta.None rows) ≡ Ok next) (tables : TablesSeen) (seen : TablesAreSeen config next db tables) where
   abbrev v : VolumesFound

@@ -1,5 +1,5 @@
 -- What adoption promises of a connection.
-use Rattle.std.specs.Prelude.{◌≡◌, ◌⊎◌, ℕ, ◌≤◌, true, false, List, length, sum, IsTrue}
+use Rattle.std.specs.Prelude.{◌≡◌, ◌≢◌, ◌⊎◌, ℕ, ◌≤◌, true, false, List, length, sum, IsTrue}
 use Rattle.sqlite.specs.Effect.{Database}
 use Rattle.sqlite.specs.Held.{Held, state}
 use Rattle.sqlite.specs.State.{HasCleanDisk, KeepsCommit}
@@ -20,6 +20,8 @@ use Rattle.csi_tables.specs.declared.tables.Tables.{Tables}
 use Rattle.csi_adoption.specs.Judging.{is_failure, sums_of, total_in, IsFaultOf}
 use Rattle.csi_adoption.specs.Passing.{HasTexts}
 use Rattle.csi_adoption.specs.declared.fault.AdoptFault.{AdoptFault}
+use Rattle.csi_adoption.specs.declared.fault.AdoptFault.TheVariants.{Foreign}
+use Rattle.csi_adoption.specs.declared.fault.Foreign.TheVariants as foreign
 use Rattle.csi_adoption.specs.declared.volumes.VolumesSeen.{VolumesSeen}
 
 -- the State of a database: the one whose rows it has, or the first one where it has no table yet
@@ -69,5 +71,7 @@ module _ {S : Type 0} (g : Ghosts S) (config : Config) (conn : Held S) where
     pub crash : HasCleanDisk (state g back) → (db : Trees) → (state g back).may_leave db → (state g conn).may_leave db ⊎ ((made : Database) × (committed.schema ≡ no_schema → MakesTables committed made) × (db ≡ made.trees))
     -- the fault is the first one of what was committed, unless something failed
     pub first : HasCleanDisk (state g back) → IsTrue (state g back).is_open → is_failure fault ≡ false → IsFaultOf config committed fault
+    -- other tables are told, whatever fails
+    pub other : HasCleanDisk (state g back) → IsTrue (state g back).is_open → committed.schema ≢ schema → committed.schema ≢ no_schema → fault ≡ Foreign foreign.Schema
     -- and rows of a State that meets every rule are refused only if something failed
     pub sound : HasCleanDisk (state g back) → IsTrue (state g back).is_open → IsNotRefused config committed fault

@@ -6,6 +6,9 @@ use Rattle.std.specs.Ordering.{int_eq}
 use Rattle.sqlite.specs.Effect.{Database}
 use Rattle.sqlite.specs.Order.{Row, column}
 use Rattle.sqlite.specs.Tree.{Trees}
+use Rattle.sqlite.specs.declared.error.Error.{Error}
+use Rattle.sqlite.specs.declared.error.Error.TheVariants.{SqliteFailure}
+use Rattle.sqlite.specs.declared.error.ErrorCode.TheVariants.{OutOfMemory}
 use Rattle.csi_types.specs.declared.limits.TheConstants.{MAX_NUMBER, MAX_VOLUMES}
 use Rattle.csi_config.specs.declared.config.Config.{Config}
 use Rattle.csi_config.specs.declared.nodes.Node.{Node}
@@ -257,10 +260,28 @@ is_failure (Broken rule) = false
 is_failure (Store error) = true
 is_failure NoMemory = true
 
--- an answer is the fault if there is one, unless something failed
+-- an error of the database that is want of memory
+abbrev pub wants_memory : Error → Bool
+wants_memory (SqliteFailure OutOfMemory) = true
+wants_memory _ = false
+
+-- what an error of the database is told as
+abbrev pub failure_of : Error → AdoptFault
+failure_of error = if wants_memory error then NoMemory else Store error
+
+-- an answer is the fault if there is one
+abbrev pub Tells : {X : Type 0} → Option AdoptFault → Result X AdoptFault → Type 0
+Tells fault (Ok x) = fault ≡ None
+Tells fault (Err e) = fault ≡ Some e
+
+abbrev pub is_no_memory : AdoptFault → Bool
+is_no_memory NoMemory = true
+is_no_memory _ = false
+
+-- and so it is, unless memory was refused
 abbrev pub Says : {X : Type 0} → Option AdoptFault → Result X AdoptFault → Type 0
 Says fault (Ok x) = fault ≡ None
-Says fault (Err e) = is_failure e ≡ false → fault ≡ Some e
+Says fault (Err e) = is_no_memory e ≡ false → fault ≡ Some e
 
 -- the rows of meta are refused
 abbrev pub IsMetaFault : Trees → AdoptFault → Type 0

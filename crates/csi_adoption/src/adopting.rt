@@ -1,6 +1,6 @@
 //! The tables on a connection, judged and taken.
 
-ghost use Rattle.std.specs.Prelude.{◌≡◌, false, Some, IfErr, IfOk, IsTrue};
+ghost use Rattle.std.specs.Prelude.{◌≡◌, ◌≢◌, false, Some, IfErr, IfOk, IsTrue};
 ghost use Rattle.sqlite.specs.Held.{state};
 ghost use Rattle.sqlite.specs.State.{HasCleanDisk, Survives};
 ghost use Rattle.csi_layout.specs.Tables.{no_schema, schema as our_schema};
@@ -14,7 +14,7 @@ ghost use Rattle.csi_tables.specs.Holding.{IsRows};
 ghost use Rattle.csi_adoption.specs.Adopting.{FoundState, IsAdopted, IsFound, IsNotRefused, IsUnadopted};
 ghost use Rattle.csi_adoption.specs.Passing.{HasTexts};
 ghost use Rattle.csi_adoption.specs.Looking.{Looks};
-ghost use Rattle.csi_adoption.specs.Judging.{is_failure, AreJudged, ArePassed, IsFaultOf, IsMetaFault, JudgesBehind, JudgesRows, SeesNext, Says, TablesAreSeen, code_faults, count_fault, count_faults, kinds_faults, owner_faults, table_faults, told_attachments, told_volumes};
+ghost use Rattle.csi_adoption.specs.Judging.{is_failure, AreJudged, ArePassed, IsFaultOf, IsMetaFault, JudgesBehind, JudgesRows, SeesNext, Says, TablesAreSeen, Tells, code_faults, count_fault, count_faults, kinds_faults, owner_faults, table_faults, told_attachments, told_volumes};
 
 use crate::attachment_laws::{attachments_found, attachments_pass, owners_pass, pairs_pass};
 use crate::attachments::{
@@ -56,7 +56,7 @@ fn is_blank(schema: &Schema) -> bool
 }
 
 fn check_kinds(volumes: &VolumesSeen, attachments: &AttachmentsSeen) -> Result<(), AdoptFault>
-    ensures { Says (kinds_faults (told_volumes volumes.now) (told_attachments attachments.now)) result }
+    ensures { Tells (kinds_faults (told_volumes volumes.now) (told_attachments attachments.now)) result }
 {
     if let Some(name) = &volumes.kinds {
         let number = name.number.unwrap_or(0);
@@ -111,7 +111,7 @@ fn check_owners(
 }
 
 fn check_count(rows: u64) -> Result<(), AdoptFault>
-    ensures { Says (count_fault rows) result }
+    ensures { Tells (count_fault rows) result }
 {
     if rows > MAX_VOLUMES {
         return Err(AdoptFault::Broken(BrokenRule::TooManyVolumes));
@@ -183,6 +183,7 @@ fn judge_behind<S: Alter>(
     Ok(volumes)
 }
 
+#[tactic(auto, using(crate::proofs::FaultLemmas::error_fails))]
 fn see_next<S: Alter>(conn: &mut Connection<S>) -> Result<u64, AdoptFault>
     requires idle { conn.old.in_transaction ≡ false }
     requires ours { HasCleanDisk (state S.Store conn.old) → conn.old.schema ≡ our_schema }
@@ -240,6 +241,7 @@ fn judge<S: Alter>(
     ensures looks { Looks S.Store conn.old conn.new result }
     ensures found { HasCleanDisk (state S.Store conn.new) → IfOk result (λ totals. IsFound config.now (state S.Store conn.old).now totals) }
     ensures first { HasCleanDisk (state S.Store conn.new) → IfErr result (λ fault. is_failure fault ≡ false → IsFaultOf config.now (state S.Store conn.old).now fault) }
+    ensures other { HasCleanDisk (state S.Store conn.new) → (state S.Store conn.old).now.schema ≢ our_schema → IfErr result (λ fault. fault ≡ AdoptFault.Foreign Foreign.Schema) }
     ensures sound { HasCleanDisk (state S.Store conn.new) → IfErr result (IsNotRefused config.now (state S.Store conn.old).now) }
 {
     rows_tell(config);

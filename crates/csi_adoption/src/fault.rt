@@ -1,7 +1,8 @@
 //! Why tables are not adopted.
 
-ghost use Rattle.std.specs.Prelude.{◌≡◌, true};
-ghost use Rattle.csi_adoption.specs.Judging.{is_failure};
+ghost use Rattle.std.specs.Prelude.{◌≡◌};
+ghost use Rattle.csi_adoption.specs.Judging.{failure_of};
+ghost use Rattle.csi_adoption.specs.declared.fault.AdoptFault.TheVariants.{NoMemory};
 
 use csi_rules::BrokenRule;
 use sqlite::{Error as SqlError, ErrorCode};
@@ -55,7 +56,7 @@ pub enum AdoptFault {
 }
 
 impl From<SqlError> for AdoptFault {
-    ghost from_gives = { λ _ fault. is_failure fault ≡ true };
+    ghost from_gives = { λ error fault. fault ≡ failure_of error };
 
     fn from(error: SqlError) -> AdoptFault {
         match error {
@@ -66,7 +67,7 @@ impl From<SqlError> for AdoptFault {
 }
 
 impl From<AllocError> for AdoptFault {
-    ghost from_gives = { λ _ fault. is_failure fault ≡ true };
+    ghost from_gives = { λ _ fault. fault ≡ NoMemory };
 
     fn from(_: AllocError) -> AdoptFault {
         AdoptFault::NoMemory
@@ -74,7 +75,7 @@ impl From<AllocError> for AdoptFault {
 }
 
 impl<T: Drop> From<AllocFailed<T>> for AdoptFault {
-    ghost from_gives = { λ _ fault. is_failure fault ≡ true };
+    ghost from_gives = { λ _ fault. fault ≡ NoMemory };
 
     fn from(_: AllocFailed<T>) -> AdoptFault {
         AdoptFault::NoMemory

@@ -5,7 +5,7 @@ ghost use Rattle.sqlite.specs.Held.{state};
 ghost use Rattle.sqlite.specs.State.{HasCleanDisk};
 ghost use Rattle.csi_layout.specs.Rows.{seen_meta};
 ghost use Rattle.csi_layout.specs.Tables.{schema as our_schema};
-ghost use Rattle.csi_adoption.specs.Judging.{Says, integers_judged, meta_judged, next_fault, valid_next, with_row, with_rows};
+ghost use Rattle.csi_adoption.specs.Judging.{Tells, integers_judged, meta_judged, next_fault, valid_next, with_row, with_rows};
 ghost use Rattle.csi_adoption.specs.Looking.{Looks, SeenBy};
 ghost use Rattle.csi_adoption.specs.declared.meta.MetaRows.TheVariants as meta;
 
@@ -102,7 +102,7 @@ pub(crate) fn judge_meta(rows: MetaRows) -> Result<u64, AdoptFault>
 
 /// The fault of a next number that is 0, as one stands that is not 1 to 2^62.
 pub(crate) fn check_next(next: u64) -> Result<(), AdoptFault>
-    ensures { Says (next_fault next) result }
+    ensures { Tells (next_fault next) result }
 {
     if next == 0 {
         return Err(AdoptFault::Broken(BrokenRule::Next));

@@ -9,7 +9,7 @@ ghost use Rattle.std.specs.List.{AllZip};
 ghost use Rattle.csi_looks.specs.Looks.{IsInOrder};
 ghost use Rattle.csi_looks.specs.declared.sums.Weight.TheVariants as weight;
 ghost use Rattle.csi_keeper.specs.Totals.{total_of};
-ghost use Rattle.csi_adoption.specs.Judging.{Says, SeesVolumes, full_pool, number_faults, pool_fault, size_faults, sums_of, told_volumes, total_in, volume_fault};
+ghost use Rattle.csi_adoption.specs.Judging.{Says, SeesVolumes, Tells, full_pool, number_faults, pool_fault, size_faults, sums_of, told_volumes, total_in, volume_fault};
 ghost use Rattle.csi_adoption.specs.Looking.{IsBegun, Looks, SeenBy};
 
 use crate::fault::AdoptFault;
@@ -220,7 +220,7 @@ pub(crate) fn see_volumes<S: Alter>(
 
 /// The fault of a volume that breaks a rule.
 pub(crate) fn check_volume(found: &Option<RowName>, rule: VolumeRule) -> Result<(), AdoptFault>
-    ensures { Says (volume_fault rule found.now) result }
+    ensures { Tells (volume_fault rule found.now) result }
 {
     match found {
         Some(name) => Err(AdoptFault::Broken(BrokenRule::Volume {
@@ -257,7 +257,7 @@ fn check_pools(alloc: Global, pools: &[Pool], bytes: &[TextSum]) -> Result<(), A
 
 /// The fault of the next number, or of a volume's number or name.
 pub(crate) fn check_numbers(next: u64, seen: &VolumesSeen) -> Result<(), AdoptFault>
-    ensures { Says (number_faults next (told_volumes seen.now)) result }
+    ensures { Tells (number_faults next (told_volumes seen.now)) result }
 {
     check_next(next)?;
     check_volume(&seen.number, VolumeRule::Number)?;

@@ -1,5 +1,7 @@
-use Rattle.std.proofs.Common.{◌≡◌, ◌∙◌, sym}
+use Rattle.std.proofs.Common.{◌≡◌, ◌∙◌, ap, sym}
 use Rattle.csi_layout.specs.Tables.{no_schema}
+use Rattle.csi_adoption.specs.Judging.{is_failure}
+use Rattle.csi_adoption.proofs.FaultLemmas.{error_fails}
 use Rattle.csi_adoption.proofs.AdoptLemmas.{is_adopted, is_made, is_refused, is_settled, is_unmade, stands}
 use Rattle.csi_adoption.proofs.adopting.adopt.Goals as goal
 
@@ -13,7 +15,7 @@ pub returns-in-Err-clause-unadopted : goal.returns-in-Err-clause-unadopted
 returns-in-Err-clause-unadopted g c =
     let settled = is_settled g.S.Store c.args.conn c.set_step_limit.new.self c.settle.new.conn c.set_step_limit.ensures c.settle.ensures.undone c.settle.ensures.survives in
     let blank : c.settle.new.conn.schema ≡ no_schema = sym c.schema.ensures.value ∙ c.is_blank.ensures.is c.if-is_blank.true in
-    is_unmade g.S.Store c.args.config.now c.args.conn c.settle.new.conn settled blank c.in-Err.field-0.conn c.from.result c.in-Err.ensures.idle c.from.ensures c.in-Err.ensures.undone c.in-Err.ensures.survives
+    is_unmade g.S.Store c.args.config.now c.args.conn c.settle.new.conn settled blank c.in-Err.field-0.conn c.from.result c.in-Err.ensures.idle (ap is_failure c.from.ensures ∙ error_fails c.in-Err.field-0.error) c.in-Err.ensures.undone c.in-Err.ensures.survives
 
 pub over-requires-clause-stands : goal.over-requires-clause-stands
 over-requires-clause-stands g c =
@@ -32,4 +34,4 @@ pub returns-in-Err-judge-clause-unadopted : goal.returns-in-Err-judge-clause-una
 returns-in-Err-judge-clause-unadopted g c =
     let settled = is_settled g.S.Store c.args.conn c.set_step_limit.new.self c.settle.new.conn c.set_step_limit.ensures c.settle.ensures.undone c.settle.ensures.survives in
     let looks = c.in-Err-judge.ensures.looks in
-    is_refused g.S.Store c.args.config.now c.args.conn c.settle.new.conn c.judge.new.conn c.in-Err-judge.fault settled looks.idle looks.kept looks.survives c.in-Err-judge.ensures.first c.in-Err-judge.ensures.sound
+    is_refused g.S.Store c.args.config.now c.args.conn c.settle.new.conn c.judge.new.conn c.in-Err-judge.fault settled looks.idle looks.kept looks.survives c.in-Err-judge.ensures.first c.in-Err-judge.ensures.other c.in-Err-judge.ensures.sound

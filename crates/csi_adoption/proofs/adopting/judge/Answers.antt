@@ -7,6 +7,11 @@ use Rattle.csi_adoption.proofs.FaultLemmas.{is_err, must_fail}
 use Rattle.csi_adoption.proofs.TurnLemmas.{ended}
 use Rattle.csi_adoption.proofs.adopting.judge.Goals as goal
 
+pub returns-in_err-volumes-clause-other : goal.returns-in_err-volumes-clause-other
+returns-in_err-volumes-clause-other g c = λ clean others.
+    let ours : c.args.conn.now.schema ≡ our_schema = search rules in
+    absurd (others ours)
+
 pub returns-in_err-volumes-clause-sound : goal.returns-in_err-volumes-clause-sound
 returns-in_err-volumes-clause-sound g c = λ clean.
     let fault = c.in_err-volumes.field-0.0 in
@@ -19,6 +24,11 @@ returns-in_err-volumes-clause-sound g c = λ clean.
 
 pub returns-in_err-totals-clause-looks : goal.returns-in_err-totals-clause-looks
 returns-in_err-totals-clause-looks g c = ended g.S.Store c.args.conn.now c.judge_rows.new.conn c.in_ok-volumes.volumes c.from_residual-in_err-totals.result c.in_ok-volumes.ensures.looks
+
+pub returns-in_err-totals-clause-other : goal.returns-in_err-totals-clause-other
+returns-in_err-totals-clause-other g c = λ clean others.
+    let ours : c.args.conn.now.schema ≡ our_schema = search rules in
+    absurd (others ours)
 
 pub returns-clause-found : goal.returns-clause-found
 returns-clause-found g c = λ clean.
