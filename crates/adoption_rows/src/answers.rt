@@ -66,13 +66,16 @@ pub(crate) fn answer(alloc: Global, row: &str) -> Result<String, RowFault> {
     let config = config_named(alloc, config)?;
     let mut conn = Connection::open_in_memory(alloc)?;
     match start {
-        "tables" => make_tables(&mut conn)?,
+        "tables" | "limited" => make_tables(&mut conn)?,
         "empty" => {}
         _ => return Err(RowFault::NotRow),
     }
     conn.execute_batch(statements)?;
     if !conn.is_autocommit() {
         return Err(RowFault::Refused);
+    }
+    if start == "limited" {
+        conn.set_step_limit(Some(1));
     }
     tell(alloc, conn, &config)
 }
