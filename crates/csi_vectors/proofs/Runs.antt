@@ -1,12 +1,11 @@
 -- What was written by a run over memory.
-use Rattle.std.proofs.Common.{◌≡◌, ℕ, List, [], ◌++◌, Option, Some, None, inl, inr, ap, ◌∙◌, refl, subst}
-use Rattle.std.specs.Io.KnownBytes.{Consumes, IsAtEnd}
+use Rattle.std.proofs.Common.{◌≡◌, ℕ, List, [], ◌++◌, Option, Some, None, inl, inr, ◌∙◌, refl, subst}
 use Rattle.csi_config.specs.declared.config.Config.{Config}
 use Rattle.csi_keeper.specs.State.{State}
 use Rattle.csi_keeper.specs.Memory.{first_state}
 use Rattle.csi_server.specs.declared.end.RunEnd.{RunEnd}
 use Rattle.csi_server.specs.declared.end.RunEnd.TheVariants.{Done, Malformed, ReadFailed, TurnsSpent, WriteFailed, NoMemory}
-use Rattle.csi_server.specs.Machine.{Sight, calls_of}
+use Rattle.csi_server.specs.Machine.{Sight}
 use Rattle.csi_server.specs.Serving.{Ended, Serves}
 use Rattle.csi_server.specs.Volumes.{volumes}
 use Rattle.csi_vectors.specs.Judging.{IsWhole, IsWritten}

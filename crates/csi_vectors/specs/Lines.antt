@@ -1,16 +1,31 @@
 -- A line as a vector.
-use Rattle.std.specs.Prelude.{ℕ, ◌≡◌, ◌≢◌, ◌⊎◌, List, [], ◌∷◌, ◌++◌, Ok, codes}
+use Rattle.std.specs.Prelude.{ℕ, ◌≡◌, ◌≢◌, ◌⊎◌, ◌<◌, ◌==◌, Bool, List, [], Ok, codes, length}
+use Rattle.std.specs.List.{after_first, before_first, position_or_len}
 use Rattle.hex.specs.Hex.{decode_of}
+
+abbrev pub is_space : ℕ → Bool
+is_space byte = byte == 32
+
+-- a text has a space
+abbrev pub HasSpace : List ℕ → Type 0
+HasSpace text = position_or_len is_space text < length text
+
+-- what stands before the first space of a text, and what stands behind it
+abbrev pub head : List ℕ → List ℕ
+head text = before_first is_space text
+
+abbrev pub tail : List ℕ → List ℕ
+tail text = after_first is_space text
 
 -- a dash is no bytes, and else two digits are one
 abbrev pub Spells : List ℕ → List ℕ → Type 0
-Spells digits bytes = ((digits ≡ codes "-") × (bytes ≡ [])) ⊎ (decode_of digits ≡ Ok bytes)
+Spells digits bytes = ((digits ≡ codes "-") × (bytes ≡ [])) ⊎ ((digits ≢ []) × (decode_of digits ≡ Ok bytes))
 
--- the name, the input and the output of a vector, with one space between
+-- The name, the input and the output of a vector, with one space between: the name and the input have none.
 pub record IsLineOf (line name input output : List ℕ) : Type 0 where
-  pub digits : List ℕ
-  pub others : List ℕ
+  pub first : HasSpace line
+  pub second : HasSpace (tail line)
+  pub name_is : name ≡ head line
   pub named : name ≢ []
-  pub line_is : line ≡ name ++ codes " " ++ digits ++ codes " " ++ others
-  pub input_is : Spells digits input
-  pub output_is : Spells others output
+  pub input_is : Spells (head (tail line)) input
+  pub output_is : Spells (tail (tail line)) output

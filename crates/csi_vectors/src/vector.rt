@@ -1,7 +1,8 @@
 //! A line as a vector.
 
-ghost use Rattle.std.specs.Prelude.{IfOk};
+ghost use Rattle.std.specs.Prelude.{◌≡◌, List, ℕ, IfOk, IsErrOf};
 ghost use Rattle.csi_vectors.specs.Lines.{IsLineOf, Spells};
+ghost use Rattle.csi_vectors.specs.declared.vector.LineFault.TheVariants.{NoMemory, NotVector};
 
 use hex::FromHexError;
 use std::alloc::{AllocError, Global};
@@ -27,6 +28,8 @@ pub enum LineFault {
 }
 
 impl From<AllocError> for LineFault {
+    ghost from_gives = { λ _ fault. fault ≡ NoMemory };
+
     fn from(_error: AllocError) -> LineFault {
         LineFault::NoMemory
     }
@@ -34,7 +37,8 @@ impl From<AllocError> for LineFault {
 
 // The bytes that hexadecimal digits of either case spell; `-` is none.
 fn bytes_of(alloc: Global, digits: &str) -> Result<Vec<u8>, LineFault>
-    ensures { IfOk result (λ bytes. Spells digits.now bytes.items) }
+    ensures ok { IfOk result (λ bytes. Spells digits.now bytes.items) }
+    ensures refused { IsErrOf result NotVector → (bytes : List ℕ) → ¬ Spells digits.now bytes }
 {
     if digits == "-" {
         return Ok(Vec::new(alloc));
@@ -57,10 +61,15 @@ impl<'a> Vector<'a> {
     ///
     /// Where the line is no vector, or memory was refused.
     pub fn of_line(alloc: Global, line: &'a str) -> Result<Vector<'a>, LineFault>
-        ensures { IfOk result (λ v. IsLineOf line.now v.name.now v.input.items v.output.items) }
+        ensures ok { IfOk result (λ v. IsLineOf line.now v.name.now v.input.items v.output.items) }
+        ensures refused { IsErrOf result NotVector → (name input output : List ℕ) → ¬ IsLineOf line.now name input output }
     {
-        let (name, rest) = line.split_once(' ').ok_or(LineFault::NotVector)?;
-        let (input, output) = rest.split_once(' ').ok_or(LineFault::NotVector)?;
+        let Some((name, rest)) = line.split_once(' ') else {
+            return Err(LineFault::NotVector);
+        };
+        let Some((input, output)) = rest.split_once(' ') else {
+            return Err(LineFault::NotVector);
+        };
         if name.is_empty() {
             return Err(LineFault::NotVector);
         }

@@ -1,0 +1,104 @@
+-- What is written of vectors, a line each.
+use Rattle.std.specs.Prelude.{ℕ, zero, suc, ◌≡◌, ◌≢◌, ◌⊎◌, ◌+◌, ◌++◌, ◌||◌, Bool, true, false, not, List, [], Option, IfSome, IsUtf8, codes, bytes_eq}
+use Rattle.std.specs.Io.BufRead.{take_through, DropsThrough}
+use Rattle.std.specs.Io.KnownBytes.{Appends, Keeps, IsAtEnd}
+use Rattle.csi_config.specs.declared.config.Config.{Config}
+use Rattle.csi_config.specs.Sample.{sample_plugin, sample_pools, sample_nodes}
+use Rattle.csi_vectors.specs.Judging.{IsWritten}
+use Rattle.csi_vectors.specs.Lines.{IsLineOf}
+use Rattle.csi_vectors.specs.declared.vector.LineFault.{LineFault}
+use Rattle.csi_vectors.specs.declared.vector.LineFault.TheVariants as fault
+use Rattle.csi_vectors.specs.declared.running.Halt.{Halt}
+use Rattle.csi_vectors.specs.declared.running.Halt.TheVariants as halt
+use Rattle.csi_vectors.specs.declared.running.VectorsEnd.{VectorsEnd}
+use Rattle.csi_vectors.specs.declared.running.VectorsEnd.TheVariants.{Done, BadLine, ReadFailed, WriteFailed, NoMemory}
+
+-- a text without the end of line that it may have
+abbrev pub IsTextOf : List ℕ → List ℕ → Type 0
+IsTextOf line text = (line ≡ text ++ codes "\n") ⊎ ((line ≡ text) × ((front : List ℕ) → line ≢ front ++ codes "\n"))
+
+-- an empty line, or a comment
+abbrev pub IsSkipped : List ℕ → Type 0
+IsSkipped text = (text ≡ []) ⊎ ((rest : List ℕ) × (text ≡ codes "#" ++ rest))
+
+-- a line is no vector: it is no text, or one that is not skipped and has not the form
+abbrev pub IsNoVector : List ℕ → Type 0
+IsNoVector line = (text : List ℕ) × IsTextOf line text × ((¬ IsUtf8 text) ⊎ ((¬ IsSkipped text) × ((name input output : List ℕ) → ¬ IsLineOf text name input output)))
+
+-- what is written of a vector
+abbrev pub told : Bool → List ℕ → List ℕ
+told true name = codes "FAIL " ++ name ++ codes "\n"
+told false name = codes "ok " ++ name ++ codes "\n"
+
+-- a vector was run: a new server writes these bytes for its input, and it failed where they are not its output
+pub record IsRun (config : Config) (text lines : List ℕ) (failed : Bool) : Type 0 where
+  pub name : List ℕ
+  pub input : List ℕ
+  pub output : List ℕ
+  pub bytes : List ℕ
+  pub run : ¬ IsSkipped text
+  pub line : IsLineOf text name input output
+  pub written : IsWritten config input bytes
+  pub judged : failed ≡ not (bytes_eq bytes output)
+  pub said : lines ≡ told failed name
+
+-- of a line that is skipped nothing is written
+abbrev pub IsDone : Config → List ℕ → List ℕ → Bool → Type 0
+IsDone config text lines failed = (IsSkipped text × (lines ≡ []) × (failed ≡ false)) ⊎ IsRun config text lines failed
+
+-- the first line, with its end, was taken of what was left
+abbrev pub Takes : Option (List ℕ) → Option (List ℕ) → List ℕ → Type 0
+Takes before after line = IfSome before (λ bytes. line ≡ take_through 10 bytes) × DropsThrough before after 10
+
+-- One line more: what was left and held before it, and what came of it.
+pub record Step (config : Config) (Before : Option (List ℕ) → Option (List ℕ) → Bool → Type 0) (left holds : Option (List ℕ)) (failed : Bool) : Type 0 where
+  pub mid : Option (List ℕ)
+  pub held : Option (List ℕ)
+  pub already : Bool
+  pub before : Before mid held already
+  pub line : List ℕ
+  pub text : List ℕ
+  pub lines : List ℕ
+  pub now : Bool
+  pub taken : Takes mid left line
+  pub is_text : IsTextOf line text
+  pub done : IsDone config text lines now
+  pub wrote : Appends held holds lines
+  pub either : failed ≡ (already || now)
+
+-- So many lines were run, one after the other.
+abbrev pub AreRun : Config → Option (List ℕ) → Option (List ℕ) → ℕ → Option (List ℕ) → Option (List ℕ) → Bool → Type 0
+AreRun config unread held zero left holds failed = (left ≡ unread) × Keeps held holds × (failed ≡ false)
+AreRun config unread held (suc n) left holds failed = Step config (AreRun config unread held n) left holds failed
+
+-- How a run ends; after a write that failed the writer may hold anything.
+abbrev pub EndsAs : Config → Option (List ℕ) → Option (List ℕ) → Option (List ℕ) → VectorsEnd → Type 0
+EndsAs config unread held holds (Done failed) = (count : ℕ) × (left : Option (List ℕ)) × AreRun config unread held count left holds failed × IsAtEnd left
+EndsAs config unread held holds (BadLine number) = (count : ℕ) × (left : Option (List ℕ)) × (failed : Bool) × (after : Option (List ℕ)) × (line : List ℕ)
+    × AreRun config unread held count left holds failed × Takes left after line × IsNoVector line × (number ≡ count + 1)
+EndsAs config unread held holds ReadFailed = (count : ℕ) × (left : Option (List ℕ)) × (failed : Bool) × AreRun config unread held count left holds failed
+EndsAs config unread held holds WriteFailed = Unit {0}
+EndsAs config unread held holds NoMemory = (count : ℕ) × (left : Option (List ℕ)) × (failed : Bool) × AreRun config unread held count left holds failed
+
+-- why a line ends the run
+abbrev pub halt_of : LineFault → Halt
+halt_of fault.NotVector = halt.BadLine
+halt_of fault.NoMemory = halt.NoMemory
+
+-- and how
+abbrev pub end_of : Halt → ℕ → VectorsEnd
+end_of halt.BadLine number = BadLine number
+end_of halt.WriteFailed number = WriteFailed
+end_of halt.NoMemory number = NoMemory
+
+-- the sample configuration
+pub record IsSample (config : Config) : Type 0 where
+  pub plugin : config.plugin ≡ sample_plugin
+  pub default : config.sizes.default_bytes ≡ 1_048_576
+  pub greatest : config.sizes.greatest_bytes ≡ 8_388_608
+  pub pools : config.pools ≡ sample_pools
+  pub nodes : config.nodes ≡ sample_nodes
+
+-- A run under the sample configuration; nothing is written where there is no memory for that.
+abbrev pub Runs : Option (List ℕ) → Option (List ℕ) → Option (List ℕ) → VectorsEnd → Type 0
+Runs unread held holds end = ((end ≡ NoMemory) × Keeps held holds) ⊎ ((config : Config) × IsSample config × EndsAs config unread held holds end)
