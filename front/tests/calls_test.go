@@ -107,13 +107,8 @@ func TestHalfFrame(t *testing.T) {
 // A call that waits for its turn ends with its own deadline, or when its caller gives up, and csid never sees it.
 func TestWaitingForTheTurn(t *testing.T) {
 	t.Parallel()
-	answered := make(chan struct{})
-	csid := startFake(t, step{wait: answered, write: okFrame("01")})
-	process := startFront(t, csid.socket)
-	front := newClient(t, process.socket)
-	first := make(chan answer)
-	go func() { first <- front.send(context.Background(), "/a/first", nil) }()
-	csid.called(t, 1)
+	first := runCall(t, "/a/first")
+	csid, process, front := first.csid, first.process, first.front
 	if got := front.send(soon(t, 100*time.Millisecond), "/a/deadline", nil); got.code != codes.DeadlineExceeded {
 		t.Errorf("%v, wanted DEADLINE_EXCEEDED", got)
 	}
@@ -123,10 +118,7 @@ func TestWaitingForTheTurn(t *testing.T) {
 		t.Errorf("%v, wanted CANCELLED", got)
 	}
 	eventually(t, "both in the log", func() bool { return gaveUp(process, "/a/deadline") && gaveUp(process, "/a/cancel") })
-	close(answered)
-	if got := <-first; got != ok("01") {
-		t.Errorf("the first call: %v", got)
-	}
+	first.ends(t)
 	front.wants(t, probe, "", ok(ready))
 	csid.sees(t, "/a/first ", probe+" ")
 	if _, ends := csid.seen(); ends != 0 {

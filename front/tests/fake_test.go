@@ -1,6 +1,7 @@
 package tests
 
 import (
+	"context"
 	"encoding/binary"
 	"encoding/hex"
 	"io"
@@ -47,6 +48,35 @@ func behindFront(t *testing.T, steps ...step) (*fake, *client) {
 	t.Helper()
 	csid := startFake(t, steps...)
 	return csid, newClient(t, startFront(t, csid.socket).socket)
+}
+
+// running is a call that csid got and answers once it is let.
+type running struct {
+	csid    *fake
+	process *process
+	front   *client
+	let     chan struct{}
+	came    chan answer
+}
+
+func runCall(t *testing.T, path string) *running {
+	t.Helper()
+	call := &running{let: make(chan struct{}), came: make(chan answer)}
+	call.csid = startFake(t, step{wait: call.let, write: okFrame("01")})
+	call.process = startFront(t, call.csid.socket)
+	call.front = newClient(t, call.process.socket)
+	go func() { call.came <- call.front.send(context.Background(), path, nil) }()
+	call.csid.called(t, 1)
+	return call
+}
+
+// ends lets csid answer, and the call then has that answer.
+func (r *running) ends(t *testing.T) {
+	t.Helper()
+	close(r.let)
+	if got := <-r.came; got != ok("01") {
+		t.Errorf("the call that ran: %v", got)
+	}
 }
 
 func (f *fake) start(t *testing.T) *fake {

@@ -43,6 +43,17 @@ func TestEveryReplyComesBack(t *testing.T) {
 	}
 }
 
+// losesOneCall has one call lost by what csid does with it; csid gets it once, and the next call over another connection.
+func losesOneCall(t *testing.T, does step) {
+	t.Helper()
+	csid, front := behindFront(t, does)
+	front.isLost(t, "/a/b", "01")
+	csid.ended(t, 1)
+	csid.sees(t, "/a/b 01")
+	front.wants(t, probe, "", ok(ready))
+	csid.sees(t, "/a/b 01", probe+" ")
+}
+
 // A reply that breaks a rule, or breaks off, leaves the outcome open, and ends the connection: the next call has a new one.
 func TestMalformedReplies(t *testing.T) {
 	t.Parallel()
@@ -60,11 +71,7 @@ func TestMalformedReplies(t *testing.T) {
 		name, reply := name, reply
 		t.Run(name, func(t *testing.T) {
 			t.Parallel()
-			csid, front := behindFront(t, step{write: reply})
-			front.isLost(t, "/a/b", "01")
-			csid.ended(t, 1)
-			front.wants(t, probe, "", ok(ready))
-			csid.sees(t, "/a/b 01", probe+" ")
+			losesOneCall(t, step{write: reply})
 		})
 	}
 }
@@ -84,12 +91,7 @@ func TestConnectionThatBreaks(t *testing.T) {
 		name, reply := name, reply
 		t.Run(name, func(t *testing.T) {
 			t.Parallel()
-			csid, front := behindFront(t, step{write: reply, close: true})
-			front.isLost(t, "/a/b", "01")
-			csid.ended(t, 1)
-			csid.sees(t, "/a/b 01")
-			front.wants(t, probe, "", ok(ready))
-			csid.sees(t, "/a/b 01", probe+" ")
+			losesOneCall(t, step{write: reply, close: true})
 		})
 	}
 }

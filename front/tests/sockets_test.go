@@ -1,7 +1,6 @@
 package tests
 
 import (
-	"context"
 	"net"
 	"os"
 	"os/exec"
@@ -126,26 +125,18 @@ func TestEndpoint(t *testing.T) {
 // After SIGTERM the call that runs is answered, no further one is taken, and the socket is gone.
 func TestTermDuringACall(t *testing.T) {
 	t.Parallel()
-	answered := make(chan struct{})
-	csid := startFake(t, step{wait: answered, write: okFrame("01")})
-	process := startFront(t, csid.socket)
-	front := newClient(t, process.socket)
-	running := make(chan answer)
-	go func() { running <- front.send(context.Background(), "/a/b", nil) }()
-	csid.called(t, 1)
+	running := runCall(t, "/a/b")
+	process := running.process
 	process.terminate(t)
 	eventually(t, "the end of the socket", func() bool { return !isAnswered(process.socket) })
-	close(answered)
-	if got := <-running; got != ok("01") {
-		t.Errorf("the call that ran: %v", got)
-	}
+	running.ends(t)
 	if status := process.status(t); status != 0 || process.log.String() != "" {
 		t.Errorf("status %d, logged %q", status, process.log)
 	}
 	if _, err := os.Lstat(process.socket); !os.IsNotExist(err) {
 		t.Errorf("the socket: %v", err)
 	}
-	csid.sees(t, "/a/b ")
+	running.csid.sees(t, "/a/b ")
 }
 
 func TestTermWithoutACall(t *testing.T) {

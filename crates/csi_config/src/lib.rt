@@ -15,4 +15,4 @@ pub use fault::{ConfigFault, NodeRule, PoolRule, SizeRule};
 pub use nodes::Node;
 pub use plugin::{MAX_NAME_BYTES, Plugin};
 pub use pools::Pool;
-pub use sizes::{GRANULE_BYTES, Sizes};
+pub use sizes::{GRANULE_BYTES, Sizes, is_whole};

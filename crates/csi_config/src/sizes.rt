@@ -20,8 +20,8 @@ pub struct Sizes {
     pub greatest_bytes: u64,
 }
 
-/// Whether a size is a positive multiple of 1 MiB.
-pub(crate) fn is_whole(bytes: u64) -> bool
+/// Whether a size in bytes is a positive multiple of 1 MiB.
+pub fn is_whole(bytes: u64) -> bool
     ensures { result ≡ is_whole bytes }
 {
     bytes > 0 && bytes % GRANULE_BYTES == 0

@@ -1,3 +1,4 @@
+pub mod Failing
 pub mod Folds
 pub mod Looks
 pub mod facts

@@ -6,6 +6,7 @@ ghost use Rattle.sqlite.specs.Held.{state};
 ghost use Rattle.sqlite.specs.Listing.{understood};
 ghost use Rattle.sqlite.specs.Order.{Row as Values};
 ghost use Rattle.sqlite.specs.State.{HasCleanDisk, IsUnchanged, KeepsCommit, Shown, Survives};
+ghost use Rattle.csi_looks.specs.Failing.{FailsForMemory};
 ghost use Rattle.csi_looks.specs.Looks.{HasFolded};
 
 use sqlite::{Alter, Connection, Error, ErrorCode, Row};
@@ -21,7 +22,8 @@ pub trait Fold {
     ///
     /// Where memory was refused.
     fn take(&mut self, row: &Row) -> Result<(), Error>
-        ensures { OnOk result ((first : Self) (rows : List Values) → folds first rows self.old → folds first (rows ++ row.now ∷ []) self.new) };
+        ensures folded { OnOk result ((first : Self) (rows : List Values) → folds first rows self.old → folds first (rows ++ row.now ∷ []) self.new) }
+        ensures memory { FailsForMemory result };
 
     /// Over no row a fold stays what it is.
     ghost starts: { (fold : Self) → folds fold [] fold };

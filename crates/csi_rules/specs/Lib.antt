@@ -6,7 +6,6 @@ pub mod Joins
 pub mod Kinds
 pub mod Meta
 pub mod Named
-pub mod Trying
 pub mod Values
 pub mod Volumes
 pub mod facts

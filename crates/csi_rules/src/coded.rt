@@ -2,8 +2,8 @@
 
 ghost use Rattle.std.specs.Prelude.{◌≡◌, IfOk, IfSome, ◌∷◌, []};
 ghost use Rattle.csi_tables.specs.Encoding.{FitCaps, FitParams};
+ghost use Rattle.csi_looks.specs.Failing.{FailsForMemory};
 ghost use Rattle.csi_rules.specs.Coded.{has_cap, has_caps, has_params, key_at, keys_at, params_at};
-ghost use Rattle.csi_rules.specs.Trying.{FailsForMemory};
 
 use crate::coding::{are_keys, are_params, key_in, keys_in, params_in};
 use crate::trial::RowTrial;

@@ -4,18 +4,16 @@ ghost use Rattle.std.specs.Prelude.{◌≡◌, ◌^◌, ◌-◌, ◌∷◌, [], 
 ghost use Rattle.std.specs.List.{list_all};
 ghost use Rattle.csi_types.specs.Checks.{map_bytes};
 ghost use Rattle.csi_types.specs.declared.method.Method.TheVariants.{CreateVolume as Creating};
-ghost use Rattle.csi_codec.specs.Methods.{request_bytes, FitsRequest};
 ghost use Rattle.csi_codec.specs.Reading.{read_request};
-ghost use Rattle.csi_keeper.specs.Capability.{capability_of, is_supported_key};
-ghost use Rattle.csi_tables.specs.Encoding.{create_with, caps_bytes, params_bytes, FitCaps, FitParams};
+ghost use Rattle.csi_keeper.specs.Capability.{is_supported_key};
+ghost use Rattle.csi_tables.specs.Encoding.{caps_bytes, params_bytes, FitCaps, FitParams};
+ghost use Rattle.csi_looks.specs.Failing.{FailsForMemory};
 ghost use Rattle.csi_rules.specs.Coding.{are_keys, are_params, created, each_key, is_before, key_in, keys_in, message_in, only, params_in, rise};
-ghost use Rattle.csi_rules.specs.Trying.{FailsForMemory};
 
-use csi_codec::{DecodeFault, decode, encode_request};
-use csi_keeper::{CapKey, cap_key, capability_of, supported};
-use csi_types::{
-    Capability, CreateVolume, Items, MAX_MAP_BYTES, Map, Method, Request, Text, copy_map,
-};
+use csi_codec::{DecodeFault, decode};
+use csi_keeper::{CapKey, cap_key, supported};
+use csi_tables::{write_caps, write_params};
+use csi_types::{Capability, CreateVolume, Items, MAX_MAP_BYTES, Map, Method, Request};
 use sqlite::{Error, ErrorCode};
 use std::alloc::{AllocError, Global};
 use std::cmp::Ordering;
@@ -49,56 +47,18 @@ fn each_key(alloc: Global, capabilities: &[Capability]) -> Result<Option<Items<C
 
 // ---- what is written
 
-fn create_with(alloc: Global, capabilities: Items<Capability>, parameters: Map) -> Request
-    ensures { result ≡ create_with capabilities parameters }
-{
-    Request::Create(CreateVolume {
-        name: Text::new(alloc),
-        range: None,
-        capabilities,
-        parameters,
-        secrets: Map::new(alloc),
-        source: false,
-        topology: None,
-    })
-}
-
-// Whether these bytes are the canonical ones of a request.
-fn is_written(alloc: Global, request: &Request, bytes: &[u8]) -> Result<bool, AllocError>
-    ensures same { IfOk result (λ same. same ≡ bytes_eq (request_bytes request.now) bytes.now) }
-    ensures fits { OnOk result (FitsRequest request.now) }
-{
-    let mut out = Vec::new(alloc);
-    encode_request(request, &mut out)?;
-    Ok(out.as_slice() == bytes)
-}
-
-fn capabilities_of(alloc: Global, keys: &[CapKey]) -> Result<Items<Capability>, AllocError>
-    ensures { IfOk result (λ capabilities. capabilities ≡ map capability_of keys.now) }
-{
-    let mut capabilities = Items::new(alloc);
-    for key in keys {
-        capabilities.push(capability_of(alloc, key)?)?;
-    }
-    Ok(capabilities)
-}
-
-#[tactic(auto, unfolding(csi_tables::specs::Encoding::caps_bytes, csi_tables::specs::Encoding::FitCaps))]
 fn are_caps(alloc: Global, keys: &[CapKey], bytes: &[u8]) -> Result<bool, AllocError>
     ensures same { IfOk result (λ same. same ≡ bytes_eq (caps_bytes keys.now) bytes.now) }
     ensures fits { OnOk result (FitCaps keys.now) }
 {
-    let request = create_with(alloc, capabilities_of(alloc, keys)?, Map::new(alloc));
-    is_written(alloc, &request, bytes)
+    Ok(write_caps(alloc, keys)?.as_slice() == bytes)
 }
 
-#[tactic(auto, unfolding(csi_tables::specs::Encoding::params_bytes, csi_tables::specs::Encoding::FitParams))]
 fn are_params_of(alloc: Global, params: &Map, bytes: &[u8]) -> Result<bool, AllocError>
     ensures same { IfOk result (λ same. same ≡ bytes_eq (params_bytes params.now) bytes.now) }
     ensures fits { OnOk result (FitParams params.now) }
 {
-    let request = create_with(alloc, Items::new(alloc), copy_map(alloc, params)?);
-    is_written(alloc, &request, bytes)
+    Ok(write_params(alloc, params)?.as_slice() == bytes)
 }
 
 // ---- what bytes say

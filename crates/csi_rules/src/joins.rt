@@ -4,8 +4,8 @@ ghost use Rattle.std.specs.Prelude.{◌≡◌, Some, IfOk};
 ghost use Rattle.csi_keeper.specs.Capability.{has_key};
 ghost use Rattle.csi_keeper.specs.declared.volume.Attachment.{Attachment as Placed};
 ghost use Rattle.std.specs.Option.{option_map};
+ghost use Rattle.csi_looks.specs.Failing.{FailsForMemory};
 ghost use Rattle.csi_rules.specs.Joins.{attached, attached_at, is_beside, is_owned};
-ghost use Rattle.csi_rules.specs.Trying.{FailsForMemory};
 
 use crate::coded::{key_at, keys_at};
 use crate::trial::RowTrial;

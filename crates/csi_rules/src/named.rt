@@ -5,8 +5,8 @@ ghost use Rattle.std.specs.List.{AllByRecursion};
 ghost use Rattle.std.specs.Str.{is_utf8};
 ghost use Rattle.sqlite.specs.Order.{column};
 ghost use Rattle.csi_statements.specs.Cells.{as_text};
+ghost use Rattle.csi_looks.specs.Failing.{FailsForMemory};
 ghost use Rattle.csi_rules.specs.Values.{if_passes};
-ghost use Rattle.csi_rules.specs.Trying.{FailsForMemory};
 ghost use Rattle.csi_rules.specs.facts.Starts.{still_found};
 
 use crate::cells::as_utf8;

@@ -3,7 +3,7 @@
 ghost use Rattle.std.specs.Prelude.{◌≡◌, ◌&&◌, Bool, refl, IfOk, IsTrue};
 ghost use Rattle.std.specs.List.{AllByRecursion, list_all};
 ghost use Rattle.sqlite.specs.Order.{Row as Values};
-ghost use Rattle.csi_rules.specs.Trying.{FailsForMemory};
+ghost use Rattle.csi_looks.specs.Failing.{FailsForMemory};
 ghost use Rattle.csi_rules.specs.facts.Starts.{still_good};
 
 use csi_looks::Fold;

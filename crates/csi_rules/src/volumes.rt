@@ -1,11 +1,10 @@
 //! The rules of a row of volumes that its numbers and texts tell.
 
 ghost use Rattle.std.specs.Prelude.{◌≡◌};
-ghost use Rattle.csi_config.specs.Faults.{is_whole};
 ghost use Rattle.csi_rules.specs.Volumes.{is_in_pools, is_name, is_named, is_numbered, is_pool, is_sized};
 
 use crate::cells::as_utf8;
-use csi_config::{Config, GRANULE_BYTES, Pool};
+use csi_config::{Config, Pool, is_whole};
 use csi_looks::RowTest;
 use csi_statements::values::{number_at, text_at};
 use csi_types::name_reason;
@@ -51,12 +50,6 @@ impl RowTest for IsNamed {
             None => false,
         }
     }
-}
-
-fn is_whole(bytes: u64) -> bool
-    ensures { result ≡ is_whole bytes }
-{
-    bytes > 0 && bytes % GRANULE_BYTES == 0
 }
 
 /// The size of a volume is a positive multiple of 1 MiB.

@@ -62,9 +62,13 @@ fn capabilities_of(alloc: Global, keys: &[CapKey]) -> Result<Items<Capability>, 
     Ok(capabilities)
 }
 
-/// The bytes of capabilities.
+/// The canonical bytes of capabilities, as they stand in a column.
+///
+/// # Errors
+///
+/// Where memory was refused.
 #[tactic(auto, unfolding(crate::specs::Encoding::caps_bytes, crate::specs::Encoding::FitCaps))]
-pub(crate) fn write_caps(alloc: Global, keys: &[CapKey]) -> Result<Vec<u8>, AllocError>
+pub fn write_caps(alloc: Global, keys: &[CapKey]) -> Result<Vec<u8>, AllocError>
     ensures bytes { IfOk result (λ out. out.items ≡ caps_bytes keys.now) }
     ensures fits { OnOk result (FitCaps keys.now) }
 {
@@ -72,9 +76,13 @@ pub(crate) fn write_caps(alloc: Global, keys: &[CapKey]) -> Result<Vec<u8>, Allo
     write(alloc, &request)
 }
 
-/// The bytes of parameters.
+/// The canonical bytes of parameters, as they stand in a column.
+///
+/// # Errors
+///
+/// Where memory was refused.
 #[tactic(auto, unfolding(crate::specs::Encoding::params_bytes, crate::specs::Encoding::FitParams))]
-pub(crate) fn write_params(alloc: Global, params: &Map) -> Result<Vec<u8>, AllocError>
+pub fn write_params(alloc: Global, params: &Map) -> Result<Vec<u8>, AllocError>
     ensures bytes { IfOk result (λ out. out.items ≡ params_bytes params.now) }
     ensures fits { OnOk result (FitParams params.now) }
 {

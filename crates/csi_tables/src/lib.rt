@@ -15,5 +15,6 @@ mod rows;
 mod tables;
 mod turns;
 
+pub use encoding::{write_caps, write_params};
 pub use opening::MakeFault;
 pub use tables::Tables;

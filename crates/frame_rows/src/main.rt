@@ -6,31 +6,21 @@
 mod answers;
 mod pieces;
 
-use answers::answer;
-use std::io::{Read, Write};
+use answers::{RowFault, answer};
+use row_notation::{Answer, AnswerRow, answer_rows};
 use std::process::ExitCode;
 
-// The exit status where the input cannot be read or the output cannot be written.
-const INPUT_OUTPUT: u8 = 5;
+#[derive(Drop)]
+struct Rows;
+
+impl AnswerRow for Rows {
+    type Fault = RowFault;
+
+    fn answer_row(&mut self, rt: &HostRuntime, row: &str) -> Result<Answer, RowFault> {
+        Ok(Answer::Text(answer(rt.alloc(), row)?))
+    }
+}
 
 fn main(rt: HostRuntime) -> ExitCode {
-    let mut text = String::new(rt.alloc());
-    if rt.stdin().read_to_string(&mut text).is_err() {
-        return ExitCode::from(INPUT_OUTPUT);
-    }
-    let mut out = rt.stdout();
-    for line in text.lines() {
-        let written = if line.is_empty() || line.starts_with('#') {
-            writeln!(out, "{line}")
-        } else {
-            match answer(rt.alloc(), line) {
-                Ok(text) => writeln!(out, "{line} -> {text}"),
-                Err(fault) => writeln!(out, "{line} -> {fault}"),
-            }
-        };
-        if written.is_err() {
-            return ExitCode::from(INPUT_OUTPUT);
-        }
-    }
-    ExitCode::SUCCESS
+    answer_rows(&rt, &mut Rows)
 }

@@ -7,13 +7,9 @@ ghost use Rattle.csi_statements.specs.Cells.{as_number};
 use csi_looks::{Fold, RowTest};
 use csi_statements::values::number_at;
 use sqlite::types::ValueRef;
-use sqlite::{Error, ErrorCode, Row};
+use sqlite::{Error, Row};
 use std::alloc::{AllocError, Global};
 use std::str;
-
-fn refused(_error: AllocError) -> Error {
-    Error::SqliteFailure(ErrorCode::OutOfMemory)
-}
 
 // Bytes in hexadecimal.
 fn push_bytes(out: &mut String, alloc: Global, bytes: &[u8]) -> Result<(), AllocError> {
@@ -78,7 +74,7 @@ impl Fold for Showing {
     ghost starts = { λ _. tt };
 
     fn take(&mut self, row: &Row) -> Result<(), Error> {
-        self.push_row(row).map_err(refused)
+        Ok(self.push_row(row)?)
     }
 }
 

@@ -1,4 +1,4 @@
-//! Bytes as people write them, for rows of data about messages.
+//! Bytes as people write them, for rows of data about messages, and what the programs of such rows share.
 //!
 //! Two hexadecimal digits are a byte, and a text between quotation marks is its bytes. Parentheses stand for the
 //! length of what is in them, as a varint, and then it, so `0a(61)` is `0a0161`. Square brackets group. `*N` behind
@@ -9,6 +9,9 @@
 
 ghost use Rattle.std.specs.Prelude.{◌≡◌, ◌<◌, ◌++◌, [], IfOk, IfSome, codes, length};
 
+mod rows;
+
+pub use rows::{Answer, AnswerRow, answer_rows};
 use std::alloc::{AllocError, AllocFailed, Global};
 use std::str;
 

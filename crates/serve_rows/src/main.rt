@@ -12,38 +12,28 @@ mod store;
 mod stream;
 mod trials;
 
+use fault::RowFault;
+use row_notation::{Answer, AnswerRow, answer_rows};
 use rows::Rows;
-use std::io::{Read, Write};
 use std::process::ExitCode;
 
-// The exit statuses where the input cannot be read or the output cannot be written, and where there
-// is no memory.
-const INPUT_OUTPUT: u8 = 5;
-
+// The exit status where there is no memory.
 const NO_MEMORY: u8 = 6;
 
+impl AnswerRow for Rows {
+    type Fault = RowFault;
+
+    fn answer_row(&mut self, rt: &HostRuntime, row: &str) -> Result<Answer, RowFault> {
+        Ok(match self.answer(rt.alloc(), row)? {
+            Some(text) => Answer::Text(text),
+            None => Answer::Nothing,
+        })
+    }
+}
+
 fn main(rt: HostRuntime) -> ExitCode {
-    let mut text = String::new(rt.alloc());
-    if rt.stdin().read_to_string(&mut text).is_err() {
-        return ExitCode::from(INPUT_OUTPUT);
+    match Rows::new(rt.alloc()) {
+        Ok(mut rows) => answer_rows(&rt, &mut rows),
+        Err(_) => ExitCode::from(NO_MEMORY),
     }
-    let Ok(mut rows) = Rows::new(rt.alloc()) else {
-        return ExitCode::from(NO_MEMORY);
-    };
-    let mut out = rt.stdout();
-    for line in text.lines() {
-        let written = if line.is_empty() || line.starts_with('#') {
-            writeln!(out, "{line}")
-        } else {
-            match rows.answer(rt.alloc(), line) {
-                Ok(None) => Ok(()),
-                Ok(Some(text)) => writeln!(out, "{line} -> {text}"),
-                Err(fault) => writeln!(out, "{line} -> {fault}"),
-            }
-        };
-        if written.is_err() {
-            return ExitCode::from(INPUT_OUTPUT);
-        }
-    }
-    ExitCode::SUCCESS
 }

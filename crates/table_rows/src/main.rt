@@ -12,35 +12,24 @@ mod walk;
 mod words;
 
 use bench::Bench;
-use std::io::{Read, Write};
+use fault::RowFault;
+use row_notation::{Answer, AnswerRow, answer_rows};
 use std::process::ExitCode;
 
-// The exit statuses where the input cannot be read or the output cannot be written, and where there is no memory.
-const INPUT_OUTPUT: u8 = 5;
-
+// The exit status where there is no memory.
 const NO_MEMORY: u8 = 6;
 
+impl AnswerRow for Bench {
+    type Fault = RowFault;
+
+    fn answer_row(&mut self, rt: &HostRuntime, row: &str) -> Result<Answer, RowFault> {
+        Ok(Answer::Text(self.answer(rt.alloc(), row)?))
+    }
+}
+
 fn main(rt: HostRuntime) -> ExitCode {
-    let mut text = String::new(rt.alloc());
-    if rt.stdin().read_to_string(&mut text).is_err() {
-        return ExitCode::from(INPUT_OUTPUT);
+    match Bench::new(rt.alloc()) {
+        Ok(mut bench) => answer_rows(&rt, &mut bench),
+        Err(_) => ExitCode::from(NO_MEMORY),
     }
-    let Ok(mut bench) = Bench::new(rt.alloc()) else {
-        return ExitCode::from(NO_MEMORY);
-    };
-    let mut out = rt.stdout();
-    for line in text.lines() {
-        let written = if line.is_empty() || line.starts_with('#') {
-            writeln!(out, "{line}")
-        } else {
-            match bench.answer(rt.alloc(), line) {
-                Ok(text) => writeln!(out, "{line} -> {text}"),
-                Err(fault) => writeln!(out, "{line} -> {fault}"),
-            }
-        };
-        if written.is_err() {
-            return ExitCode::from(INPUT_OUTPUT);
-        }
-    }
-    ExitCode::SUCCESS
 }

@@ -12,14 +12,14 @@ loop-part-preserved g c =
     let Moved = λ (a b : g.row.F.Denot). (first : g.row.F.Denot) (rows : List Values) → g.F.Fold.folds first rows a → g.F.Fold.folds first (rows ++ c.args.row.now ∷ []) b in
     let t = c.loop-part-test.true in
     let low : at < length items = omega (arith, t, c.loop-part.invariant.0) in
-    let step = rw c.in_ok-take.was at c.take.ensures in (
+    let step = rw c.in_ok-take.was at c.take.ensures.folded in (
       length-set items at c.take.new.self ∙ c.loop-part.invariant.0,
       moved_below Moved c.deref_mut-part-items.result.now items at c.take.new.self low c.loop-part.invariant.1 c.loop-part.invariant.2 _ step,
       kept_above Moved c.deref_mut-part-items.result.now items at c.take.new.self low c.loop-part.invariant.2,
     )
 
-pub returns : goal.returns
-returns g c first rows all =
+pub returns-clause-folded : goal.returns-clause-folded
+returns-clause-folded g c first rows all =
     let items = c.loop-part.part-items in
     let olds = c.args.self.now.parts.items in
     let is = c.deref_mut-part-items.ensures.value in

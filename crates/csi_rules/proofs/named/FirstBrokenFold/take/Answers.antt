@@ -4,8 +4,8 @@ use Rattle.sqlite_trees.proofs.ListLemmas.{all-append}
 use Rattle.csi_rules.proofs.NamedLemmas.{found_now, found_stays, not_found}
 use Rattle.csi_rules.proofs.named.FirstBrokenFold.take.Goals as goal
 
-pub returns-in_ok-self : goal.returns-in_ok-self
-returns-in_ok-self g c = λ first rows h.
+pub returns-in_ok-self-clause-folded : goal.returns-in_ok-self-clause-folded
+returns-in_ok-self-clause-folded g c = λ first rows h.
     let none : c.args.self.now.found ≡ None = not_found c.args.self.now.found (c.is_none.ensures ∙ ap not c.if-is_none.true) in (
       h.0,
       h.1,
@@ -15,8 +15,8 @@ returns-in_ok-self g c = λ first rows h.
       λ now. all-append (g.T.RowTrial.knows first.test) rows (c.args.row.now ∷ []) (h.4 none) (subst (λ t. g.T.RowTrial.knows t c.args.row.now) h.0 (c.in_ok-self.ensures.known now), tt),
     )
 
-pub returns-else-is_none : goal.returns-else-is_none
-returns-else-is_none g c = λ first rows h. (
+pub returns-else-is_none-clause-folded : goal.returns-else-is_none-clause-folded
+returns-else-is_none-clause-folded g c = λ first rows h. (
   h.0,
   h.1,
   h.2,
