@@ -1,9 +1,8 @@
 //! A keeper over tables in memory, and the rows that are put to it.
 
 use crate::calls::{Reply, reply_to};
-use crate::direct::{Words, call};
+use crate::direct::call;
 use crate::fault::RowFault;
-use crate::walk::walked;
 use crate::words::{numbers_in_words, page_in_words};
 use csi_config::Config;
 use csi_statements::reads;
@@ -46,10 +45,6 @@ impl Bench {
             "begin" => self.begin(alloc),
             "make" => self.make_again(alloc),
             "list" => self.list(alloc, rest),
-            "walk" => {
-                let mut words = Words { rest };
-                walked(alloc, words.number()?, words.count()?)
-            }
             _ => match method_named(alloc, word)? {
                 Some(method) => told(alloc, &self.reply(alloc, method, rest)?),
                 None => call(alloc, &mut self.tables, word, rest),

@@ -120,16 +120,16 @@ fn attachment(alloc: Global, node: &str) -> Result<Attachment, AllocError> {
     })
 }
 
-/// The words of a row, one after the other.
+// The words of a row, one after the other.
 #[derive(Drop)]
-pub(crate) struct Words<'t> {
-    /// What is left.
-    pub rest: &'t str,
+struct Words<'t> {
+    // What is left.
+    rest: &'t str,
 }
 
 impl<'t> Words<'t> {
-    /// The next word.
-    pub(crate) fn text(&mut self) -> Result<&'t str, RowFault> {
+    // The next word.
+    fn text(&mut self) -> Result<&'t str, RowFault> {
         if self.rest.is_empty() {
             return Err(RowFault::NotRow);
         }
@@ -138,13 +138,13 @@ impl<'t> Words<'t> {
         Ok(word)
     }
 
-    /// The next word, a number.
-    pub(crate) fn number(&mut self) -> Result<u64, RowFault> {
+    // The next word, a number.
+    fn number(&mut self) -> Result<u64, RowFault> {
         self.text()?.parse().map_err(|_| RowFault::NotRow)
     }
 
-    /// The next word, a number below 2^32.
-    pub(crate) fn count(&mut self) -> Result<u32, RowFault> {
+    // The next word, a number below 2^32.
+    fn count(&mut self) -> Result<u32, RowFault> {
         self.text()?.parse().map_err(|_| RowFault::NotRow)
     }
 

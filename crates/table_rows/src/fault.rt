@@ -1,6 +1,5 @@
 //! Why a row has no answer.
 
-use csi_adoption::AdoptFault;
 use csi_keeper::StoreFault;
 use row_notation::NotationFault;
 use sqlite::{Error as SqlError, ErrorCode};
@@ -20,9 +19,6 @@ pub(crate) enum RowFault {
     /// The keeper is down.
     #[error("down")]
     Down,
-    /// The tables that a keeper left are not adopted.
-    #[error("not adopted")]
-    NotAdopted,
     /// Memory was refused.
     #[error("no memory for the row")]
     NoMemory,
@@ -61,15 +57,6 @@ impl From<StoreFault> for RowFault {
             StoreFault::NoMemory => RowFault::NoMemory,
             StoreFault::Refused => RowFault::Refused,
             StoreFault::Down => RowFault::Down,
-        }
-    }
-}
-
-impl From<AdoptFault> for RowFault {
-    fn from(fault: AdoptFault) -> RowFault {
-        match fault {
-            AdoptFault::NoMemory => RowFault::NoMemory,
-            _ => RowFault::NotAdopted,
         }
     }
 }

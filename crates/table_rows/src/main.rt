@@ -6,9 +6,6 @@ mod bench;
 mod calls;
 mod direct;
 mod fault;
-mod random;
-mod requests;
-mod walk;
 mod words;
 
 use bench::Bench;
