@@ -1,5 +1,6 @@
 //! What a row is answered.
 
+use crate::wire::{fields_answer, prefixes_answer, write_answer};
 use csi_checks::check;
 use csi_codec::{DecodeFault, decode, decode_response, encode_request, encode_response};
 use csi_types::{
@@ -8,7 +9,7 @@ use csi_types::{
     Request, method_named,
 };
 use row_notation::{NotationFault, bytes_of};
-use std::alloc::{AllocError, Global};
+use std::alloc::{AllocError, AllocFailed, Global};
 use thiserror::Error;
 
 /// Why a row has no value.
@@ -33,6 +34,12 @@ pub(crate) enum RowFault {
 
 impl From<AllocError> for RowFault {
     fn from(_error: AllocError) -> RowFault {
+        RowFault::NoMemory
+    }
+}
+
+impl<T: Drop> From<AllocFailed<T>> for RowFault {
+    fn from(_error: AllocFailed<T>) -> RowFault {
         RowFault::NoMemory
     }
 }
@@ -62,16 +69,21 @@ enum Question {
     ResponseValue,
 }
 
-/// The answer to a row: a method's name, a word that says what is asked, and the bytes of a message; or `limit` or
-/// `fault` and a name.
+/// The answer to a row: a method's name, a word that says what is asked, and the bytes of a message; or a word that has
+/// no method, and what it takes.
 pub(crate) fn answer(alloc: Global, row: &str) -> Result<String, RowFault> {
     let (name, rest) = row.split_once(' ').ok_or(RowFault::NotRow)?;
-    if name == "limit" {
-        return limit_answer(alloc, rest);
+    match name {
+        "limit" => limit_answer(alloc, rest),
+        "fault" => fault_answer(alloc, rest),
+        "fields" => fields_answer(alloc, rest),
+        "prefixes" => prefixes_answer(alloc, rest),
+        "write" => write_answer(alloc, rest),
+        _ => method_answer(alloc, name, rest),
     }
-    if name == "fault" {
-        return fault_answer(alloc, rest);
-    }
+}
+
+fn method_answer(alloc: Global, name: &str, rest: &str) -> Result<String, RowFault> {
     let method = method_named(alloc, name)?.ok_or(RowFault::NoMethod)?;
     let (word, notation) = rest.split_once(' ').ok_or(RowFault::NotRow)?;
     let question = question_of(word).ok_or(RowFault::NotRow)?;
@@ -167,12 +179,17 @@ fn checked(request: &Request) -> &'static str {
 // The canonical bytes in hexadecimal, or a word where they are those of the row or none.
 fn compared(alloc: Global, bytes: &[u8], canonical: &[u8]) -> Result<String, RowFault> {
     if canonical == bytes {
-        Ok(String::from_str(alloc, "same")?)
-    } else if canonical.is_empty() {
-        Ok(String::from_str(alloc, "-")?)
-    } else {
-        Ok(hex::encode(alloc, canonical)?)
+        return Ok(String::from_str(alloc, "same")?);
     }
+    bytes_text(alloc, canonical)
+}
+
+/// Bytes in hexadecimal, or `-` for none.
+pub(crate) fn bytes_text(alloc: Global, bytes: &[u8]) -> Result<String, RowFault> {
+    if bytes.is_empty() {
+        return Ok(String::from_str(alloc, "-")?);
+    }
+    Ok(hex::encode(alloc, bytes)?)
 }
 
 // The value of a limit.

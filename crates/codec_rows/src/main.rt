@@ -1,8 +1,9 @@
-//! Answers rows of data about messages: each line of the input goes to the output with what the codec and the
-//! argument checks make of it. What the lines look like stands at the head of the file `stdin` of this crate.
+//! Answers rows of data about messages: each line of the input goes to the output with what the wire format, the codec
+//! and the argument checks make of it. What the lines look like stands at the head of the file `stdin` of this crate.
 #![tactic(auto)]
 
 mod answers;
+mod wire;
 
 use answers::{RowFault, answer};
 use row_notation::{Answer, AnswerRow, answer_rows};

@@ -13,8 +13,6 @@ mod message;
 mod refused;
 mod running;
 mod service;
-#[cfg(test)]
-mod tests;
 mod volumes;
 mod writing;
 

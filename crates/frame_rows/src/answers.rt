@@ -4,14 +4,14 @@ ghost use Rattle.std.specs.Prelude.{IsTrue, length};
 ghost use Rattle.frames_core.specs.Envelope.{IsCall};
 ghost use Rattle.frame_rows.specs.Paths.{ArePathBytes};
 
+use crate::parts::{Kind, parts_answer, prefixes_answer};
 use crate::pieces::{pieces_answer, steps_answer};
+use crate::spelled::{fixed_answer, head_answer, limits_answer, refusal_answer, texts_answer};
 use frames_core::{
-    MAX_MESSAGE_BYTES, MAX_PATH_BYTES, Reply, ReplyFault, ReplyWhy, Taken, TakenReply, put_request,
-    take_frame, take_reply,
+    Framer, MAX_MESSAGE_BYTES, MAX_PATH_BYTES, ReplyFramer, Taken, put_request, take_frame,
 };
 use row_notation::{NotationFault, bytes_of};
 use std::alloc::{AllocError, Global};
-use std::str;
 use thiserror::Error;
 
 /// Why a row has no answer.
@@ -48,10 +48,19 @@ pub(crate) fn answer(alloc: Global, row: &str) -> Result<String, RowFault> {
     let (word, rest) = row.split_once(' ').ok_or(RowFault::NotRow)?;
     match word {
         "request" => request_answer(alloc, rest),
-        "replies" => replies_answer(alloc, rest),
-        "prefixes" => prefixes_answer(alloc, rest),
-        "pieces" => pieces_answer(alloc, rest),
-        "steps" => steps_answer(alloc, rest),
+        "replies" => parts_answer(alloc, Kind::Replies, rest),
+        "prefixes" => prefixes_answer(alloc, Kind::Replies, rest),
+        "pieces" => pieces_answer(alloc, &mut ReplyFramer::new(alloc)?, rest),
+        "steps" => steps_answer(alloc, &mut ReplyFramer::new(alloc)?, rest),
+        "calls" => parts_answer(alloc, Kind::Calls, rest),
+        "call_prefixes" => prefixes_answer(alloc, Kind::Calls, rest),
+        "call_pieces" => pieces_answer(alloc, &mut Framer::new(alloc)?, rest),
+        "call_steps" => steps_answer(alloc, &mut Framer::new(alloc)?, rest),
+        "head" => head_answer(alloc, rest),
+        "refusal" => refusal_answer(alloc, rest),
+        "texts" => texts_answer(alloc, rest),
+        "fixed" => fixed_answer(alloc, rest),
+        "limits" => limits_answer(alloc),
         _ => Err(RowFault::NotRow),
     }
 }
@@ -108,53 +117,6 @@ fn reads_back(frame: &[u8], path: &[u8], message: &[u8]) -> bool {
     }
 }
 
-// The replies of a whole rest, one after the other, and how it ends.
-fn replies_answer(alloc: Global, notation: &str) -> Result<String, RowFault> {
-    let bytes = bytes_of(alloc, notation)?;
-    let mut out = String::new(alloc);
-    let mut at: usize = 0;
-    for _ in 0..=bytes.len() {
-        let rest = bytes.get(at..).ok_or(RowFault::NotRow)?;
-        match take_reply(rest) {
-            TakenReply::Nothing => {
-                put_part(&mut out, "nothing")?;
-                break;
-            }
-            TakenReply::Fault(fault) => {
-                put_part(&mut out, &fault_text(alloc, fault, at as u64)?)?;
-                break;
-            }
-            TakenReply::Frame(reply, size) => {
-                put_part(&mut out, &reply_text(alloc, reply)?)?;
-                at = at.saturating_add(size);
-            }
-        }
-    }
-    Ok(out)
-}
-
-// How many prefixes of a reply's frame, of one byte to all but one, are an input that ends early.
-fn prefixes_answer(alloc: Global, notation: &str) -> Result<String, RowFault> {
-    let bytes = bytes_of(alloc, notation)?;
-    let mut count: usize = 0;
-    for size in 1..bytes.len() {
-        let prefix = bytes.get(..size).ok_or(RowFault::NotRow)?;
-        if ends_early(prefix) {
-            count = count.saturating_add(1);
-        }
-    }
-    Ok(format!(in alloc; "{count} of {}", bytes.len().saturating_sub(1))?)
-}
-
-fn ends_early(prefix: &[u8]) -> bool {
-    match take_reply(prefix) {
-        TakenReply::Fault(fault) => {
-            fault.why == ReplyWhy::EndOfInput && fault.at == prefix.len() as u64
-        }
-        TakenReply::Nothing | TakenReply::Frame(..) => false,
-    }
-}
-
 /// Appends a part of an answer, behind a comma where it is not the first.
 pub(crate) fn put_part(out: &mut String, part: &str) -> Result<(), RowFault> {
     if !out.is_empty() {
@@ -164,28 +126,8 @@ pub(crate) fn put_part(out: &mut String, part: &str) -> Result<(), RowFault> {
     Ok(())
 }
 
-/// The text of a fault of bytes that begin at this place of a stream.
-pub(crate) fn fault_text(alloc: Global, fault: ReplyFault, from: u64) -> Result<String, RowFault> {
-    let placed = ReplyFault {
-        why: fault.why,
-        at: from.saturating_add(fault.at),
-    };
-    Ok(format!(in alloc; "{placed}")?)
-}
-
-/// A reply: its status, its text and its body.
-pub(crate) fn reply_text(alloc: Global, reply: Reply<'_>) -> Result<String, RowFault> {
-    let text = match reply.text.len() {
-        0 => "-",
-        length if length > 64 => "long",
-        _ => str::from_utf8(reply.text).map_err(|_| RowFault::NotBytes)?,
-    };
-    let body = bytes_text(alloc, reply.body)?;
-    Ok(format!(in alloc; "{} {text} {body}", reply.status)?)
-}
-
-// Bytes in hexadecimal, or how many there are of more than 64.
-fn bytes_text(alloc: Global, bytes: &[u8]) -> Result<String, RowFault> {
+/// Bytes in hexadecimal, or how many there are of more than 64.
+pub(crate) fn bytes_text(alloc: Global, bytes: &[u8]) -> Result<String, RowFault> {
     if bytes.is_empty() {
         return Ok(String::from_str(alloc, "-")?);
     }

@@ -4,7 +4,10 @@
 #![tactic(auto)]
 
 mod answers;
+mod framers;
+mod parts;
 mod pieces;
+mod spelled;
 
 use answers::{RowFault, answer};
 use row_notation::{Answer, AnswerRow, answer_rows};

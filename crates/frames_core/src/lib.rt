@@ -20,8 +20,6 @@ mod reply_framer;
 mod request;
 mod taken;
 mod taken_reply;
-#[cfg(test)]
-mod tests;
 
 pub use call::Call;
 pub use fault::{FrameFault, FrameWhy};

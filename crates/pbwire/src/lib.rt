@@ -13,8 +13,6 @@
 mod field;
 pub mod laws;
 mod reading;
-#[cfg(test)]
-mod tests;
 mod writing;
 
 pub use field::{Field, Value, WireFault, WireWhy};

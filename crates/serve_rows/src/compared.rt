@@ -27,11 +27,12 @@ pub(crate) struct Wanted<'a> {
 }
 
 /// What came of a run.
-#[derive(Clone, Copy)]
-pub(crate) struct Came<'a> {
+#[derive(Drop)]
+pub(crate) struct Served {
     pub(crate) end: RunEnd,
-    pub(crate) written: &'a [u8],
-    pub(crate) kept: &'a str,
+    pub(crate) written: Vec<u8>,
+    /// All that a keeper keeps then, which was new before.
+    pub(crate) kept: String,
 }
 
 /// What is tried: the words, and a number.
@@ -49,10 +50,10 @@ pub(crate) struct Trial {
 pub(crate) fn compare(
     alloc: Global,
     trial: Trial,
-    came: &Came<'_>,
+    came: &Served,
     wanted: &Wanted<'_>,
 ) -> Result<(), RowFault> {
-    let is_kept = came.kept == wanted.kept;
+    let is_kept = came.kept.as_str() == wanted.kept;
     if is_end(alloc, came.end, wanted.end)? && is_written(came, wanted) && is_kept {
         return Ok(());
     }
@@ -60,15 +61,15 @@ pub(crate) fn compare(
 }
 
 // What came of a trial.
-fn told(alloc: Global, trial: Trial, came: &Came<'_>) -> Result<String, AllocError> {
-    let written = hex::encode(alloc, came.written)?;
+fn told(alloc: Global, trial: Trial, came: &Served) -> Result<String, AllocError> {
+    let written = hex::encode(alloc, &came.written)?;
     format!(in alloc;
         "{} {}: {:?} {written} {}",
         trial.name, trial.number, came.end, came.kept
     )
 }
 
-fn is_written(came: &Came<'_>, wanted: &Wanted<'_>) -> bool {
+fn is_written(came: &Served, wanted: &Wanted<'_>) -> bool {
     match came.written.strip_prefix(wanted.replies) {
         Some(last) => last == wanted.last,
         None => false,

@@ -1,14 +1,15 @@
 //! A reader and a writer that take their time, and fail where they are told to.
 
 use std::alloc::Global;
+use std::cell::Cell;
 use std::io;
 use std::io::{ErrorKind, Read, Write};
 
 /// The most bytes that the server reads at once, and so the greatest piece.
 pub(crate) const GREATEST_PIECE: usize = 4096;
 
-/// Gives its bytes in pieces, and fails once, at a set read.
-#[derive(Drop)]
+/// Bytes, and how a reader gives them: in pieces, where one read may fail.
+#[derive(Clone, Copy)]
 pub(crate) struct Pieces<'a> {
     bytes: &'a [u8],
     // The sizes of the first piece and of the others.
@@ -50,21 +51,54 @@ impl<'a> Pieces<'a> {
     }
 }
 
-impl Read for Pieces<'_> {
-    fn read(&mut self, buf: &mut [u8]) -> io::Result<usize> {
-        match self.fails_after {
+/// Gives pieces to a server that reads so many bytes at once as it should, and has flushed what it
+/// wrote before. Any other read fails.
+#[derive(Drop)]
+pub(crate) struct Reader<'a> {
+    pieces: Pieces<'a>,
+    is_flushed: &'a Cell<bool>,
+}
+
+impl<'a> Reader<'a> {
+    /// The cell says whether all is flushed that was written.
+    pub(crate) fn new(pieces: Pieces<'a>, is_flushed: &'a Cell<bool>) -> Reader<'a> {
+        Reader { pieces, is_flushed }
+    }
+
+    // Whether this read fails. One read less is left before the one that does.
+    fn is_failing(&mut self) -> bool {
+        match self.pieces.fails_after {
             Some(0) => {
-                self.fails_after = None;
-                return Err(io::Error::from(ErrorKind::Interrupted));
+                self.pieces.fails_after = None;
+                true
             }
-            Some(reads) => self.fails_after = Some(reads - 1),
-            None => {}
+            Some(reads) => {
+                self.pieces.fails_after = Some(reads - 1);
+                false
+            }
+            None => false,
         }
-        let count = self.bytes.len().min(self.first).min(buf.len());
-        self.first = self.size;
-        let (piece, rest) = self.bytes.split_at(count);
+    }
+}
+
+impl Read for Reader<'_> {
+    fn read(&mut self, buf: &mut [u8]) -> io::Result<usize> {
+        if !self.is_flushed.get() || buf.len() != GREATEST_PIECE {
+            return Err(io::Error::from(ErrorKind::Other));
+        }
+        if self.is_failing() {
+            return Err(io::Error::from(ErrorKind::Interrupted));
+        }
+        let count = self
+            .pieces
+            .bytes
+            .len()
+            .min(self.pieces.first)
+            .min(buf.len());
+        self.pieces.first = self.pieces.size;
+        let (piece, rest) = self.pieces.bytes.split_at(count);
         buf[..count].copy_from_slice(piece);
-        self.bytes = rest;
+        self.pieces.bytes = rest;
         Ok(count)
     }
 }
@@ -82,39 +116,47 @@ pub(crate) enum Trouble {
     Flush,
 }
 
-/// Takes at most a set number of bytes a write, and has its trouble once, at a set call of the kind.
-#[derive(Drop)]
-pub(crate) struct Taker {
-    bytes: Vec<u8>,
+/// How a writer takes bytes: at most so many a write, and once, at a set call of its kind, with
+/// trouble.
+#[derive(Clone, Copy)]
+pub(crate) struct Takes {
     size: usize,
     trouble: Trouble,
     after: u64,
 }
 
-impl Taker {
-    /// It takes all bytes.
-    pub(crate) fn new(alloc: Global) -> Taker {
-        Taker {
-            bytes: Vec::new(alloc),
-            size: usize::MAX,
-            trouble: Trouble::Never,
-            after: 0,
-        }
+impl Takes {
+    /// All bytes of each write.
+    pub(crate) fn all() -> Takes {
+        Takes::troubled(usize::MAX, Trouble::Never, 0)
     }
 
-    /// It takes so many bytes a write.
-    pub(crate) fn troubled(alloc: Global, size: usize, trouble: Trouble, after: u64) -> Taker {
-        Taker {
-            bytes: Vec::new(alloc),
+    /// So many bytes a write, with trouble after so many calls of its kind.
+    pub(crate) fn troubled(size: usize, trouble: Trouble, after: u64) -> Takes {
+        Takes {
             size,
             trouble,
             after,
         }
     }
+}
 
-    /// What it took.
-    pub(crate) fn bytes(&self) -> &[u8] {
-        self.bytes.as_slice()
+/// Takes bytes.
+#[derive(Drop)]
+pub(crate) struct Writer<'a> {
+    takes: Takes,
+    bytes: Vec<u8>,
+    is_flushed: &'a Cell<bool>,
+}
+
+impl<'a> Writer<'a> {
+    /// The cell says whether all is flushed that was written.
+    pub(crate) fn new(alloc: Global, takes: Takes, is_flushed: &'a Cell<bool>) -> Writer<'a> {
+        Writer {
+            takes,
+            bytes: Vec::new(alloc),
+            is_flushed,
+        }
     }
 
     /// What it took.
@@ -124,19 +166,19 @@ impl Taker {
 
     // Whether this call has its trouble. One call less of the kind is left before it.
     fn is_due(&mut self, trouble: Trouble) -> bool {
-        if self.trouble != trouble {
+        if self.takes.trouble != trouble {
             return false;
         }
-        if self.after == 0 {
-            self.trouble = Trouble::Never;
+        if self.takes.after == 0 {
+            self.takes.trouble = Trouble::Never;
             return true;
         }
-        self.after -= 1;
+        self.takes.after -= 1;
         false
     }
 }
 
-impl Write for Taker {
+impl Write for Writer<'_> {
     fn write(&mut self, buf: &[u8]) -> io::Result<usize> {
         if self.is_due(Trouble::Write) {
             return Err(io::Error::from(ErrorKind::Interrupted));
@@ -144,9 +186,10 @@ impl Write for Taker {
         if self.is_due(Trouble::Nothing) {
             return Ok(0);
         }
-        let count = self.size.min(buf.len());
+        let count = self.takes.size.min(buf.len());
         let (taken, _) = buf.split_at(count);
         self.bytes.extend_from_slice(taken)?;
+        self.is_flushed.set(false);
         Ok(count)
     }
 
@@ -154,6 +197,7 @@ impl Write for Taker {
         if self.is_due(Trouble::Flush) {
             return Err(io::Error::from(ErrorKind::Interrupted));
         }
+        self.is_flushed.set(true);
         Ok(())
     }
 }

@@ -8,6 +8,7 @@ mod fakes;
 mod fault;
 mod kept;
 mod rows;
+mod server;
 mod store;
 mod stream;
 mod trials;

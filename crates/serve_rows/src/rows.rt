@@ -1,6 +1,7 @@
 //! Rows, which put a stream together and try it.
 
 use crate::fault::RowFault;
+use crate::server::Server;
 use crate::stream::Stream;
 use crate::trials::{Trials, kept_after_each};
 use csi_config::Config;
@@ -32,7 +33,8 @@ impl Rows {
             "apart" => self.put_call(alloc, false, rest)?,
             "fault" => self.put_fault(alloc, rest)?,
             "behind" => self.put_behind(alloc, rest)?,
-            "run" => return Ok(Some(self.run(alloc)?)),
+            "run" => return Ok(Some(self.run_volumes(alloc)?)),
+            "identity" => return Ok(Some(self.run_identity(alloc, rest)?)),
             _ => return Err(RowFault::NotRow),
         }
         Ok(None)
@@ -56,16 +58,39 @@ impl Rows {
         self.stream.put_behind(&bytes)
     }
 
-    // Tries the stream, and begins another.
-    fn run(&mut self, alloc: Global) -> Result<String, RowFault> {
-        let stream = mem::replace(&mut self.stream, Stream::new(alloc));
-        let kept = kept_after_each(alloc, &self.config, &stream)?;
-        let trials = Trials {
-            alloc,
-            config: &self.config,
-            stream: &stream,
-            kept: &kept,
-        };
-        Ok(String::from_str(alloc, trials.all()?)?)
+    fn run_volumes(&mut self, alloc: Global) -> Result<String, RowFault> {
+        let stream = self.take_stream(alloc);
+        run(alloc, Server::Volumes(&self.config), &stream)
     }
+
+    fn run_identity(&mut self, alloc: Global, words: &str) -> Result<String, RowFault> {
+        let stream = self.take_stream(alloc);
+        let (name, version) = words.split_once(' ').ok_or(RowFault::NotRow)?;
+        let server = Server::Identity {
+            name: text_of(name),
+            version: text_of(version),
+        };
+        run(alloc, server, &stream)
+    }
+
+    // The stream so far. Another begins.
+    fn take_stream(&mut self, alloc: Global) -> Stream {
+        mem::replace(&mut self.stream, Stream::new(alloc))
+    }
+}
+
+fn run(alloc: Global, server: Server<'_>, stream: &Stream) -> Result<String, RowFault> {
+    let kept = kept_after_each(alloc, server, stream)?;
+    let trials = Trials {
+        alloc,
+        server,
+        stream,
+        kept: &kept,
+    };
+    Ok(String::from_str(alloc, trials.all()?)?)
+}
+
+// '-' is an empty text.
+fn text_of(word: &str) -> &str {
+    if word == "-" { "" } else { word }
 }

@@ -1,14 +1,16 @@
 //! What is tried with a stream over a store that refuses a call.
 
-use crate::compared::{Came, Trial, Wanted, compare};
-use crate::fakes::{GREATEST_PIECE, Pieces, Taker};
+use crate::compared::{Served, Trial, Wanted, compare};
+use crate::fakes::{GREATEST_PIECE, Pieces, Reader, Takes, Writer};
 use crate::fault::RowFault;
 use crate::kept::kept;
 use crate::trials::Trials;
+use csi_config::Config;
+use csi_machine::Keeper;
 use csi_machine::fakes::FusedMem;
-use csi_machine::{Keeper, MemKeeper};
-use csi_server::{RunEnd, serve};
+use csi_server::serve;
 use std::alloc::AllocError;
+use std::cell::Cell;
 
 // 13, and a text of 13 bytes.
 const STORE_REFUSED: &[u8] = b"\x0d\x00\x0dstore refused\x00\x00\x00\x00\x00";
@@ -20,10 +22,8 @@ const MOST_CALLS: u64 = 1_000_000;
 
 // What came of a run over a store that refuses a call.
 #[derive(Drop)]
-struct Served {
-    end: RunEnd,
-    written: Vec<u8>,
-    kept: String,
+struct Refused {
+    served: Served,
     refusals: u64,
     is_down: bool,
 }
@@ -43,10 +43,10 @@ impl Trials<'_> {
     /// # Errors
     ///
     /// The first run that differs from what is wanted.
-    pub(crate) fn store(&self) -> Result<(), RowFault> {
+    pub(crate) fn store(&self, config: &Config) -> Result<(), RowFault> {
         let mut seen = 0;
         for at in 0..MOST_CALLS {
-            match self.refuse(at)? {
+            match self.refuse(config, at)? {
                 Some(call) => seen = self.seen_with(seen, call)?,
                 None => return self.all_seen(seen),
             }
@@ -82,44 +82,38 @@ impl Trials<'_> {
     }
 
     // A call of the store is refused: the call in which it was, or none if there are fewer.
-    fn refuse(&self, at: u64) -> Result<Option<usize>, RowFault> {
-        let served = self.serve_refusing(at)?;
-        let came = Came {
-            end: served.end,
-            written: served.written.as_slice(),
-            kept: served.kept.as_str(),
-        };
+    fn refuse(&self, config: &Config, at: u64) -> Result<Option<usize>, RowFault> {
+        let refused = self.serve_refusing(config, at)?;
         let trial = Trial {
             name: "refused call of the store",
             number: at,
         };
-        if served.refusals == 0 {
-            compare(self.alloc, trial, &came, &self.whole())?;
+        if refused.refusals == 0 {
+            compare(self.alloc, trial, &refused.served, &self.whole())?;
             return Ok(None);
         }
-        let call = self.answered(came.written);
-        self.compare_refused(trial, &came, call, served.refusals, served.is_down)?;
+        let call = self.answered(&refused.served.written);
+        self.compare_refused(trial, &refused, call)?;
         Ok(Some(call))
     }
 
-    fn serve_refusing(&self, at: u64) -> Result<Served, RowFault> {
+    fn serve_refusing(&self, config: &Config, at: u64) -> Result<Refused, RowFault> {
+        let is_flushed = Cell::new(true);
+        let pieces = Pieces::new(self.stream.input.as_slice(), GREATEST_PIECE);
+        let mut reader = Reader::new(pieces, &is_flushed);
+        let mut writer = Writer::new(self.alloc, Takes::all(), &is_flushed);
         let mut keeper = FusedMem::new(self.alloc, 1, at)?;
-        let mut reader = Pieces::new(self.stream.input.as_slice(), GREATEST_PIECE);
-        let mut writer = Taker::new(self.alloc);
-        let end = serve(
-            self.alloc,
-            self.config,
-            &mut keeper,
-            &mut reader,
-            &mut writer,
-        );
+        let end = serve(self.alloc, config, &mut keeper, &mut reader, &mut writer);
         let refusals = keeper.refusals();
         let is_down = keeper.is_down();
         let mut keeper = keeper.into_keeper();
-        Ok(Served {
+        let served = Served {
             end,
             written: writer.into_bytes(),
             kept: kept(self.alloc, &mut keeper)?,
+        };
+        Ok(Refused {
+            served,
             refusals,
             is_down,
         })
@@ -136,20 +130,13 @@ impl Trials<'_> {
         answered
     }
 
-    fn compare_refused(
-        &self,
-        trial: Trial,
-        came: &Came<'_>,
-        call: usize,
-        refusals: u64,
-        is_down: bool,
-    ) -> Result<(), RowFault> {
-        let replies = if is_down {
+    fn compare_refused(&self, trial: Trial, came: &Refused, call: usize) -> Result<(), RowFault> {
+        let replies = if came.is_down {
             self.after_change(call)?
         } else {
             self.after_read(call)?
         };
-        if refusals != replies.refusals {
+        if came.refusals != replies.refusals {
             return Err(self.unlike("the refusals were not counted")?);
         }
         let wanted = Wanted {
@@ -158,7 +145,7 @@ impl Trials<'_> {
             last: self.stream.fault_frame(),
             kept: replies.kept.as_str(),
         };
-        compare(self.alloc, trial, came, &wanted)
+        compare(self.alloc, trial, &came.served, &wanted)
     }
 
     // What is wanted where the change of a call is refused: the store is down for the calls behind
@@ -198,22 +185,14 @@ impl Trials<'_> {
     // What is wanted where a read of a call is refused: all else is as if the call had not come.
     fn after_read(&self, call: usize) -> Result<Replies, RowFault> {
         let input = self.input_without(call)?;
-        let mut keeper = MemKeeper::new(self.alloc, 1)?;
-        let mut reader = Pieces::new(&input, GREATEST_PIECE);
-        let mut writer = Taker::new(self.alloc);
-        serve(
-            self.alloc,
-            self.config,
-            &mut keeper,
-            &mut reader,
-            &mut writer,
-        );
+        let pieces = Pieces::new(&input, GREATEST_PIECE);
+        let served = self.server.run(self.alloc, pieces, Takes::all())?;
         let (_, from) = self.stream.ends_of(call);
         let mut bytes = self.refused_behind(call)?;
-        bytes.extend_from_slice(writer.bytes().get(from..).unwrap_or(&[]))?;
+        bytes.extend_from_slice(served.written.get(from..).unwrap_or(&[]))?;
         Ok(Replies {
             bytes,
-            kept: kept(self.alloc, &mut keeper)?,
+            kept: served.kept,
             refusals: 1,
         })
     }

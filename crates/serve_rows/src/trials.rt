@@ -1,23 +1,20 @@
-//! What is tried with a stream over a keeper in memory: pieces, ends, reads and writes.
+//! What is tried with a stream: pieces, ends, reads and writes.
 
-use crate::compared::{Came, End, Trial, Wanted, compare};
-use crate::fakes::{GREATEST_PIECE, Pieces, Taker, Trouble};
+use crate::compared::{End, Trial, Wanted, compare};
+use crate::fakes::{GREATEST_PIECE, Pieces, Takes, Trouble};
 use crate::fault::RowFault;
-use crate::kept::kept;
+use crate::server::Server;
 use crate::stream::{Stream, refusal};
-use csi_config::Config;
-use csi_machine::MemKeeper;
-use csi_server::{RunEnd, serve};
 use std::alloc::Global;
 
 // A longer stream is served in pieces alone.
 const LONGEST: usize = 4096;
 
-/// A stream, and what is kept after the first of its calls: after none, one, and so on.
+/// A stream, its server, and what is kept after the first of its calls: after none, one, and so on.
 #[derive(Clone, Copy)]
 pub(crate) struct Trials<'a> {
     pub(crate) alloc: Global,
-    pub(crate) config: &'a Config,
+    pub(crate) server: Server<'a>,
     pub(crate) stream: &'a Stream,
     pub(crate) kept: &'a [String],
 }
@@ -25,25 +22,17 @@ pub(crate) struct Trials<'a> {
 /// What is kept after none, one and so on of the calls of a stream.
 pub(crate) fn kept_after_each(
     alloc: Global,
-    config: &Config,
+    server: Server<'_>,
     stream: &Stream,
 ) -> Result<Vec<String>, RowFault> {
     let mut all = Vec::new(alloc);
     for calls in 0..=stream.calls.len() {
         let (end, _) = stream.ends_of(calls);
         let bytes = stream.input.get(..end).unwrap_or(&[]);
-        all.push(kept_after(alloc, config, bytes)?)?;
+        let pieces = Pieces::new(bytes, GREATEST_PIECE);
+        all.push(server.run(alloc, pieces, Takes::all())?.kept)?;
     }
     Ok(all)
-}
-
-// What is kept after a stream.
-fn kept_after(alloc: Global, config: &Config, bytes: &[u8]) -> Result<String, RowFault> {
-    let mut keeper = MemKeeper::new(alloc, 1)?;
-    let mut reader = Pieces::new(bytes, GREATEST_PIECE);
-    let mut writer = Taker::new(alloc);
-    serve(alloc, config, &mut keeper, &mut reader, &mut writer);
-    kept(alloc, &mut keeper)
 }
 
 impl Trials<'_> {
@@ -62,7 +51,12 @@ impl Trials<'_> {
         self.reads()?;
         self.writes()?;
         self.flushes()?;
-        self.store()?;
+        match self.server {
+            Server::Volumes(config) => self.store(config)?,
+            Server::Identity { .. } => {
+                return Ok("ok in pieces, cut, ended, reads failed, writes failed");
+            }
+        }
         Ok("ok in pieces, cut, ended, reads failed, writes failed, store refused")
     }
 
@@ -88,34 +82,26 @@ impl Trials<'_> {
         }
     }
 
-    // Serves a reader to a writer, over a new keeper.
+    // Serves the pieces, and compares what comes.
     fn attempt(
         &self,
         trial: Trial,
-        reader: &mut Pieces<'_>,
-        writer: &mut Taker,
+        pieces: Pieces<'_>,
+        takes: Takes,
         wanted: &Wanted<'_>,
     ) -> Result<(), RowFault> {
-        let mut keeper = MemKeeper::new(self.alloc, 1)?;
-        let end = serve(self.alloc, self.config, &mut keeper, reader, writer);
-        let text = kept(self.alloc, &mut keeper)?;
-        let came = Came {
-            end,
-            written: writer.bytes(),
-            kept: text.as_str(),
-        };
-        compare(self.alloc, trial, &came, wanted)
+        let served = self.server.run(self.alloc, pieces, takes)?;
+        compare(self.alloc, trial, &served, wanted)
     }
 
     fn pieces(&self) -> Result<(), RowFault> {
         for size in [1usize, 2, 3, GREATEST_PIECE] {
-            let mut reader = Pieces::new(self.stream.input.as_slice(), size);
-            let mut writer = Taker::new(self.alloc);
+            let pieces = Pieces::new(self.stream.input.as_slice(), size);
             let trial = Trial {
                 name: "in pieces of",
                 number: size as u64,
             };
-            self.attempt(trial, &mut reader, &mut writer, &self.whole())?;
+            self.attempt(trial, pieces, Takes::all(), &self.whole())?;
         }
         Ok(())
     }
@@ -123,13 +109,12 @@ impl Trials<'_> {
     // Two pieces, cut behind each byte.
     fn cuts(&self) -> Result<(), RowFault> {
         for at in 1..self.stream.input.len() {
-            let mut reader = Pieces::cut_at(self.stream.input.as_slice(), at);
-            let mut writer = Taker::new(self.alloc);
+            let pieces = Pieces::cut_at(self.stream.input.as_slice(), at);
             let trial = Trial {
                 name: "cut behind byte",
                 number: at as u64,
             };
-            self.attempt(trial, &mut reader, &mut writer, &self.whole())?;
+            self.attempt(trial, pieces, Takes::all(), &self.whole())?;
         }
         Ok(())
     }
@@ -155,14 +140,13 @@ impl Trials<'_> {
     // The input ends behind so many bytes, and the run like this, unless they make a fault known.
     fn ended<'w>(&'w self, at: usize, end: End<'w>, last: &'w [u8]) -> Result<(), RowFault> {
         let bytes = self.stream.input.get(..at).unwrap_or(&[]);
-        let mut reader = Pieces::new(bytes, GREATEST_PIECE);
-        let mut writer = Taker::new(self.alloc);
+        let pieces = Pieces::new(bytes, GREATEST_PIECE);
         let trial = Trial {
             name: "ended behind byte",
             number: at as u64,
         };
         let wanted = self.front(at, end, last);
-        self.attempt(trial, &mut reader, &mut writer, &wanted)
+        self.attempt(trial, pieces, Takes::all(), &wanted)
     }
 
     // What is wanted where the first bytes come, and then no more: this end, unless they make a fault
@@ -183,14 +167,13 @@ impl Trials<'_> {
     // Each read of a byte fails, also the one that would find the end.
     fn reads(&self) -> Result<(), RowFault> {
         for at in 0..=self.stream.input.len() {
-            let mut reader = Pieces::failing(self.stream.input.as_slice(), at as u64);
-            let mut writer = Taker::new(self.alloc);
+            let pieces = Pieces::failing(self.stream.input.as_slice(), at as u64);
             let trial = Trial {
                 name: "read failed behind byte",
                 number: at as u64,
             };
             let wanted = self.front(at, End::ReadFailed, &[]);
-            self.attempt(trial, &mut reader, &mut writer, &wanted)?;
+            self.attempt(trial, pieces, Takes::all(), &wanted)?;
         }
         Ok(())
     }
@@ -210,13 +193,13 @@ impl Trials<'_> {
         for call in 0..=self.stream.calls.len() {
             before = self.writes_of_reply(call, size, trouble, before)?;
         }
-        let mut reader = Pieces::new(self.stream.input.as_slice(), GREATEST_PIECE);
-        let mut writer = Taker::troubled(self.alloc, size, trouble, before);
+        let pieces = Pieces::new(self.stream.input.as_slice(), GREATEST_PIECE);
+        let takes = Takes::troubled(size, trouble, before);
         let trial = Trial {
             name: "all written, of writes",
             number: before,
         };
-        self.attempt(trial, &mut reader, &mut writer, &self.whole())
+        self.attempt(trial, pieces, takes, &self.whole())
     }
 
     // Each write of a reply, before which so many were made, has its trouble. How many were made
@@ -251,14 +234,14 @@ impl Trials<'_> {
         count: u64,
         written: usize,
     ) -> Result<(), RowFault> {
-        let mut reader = Pieces::new(self.stream.input.as_slice(), GREATEST_PIECE);
-        let mut writer = Taker::troubled(self.alloc, size, trouble, count);
+        let pieces = Pieces::new(self.stream.input.as_slice(), GREATEST_PIECE);
+        let takes = Takes::troubled(size, trouble, count);
         let trial = Trial {
             name: "trouble after writes",
             number: count,
         };
         let wanted = self.stopped(call, written);
-        self.attempt(trial, &mut reader, &mut writer, &wanted)
+        self.attempt(trial, pieces, takes, &wanted)
     }
 
     // What is wanted where writing the reply of a call ends behind so many bytes: the call is done.
@@ -278,23 +261,13 @@ impl Trials<'_> {
         for call in 0..=self.stream.calls.len() {
             let reply = self.stream.reply(call);
             if !reply.is_empty() {
-                let mut reader = Pieces::new(self.stream.input.as_slice(), GREATEST_PIECE);
-                let mut writer = Taker::troubled(
-                    self.alloc,
-                    usize::MAX,
-                    Trouble::Flush,
-                    call as u64,
-                );
+                let pieces = Pieces::new(self.stream.input.as_slice(), GREATEST_PIECE);
+                let takes = Takes::troubled(usize::MAX, Trouble::Flush, call as u64);
                 let trial = Trial {
                     name: "trouble after flushes",
                     number: call as u64,
                 };
-                self.attempt(
-                    trial,
-                    &mut reader,
-                    &mut writer,
-                    &self.stopped(call, reply.len()),
-                )?;
+                self.attempt(trial, pieces, takes, &self.stopped(call, reply.len()))?;
             }
         }
         Ok(())
