@@ -9,7 +9,7 @@ use Rattle.csi_layout.specs.Rows.{seen_meta}
 use Rattle.csi_looks.specs.Looks.{owners, pairs}
 use Rattle.csi_rules.specs.Joins.{is_beside, is_owned}
 use Rattle.csi_rules.specs.declared.named.RowName.{RowName}
-use Rattle.csi_adoption.specs.Judging.{all_faults, count_faults, failure_of, first_named, is_failure, meta_judged, owner_faults, table_faults, told_attachments, told_volumes, with_rows, AreJudged, ArePassed, AttachmentsFound, JudgesRows, TablesAreSeen, VolumesFound}
+use Rattle.csi_adoption.specs.Judging.{all_faults, count_faults, failure_of, first_named, is_failure, meta_judged, owner_faults, table_faults, told_attachments, told_volumes, volumes_unless, with_rows, AreJudged, ArePassed, AttachmentsFound, JudgesRows, TablesAreSeen, VolumesFound}
 use Rattle.csi_adoption.specs.declared.adopting.TablesSeen.{TablesSeen}
 use Rattle.csi_adoption.specs.declared.fault.AdoptFault.{AdoptFault}
 use Rattle.csi_adoption.specs.declared.meta.MetaRows.TheVariants as meta
@@ -23,6 +23,10 @@ judged_err config db x judged = λ known. inr (judged known)
 pub judged_failure : (config : Config) (db : Trees) (r : Result VolumesSeen AdoptFault) (x : Error) → IsErrAnd r (λ e. e ≡ failure_of x) → JudgesRows config db r
 judged_failure config db (Ok seen) x h = absurd h
 judged_failure config db (Err e) x h = λ known. absurd (true≢false (sym (ap is_failure h ∙ error_fails x) ∙ known))
+
+pub joined_failure : (config : Config) (db : Trees) (tables : TablesSeen) (r : Result (Unit {0}) AdoptFault) (x : Error) → IsErrAnd r (λ e. e ≡ failure_of x) → JudgesRows config db (volumes_unless tables r)
+joined_failure config db tables (Ok fine) x h = absurd h
+joined_failure config db tables (Err e) x h = λ known. absurd (true≢false (sym (ap is_failure h ∙ error_fails x) ∙ known))
 
 module _ (config : Config) (db : Trees) (next : ℕ) (rows : List Row) (same : IsPermutation (map seen_meta (db 0)) rows) (meta_is : meta_judged (with_rows meta.None rows) ≡ Ok next) (tables : TablesSeen) (seen : TablesAreSeen config next db tables) where
   abbrev v : VolumesFound

@@ -328,6 +328,16 @@ pub record TablesAreSeen (config : Config) (next : ℕ) (db : Trees) (tables : T
   pub sees : SeesVolumes config next volume_rows tables.volumes
   pub placed : SeesAttachments config attachment_rows tables.attachments
 
+-- the volumes that were seen, unless a rule is broken
+abbrev pub volumes_unless : TablesSeen → Result (Unit {0}) AdoptFault → Result VolumesSeen AdoptFault
+volumes_unless tables (Ok fine) = Ok tables.volumes
+volumes_unless tables (Err e) = Err e
+
+-- where the rows of each table by themselves break no rule, and this is the next number that meta has
+abbrev pub JudgesJoined : Config → Trees → ℕ → TablesSeen → Result (Unit {0}) AdoptFault → Type 0
+JudgesJoined config db next tables result = TablesAreSeen config next db tables → table_faults config next (told_volumes tables.volumes) (told_attachments tables.attachments) ≡ None
+    → (rows : List Row) → IsPermutation (map seen_meta (db 0)) rows → meta_judged (with_rows meta.None rows) ≡ Ok next → JudgesRows config db (volumes_unless tables result)
+
 -- where this is the next number that meta has
 abbrev pub JudgesBehind : Config → Trees → ℕ → Result VolumesSeen AdoptFault → Type 0
 JudgesBehind config db next result = (rows : List Row) → IsPermutation (map seen_meta (db 0)) rows → meta_judged (with_rows meta.None rows) ≡ Ok next → JudgesRows config db result

@@ -1,6 +1,6 @@
 //! The tables on a connection, judged and taken.
 
-ghost use Rattle.std.specs.Prelude.{◌≡◌, ◌≢◌, false, Some, IfErr, IfOk, IsTrue};
+ghost use Rattle.std.specs.Prelude.{◌≡◌, ◌≢◌, ℕ, false, Some, IfErr, IfOk, IsTrue};
 ghost use Rattle.sqlite.specs.Held.{state};
 ghost use Rattle.sqlite.specs.State.{HasCleanDisk, Survives};
 ghost use Rattle.csi_layout.specs.Tables.{no_schema, schema as our_schema};
@@ -14,7 +14,7 @@ ghost use Rattle.csi_tables.specs.Holding.{IsRows};
 ghost use Rattle.csi_adoption.specs.Adopting.{FoundState, IsAdopted, IsFound, IsNotRefused, IsUnadopted};
 ghost use Rattle.csi_adoption.specs.Passing.{HasTexts};
 ghost use Rattle.csi_adoption.specs.Looking.{Looks};
-ghost use Rattle.csi_adoption.specs.Judging.{is_failure, AreJudged, ArePassed, IsFaultOf, IsMetaFault, JudgesBehind, JudgesRows, SeesNext, Says, TablesAreSeen, Tells, code_faults, count_fault, count_faults, kinds_faults, owner_faults, table_faults, told_attachments, told_volumes};
+ghost use Rattle.csi_adoption.specs.Judging.{is_failure, AreJudged, ArePassed, IsFaultOf, IsMetaFault, JudgesBehind, JudgesJoined, JudgesRows, SeesNext, Says, TablesAreSeen, Tells, code_faults, count_fault, count_faults, kinds_faults, owner_faults, table_faults, told_attachments, told_volumes};
 
 use crate::attachment_laws::{attachments_found, attachments_pass, owners_pass, pairs_pass};
 use crate::attachments::{
@@ -160,8 +160,29 @@ fn see_tables<S: Alter>(
     })
 }
 
-// Judges the rows behind that of meta by the rules in their order. Two attachments of a volume are
-// looked at together only once each is known to be at a node of the configuration: so they are few.
+// Judges attachments beside their volumes and beside one another, once each table is judged by itself. Two
+// attachments of a volume are looked at together only once each is known to be at a node of the
+// configuration: so they are few.
+fn judge_joined<S: Alter>(
+    alloc: Global,
+    conn: &mut Connection<S>,
+    config: &Config,
+    tables: &TablesSeen,
+) -> Result<(), AdoptFault>
+    requires idle { conn.old.in_transaction ≡ false }
+    requires ours { HasCleanDisk (state S.Store conn.old) → conn.old.schema ≡ our_schema }
+    ensures looks { Looks S.Store conn.old conn.new result }
+    ensures judged { HasCleanDisk (state S.Store conn.new) → (next : ℕ) → JudgesJoined config.now (state S.Store conn.old).now.trees next tables.now result }
+{
+    let unowned = see_owners(alloc, conn)?;
+    check_owners(alloc, &unowned, &tables.attachments)?;
+    let apart = see_pairs(alloc, conn)?;
+    check_counts(alloc, config, &apart, &tables.attachments, &tables.volumes)?;
+    Ok(())
+}
+
+// Judges the rows behind that of meta by the rules in their order. What is seen of the tables is large, and
+// so is lent to whatever may fail.
 fn judge_behind<S: Alter>(
     alloc: Global,
     conn: &mut Connection<S>,
@@ -175,10 +196,7 @@ fn judge_behind<S: Alter>(
 {
     let tables = see_tables(alloc, conn, config, next)?;
     check_tables(alloc, config, next, &tables.volumes, &tables.attachments)?;
-    let unowned = see_owners(alloc, conn)?;
-    check_owners(alloc, &unowned, &tables.attachments)?;
-    let apart = see_pairs(alloc, conn)?;
-    check_counts(alloc, config, &apart, &tables.attachments, &tables.volumes)?;
+    judge_joined(alloc, conn, config, &tables)?;
     let TablesSeen { volumes, .. } = tables;
     Ok(volumes)
 }

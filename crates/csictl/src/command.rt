@@ -1,142 +1,201 @@
 //! The command line.
 
 use clap::{Arg, ArgAction, Command, Error, value_parser};
-use std::alloc::Global;
+use std::alloc::{AllocError, Global};
+
+// What an option takes, and the name of that in the help.
+#[derive(Clone, Copy)]
+enum Takes {
+    Nothing,
+    Text(&'static str),
+    // A number of `i32`, 0 or more.
+    Number(&'static str),
+    // A number of `i64`, 0 or more.
+    Bytes(&'static str),
+}
+
+/// An option that is a field of a message.
+#[derive(Clone, Copy)]
+pub(crate) struct Field {
+    /// Its name, without the dashes.
+    pub(crate) name: &'static str,
+    takes: Takes,
+    // The option that has to stand beside it.
+    beside: Option<&'static str>,
+    help: &'static str,
+}
 
 /// The options that are fields of a message.
-pub(crate) const FIELDS: [&str; 12] = [
-    "name",
-    "required",
-    "limit",
-    "mode",
-    "fs",
-    "parameters",
-    "topology",
-    "volume",
-    "node",
-    "readonly",
-    "max",
-    "token",
+pub(crate) const FIELDS: [Field; 12] = [
+    Field {
+        name: "name",
+        takes: Takes::Text("TEXT"),
+        beside: None,
+        help: "The name of a volume, as pvc-7",
+    },
+    Field {
+        name: "required",
+        takes: Takes::Bytes("BYTES"),
+        beside: None,
+        help: "The least size in bytes, as 1048576",
+    },
+    Field {
+        name: "limit",
+        takes: Takes::Bytes("BYTES"),
+        beside: None,
+        help: "The greatest size in bytes, as 4194304",
+    },
+    Field {
+        name: "mode",
+        takes: Takes::Number("N"),
+        beside: None,
+        help: "One capability with this access mode, as 1 (SINGLE_NODE_WRITER)",
+    },
+    Field {
+        name: "fs",
+        takes: Takes::Text("TEXT"),
+        beside: Some("mode"),
+        help: "The capability is a mount of this file system, as ext4, and not a block device",
+    },
+    Field {
+        name: "parameters",
+        takes: Takes::Text("KEY=VALUE,.."),
+        beside: None,
+        help: "The parameters, as tier=fast,copies=2",
+    },
+    Field {
+        name: "topology",
+        takes: Takes::Text("KEY=VALUE,.."),
+        beside: None,
+        help: "The segments of one topology, as zone=a",
+    },
+    Field {
+        name: "volume",
+        takes: Takes::Text("ID"),
+        beside: None,
+        help: "The id of a volume, as vol-1",
+    },
+    Field {
+        name: "node",
+        takes: Takes::Text("ID"),
+        beside: None,
+        help: "The id of a node, as n1",
+    },
+    Field {
+        name: "readonly",
+        takes: Takes::Nothing,
+        beside: None,
+        help: "The volume is attached for reading only",
+    },
+    Field {
+        name: "max",
+        takes: Takes::Number("N"),
+        beside: None,
+        help: "The most entries of a page, as 50; 0 for as many as a page holds",
+    },
+    Field {
+        name: "token",
+        takes: Takes::Text("TEXT"),
+        beside: None,
+        help: "Where the page begins: the token of the page before",
+    },
 ];
 
-// An option that takes a value.
-fn option<'a>(alloc: Global, name: &'a str, value: &'a str, help: &'a str) -> Arg<'a> {
-    Arg::new(alloc, name)
-        .long(name)
-        .value_name(value)
-        .help(help)
+const METHOD: Field = Field {
+    name: "method",
+    takes: Takes::Text("METHOD"),
+    beside: None,
+    help: "The method, by its name alone, as CreateVolume",
+};
+
+const MESSAGE: Field = Field {
+    name: "message",
+    takes: Takes::Text("HEX"),
+    beside: None,
+    help: "The message as it is, in hexadecimal digits, and none of the options above",
+};
+
+const SOCKET: Field = Field {
+    name: "socket",
+    takes: Takes::Text("PATH"),
+    beside: None,
+    help: "The socket of the server, as /run/csid.sock",
+};
+
+// The option of a field.
+fn option<'a>(alloc: Global, field: &Field) -> Arg<'a> {
+    let arg = Arg::new(alloc, field.name)
+        .long(field.name)
+        .help(field.help);
+    match field.takes {
+        Takes::Nothing => arg.action(ArgAction::SetTrue),
+        Takes::Text(name) => arg.value_name(name),
+        Takes::Number(name) => arg
+            .value_name(name)
+            .value_parser(value_parser!(i32).range(0..)),
+        Takes::Bytes(name) => arg
+            .value_name(name)
+            .value_parser(value_parser!(i64).range(0..)),
+    }
 }
 
-fn method<'a>(alloc: Global) -> Arg<'a> {
-    option(
-        alloc,
-        "method",
-        "METHOD",
-        "The method, by its name alone, as CreateVolume",
-    )
+// The option of a field that may ask for another one.
+fn field_option<'a>(alloc: Global, field: &Field) -> Result<Arg<'a>, AllocError> {
+    let arg = option(alloc, field);
+    match field.beside {
+        Some(other) => arg.requires_arg(other),
+        None => Ok(arg),
+    }
 }
 
-// The options for what a volume is created with.
-fn with_sizes<'a>(alloc: Global, command: Command<'a>) -> Result<Command<'a>, Error> {
-    let name = option(alloc, "name", "TEXT", "The name of a volume, as pvc-7");
-    let required = option(
-        alloc,
-        "required",
-        "BYTES",
-        "The least size in bytes, as 1048576",
-    )
-    .value_parser(value_parser!(i64).range(0..));
-    let limit = option(
-        alloc,
-        "limit",
-        "BYTES",
-        "The greatest size in bytes, as 4194304",
-    )
-    .value_parser(value_parser!(i64).range(0..));
-    let parameters = option(
-        alloc,
-        "parameters",
-        "KEY=VALUE,..",
-        "The parameters, as tier=fast,copies=2",
+fn field_options<'a>(alloc: Global) -> Result<Vec<Arg<'a>>, Error> {
+    let mut options = Vec::new(alloc);
+    for field in &FIELDS {
+        options.push(field_option(alloc, field)?)?;
+    }
+    Ok(options)
+}
+
+// With the options of a command that makes a call.
+fn with_fields<'a>(alloc: Global, command: Command<'a>) -> Result<Command<'a>, Error> {
+    let command = command.arg(option(alloc, &METHOD).required(true))?;
+    let command = command.args(field_options(alloc)?)?;
+    Ok(command.arg(option(alloc, &MESSAGE))?)
+}
+
+fn show<'a>(alloc: Global) -> Result<Command<'a>, Error> {
+    let show = Command::new(alloc, "show").about(
+        "Shows the replies of standard input, a line each, as no command does",
     );
-    let topology = option(
-        alloc,
-        "topology",
-        "KEY=VALUE,..",
-        "The segments of one topology, as zone=a",
-    );
-    Ok(
-        command
-            .arg(name)?
-            .arg(required)?
-            .arg(limit)?
-            .arg(parameters)?
-            .arg(topology)?,
-    )
+    Ok(show.arg(option(alloc, &METHOD))?)
 }
 
-// The options for a capability, and for where a volume is.
-fn with_places<'a>(alloc: Global, command: Command<'a>) -> Result<Command<'a>, Error> {
-    let mode = option(
-        alloc,
-        "mode",
-        "N",
-        "One capability with this access mode, as 1 (SINGLE_NODE_WRITER)",
-    )
-    .value_parser(value_parser!(i32).range(0..));
-    let fs = option(
-        alloc,
-        "fs",
-        "TEXT",
-        "The capability is a mount of this file system, as ext4, and not a block device",
-    )
-    .requires_arg("mode")?;
-    let volume = option(alloc, "volume", "ID", "The id of a volume, as vol-1");
-    let node = option(alloc, "node", "ID", "The id of a node, as n1");
-    let readonly = Arg::new(alloc, "readonly")
-        .long("readonly")
-        .action(ArgAction::SetTrue)
-        .help("The volume is attached for reading only");
-    Ok(
-        command
-            .arg(mode)?
-            .arg(fs)?
-            .arg(volume)?
-            .arg(node)?
-            .arg(readonly)?,
-    )
+fn frame<'a>(alloc: Global) -> Result<Command<'a>, Error> {
+    let frame = Command::new(alloc, "frame").about("Writes one call to standard output");
+    with_fields(alloc, frame)
 }
 
-// The options for a page, and for a message as it is.
-fn with_pages<'a>(alloc: Global, command: Command<'a>) -> Result<Command<'a>, Error> {
-    let max = option(
-        alloc,
-        "max",
-        "N",
-        "The most entries of a page, as 50; 0 for as many as a page holds",
-    )
-    .value_parser(value_parser!(i32).range(0..));
-    let token = option(
-        alloc,
-        "token",
-        "TEXT",
-        "Where the page begins: the token of the page before",
+fn call<'a>(alloc: Global) -> Result<Command<'a>, Error> {
+    let call = Command::new(alloc, "call").about(
+        "Makes one call of a server on a socket, and shows its reply",
     );
-    let message = option(
-        alloc,
-        "message",
-        "HEX",
-        "The message as it is, in hexadecimal digits, and none of the options above",
-    );
-    Ok(command.arg(max)?.arg(token)?.arg(message)?)
+    with_fields(alloc, call.arg(option(alloc, &SOCKET).required(true))?)
 }
 
-// A command that makes a call.
-fn with_call<'a>(alloc: Global, command: Command<'a>) -> Result<Command<'a>, Error> {
-    let command = command.arg(method(alloc).required(true))?;
-    let command = with_sizes(alloc, command)?;
-    let command = with_places(alloc, command)?;
-    with_pages(alloc, command)
+fn vectors<'a>(alloc: Global) -> Result<Command<'a>, Error> {
+    let file = Arg::new(alloc, "file")
+        .value_name("FILE")
+        .help("Lines of a name, the input and the output of a server, in hexadecimal digits")
+        .required(true);
+    let vectors = Command::new(alloc, "vectors").about("Runs the test vectors of a file");
+    Ok(vectors.arg(file)?)
+}
+
+fn with_subcommand<'a>(
+    command: Command<'a>,
+    subcommand: Result<Command<'a>, Error>,
+) -> Result<Command<'a>, Error> {
+    Ok(command.subcommand(subcommand?)?)
 }
 
 /// The command line of the program.
@@ -145,36 +204,11 @@ fn with_call<'a>(alloc: Global, command: Command<'a>) -> Result<Command<'a>, Err
 ///
 /// Where memory is refused.
 pub(crate) fn command<'a>(alloc: Global) -> Result<Command<'a>, Error> {
-    let show = Command::new(alloc, "show")
-        .about("Shows the replies of standard input, a line each, as no command does")
-        .arg(method(alloc))?;
-    let frame = Command::new(alloc, "frame").about("Writes one call to standard output");
-    let call = Command::new(alloc, "call")
-        .about("Makes one call of a server on a socket, and shows its reply")
-        .arg(option(
-            alloc,
-            "socket",
-            "PATH",
-            "The socket of the server, as /run/csid.sock",
-        )
-        .required(true))?;
-    let vectors = Command::new(alloc, "vectors")
-        .about("Runs the test vectors of a file")
-        .arg(
-            Arg::new(alloc, "file")
-                .value_name("FILE")
-                .help(
-                    "Lines of a name, the input and the output of a server, in hexadecimal digits",
-                )
-                .required(true),
-        )?;
-    Ok(
-        Command::new(alloc, "csictl")
-            .version("0.1.0")
-            .about("The client of csid: calls and replies are frames, as docs/PROTOCOL.md says")
-            .subcommand(show)?
-            .subcommand(with_call(alloc, frame)?)?
-            .subcommand(with_call(alloc, call)?)?
-            .subcommand(vectors)?,
-    )
+    let command = Command::new(alloc, "csictl").version("0.1.0").about(
+        "The client of csid: calls and replies are frames, as docs/PROTOCOL.md says",
+    );
+    let command = with_subcommand(command, show(alloc))?;
+    let command = with_subcommand(command, frame(alloc))?;
+    let command = with_subcommand(command, call(alloc))?;
+    with_subcommand(command, vectors(alloc))
 }

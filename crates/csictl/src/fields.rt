@@ -1,6 +1,6 @@
 //! The fields of a message, as the words give them.
 
-use crate::command::FIELDS;
+use crate::command::{FIELDS, Field};
 use clap::ArgMatches;
 use csi_types::{Access, Capability, CapacityRange, Items, Map, Method, Mount, Requirement, Text};
 use std::alloc::{AllocError, AllocFailed, Global};
@@ -76,7 +76,7 @@ fn is_given(words: &ArgMatches<'_>, name: &str) -> bool {
 ///
 /// Where they give one.
 pub(crate) fn give_none(words: &ArgMatches<'_>) -> Result<(), WordsFault> {
-    for name in FIELDS {
+    for Field { name, .. } in FIELDS {
         if is_given(words, name) {
             return Err(WordsFault::BesideMessage(name));
         }
@@ -103,7 +103,7 @@ impl<'m, 'w> Fields<'m, 'w> {
         words: &'m ArgMatches<'w>,
     ) -> Result<Fields<'m, 'w>, WordsFault> {
         let known = fields_of(method);
-        for name in FIELDS {
+        for Field { name, .. } in FIELDS {
             if is_given(words, name) && !known.contains(&name) {
                 return Err(WordsFault::NoField(name));
             }

@@ -76,20 +76,41 @@ fn request(method: Method, fields: Fields<'_, '_>) -> Result<Request, WordsFault
     })
 }
 
+fn encoded(alloc: Global, request: &Request) -> Result<Vec<u8>, WordsFault> {
+    let mut bytes = Vec::new(alloc);
+    encode_request(request, &mut bytes)?;
+    Ok(bytes)
+}
+
+// The bytes of the message whose fields the words give.
+fn message_of_fields(
+    alloc: Global,
+    method: Method,
+    words: &ArgMatches<'_>,
+) -> Result<Vec<u8>, WordsFault> {
+    let fields = Fields::new(alloc, method, words)?;
+    let request = request(method, fields)?;
+    encoded(alloc, &request)
+}
+
+// The bytes of a message that is given as it is.
+fn message_as_it_is(alloc: Global, digits: &str) -> Result<Vec<u8>, WordsFault> {
+    match hex::decode(alloc, digits) {
+        Ok(bytes) => Ok(bytes),
+        Err(FromHexError::OutOfMemory) => Err(WordsFault::NoMemory),
+        Err(_) => Err(WordsFault::NotHex),
+    }
+}
+
 // The bytes of the message.
 fn message(alloc: Global, method: Method, words: &ArgMatches<'_>) -> Result<Vec<u8>, WordsFault> {
-    if let Some(digits) = words.get_str("message") {
-        give_none(words)?;
-        return match hex::decode(alloc, digits) {
-            Ok(bytes) => Ok(bytes),
-            Err(FromHexError::OutOfMemory) => Err(WordsFault::NoMemory),
-            Err(_) => Err(WordsFault::NotHex),
-        };
+    match words.get_str("message") {
+        Some(digits) => {
+            give_none(words)?;
+            message_as_it_is(alloc, digits)
+        }
+        None => message_of_fields(alloc, method, words),
     }
-    let request = request(method, Fields::new(alloc, method, words)?)?;
-    let mut bytes = Vec::new(alloc);
-    encode_request(&request, &mut bytes)?;
-    Ok(bytes)
 }
 
 /// The method that the words name.

@@ -40,28 +40,45 @@ fn tables<'a>(alloc: Global) -> Arg<'a> {
         .help("The volumes, an SQLite database; it is made where there is none")
 }
 
-fn serve<'a>(alloc: Global) -> Result<Command<'a>, Error> {
-    let socket = Arg::new(alloc, "socket")
+fn socket<'a>(alloc: Global) -> Arg<'a> {
+    Arg::new(alloc, "socket")
         .long("socket")
         .value_name("PATH")
         .help("The Unix socket to listen on, as /run/csid.sock; no file may stand there")
-        .required(true);
-    let connections = Arg::new(alloc, "connections")
+        .required(true)
+}
+
+fn connections<'a>(alloc: Global) -> Arg<'a> {
+    Arg::new(alloc, "connections")
         .long("connections")
         .value_name("N")
         .help("How many connections are served until the server ends, 1 to 1000000")
         .value_parser(value_parser!(u32).range(1..=1_000_000))
-        .default_value("1000000");
-    Ok(
-        Command::new(alloc, "serve")
-            .about(
-                "Answers the calls of connections to a Unix socket, one connection after the other",
-            )
-            .arg(socket)?
-            .arg(tables(alloc).required(true))?
-            .arg(config(alloc))?
-            .arg(connections)?,
-    )
+        .default_value("1000000")
+}
+
+fn serve<'a>(alloc: Global) -> Result<Command<'a>, Error> {
+    let serve = Command::new(alloc, "serve").about(
+        "Answers the calls of connections to a Unix socket, one connection after the other",
+    );
+    let serve = serve.arg(socket(alloc))?;
+    let serve = serve.arg(tables(alloc).required(true))?;
+    let serve = serve.arg(config(alloc))?;
+    Ok(serve.arg(connections(alloc))?)
+}
+
+fn pipe<'a>(alloc: Global) -> Result<Command<'a>, Error> {
+    let pipe = Command::new(alloc, "pipe").about(
+        "Answers the calls of standard input on standard output, as no command does; without --tables the volumes are forgotten at the end",
+    );
+    Ok(pipe.arg(config(alloc))?.arg(tables(alloc))?)
+}
+
+fn with_subcommand<'a>(
+    command: Command<'a>,
+    subcommand: Result<Command<'a>, Error>,
+) -> Result<Command<'a>, Error> {
+    Ok(command.subcommand(subcommand?)?)
 }
 
 /// The command line of the program.
@@ -70,21 +87,11 @@ fn serve<'a>(alloc: Global) -> Result<Command<'a>, Error> {
 ///
 /// Where memory is refused.
 pub(crate) fn command<'a>(alloc: Global) -> Result<Command<'a>, Error> {
-    let pipe = Command::new(alloc, "pipe")
-        .about(
-            "Answers the calls of standard input on standard output, as no command does; without --tables the volumes are forgotten at the end",
-        )
-        .arg(config(alloc))?
-        .arg(tables(alloc))?;
-    Ok(
-        Command::new(alloc, "csid")
-            .version("0.1.0")
-            .about(
-                "A CSI controller plugin: calls and replies are frames, as docs/PROTOCOL.md says",
-            )
-            .subcommand(pipe)?
-            .subcommand(serve(alloc)?)?,
-    )
+    let command = Command::new(alloc, "csid").version("0.1.0").about(
+        "A CSI controller plugin: calls and replies are frames, as docs/PROTOCOL.md says",
+    );
+    let command = with_subcommand(command, pipe(alloc))?;
+    with_subcommand(command, serve(alloc))
 }
 
 /// What the words that [`command`] takes ask for.

@@ -7,6 +7,7 @@ use csi_adoption::{AdoptError, AdoptFault, adopt};
 use csi_config::Config;
 use csi_tables::Tables;
 use sqlite::{Connection, Error, ErrorCode, File, FileStore};
+use sqlite_disk::Disk;
 use std::fmt::Display;
 
 /// The store of a file on the disk.
@@ -37,7 +38,8 @@ pub(crate) fn no_path(rt: &HostRuntime) -> u8 {
     TABLES
 }
 
-fn connect(rt: &HostRuntime, path: &str) -> Result<Connection<Store>, u8>
+/// A connection to a file, which is made where there is none; else the status to end with, and why is said.
+pub(crate) fn connect(rt: &HostRuntime, path: &str) -> Result<Connection<Store>, u8>
     ensures { IfOk result (λ conn. conn.in_transaction ≡ false) }
 {
     if path.is_empty() {
@@ -49,24 +51,39 @@ fn connect(rt: &HostRuntime, path: &str) -> Result<Connection<Store>, u8>
     }
 }
 
-/// A keeper over the tables in a file, which are made where the file is new; else the status to end
+// Says why the tables in a file were not adopted.
+fn refuse_tables(rt: &HostRuntime, path: &str, fault: &AdoptFault) -> u8 {
+    match fault {
+        AdoptFault::NoMemory => no_memory(rt),
+        _ => refuse(rt, path, fault),
+    }
+}
+
+/// A keeper over the tables on a connection, which are made where the file is new; else the status to end
 /// with, and why is said.
-pub(crate) fn open(rt: &HostRuntime, path: &str, config: &Config) -> Result<Tables<Store>, u8> {
-    let conn = connect(rt, path)?;
+pub(crate) fn keep<D: Disk + Drop>(
+    rt: &HostRuntime,
+    path: &str,
+    conn: Connection<FileStore<D>>,
+    config: &Config,
+) -> Result<Tables<FileStore<D>>, u8>
+    requires { conn.in_transaction ≡ false }
+{
     match adopt(rt.alloc(), conn, config) {
         Ok(tables) => Ok(tables),
-        Err(AdoptError { fault, .. }) => match fault {
-            AdoptFault::NoMemory => Err(no_memory(rt)),
-            fault => Err(refuse(rt, path, &fault)),
-        },
+        Err(AdoptError { fault, .. }) => Err(refuse_tables(rt, path, &fault)),
     }
 }
 
 /// Copies what was committed into the file itself, and closes it. Where that fails, nothing is lost:
 /// it stays in the log beside the file.
-pub(crate) fn close(rt: &HostRuntime, path: &str, tables: Tables<Store>) -> Result<(), u8> {
-    tables
-        .into_connection()
-        .close()
-        .map_err(|error| refuse_file(rt, path, &error))
+pub(crate) fn close<D: Disk + Drop>(
+    rt: &HostRuntime,
+    path: &str,
+    tables: Tables<FileStore<D>>,
+) -> Result<(), u8> {
+    match tables.into_connection().close() {
+        Ok(()) => Ok(()),
+        Err(error) => Err(refuse_file(rt, path, &error)),
+    }
 }

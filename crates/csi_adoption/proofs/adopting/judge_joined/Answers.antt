@@ -1,0 +1,73 @@
+use Rattle.std.proofs.Common.{◌≡◌, ◌∙◌, sym, subst, Err, IsPermutation}
+use Rattle.sqlite.specs.Held.{state}
+use Rattle.sqlite.specs.Tree.{Trees}
+use Rattle.csi_looks.specs.Looks.{owners, pairs}
+use Rattle.csi_adoption.specs.Judging.{JudgesRows, volumes_unless}
+use Rattle.csi_adoption.proofs.JudgedLemmas.{counts_fault, joined_failure, judged_err, none_broken, owner_fault}
+use Rattle.csi_adoption.proofs.FaultLemmas.{is_err, not_memory}
+use Rattle.csi_adoption.proofs.TurnLemmas.{clean_before, ended, failed, same_trees, turns}
+use Rattle.csi_adoption.proofs.adopting.judge_joined.Goals as goal
+
+pub returns-in_err-unowned-clause-judged : goal.returns-in_err-unowned-clause-judged
+returns-in_err-unowned-clause-judged g c = λ clean next seen fine rows same is.
+    joined_failure c.args.config.now (state g.S.Store c.args.conn.now).now.trees c.args.tables.now c.from_residual.result c.in_err-unowned.field-0.0 c.from_residual.ensures.1
+
+pub returns-in_err-check_owners-clause-looks : goal.returns-in_err-check_owners-clause-looks
+returns-in_err-check_owners-clause-looks g c =
+    ended g.S.Store c.args.conn.now c.see_owners.new.conn _ c.from_residual-in_err-check_owners.result c.in_ok-unowned.ensures.looks
+
+pub returns-in_err-check_owners-clause-judged : goal.returns-in_err-check_owners-clause-judged
+returns-in_err-check_owners-clause-judged g c = λ clean next seen fine rows same is.
+    let answer : c.from_residual-in_err-check_owners.result ≡ Err c.in_err-check_owners.field-0.0 = is_err c.from_residual-in_err-check_owners.result c.in_err-check_owners.field-0.0 c.from_residual-in_err-check_owners.ensures.1 in
+    let config = c.args.config.now in
+    let tables = c.args.tables.now in
+    let db = (state g.S.Store c.args.conn.now).now.trees in
+    let owned = c.in_ok-unowned.ensures.seen clean in
+    subst (λ r. JudgesRows config db (volumes_unless tables r)) (sym answer) (judged_err config db c.in_err-check_owners.field-0.0 (λ known.
+    owner_fault config db next rows same is tables seen owned.0 owned.1 c.in_ok-unowned.unowned owned.2 fine c.in_err-check_owners.field-0.0 (c.in_err-check_owners.ensures (not_memory c.in_err-check_owners.field-0.0 known))))
+
+pub returns-in_err-apart-clause-looks : goal.returns-in_err-apart-clause-looks
+returns-in_err-apart-clause-looks g c =
+    failed g.S.Store c.args.conn.now c.see_pairs.new.conn _ c.from_residual-in_err-apart.result c.from_residual-in_err-apart.ensures.0
+    (turns g.S.Store c.args.conn.now c.see_owners.new.conn c.see_pairs.new.conn _ _ c.in_ok-unowned.ensures.looks c.in_err-apart.ensures.looks)
+
+pub returns-in_err-apart-clause-judged : goal.returns-in_err-apart-clause-judged
+returns-in_err-apart-clause-judged g c = λ clean next seen fine rows same is.
+    joined_failure c.args.config.now (state g.S.Store c.args.conn.now).now.trees c.args.tables.now c.from_residual-in_err-apart.result c.in_err-apart.field-0.0 c.from_residual-in_err-apart.ensures.1
+
+pub returns-in_err-check_counts-clause-looks : goal.returns-in_err-check_counts-clause-looks
+returns-in_err-check_counts-clause-looks g c =
+    ended g.S.Store c.args.conn.now c.see_pairs.new.conn _ c.from_residual-in_err-check_counts.result
+    (turns g.S.Store c.args.conn.now c.see_owners.new.conn c.see_pairs.new.conn _ _ c.in_ok-unowned.ensures.looks c.in_ok-apart.ensures.looks)
+
+pub returns-in_err-check_counts-clause-judged : goal.returns-in_err-check_counts-clause-judged
+returns-in_err-check_counts-clause-judged g c = λ clean next seen fine rows same is.
+    let answer : c.from_residual-in_err-check_counts.result ≡ Err c.in_err-check_counts.field-0.0 = is_err c.from_residual-in_err-check_counts.result c.in_err-check_counts.field-0.0 c.from_residual-in_err-check_counts.ensures.1 in
+    let config = c.args.config.now in
+    let tables = c.args.tables.now in
+    let db = (state g.S.Store c.args.conn.now).now.trees in
+    let before = clean_before g.S.Store c.see_owners.new.conn c.see_pairs.new.conn _ c.in_ok-apart.ensures.looks clean in
+    let trees = same_trees g.S.Store c.args.conn.now c.see_owners.new.conn (c.in_ok-unowned.ensures.looks.same before) in
+    let owned = c.in_ok-unowned.ensures.seen before in
+    let paired = c.in_ok-apart.ensures.seen clean in
+    let two = subst (λ (t : Trees). IsPermutation (pairs (t 3)) paired.0) trees paired.1 in
+    subst (λ r. JudgesRows config db (volumes_unless tables r)) (sym answer) (judged_err config db c.in_err-check_counts.field-0.0 (λ known.
+    counts_fault config db next rows same is tables seen owned.0 owned.1 c.in_ok-unowned.unowned owned.2 fine paired.0 two c.in_ok-apart.apart paired.2 c.in_ok-check_owners.ensures
+    c.in_err-check_counts.field-0.0 (c.in_err-check_counts.ensures (not_memory c.in_err-check_counts.field-0.0 known))))
+
+pub returns-clause-looks : goal.returns-clause-looks
+returns-clause-looks g c =
+    ended g.S.Store c.args.conn.now c.see_pairs.new.conn _ _
+    (turns g.S.Store c.args.conn.now c.see_owners.new.conn c.see_pairs.new.conn _ _ c.in_ok-unowned.ensures.looks c.in_ok-apart.ensures.looks)
+
+pub returns-clause-judged : goal.returns-clause-judged
+returns-clause-judged g c = λ clean next seen fine rows same is.
+    let config = c.args.config.now in
+    let tables = c.args.tables.now in
+    let db = (state g.S.Store c.args.conn.now).now.trees in
+    let before = clean_before g.S.Store c.see_owners.new.conn c.see_pairs.new.conn _ c.in_ok-apart.ensures.looks clean in
+    let trees = same_trees g.S.Store c.args.conn.now c.see_owners.new.conn (c.in_ok-unowned.ensures.looks.same before) in
+    let owned = c.in_ok-unowned.ensures.seen before in
+    let paired = c.in_ok-apart.ensures.seen clean in
+    let two = subst (λ (t : Trees). IsPermutation (pairs (t 3)) paired.0) trees paired.1 in
+    none_broken config db next rows same is tables seen owned.0 owned.1 c.in_ok-unowned.unowned owned.2 fine paired.0 two c.in_ok-apart.apart paired.2 c.in_ok-check_owners.ensures c.in_ok-check_counts.ensures
