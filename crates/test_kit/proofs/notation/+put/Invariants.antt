@@ -1,5 +1,5 @@
 use Rattle.std.proofs.Common.{◌+◌, ◌*◌}
-use Rattle.row_notation.proofs.+put.Given as goal
+use Rattle.test_kit.proofs.notation.+put.Given as goal
 
 -- `put_times` goes one level down, and the others none.
 abbrev pub decreases-put_all : goal.decreases-put_all

@@ -1,6 +1,6 @@
-//! Programs of rows: each line of the input goes to the output with what it is answered.
+//! Each line of the input goes to the output with what it is answered.
 
-use std::fmt::Display;
+use crate::fault::RowFault;
 use std::io::{self, Read, Write};
 use std::process::ExitCode;
 
@@ -20,21 +20,25 @@ pub enum Answer {
 
 /// What answers rows, one after the other.
 pub trait AnswerRow {
-    /// Why a row has no answer; it is written in the place of one.
-    type Fault: Display + Drop;
+    /// Begins the section of a name.
+    ///
+    /// # Errors
+    ///
+    /// Where there is none of this name.
+    fn begin_section(&mut self, rt: &HostRuntime, name: &str) -> Result<(), RowFault>;
 
-    /// The answer to a row.
+    /// The answer to a row of the section that was begun last.
     ///
     /// # Errors
     ///
     /// Where the row has none.
-    fn answer_row(&mut self, rt: &HostRuntime, row: &str) -> Result<Answer, Self::Fault>;
+    fn answer_row(&mut self, rt: &HostRuntime, row: &str) -> Result<Answer, RowFault>;
 }
 
-fn write_row<W: Write, F: Display + Drop>(
+fn write_answer<W: Write>(
     out: &mut W,
     row: &str,
-    answer: Result<Answer, F>,
+    answer: Result<Answer, RowFault>,
 ) -> io::Result<()> {
     match answer {
         Ok(Answer::Nothing) => Ok(()),
@@ -47,8 +51,30 @@ fn write_row<W: Write, F: Display + Drop>(
     }
 }
 
+fn write_section<W: Write>(out: &mut W, line: &str, begun: Result<(), RowFault>) -> io::Result<()> {
+    match begun {
+        Ok(()) => writeln!(out, "{line}"),
+        Err(fault) => writeln!(out, "{line} -> {fault}"),
+    }
+}
+
+fn answer_line<W: Write, R: AnswerRow>(
+    rt: &HostRuntime,
+    rows: &mut R,
+    out: &mut W,
+    line: &str,
+) -> io::Result<()> {
+    if line.is_empty() || line.starts_with('#') {
+        return writeln!(out, "{line}");
+    }
+    match line.strip_prefix("@ ") {
+        Some(name) => write_section(out, line, rows.begin_section(rt, name)),
+        None => write_answer(out, line, rows.answer_row(rt, line)),
+    }
+}
+
 /// Answers the rows of standard input, and gives the exit status: 5 where the input cannot be read or the
-/// output cannot be written. Empty lines and those that begin with `#` are written as they stand.
+/// output cannot be written.
 pub fn answer_rows<R: AnswerRow>(rt: &HostRuntime, rows: &mut R) -> ExitCode {
     let mut text = String::new(rt.alloc());
     if rt.stdin().read_to_string(&mut text).is_err() {
@@ -56,13 +82,7 @@ pub fn answer_rows<R: AnswerRow>(rt: &HostRuntime, rows: &mut R) -> ExitCode {
     }
     let mut out = rt.stdout();
     for line in text.lines() {
-        let written = if line.is_empty() || line.starts_with('#') {
-            writeln!(out, "{line}")
-        } else {
-            let answer = rows.answer_row(rt, line);
-            write_row(&mut out, line, answer)
-        };
-        if written.is_err() {
+        if answer_line(rt, rows, &mut out, line).is_err() {
             return ExitCode::from(INPUT_OUTPUT);
         }
     }
