@@ -1,11 +1,11 @@
 //! What a keeper tells, in words.
 
-use crate::fault::RowFault;
 use csi_codec::decode_response;
 use csi_keeper::{Attachment, CapKey, Kind, Volume};
 use csi_types::{Entry, Items, Map, Method, Response, Text};
 use std::alloc::Global;
 use std::fmt::Write;
+use test_kit::RowFault;
 
 fn put_key(text: &mut String, key: &CapKey) -> Result<(), RowFault> {
     match &key.kind {

@@ -1,26 +1,22 @@
-//! A keeper over tables in memory, and the rows that are put to it.
+//! The volume machine over tables in memory.
 
-use crate::calls::{Reply, reply_to};
-use crate::direct::call;
-use crate::fault::RowFault;
-use crate::words::{numbers_in_words, page_in_words};
+mod calls;
+mod requests;
+mod words;
+
+use crate::database::{refused, without_tables};
+use calls::call;
 use csi_config::Config;
+use csi_keeper::StoreFault;
 use csi_statements::reads;
 use csi_tables::Tables;
 use csi_types::{Method, method_named};
-use row_notation::bytes_of;
-use sqlite::{Connection, MemStore};
+use requests::{Reply, reply_to};
+use sqlite::MemStore;
 use std::alloc::Global;
 use std::mem;
-
-/// New tables in memory, and a keeper over them.
-pub(crate) fn new_tables(alloc: Global) -> Result<Tables<MemStore>, RowFault> {
-    let conn = Connection::open_in_memory(alloc)?;
-    match Tables::make(alloc, conn) {
-        Ok(tables) => Ok(tables),
-        Err(fault) => Err(RowFault::from(fault.error)),
-    }
-}
+use test_kit::{RowFault, bytes_of, bytes_text};
+use words::{numbers_in_words, page_in_words};
 
 /// The sample configuration, and a keeper of the volumes that requests made under it.
 #[derive(Drop)]
@@ -46,8 +42,8 @@ impl Bench {
             "make" => self.make_again(alloc),
             "list" => self.list(alloc, rest),
             _ => match method_named(alloc, word)? {
-                Some(method) => told(alloc, &self.reply(alloc, method, rest)?),
-                None => call(alloc, &mut self.tables, word, rest),
+                Some(method) => told(alloc, self.reply(alloc, method, rest)?),
+                None => call(alloc, &mut self.tables, row),
             },
         }
     }
@@ -64,8 +60,8 @@ impl Bench {
         match Tables::make(alloc, tables.into_connection()) {
             Ok(_) => Ok(String::from_str(alloc, "made")?),
             Err(mut fault) => {
-                let next: u64 = reads::next_number(&mut fault.conn)?.get(0)?;
-                numbers_in_words(alloc, &[next])
+                let next = reads::next_number(&mut fault.conn).map_err(refused)?;
+                numbers_in_words(alloc, &[next.get(0).map_err(refused)?])
             }
         }
     }
@@ -79,19 +75,35 @@ impl Bench {
     fn list(&mut self, alloc: Global, notation: &str) -> Result<String, RowFault> {
         match self.reply(alloc, Method::ListVolumes, notation)? {
             Reply::Done(body) => page_in_words(alloc, &body),
-            refused => told(alloc, &refused),
+            reply => told(alloc, reply),
         }
     }
 }
 
-fn told(alloc: Global, reply: &Reply) -> Result<String, RowFault> {
+// New tables, and a keeper over them.
+fn new_tables(alloc: Global) -> Result<Tables<MemStore>, RowFault> {
+    match Tables::make(alloc, without_tables(alloc)?) {
+        Ok(tables) => Ok(tables),
+        Err(fault) => Err(refused(fault.error)),
+    }
+}
+
+// Why a row has no answer where the keeper failed.
+fn failed(fault: StoreFault) -> RowFault {
+    match fault {
+        StoreFault::NoMemory => RowFault::NoMemory,
+        StoreFault::Refused => RowFault::Refused("refused"),
+        StoreFault::Down => RowFault::Refused("down"),
+    }
+}
+
+fn told(alloc: Global, reply: Reply) -> Result<String, RowFault> {
     match reply {
-        Reply::Done(body) if body.is_empty() => Ok(String::from_str(alloc, "0 -")?),
-        Reply::Done(body) => Ok(format!(in alloc; "0 {}", hex::encode(alloc, body)?)?),
+        Reply::Done(body) => Ok(format!(in alloc; "0 {}", bytes_text(alloc, &body)?)?),
         Reply::Refused(reason) => {
             Ok(format!(in alloc; "{} {}", reason.code().number(), reason.text())?)
         }
         Reply::NoRequest(fault) => Ok(format!(in alloc; "3 {fault}")?),
-        Reply::Failed(fault) => Err(RowFault::from(*fault)),
+        Reply::Failed(fault) => Err(failed(fault)),
     }
 }

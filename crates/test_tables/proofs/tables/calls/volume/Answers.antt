@@ -1,7 +1,7 @@
 use Rattle.std.proofs.Common.{sym, subst, arith}
 use Rattle.std.specs.List.Sorted.{IsStrictlySortedBy}
 use Rattle.csi_keeper.specs.Capability.{AreOrdered}
-use Rattle.table_rows.proofs.direct.volume.Goals as goal
+use Rattle.test_tables.proofs.tables.calls.volume.Goals as goal
 
 pub returns : goal.returns
 unfolding IsStrictlySortedBy

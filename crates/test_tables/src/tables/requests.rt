@@ -6,9 +6,11 @@ ghost use Rattle.csi_types.specs.Checks.{checked};
 use csi_checks::check;
 use csi_codec::{DecodeFault, decode};
 use csi_config::Config;
-use csi_keeper::{Keeper, StoreFault};
+use csi_keeper::StoreFault;
 use csi_machine::{Verdict, append_answer};
+use csi_tables::Tables;
 use csi_types::{Method, Reason, Request};
+use sqlite::MemStore;
 use std::alloc::Global;
 
 /// What a request is answered.
@@ -25,42 +27,33 @@ pub(crate) enum Reply {
 }
 
 /// Reads a message, checks it and answers it.
-pub(crate) fn reply_to<K: Keeper>(
+pub(crate) fn reply_to(
     alloc: Global,
     config: &Config,
-    keeper: &mut K,
+    tables: &mut Tables<MemStore>,
     method: Method,
     message: &[u8],
 ) -> Reply {
-    match decode(alloc, method, message) {
-        Ok(request) => answered(alloc, config, keeper, &request),
-        Err(fault) => Reply::NoRequest(fault),
-    }
-}
-
-/// Checks a request and answers it.
-pub(crate) fn answered<K: Keeper>(
-    alloc: Global,
-    config: &Config,
-    keeper: &mut K,
-    request: &Request,
-) -> Reply {
-    match check(request) {
-        Ok(()) => reply_checked(alloc, config, keeper, request),
+    let request = match decode(alloc, method, message) {
+        Ok(request) => request,
+        Err(fault) => return Reply::NoRequest(fault),
+    };
+    match check(&request) {
+        Ok(()) => checked_reply(alloc, config, tables, &request),
         Err(reason) => Reply::Refused(reason),
     }
 }
 
-fn reply_checked<K: Keeper>(
+fn checked_reply(
     alloc: Global,
     config: &Config,
-    keeper: &mut K,
+    tables: &mut Tables<MemStore>,
     request: &Request,
 ) -> Reply
     requires { checked request.now ≡ None }
 {
     let mut out = Vec::new(alloc);
-    match append_answer(alloc, config, keeper, request, &mut out) {
+    match append_answer(alloc, config, tables, request, &mut out) {
         Ok(Verdict::Done) => Reply::Done(out),
         Ok(Verdict::Refused(reason)) => Reply::Refused(reason),
         Err(fault) => Reply::Failed(fault),
