@@ -1,0 +1,54 @@
+//! Why a row has no answer.
+
+use crate::notation::NotationFault;
+use std::alloc::{AllocError, AllocFailed};
+use std::fmt;
+use thiserror::Error;
+
+/// Why a row has no answer. It is written in the place of one.
+#[derive(Debug, Drop, Error)]
+pub enum RowFault {
+    /// The row is none of those that its section knows.
+    #[error("not a row")]
+    NotRow,
+    /// The bytes are not written as they should be.
+    #[error("not bytes")]
+    NotBytes,
+    /// Memory was refused.
+    #[error("no memory for the row")]
+    NoMemory,
+    /// What was called refused, for a cause with a fixed text.
+    #[error("{0}")]
+    Refused(&'static str),
+    /// What came is not what was wanted.
+    #[error("{0}")]
+    Differs(String),
+}
+
+impl From<AllocError> for RowFault {
+    fn from(_error: AllocError) -> RowFault {
+        RowFault::NoMemory
+    }
+}
+
+impl<T: Drop> From<AllocFailed<T>> for RowFault {
+    fn from(_error: AllocFailed<T>) -> RowFault {
+        RowFault::NoMemory
+    }
+}
+
+// A text in memory refuses nothing but memory.
+impl From<fmt::Error> for RowFault {
+    fn from(_error: fmt::Error) -> RowFault {
+        RowFault::NoMemory
+    }
+}
+
+impl From<NotationFault> for RowFault {
+    fn from(fault: NotationFault) -> RowFault {
+        match fault {
+            NotationFault::NotBytes => RowFault::NotBytes,
+            NotationFault::NoMemory => RowFault::NoMemory,
+        }
+    }
+}

@@ -1,0 +1,21 @@
+//! What the programs of rows share: programs that answer each line of their input, and are compared with a stored output.
+//!
+//! A program has sections. A line `@ NAME` begins one; a line that is empty or begins with `#` stands for itself; each other line
+//! is a row, which the section answers. A [`RowFault`] stands in the place of an answer.
+//!
+//! ```text
+//! @ calls
+//! # what a row looks like
+//! request /a/b 00 -> 00042f612f62000000000100, read back
+//! ```
+#![tactic(auto)]
+
+mod fault;
+mod notation;
+mod parts;
+mod rows;
+
+pub use fault::RowFault;
+pub use notation::{NotationFault, bytes_counted, bytes_of};
+pub use parts::{bytes_text, number_at, put_part, word_at, words_of};
+pub use rows::{Answer, AnswerRow, answer_rows};

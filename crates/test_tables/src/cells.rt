@@ -1,0 +1,43 @@
+//! Rows of a database as a text.
+
+use sqlite::Row;
+use sqlite::types::ValueRef;
+use std::alloc::{AllocError, Global};
+use std::str;
+
+/// A cell: a number, a text between quotation marks, or bytes in hexadecimal behind an x.
+pub(crate) fn cell_text(alloc: Global, row: &Row, at: usize) -> Result<String, AllocError> {
+    match row.get_ref(at) {
+        Ok(ValueRef::Int(number)) => format!(in alloc; "{number}"),
+        Ok(ValueRef::Text(bytes)) => {
+            let text = str::from_utf8(bytes).unwrap_or("not UTF-8");
+            format!(in alloc; "'{text}'")
+        }
+        Ok(ValueRef::Blob(bytes)) => format!(in alloc; "x{}", hex::encode(alloc, bytes)?),
+        Ok(ValueRef::Real(_)) => format!(in alloc; "real"),
+        Ok(ValueRef::Null) => format!(in alloc; "NULL"),
+        Err(_) => format!(in alloc; "none"),
+    }
+}
+
+/// Appends a row: a space between two cells, and a comma and a space between two rows.
+pub(crate) fn put_row(out: &mut String, alloc: Global, row: &Row) -> Result<(), AllocError> {
+    if !out.is_empty() {
+        out.push(',')?;
+    }
+    for at in 0..row.column_count() {
+        if !out.is_empty() {
+            out.push(' ')?;
+        }
+        out.push_str(&cell_text(alloc, row, at)?)?;
+    }
+    Ok(())
+}
+
+/// The text of rows, which is `none` where there is no row.
+pub(crate) fn or_none(mut text: String) -> Result<String, AllocError> {
+    if text.is_empty() {
+        text.push_str("none")?;
+    }
+    Ok(text)
+}

@@ -1,0 +1,158 @@
+//! Looks over tables in memory.
+
+ghost use Rattle.std.specs.Prelude.{◌≡◌, false};
+ghost use Rattle.csi_layout.specs.Tables.{schema as our_schema};
+
+mod folds;
+mod look;
+
+use crate::cells::or_none;
+use crate::database::{run, with_tables, without_tables};
+use crate::numbers::count_at;
+use csi_layout::is_our_schema;
+use csi_looks::{Both, Each, Every, Rising, TextSum, Weight};
+use folds::{HasNumber, Showing};
+pub(crate) use look::Look;
+use sqlite::{Connection, MemStore};
+use std::alloc::Global;
+use test_kit::{RowFault, word_at, words_of};
+
+/// The answer to a row: what a database begins as, what is asked of it, and the statements that come
+/// before.
+pub(crate) fn answer(alloc: Global, row: &str) -> Result<String, RowFault> {
+    let (start, rest) = row.split_once(" | ").ok_or(RowFault::NotRow)?;
+    let (question, statements) = rest.split_once(" | ").ok_or(RowFault::NotRow)?;
+    let mut conn = match start {
+        "empty" => without_tables(alloc)?,
+        "tables" => with_tables(alloc)?,
+        _ => return Err(RowFault::NotRow),
+    };
+    if statements != "-" {
+        run(&mut conn, statements)?;
+    }
+    match question {
+        "ours" => is_ours(alloc, &conn),
+        _ => ask(alloc, &mut conn, question),
+    }
+}
+
+// Whether the tables are ours, and nothing else is there.
+fn is_ours(alloc: Global, conn: &Connection<MemStore>) -> Result<String, RowFault> {
+    let word = if is_our_schema(conn.schema()) {
+        "ours"
+    } else {
+        "other"
+    };
+    Ok(String::from_str(alloc, word)?)
+}
+
+// What is asked of the rows of our tables.
+fn ask(alloc: Global, conn: &mut Connection<MemStore>, question: &str) -> Result<String, RowFault> {
+    let words = words_of(alloc, question)?;
+    if !conn.is_autocommit() {
+        return Err(RowFault::NotRow);
+    }
+    if !is_our_schema(conn.schema()) {
+        return Err(RowFault::Refused("other tables"));
+    }
+    let look = Look::named(word_at(&words, 0)?)?;
+    match word_at(&words, 1)? {
+        "rows" => shown(alloc, conn, look),
+        "judged" => judged(alloc, conn, look, count_at(&words, 2)? as usize),
+        _ => {
+            let sums = sums_of(alloc, &words)?;
+            summed(alloc, conn, look, sums)
+        }
+    }
+}
+
+// Each row.
+fn shown(alloc: Global, conn: &mut Connection<MemStore>, look: Look) -> Result<String, RowFault>
+    requires idle { conn.old.in_transaction ≡ false }
+    requires ours { conn.old.schema ≡ our_schema }
+{
+    let mut fold = Showing {
+        alloc,
+        text: String::new(alloc),
+    };
+    look.over(conn, &mut fold)?;
+    Ok(or_none(fold.text)?)
+}
+
+// Whether each row has a number in a column, and whether its integers rise.
+fn judged(
+    alloc: Global,
+    conn: &mut Connection<MemStore>,
+    look: Look,
+    column: usize,
+) -> Result<String, RowFault>
+    requires idle { conn.old.in_transaction ≡ false }
+    requires ours { conn.old.schema ≡ our_schema }
+{
+    let mut fold = Both {
+        first: Every {
+            test: HasNumber { column },
+            good: true,
+        },
+        second: Rising {
+            column,
+            last: None,
+            good: true,
+        },
+    };
+    look.over(conn, &mut fold)?;
+    let numbered = if fold.first.good {
+        "numbers"
+    } else {
+        "not all numbers"
+    };
+    let rising = if fold.second.good {
+        "rising"
+    } else {
+        "not rising"
+    };
+    Ok(format!(in alloc; "{numbered}, {rising}")?)
+}
+
+// A sum for each of the texts in the last word, which have a comma between them.
+fn sums_of(alloc: Global, words: &[&str]) -> Result<Vec<TextSum>, RowFault> {
+    let (weight, place) = match word_at(words, 1)? {
+        "count" => (Weight::One, 2),
+        "sum" => (Weight::Number(count_at(words, 2)? as usize), 3),
+        _ => return Err(RowFault::NotRow),
+    };
+    let column = count_at(words, place)? as usize;
+    let mut sums = Vec::new(alloc);
+    for word in word_at(words, place + 1)?.split(',') {
+        let mut text = Vec::new(alloc);
+        text.extend_from_slice(word.as_bytes())?;
+        sums.push(TextSum {
+            column,
+            text,
+            weight,
+            sum: 0,
+        })?;
+    }
+    Ok(sums)
+}
+
+fn summed(
+    alloc: Global,
+    conn: &mut Connection<MemStore>,
+    look: Look,
+    sums: Vec<TextSum>,
+) -> Result<String, RowFault>
+    requires idle { conn.old.in_transaction ≡ false }
+    requires ours { conn.old.schema ≡ our_schema }
+{
+    let mut fold = Each { parts: sums };
+    look.over(conn, &mut fold)?;
+    let mut text = String::new(alloc);
+    for part in &fold.parts {
+        if !text.is_empty() {
+            text.push(' ')?;
+        }
+        text.push_str(&format!(in alloc; "{}", part.sum)?)?;
+    }
+    Ok(text)
+}

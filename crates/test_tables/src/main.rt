@@ -1,0 +1,55 @@
+//! Answers rows about tables in memory: statements and looks over them, the rules of what is stored in them, and the volume machine
+//! over them. What the rows of a section look like stands at its head in the file `stdin` of this crate.
+#![tactic(auto)]
+
+mod cells;
+mod database;
+mod looks;
+mod numbers;
+mod rules;
+mod statements;
+mod tables;
+
+use std::process::ExitCode;
+use test_kit::{Answer, AnswerRow, RowFault, answer_rows};
+
+/// The section that was begun last, and what it keeps from row to row.
+#[derive(Drop)]
+enum Section {
+    /// None was begun.
+    Unbegun,
+    Statements(statements::Bench),
+    Looks,
+    Rules,
+    Tables(tables::Bench),
+}
+
+impl AnswerRow for Section {
+    fn begin_section(&mut self, rt: &HostRuntime, name: &str) -> Result<(), RowFault> {
+        let alloc = rt.alloc();
+        *self = match name {
+            "statements" => Section::Statements(statements::Bench::new(alloc)?),
+            "looks" => Section::Looks,
+            "rules" => Section::Rules,
+            "tables" => Section::Tables(tables::Bench::new(alloc)?),
+            _ => return Err(RowFault::NotRow),
+        };
+        Ok(())
+    }
+
+    fn answer_row(&mut self, rt: &HostRuntime, row: &str) -> Result<Answer, RowFault> {
+        let alloc = rt.alloc();
+        let text = match self {
+            Section::Unbegun => return Err(RowFault::NotRow),
+            Section::Statements(bench) => bench.answer(alloc, row)?,
+            Section::Looks => looks::answer(alloc, row)?,
+            Section::Rules => rules::answer(alloc, row)?,
+            Section::Tables(bench) => bench.answer(alloc, row)?,
+        };
+        Ok(Answer::Text(text))
+    }
+}
+
+fn main(rt: HostRuntime) -> ExitCode {
+    answer_rows(&rt, &mut Section::Unbegun)
+}

@@ -1,0 +1,152 @@
+//! Statements over tables in memory.
+
+ghost use Rattle.std.specs.Prelude.{◌≡◌, false};
+
+use crate::cells::{cell_text, or_none, put_row};
+use crate::database::{refused, without_tables};
+use crate::numbers::{count_at, small_at};
+use csi_layout::make_tables;
+use csi_statements::values::flag_at;
+use csi_statements::{changes, reads};
+use sqlite::{Connection, Error as SqlError, MemStore, Row};
+use std::alloc::Global;
+use test_kit::{RowFault, bytes_of, put_part, word_at, words_of};
+
+/// A database in memory, between two transactions.
+#[derive(Drop)]
+pub(crate) struct Bench {
+    conn: Connection<MemStore>,
+    ghost idle: { conn.in_transaction ≡ false },
+}
+
+impl Bench {
+    /// A database without tables.
+    pub(crate) fn new(alloc: Global) -> Result<Bench, RowFault> {
+        Ok(Bench {
+            conn: without_tables(alloc)?,
+        })
+    }
+
+    /// The answer to a row.
+    pub(crate) fn answer(&mut self, alloc: Global, row: &str) -> Result<String, RowFault> {
+        let words = words_of(alloc, row)?;
+        match word_at(&words, 0)? {
+            "make" => done(alloc, make_tables(&mut self.conn)),
+            "add" => self.add(alloc, &words),
+            "remove" => self.remove(alloc, &words),
+            "attach" => self.attach(alloc, &words),
+            "detach" => self.detach(alloc, &words),
+            "next" | "number" | "name" => self.find(alloc, &words),
+            "attachments" | "at" | "sizes" => self.list(alloc, &words),
+            "page" | "nodes" => self.page(alloc, &words),
+            _ => Err(RowFault::NotRow),
+        }
+    }
+
+    fn add(&mut self, alloc: Global, words: &[&str]) -> Result<String, RowFault> {
+        let number = small_at(words, 1)?;
+        let name = word_at(words, 2)?;
+        let bytes = small_at(words, 3)?;
+        let pool = word_at(words, 4)?;
+        let caps = bytes_of(alloc, word_at(words, 5)?)?;
+        let params = bytes_of(alloc, word_at(words, 6)?)?;
+        done(
+            alloc,
+            changes::add_volume(&mut self.conn, number, name, bytes, pool, &caps, &params),
+        )
+    }
+
+    fn remove(&mut self, alloc: Global, words: &[&str]) -> Result<String, RowFault> {
+        found(
+            alloc,
+            changes::remove_volume(&mut self.conn, small_at(words, 1)?),
+        )
+    }
+
+    fn attach(&mut self, alloc: Global, words: &[&str]) -> Result<String, RowFault> {
+        let number = small_at(words, 1)?;
+        let node = word_at(words, 2)?;
+        let cap = bytes_of(alloc, word_at(words, 3)?)?;
+        let readonly = word_at(words, 4)? == "readonly";
+        done(
+            alloc,
+            changes::attach(&mut self.conn, number, node, &cap, readonly),
+        )
+    }
+
+    fn detach(&mut self, alloc: Global, words: &[&str]) -> Result<String, RowFault> {
+        let number = small_at(words, 1)?;
+        match word_at(words, 2)? {
+            "*" => done(alloc, changes::detach_all(&mut self.conn, number)),
+            node => done(alloc, changes::detach(&mut self.conn, number, node)),
+        }
+    }
+
+    // At most one row.
+    fn find(&mut self, alloc: Global, words: &[&str]) -> Result<String, RowFault> {
+        match word_at(words, 0)? {
+            "number" => found(alloc, reads::by_number(&mut self.conn, small_at(words, 1)?)),
+            "name" => found(alloc, reads::by_name(&mut self.conn, word_at(words, 1)?)),
+            _ => found(alloc, reads::next_number(&mut self.conn).map(Some)),
+        }
+    }
+
+    fn list(&mut self, alloc: Global, words: &[&str]) -> Result<String, RowFault> {
+        match word_at(words, 0)? {
+            "attachments" => attachments(
+                alloc,
+                reads::attachments(&mut self.conn, small_at(words, 1)?),
+            ),
+            "at" => all(
+                alloc,
+                reads::attached_at(&mut self.conn, word_at(words, 1)?),
+            ),
+            _ => all(alloc, reads::sizes_in(&mut self.conn, word_at(words, 1)?)),
+        }
+    }
+
+    fn page(&mut self, alloc: Global, words: &[&str]) -> Result<String, RowFault> {
+        let after = small_at(words, 1)?;
+        let count = count_at(words, 2)?;
+        if word_at(words, 0)? == "page" {
+            return all(alloc, reads::page(&mut self.conn, after, count));
+        }
+        let page = reads::page_nodes(&mut self.conn, after, count).map_err(refused)?;
+        let numbers = all(alloc, Ok(page.numbers))?;
+        let places = all(alloc, Ok(page.places))?;
+        Ok(format!(in alloc; "{numbers}; {places}")?)
+    }
+}
+
+fn done(alloc: Global, change: Result<(), SqlError>) -> Result<String, RowFault> {
+    change.map_err(refused)?;
+    Ok(String::from_str(alloc, "done")?)
+}
+
+fn found(alloc: Global, found: Result<Option<Row>, SqlError>) -> Result<String, RowFault> {
+    let mut text = String::new(alloc);
+    if let Some(row) = found.map_err(refused)? {
+        put_row(&mut text, alloc, &row)?;
+    }
+    Ok(or_none(text)?)
+}
+
+fn all(alloc: Global, rows: Result<Vec<Row>, SqlError>) -> Result<String, RowFault> {
+    let mut text = String::new(alloc);
+    for row in &rows.map_err(refused)? {
+        put_row(&mut text, alloc, row)?;
+    }
+    Ok(or_none(text)?)
+}
+
+// Of each attachment its node, its capability, and whether it is readonly.
+fn attachments(alloc: Global, rows: Result<Vec<Row>, SqlError>) -> Result<String, RowFault> {
+    let mut text = String::new(alloc);
+    for row in &rows.map_err(refused)? {
+        let node = cell_text(alloc, row, 0)?;
+        let cap = cell_text(alloc, row, 1)?;
+        let readonly = flag_at(row, 2).ok_or(RowFault::Refused("no flag"))?;
+        put_part(&mut text, &format!(in alloc; "{node} {cap} {readonly}")?)?;
+    }
+    Ok(or_none(text)?)
+}

@@ -1,0 +1,140 @@
+//! Calls of a keeper itself, without the machine.
+
+ghost use Rattle.std.specs.Prelude.{IfOk};
+ghost use Rattle.csi_keeper.specs.State.{IsBounded};
+ghost use Rattle.csi_keeper.specs.declared.change.Change.TheVariants.{AddVolume};
+
+use super::failed;
+use super::words::{attachments_in_words, nodes_in_words, numbers_in_words, volumes_in_words};
+use crate::numbers::{count_at, small_at};
+use csi_keeper::{Attachment, CapKey, Change, Keeper, Kind, Volume};
+use csi_tables::Tables;
+use csi_types::{Items, Map, Text};
+use sqlite::MemStore;
+use std::alloc::{AllocError, Global};
+use test_kit::{RowFault, number_at, word_at, words_of};
+
+/// Makes the call of a row, and tells what it was answered.
+pub(crate) fn call(
+    alloc: Global,
+    tables: &mut Tables<MemStore>,
+    row: &str,
+) -> Result<String, RowFault> {
+    let words = words_of(alloc, row)?;
+    match word_at(&words, 0)? {
+        "add" | "remove" | "attach" | "detach" => {
+            let change = change(alloc, &words)?;
+            tables.apply(alloc, &change).map_err(failed)?;
+            Ok(String::from_str(alloc, "done")?)
+        }
+        "refusals" => numbers_in_words(alloc, &[tables.refusals()]),
+        "next" => numbers_in_words(alloc, &[tables.next_number().map_err(failed)?]),
+        "number" | "name" | "page" => volumes(alloc, tables, &words),
+        "at" | "sizes" | "used" => numbers(alloc, tables, &words),
+        _ => places(alloc, tables, &words),
+    }
+}
+
+fn volumes(
+    alloc: Global,
+    tables: &mut Tables<MemStore>,
+    words: &[&str],
+) -> Result<String, RowFault> {
+    let found = match word_at(words, 0)? {
+        "number" => tables.by_number(alloc, number_at(words, 1)?),
+        "name" => tables.by_name(alloc, word_at(words, 1)?),
+        _ => {
+            let page = tables.page(alloc, number_at(words, 1)?, count_at(words, 2)?);
+            return volumes_in_words(alloc, page.map_err(failed)?.as_slice());
+        }
+    };
+    match found.map_err(failed)? {
+        Some(volume) => volumes_in_words(alloc, &[volume]),
+        None => volumes_in_words(alloc, &[]),
+    }
+}
+
+fn numbers(
+    alloc: Global,
+    tables: &mut Tables<MemStore>,
+    words: &[&str],
+) -> Result<String, RowFault> {
+    let name = word_at(words, 1)?;
+    let found = match word_at(words, 0)? {
+        "at" => tables.attached_at(alloc, name),
+        "sizes" => tables.sizes_in(alloc, name),
+        _ => {
+            let used = tables
+                .used_in(&Text::from_str(alloc, name)?)
+                .map_err(failed)?;
+            return numbers_in_words(alloc, &[used.volumes, used.bytes]);
+        }
+    };
+    numbers_in_words(alloc, found.map_err(failed)?.as_slice())
+}
+
+fn places(
+    alloc: Global,
+    tables: &mut Tables<MemStore>,
+    words: &[&str],
+) -> Result<String, RowFault> {
+    match word_at(words, 0)? {
+        "nodes" => {
+            let nodes = tables.published_nodes(alloc, number_at(words, 1)?, count_at(words, 2)?);
+            nodes_in_words(alloc, nodes.map_err(failed)?.as_slice())
+        }
+        "attachments" => {
+            let attachments = tables.attachments(alloc, number_at(words, 1)?);
+            attachments_in_words(alloc, attachments.map_err(failed)?.as_slice())
+        }
+        _ => Err(RowFault::NotRow),
+    }
+}
+
+fn change(alloc: Global, words: &[&str]) -> Result<Change, RowFault>
+    ensures { IfOk result IsBounded }
+{
+    match word_at(words, 0)? {
+        "add" => Ok(Change::AddVolume(volume(alloc, words)?)),
+        "remove" => Ok(Change::RemoveVolume(number_at(words, 1)?)),
+        "attach" => {
+            let number = number_at(words, 1)?;
+            Ok(Change::Attach(number, attachment(alloc, word_at(words, 2)?)?))
+        }
+        _ => {
+            let number = number_at(words, 1)?;
+            match word_at(words, 2)? {
+                "*" => Ok(Change::DetachAll(number)),
+                node => Ok(Change::Detach(number, Text::from_str(alloc, node)?)),
+            }
+        }
+    }
+}
+
+fn volume(alloc: Global, words: &[&str]) -> Result<Volume, RowFault>
+    ensures { IfOk result (λ volume. IsBounded (AddVolume volume)) }
+{
+    let number = small_at(words, 1)?;
+    let name = Text::from_str(alloc, word_at(words, 2)?)?;
+    let bytes = small_at(words, 3)?;
+    Ok(Volume {
+        number,
+        name,
+        bytes,
+        pool: Text::from_str(alloc, word_at(words, 4)?)?,
+        caps: Items::new(alloc),
+        params: Map::new(alloc),
+    })
+}
+
+// A block device for one writer.
+fn attachment(alloc: Global, node: &str) -> Result<Attachment, AllocError> {
+    Ok(Attachment {
+        node: Text::from_str(alloc, node)?,
+        cap: CapKey {
+            kind: Kind::Block,
+            mode: 1,
+        },
+        readonly: false,
+    })
+}

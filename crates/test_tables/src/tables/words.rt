@@ -1,0 +1,113 @@
+//! What a keeper tells, in words.
+
+use csi_codec::decode_response;
+use csi_keeper::{Attachment, CapKey, Kind, Volume};
+use csi_types::{Entry, Items, Map, Method, Response, Text};
+use std::alloc::Global;
+use std::fmt::Write;
+use test_kit::RowFault;
+
+fn put_key(text: &mut String, key: &CapKey) -> Result<(), RowFault> {
+    match &key.kind {
+        Kind::Block => write!(text, " block")?,
+        Kind::Mount(name) => write!(text, " mount {}", name.as_str())?,
+    }
+    write!(text, " {}", key.mode)?;
+    Ok(())
+}
+
+fn put_keys(text: &mut String, keys: &Items<CapKey>) -> Result<(), RowFault> {
+    for key in keys {
+        put_key(text, key)?;
+    }
+    Ok(())
+}
+
+fn put_params(text: &mut String, params: &Map) -> Result<(), RowFault> {
+    for (key, value) in params {
+        write!(text, " {}={}", key.as_str(), value.as_str())?;
+    }
+    Ok(())
+}
+
+/// Volumes: of each its number, name, bytes and pool, what it may be used as, and its parameters.
+pub(crate) fn volumes_in_words(alloc: Global, volumes: &[Volume]) -> Result<String, RowFault> {
+    let mut text = String::from_str(alloc, "volumes")?;
+    for volume in volumes {
+        let name = volume.name.as_str();
+        let pool = volume.pool.as_str();
+        write!(text, "; {} {name} {} {pool}", volume.number, volume.bytes)?;
+        put_keys(&mut text, &volume.caps)?;
+        put_params(&mut text, &volume.params)?;
+    }
+    Ok(text)
+}
+
+/// Attachments: of each its node, and what the volume is used as there.
+pub(crate) fn attachments_in_words(
+    alloc: Global,
+    attachments: &[Attachment],
+) -> Result<String, RowFault> {
+    let mut text = String::from_str(alloc, "attachments")?;
+    for attachment in attachments {
+        write!(text, "; {}", attachment.node.as_str())?;
+        put_key(&mut text, &attachment.cap)?;
+        if attachment.readonly {
+            write!(text, " readonly")?;
+        }
+    }
+    Ok(text)
+}
+
+/// Numbers with a space before each.
+pub(crate) fn numbers_in_words(alloc: Global, numbers: &[u64]) -> Result<String, RowFault> {
+    let mut text = String::from_str(alloc, "numbers")?;
+    for number in numbers {
+        write!(text, " {number}")?;
+    }
+    Ok(text)
+}
+
+fn put_nodes(text: &mut String, nodes: &Items<Text>) -> Result<(), RowFault> {
+    for node in nodes {
+        write!(text, " {}", node.as_str())?;
+    }
+    Ok(())
+}
+
+/// The nodes of each volume of a page.
+pub(crate) fn nodes_in_words(alloc: Global, nodes: &[Items<Text>]) -> Result<String, RowFault> {
+    let mut text = String::from_str(alloc, "nodes")?;
+    for nodes in nodes {
+        write!(text, ";")?;
+        put_nodes(&mut text, nodes)?;
+    }
+    Ok(text)
+}
+
+/// The page that a body means: the id of each volume, with its nodes.
+pub(crate) fn page_in_words(alloc: Global, body: &[u8]) -> Result<String, RowFault> {
+    let response = decode_response(alloc, Method::ListVolumes, body).map_err(
+        |_| RowFault::NoMemory,
+    )?;
+    let Response::List { entries, token } = response else {
+        return Err(RowFault::NotRow);
+    };
+    let mut text = format!(in alloc; "token '{}'", token.as_str())?;
+    for entry in &entries {
+        put_entry(&mut text, entry)?;
+    }
+    Ok(text)
+}
+
+fn put_entry(text: &mut String, entry: &Entry) -> Result<(), RowFault> {
+    let id = match &entry.volume {
+        Some(volume) => volume.id.as_str(),
+        None => "-",
+    };
+    write!(text, "; {id}")?;
+    match &entry.nodes {
+        Some(nodes) => put_nodes(text, nodes),
+        None => Ok(()),
+    }
+}
