@@ -1,0 +1,34 @@
+//! Rows about replies, as the client shows them.
+
+use crate::words::{first_word, named};
+use csi_client::{put_body_lines, put_reply_line};
+use csi_codec::DecodeFault;
+use csi_types::Method;
+use frames_core::{Reply, TakenReply, take_reply};
+use std::alloc::Global;
+use test_kit::{RowFault, bytes_of};
+
+/// The answer to a row, a method or `-` and bytes: the lines of the reply that the bytes begin with.
+pub(crate) fn answer(alloc: Global, row: &str) -> Result<Vec<u8>, RowFault> {
+    let (name, notation) = first_word(row)?;
+    let method = match name {
+        "-" => None,
+        name => Some(named(alloc, name)?),
+    };
+    let bytes = bytes_of(alloc, notation)?;
+    match take_reply(&bytes) {
+        TakenReply::Frame(reply, _) => lines_of(alloc, method, &reply),
+        TakenReply::Nothing | TakenReply::Fault(_) => Err(RowFault::Refused("no reply")),
+    }
+}
+
+fn lines_of(alloc: Global, method: Option<Method>, reply: &Reply<'_>) -> Result<Vec<u8>, RowFault> {
+    let mut out = Vec::new(alloc);
+    put_reply_line(alloc, &mut out, reply)?;
+    match put_body_lines(alloc, &mut out, method, reply) {
+        Ok(()) => {}
+        Err(DecodeFault::Malformed { .. }) => out.extend_from_slice(b"malformed\n")?,
+        Err(DecodeFault::NoMemory) => return Err(RowFault::NoMemory),
+    }
+    Ok(out)
+}

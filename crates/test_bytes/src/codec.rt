@@ -1,0 +1,128 @@
+//! Rows about messages.
+
+mod wire;
+
+use crate::words::{first_word, named};
+use csi_checks::check;
+use csi_codec::{DecodeFault, decode, decode_response, encode_request, encode_response};
+use csi_types::{
+    MAX_MAP_BYTES, MAX_MOUNT_FLAGS_BYTES, MAX_NODE_ID_BYTES, MAX_NODES, MAX_NUMBER,
+    MAX_PAGE_ENTRIES, MAX_POOL_BYTES, MAX_POOLS, MAX_SEGMENTS, MAX_TEXT_BYTES, MAX_VOLUMES, Method,
+    Request, Response,
+};
+use std::alloc::Global;
+use test_kit::{RowFault, bytes_of, bytes_text};
+use wire::{fields_answer, prefixes_answer, write_answer};
+
+/// The answer to a row: a method's name, a word that says what is asked, and the bytes of a message; or a word that has
+/// no method, and what it takes.
+pub(crate) fn answer(alloc: Global, row: &str) -> Result<String, RowFault> {
+    let (name, rest) = first_word(row)?;
+    match name {
+        "limit" => limit_answer(alloc, rest),
+        "fault" if rest == "NoMemory" => Ok(format!(in alloc; "{}", DecodeFault::NoMemory)?),
+        "fields" => fields_answer(alloc, rest),
+        "prefixes" => prefixes_answer(alloc, rest),
+        "write" => write_answer(alloc, rest),
+        _ => {
+            let method = named(alloc, name)?;
+            let (question, notation) = first_word(rest)?;
+            message_answer(alloc, method, question, &bytes_of(alloc, notation)?)
+        }
+    }
+}
+
+// What is read is lent to what answers: a value that is so large is dropped in one place.
+fn message_answer(
+    alloc: Global,
+    method: Method,
+    question: &str,
+    bytes: &[u8],
+) -> Result<String, RowFault> {
+    match question {
+        "response" | "response-value" => {
+            let response = meant(alloc, decode_response(alloc, method, bytes))?;
+            response_text(alloc, question, &response, bytes)
+        }
+        _ => {
+            let request = meant(alloc, decode(alloc, method, bytes))?;
+            request_text(alloc, question, &request, bytes)
+        }
+    }
+}
+
+fn response_text(
+    alloc: Global,
+    question: &str,
+    response: &Response,
+    bytes: &[u8],
+) -> Result<String, RowFault> {
+    if question == "response-value" {
+        return Ok(format!(in alloc; "{response:?}")?);
+    }
+    let mut out = Vec::new(alloc);
+    encode_response(response, &mut out)?;
+    compared(alloc, bytes, &out)
+}
+
+fn request_text(
+    alloc: Global,
+    question: &str,
+    request: &Request,
+    bytes: &[u8],
+) -> Result<String, RowFault> {
+    match question {
+        "request" => {
+            let mut out = Vec::new(alloc);
+            encode_request(request, &mut out)?;
+            let canonical = compared(alloc, bytes, &out)?;
+            Ok(format!(in alloc; "{canonical}, {}", checked(request))?)
+        }
+        "check" => Ok(String::from_str(alloc, checked(request))?),
+        "request-value" => Ok(format!(in alloc; "{request:?}")?),
+        _ => Err(RowFault::NotRow),
+    }
+}
+
+// What bytes mean. The fault of those that mean nothing stands in the place of the answer.
+fn meant<T>(alloc: Global, value: Result<T, DecodeFault>) -> Result<T, RowFault> {
+    match value {
+        Ok(value) => Ok(value),
+        Err(fault) => Err(RowFault::Differs(format!(in alloc; "{fault}")?)),
+    }
+}
+
+// What the argument checks answer.
+fn checked(request: &Request) -> &'static str {
+    match check(request) {
+        Ok(()) => "passed",
+        Err(reason) => reason.text(),
+    }
+}
+
+// The canonical bytes, or a word where they are those of the row.
+fn compared(alloc: Global, bytes: &[u8], canonical: &[u8]) -> Result<String, RowFault> {
+    if canonical == bytes {
+        return Ok(String::from_str(alloc, "same")?);
+    }
+    bytes_text(alloc, canonical)
+}
+
+// The value of a limit.
+fn limit_answer(alloc: Global, name: &str) -> Result<String, RowFault> {
+    let value = match name {
+        "MAX_TEXT_BYTES" => MAX_TEXT_BYTES as u64,
+        "MAX_NODE_ID_BYTES" => MAX_NODE_ID_BYTES as u64,
+        "MAX_MOUNT_FLAGS_BYTES" => MAX_MOUNT_FLAGS_BYTES as u64,
+        "MAX_MAP_BYTES" => MAX_MAP_BYTES as u64,
+        "MAX_POOLS" => MAX_POOLS as u64,
+        "MAX_SEGMENTS" => MAX_SEGMENTS as u64,
+        "MAX_NODES" => MAX_NODES as u64,
+        "MAX_VOLUMES" => MAX_VOLUMES,
+        "MAX_PAGE_ENTRIES" => u64::from(MAX_PAGE_ENTRIES),
+        "MAX_POOL_BYTES" => MAX_POOL_BYTES,
+        "MAX_NUMBER" => MAX_NUMBER,
+        _ => return Err(RowFault::NotRow),
+    };
+    Ok(format!(in alloc; "{value}")?)
+}

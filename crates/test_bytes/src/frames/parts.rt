@@ -1,0 +1,144 @@
+//! Rows about frames that are whole in memory.
+
+use frames_core::{Call, FrameFault, Reply, ReplyFault, Taken, TakenReply, take_frame, take_reply};
+use std::alloc::Global;
+use std::str;
+use test_kit::{RowFault, bytes_of, bytes_text, put_part};
+
+/// Whose frames a stream has.
+#[derive(Clone, Copy)]
+pub(crate) enum Kind {
+    Calls,
+    Replies,
+}
+
+// What bytes begin with, as a text: a frame and its size, or what is wrong.
+#[derive(Drop)]
+enum Part {
+    Nothing,
+    Fault(String),
+    Frame(String, usize),
+}
+
+/// The frames of a whole rest, one after the other, and how it ends.
+pub(crate) fn parts_answer(alloc: Global, kind: Kind, notation: &str) -> Result<String, RowFault> {
+    let bytes = bytes_of(alloc, notation)?;
+    let mut out = String::new(alloc);
+    let mut at: usize = 0;
+    for _ in 0..=bytes.len() {
+        let rest = bytes.get(at..).ok_or(RowFault::NotRow)?;
+        match part_of(alloc, kind, rest, at as u64)? {
+            Part::Nothing => {
+                put_part(&mut out, "nothing")?;
+                break;
+            }
+            Part::Fault(text) => {
+                put_part(&mut out, &text)?;
+                break;
+            }
+            Part::Frame(text, size) => {
+                put_part(&mut out, &text)?;
+                at = at.saturating_add(size);
+            }
+        }
+    }
+    Ok(out)
+}
+
+/// How many prefixes of a frame, of one byte to all but one, are an input that ends early.
+pub(crate) fn prefixes_answer(
+    alloc: Global,
+    kind: Kind,
+    notation: &str,
+) -> Result<String, RowFault> {
+    let bytes = bytes_of(alloc, notation)?;
+    let mut count: usize = 0;
+    for size in 1..bytes.len() {
+        let prefix = bytes.get(..size).ok_or(RowFault::NotRow)?;
+        if ends_early(alloc, kind, prefix)? {
+            count = count.saturating_add(1);
+        }
+    }
+    Ok(format!(in alloc; "{count} of {}", bytes.len().saturating_sub(1))?)
+}
+
+fn ends_early(alloc: Global, kind: Kind, prefix: &[u8]) -> Result<bool, RowFault> {
+    let early = format!(in alloc; "end of input at byte {}", prefix.len())?;
+    match part_of(alloc, kind, prefix, 0)? {
+        Part::Fault(text) => Ok(text == early),
+        Part::Nothing | Part::Frame(..) => Ok(false),
+    }
+}
+
+// What bytes begin with that begin at this place of a stream.
+fn part_of(alloc: Global, kind: Kind, bytes: &[u8], from: u64) -> Result<Part, RowFault> {
+    match kind {
+        Kind::Calls => call_part(alloc, bytes, from),
+        Kind::Replies => reply_part(alloc, bytes, from),
+    }
+}
+
+fn call_part(alloc: Global, bytes: &[u8], from: u64) -> Result<Part, RowFault> {
+    Ok(match take_frame(bytes) {
+        Taken::Nothing => Part::Nothing,
+        Taken::Fault(fault) => Part::Fault(call_fault_text(alloc, fault, from)?),
+        Taken::Frame(call, size) => Part::Frame(call_text(alloc, call)?, size),
+    })
+}
+
+fn reply_part(alloc: Global, bytes: &[u8], from: u64) -> Result<Part, RowFault> {
+    Ok(match take_reply(bytes) {
+        TakenReply::Nothing => Part::Nothing,
+        TakenReply::Fault(fault) => Part::Fault(reply_fault_text(alloc, fault, from)?),
+        TakenReply::Frame(reply, size) => Part::Frame(reply_text(alloc, reply)?, size),
+    })
+}
+
+/// The text of a fault of bytes that begin at this place of a stream of calls.
+pub(crate) fn call_fault_text(
+    alloc: Global,
+    fault: FrameFault,
+    from: u64,
+) -> Result<String, RowFault> {
+    let placed = FrameFault {
+        why: fault.why,
+        at: from.saturating_add(fault.at),
+    };
+    Ok(format!(in alloc; "{placed}")?)
+}
+
+/// The text of a fault of bytes that begin at this place of a stream of replies.
+pub(crate) fn reply_fault_text(
+    alloc: Global,
+    fault: ReplyFault,
+    from: u64,
+) -> Result<String, RowFault> {
+    let placed = ReplyFault {
+        why: fault.why,
+        at: from.saturating_add(fault.at),
+    };
+    Ok(format!(in alloc; "{placed}")?)
+}
+
+/// A call: its path and its message.
+pub(crate) fn call_text(alloc: Global, call: Call<'_>) -> Result<String, RowFault> {
+    let path = text_of(call.path)?;
+    let message = bytes_text(alloc, call.message)?;
+    Ok(format!(in alloc; "{path} {message}")?)
+}
+
+/// A reply: its status, its text and its body.
+pub(crate) fn reply_text(alloc: Global, reply: Reply<'_>) -> Result<String, RowFault> {
+    let text = match reply.text.len() {
+        0 => "-",
+        length if length > 64 => "long",
+        _ => text_of(reply.text)?,
+    };
+    let body = bytes_text(alloc, reply.body)?;
+    Ok(format!(in alloc; "{} {text} {body}", reply.status)?)
+}
+
+/// Bytes as the text that they are.
+pub(crate) fn text_of(bytes: &[u8]) -> Result<&str, RowFault> {
+    str::from_utf8(bytes).map_err(|_| RowFault::NotBytes)
+}

@@ -1,0 +1,78 @@
+//! Rows about a stream of calls or of replies that comes in pieces.
+
+use super::framer::AnyFramer;
+use super::parts::Kind;
+use crate::words::{first_word, number_of};
+use std::alloc::Global;
+use test_kit::{RowFault, bytes_of, put_part};
+
+/// The frames of a stream that comes in pieces of a size, and how it ends.
+pub(crate) fn pieces_answer(alloc: Global, kind: Kind, rest: &str) -> Result<String, RowFault> {
+    let (size, notation) = first_word(rest)?;
+    let size: usize = number_of(size)?;
+    if size == 0 {
+        return Err(RowFault::NotRow);
+    }
+    let bytes = bytes_of(alloc, notation)?;
+    let mut framer = AnyFramer::new(alloc, kind)?;
+    let mut out = String::new(alloc);
+    for piece in bytes.chunks(size) {
+        feed_all(alloc, &mut framer, piece, &mut out)?;
+    }
+    framer.end();
+    put_end(alloc, &framer, &mut out)?;
+    Ok(out)
+}
+
+// Feeds a piece, and tells and gives up each frame that it completes.
+fn feed_all(
+    alloc: Global,
+    framer: &mut AnyFramer,
+    piece: &[u8],
+    out: &mut String,
+) -> Result<(), RowFault> {
+    let mut at: usize = 0;
+    for _ in 0..=piece.len() {
+        let rest = piece.get(at..).ok_or(RowFault::NotRow)?;
+        if rest.is_empty() {
+            break;
+        }
+        at = at.saturating_add(framer.feed(rest)?);
+        if let Some(text) = framer.frame_text(alloc)? {
+            put_part(out, &text)?;
+        }
+        framer.next_frame();
+    }
+    Ok(())
+}
+
+// What is known where the input ends.
+fn put_end(alloc: Global, framer: &AnyFramer, out: &mut String) -> Result<(), RowFault> {
+    match framer.fault_text(alloc)? {
+        Some(text) => put_part(out, &text),
+        None => put_part(out, "nothing"),
+    }
+}
+
+/// What a framer makes of steps: `next`, `end`, or bytes that it is fed. Of these it is told how many were taken; and
+/// behind them how much it took, and a frame, a fault or neither.
+pub(crate) fn steps_answer(alloc: Global, kind: Kind, steps: &str) -> Result<String, RowFault> {
+    let mut framer = AnyFramer::new(alloc, kind)?;
+    let mut out = String::new(alloc);
+    for step in steps.split(' ') {
+        match step {
+            "next" => framer.next_frame(),
+            "end" => framer.end(),
+            notation => {
+                let count = framer.feed(&bytes_of(alloc, notation)?)?;
+                put_part(&mut out, &format!(in alloc; "{count}")?)?;
+            }
+        }
+    }
+    put_part(&mut out, &format!(in alloc; "of {}", framer.taken())?)?;
+    match framer.frame_text(alloc)? {
+        Some(text) => put_part(&mut out, &text)?,
+        None => put_end(alloc, &framer, &mut out)?,
+    }
+    Ok(out)
+}

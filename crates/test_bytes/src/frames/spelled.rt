@@ -1,0 +1,81 @@
+//! Rows about parts of replies, texts and limits.
+
+use super::parts::text_of;
+use crate::words::number_of;
+use frames_core::{
+    FrameFault, FrameWhy, MAX_BODY_BYTES, MAX_FRAME_BYTES, MAX_HEAD_BYTES, MAX_MESSAGE_BYTES,
+    MAX_PATH_BYTES, MAX_REFUSAL_TEXT_BYTES, MAX_REPLY_BYTES, MAX_REPLY_HEAD_BYTES, MAX_TEXT_BYTES,
+    REPLY_HEAD_BYTES, fault_text, fixed_text, refusal_frame, reply_head,
+};
+use std::alloc::Global;
+use test_kit::{RowFault, bytes_text, put_part};
+
+// The longest text that is copied as it is.
+const MAX_FIXED_BYTES: usize = 140;
+
+/// What stands before a body of a length.
+pub(crate) fn head_answer(alloc: Global, length: &str) -> Result<String, RowFault> {
+    let length: u32 = number_of(length)?;
+    bytes_text(alloc, reply_head(length).bytes())
+}
+
+/// The refusal of a call as one of an unknown method, with a status.
+pub(crate) fn refusal_answer(alloc: Global, status: &str) -> Result<String, RowFault> {
+    let status: u8 = number_of(status)?;
+    if status == 0 {
+        return Err(RowFault::NotRow);
+    }
+    bytes_text(alloc, refusal_frame(status, b"unknown method").bytes())
+}
+
+/// The text of each fault at a place, as it is sent. It is displayed so, too.
+pub(crate) fn texts_answer(alloc: Global, at: &str) -> Result<String, RowFault> {
+    let at: u64 = number_of(at)?;
+    let mut out = String::new(alloc);
+    for why in [
+        FrameWhy::BadPathLength,
+        FrameWhy::BadPath,
+        FrameWhy::BadFlag,
+        FrameWhy::TooLong,
+        FrameWhy::EndOfInput,
+    ] {
+        let fault = FrameFault { why, at };
+        put_part(&mut out, text_of(fault_text(&fault).bytes())?)?;
+        let displayed = format!(in alloc; "{fault}")?;
+        if displayed.as_bytes() != fault_text(&fault).bytes() {
+            put_part(&mut out, "displayed otherwise")?;
+        }
+    }
+    Ok(out)
+}
+
+/// A text as it is.
+pub(crate) fn fixed_answer(alloc: Global, text: &str) -> Result<String, RowFault> {
+    if text.len() > MAX_FIXED_BYTES {
+        return Err(RowFault::NotRow);
+    }
+    let mut out = String::new(alloc);
+    put_part(&mut out, text_of(fixed_text(text.as_bytes()).bytes())?)?;
+    Ok(out)
+}
+
+/// The limits of the envelope: of a call its path, message, head and frame; of a reply its text, body,
+/// head without and with a text, frame, and the text that refuses.
+pub(crate) fn limits_answer(alloc: Global) -> Result<String, RowFault> {
+    let mut out = String::new(alloc);
+    for limit in [
+        MAX_PATH_BYTES,
+        MAX_MESSAGE_BYTES,
+        MAX_HEAD_BYTES,
+        MAX_FRAME_BYTES,
+        MAX_TEXT_BYTES,
+        MAX_BODY_BYTES,
+        REPLY_HEAD_BYTES,
+        MAX_REPLY_HEAD_BYTES,
+        MAX_REPLY_BYTES,
+        MAX_REFUSAL_TEXT_BYTES,
+    ] {
+        put_part(&mut out, &format!(in alloc; "{limit}")?)?;
+    }
+    Ok(out)
+}

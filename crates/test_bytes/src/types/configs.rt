@@ -1,0 +1,89 @@
+//! Rows about configurations. What a row does not give is the plugin `x` in version 1, both sizes 1 MiB, the pool `p`
+//! of 1 MiB without segments, and no node.
+
+use super::texts::{map_of, text_at};
+use csi_config::{Config, Node, Plugin, Pool, Sizes};
+use csi_types::{Map, copy_text};
+use std::alloc::Global;
+use test_kit::{RowFault, number_at};
+
+pub(crate) const MEBIBYTE: u64 = 1_048_576;
+
+/// The fault of a configuration with what the words give, or a word where there is none.
+pub(crate) fn config_answer(alloc: Global, kind: &str, words: &[&str]) -> Result<String, RowFault> {
+    let mut plugin = plugin_of(alloc, &["x", "1"])?;
+    let mut sizes = Sizes {
+        default_bytes: MEBIBYTE,
+        greatest_bytes: MEBIBYTE,
+    };
+    let mut pools = one_pool(alloc, MEBIBYTE, Map::new(alloc))?;
+    let mut nodes = Vec::new(alloc);
+    match kind {
+        "plugin" => plugin = plugin_of(alloc, words)?,
+        "sizes" => {
+            sizes = Sizes {
+                default_bytes: number_at(words, 0)?,
+                greatest_bytes: number_at(words, 1)?,
+            };
+        }
+        "pools" => pools = pools_of(alloc, words)?,
+        "segments" => pools = one_pool(alloc, MEBIBYTE, map_of(alloc, words)?)?,
+        "nodes" => nodes = nodes_of(alloc, words)?,
+        _ => return Err(RowFault::NotRow),
+    }
+    match Config::new(plugin, sizes, pools, nodes) {
+        Ok(_) => Ok(String::from_str(alloc, "faultless")?),
+        Err(fault) => Ok(format!(in alloc; "{fault}")?),
+    }
+}
+
+// Of `NAME VERSION`.
+fn plugin_of(alloc: Global, words: &[&str]) -> Result<Plugin, RowFault> {
+    Ok(Plugin {
+        name: text_at(alloc, words, 0)?,
+        version: text_at(alloc, words, 1)?,
+    })
+}
+
+// Of `NAME BYTES ..`; one word is none.
+fn pools_of(alloc: Global, words: &[&str]) -> Result<Vec<Pool>, RowFault> {
+    let mut pools = Vec::new(alloc);
+    if words.len() > 1 {
+        for pair in words.chunks(2) {
+            pools.push(Pool {
+                name: text_at(alloc, pair, 0)?,
+                bytes: number_at(pair, 1)?,
+                segments: Map::new(alloc),
+            })?;
+        }
+    }
+    Ok(pools)
+}
+
+// Of `ID VOLUMES ..`.
+fn nodes_of(alloc: Global, words: &[&str]) -> Result<Vec<Node>, RowFault> {
+    let mut nodes = Vec::new(alloc);
+    for pair in words.chunks(2) {
+        nodes.push(Node {
+            id: text_at(alloc, pair, 0)?,
+            max_volumes: number_at(pair, 1)?,
+        })?;
+    }
+    Ok(nodes)
+}
+
+/// The pool `p` alone.
+pub(crate) fn one_pool(alloc: Global, bytes: u64, segments: Map) -> Result<Vec<Pool>, RowFault> {
+    let mut pools = Vec::new(alloc);
+    pools.push(Pool {
+        name: copy_text(alloc, "p")?,
+        bytes,
+        segments,
+    })?;
+    Ok(pools)
+}
+
+/// The value of the sample.
+pub(crate) fn sample_answer(alloc: Global) -> Result<String, RowFault> {
+    Ok(format!(in alloc; "{:?}", Config::sample(alloc)?)?)
+}

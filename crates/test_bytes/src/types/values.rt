@@ -1,0 +1,150 @@
+//! Rows about values.
+
+use super::texts::{map_of, text_at, texts_of};
+use crate::words::number_of;
+use csi_types::{
+    Access, Capability, Code, Mount, Reason, copy_capability, copy_map, method_of, name_reason,
+};
+use std::alloc::Global;
+use std::convert::AsStr;
+use std::fmt::Write;
+use test_kit::{RowFault, word_at};
+
+// All reasons.
+const REASONS: [Reason; 34] = [
+    Reason::NameMissing,
+    Reason::NameTooLong,
+    Reason::NameBanned,
+    Reason::CapabilityMissing,
+    Reason::AccessTypeMissing,
+    Reason::AccessModeUnknown,
+    Reason::CapabilityNotSupported,
+    Reason::CapacityNegative,
+    Reason::MapTooLarge,
+    Reason::TextTooLong,
+    Reason::SourceNotSupported,
+    Reason::TopologyKeysAlike,
+    Reason::PreferredNotRequisite,
+    Reason::VolumeIdMissing,
+    Reason::NodeIdMissing,
+    Reason::MaxEntriesNegative,
+    Reason::UnknownMethod,
+    Reason::VolumeNotFound,
+    Reason::NodeNotFound,
+    Reason::VolumeNotCompatible,
+    Reason::NoRoom,
+    Reason::TooManyVolumes,
+    Reason::NumbersUsedUp,
+    Reason::OutOfRange,
+    Reason::VolumeInUse,
+    Reason::PublishedElsewhere,
+    Reason::PublishedOtherwise,
+    Reason::NodeFull,
+    Reason::CapabilityNotOfVolume,
+    Reason::BadToken,
+    Reason::ReplyTooLarge,
+    Reason::OutOfMemory,
+    Reason::StoreRefused,
+    Reason::StoreDown,
+];
+
+/// Of `code NUMBER`: the name.
+pub(crate) fn code_answer(alloc: Global, words: &[&str]) -> Result<String, RowFault> {
+    let name = match Code::of(number_of(word_at(words, 0)?)?) {
+        Some(code) => code.name(),
+        None => "no code",
+    };
+    Ok(String::from_str(alloc, name)?)
+}
+
+/// Of `reason NAME`: the status code's number and the text.
+pub(crate) fn reason_answer(alloc: Global, words: &[&str]) -> Result<String, RowFault> {
+    let name = word_at(words, 0)?;
+    for reason in REASONS {
+        let shown = format!(in alloc; "{reason:?}")?;
+        if shown.as_str() == name {
+            return Ok(format!(in alloc; "{} {reason}", reason.code().number())?);
+        }
+    }
+    Err(RowFault::NotRow)
+}
+
+/// Of `method PATH`: the method.
+pub(crate) fn method_answer(alloc: Global, words: &[&str]) -> Result<String, RowFault> {
+    let path = text_at(alloc, words, 0)?;
+    match method_of(path.as_bytes()) {
+        Some(method) => Ok(format!(in alloc; "{method:?}")?),
+        None => Ok(String::from_str(alloc, "no method")?),
+    }
+}
+
+/// Of `name TEXT`: why no volume may have the name.
+pub(crate) fn name_answer(alloc: Global, words: &[&str]) -> Result<String, RowFault> {
+    let name = text_at(alloc, words, 0)?;
+    match name_reason(name.as_str()) {
+        Some(reason) => Ok(format!(in alloc; "{reason}")?),
+        None => Ok(String::from_str(alloc, "passed")?),
+    }
+}
+
+fn bytes_behind<T: AsStr>(text: &T) -> usize {
+    text.as_str().len()
+}
+
+/// Of `text TEXT`: the text in a column of eight characters, and its bytes.
+pub(crate) fn text_answer(alloc: Global, words: &[&str]) -> Result<String, RowFault> {
+    let text = text_at(alloc, words, 0)?;
+    Ok(format!(in alloc; "[{text:>8}] of {} bytes", bytes_behind(&text))?)
+}
+
+/// Of `list TEXT ..`: its texts as they come out.
+pub(crate) fn list_answer(alloc: Global, words: &[&str]) -> Result<String, RowFault> {
+    let texts = texts_of(alloc, words)?;
+    let mut told = String::new(alloc);
+    for text in &texts {
+        write!(told, "[{text}]")?;
+    }
+    Ok(told)
+}
+
+/// Of `map KEY VALUE ..`: the entries of a copy, as they come out.
+pub(crate) fn map_answer(alloc: Global, words: &[&str]) -> Result<String, RowFault> {
+    let copy = copy_map(alloc, &map_of(alloc, words)?)?;
+    let mut told = String::new(alloc);
+    for (key, value) in &copy {
+        write!(told, "[{key}={value}]")?;
+    }
+    Ok(told)
+}
+
+/// Of `capability none`, `capability block` or `capability mount TYPE GROUP MODE FLAG ..`: the value of a copy.
+pub(crate) fn capability_answer(alloc: Global, words: &[&str]) -> Result<String, RowFault> {
+    let capability = capability_of(alloc, words)?;
+    Ok(format!(in alloc; "{:?}", copy_capability(alloc, &capability)?)?)
+}
+
+fn capability_of(alloc: Global, words: &[&str]) -> Result<Capability, RowFault> {
+    match word_at(words, 0)? {
+        "none" => Ok(Capability {
+            access: Access::Missing,
+            mode: None,
+        }),
+        "block" => Ok(Capability {
+            access: Access::Block,
+            mode: None,
+        }),
+        "mount" => Ok(Capability {
+            mode: Some(number_of(word_at(words, 3)?)?),
+            access: Access::Mount(mount_of(alloc, words)?),
+        }),
+        _ => Err(RowFault::NotRow),
+    }
+}
+
+fn mount_of(alloc: Global, words: &[&str]) -> Result<Mount, RowFault> {
+    Ok(Mount {
+        fs_type: text_at(alloc, words, 1)?,
+        group: text_at(alloc, words, 2)?,
+        flags: texts_of(alloc, words.get(4..).unwrap_or_default())?,
+    })
+}
