@@ -15,3 +15,7 @@ keeps_on old mid new b a = record { tail = a.tail ++ b.tail; is = b.is ∙ ap (�
 pub closed_keeps : {A E : Type 0} (r : Result A E) (old mid new closed tail : List ℕ) → closed ≡ old ++ tail → Keeps old mid → OnOk r (new ≡ closed) → OnErr r (new ≡ mid) → Keeps old new
 closed_keeps (Ok x) old mid new closed tail is kept done undone = record { tail = tail; is = done ∙ is }
 closed_keeps (Err e) old mid new closed tail is kept done undone = subst (λ (bs : List ℕ). Keeps old bs) (sym undone) kept
+
+-- the next row behind those that stand
+pub wrote_next : (old mid new : List ℕ) (es fs : List WireField) → mid ≡ old ++ spellings es → new ≡ mid ++ spellings fs → new ≡ old ++ spellings (es ++ fs)
+wrote_next old mid new es fs one two = two ∙ ap (λ (bs : List ℕ). bs ++ spellings fs) one ∙ wrote_two old es fs

@@ -9,6 +9,8 @@ use Rattle.frames_core.specs.declared.limits.TheConstants.{MAX_BODY_BYTES}
 use Rattle.csi_machine.specs.declared.plan.Outcome.{Outcome}
 use Rattle.csi_machine.specs.declared.plan.Outcome.TheVariants as outcome
 use Rattle.csi_machine.specs.declared.plan.Plan.{Plan}
+use Rattle.csi_machine.specs.declared.body.Verdict.{Verdict}
+use Rattle.csi_machine.specs.declared.body.Verdict.TheVariants as verdict
 use Rattle.csi_machine.specs.calls.Capacity.{capacity}
 use Rattle.csi_machine.specs.calls.Create.{create}
 use Rattle.csi_machine.specs.calls.Delete.{delete}
@@ -49,6 +51,11 @@ step config s r = (told_of (plan config s r).outcome, moved s (after s (plan con
 abbrev pub limited_by : Plan → Outcome → Plan
 limited_by p (outcome.Refused reason) = refuse reason
 limited_by p (outcome.Done r) = if nat_le (length (response_bytes r)) MAX_BODY_BYTES then p else refuse ReplyTooLarge
+
+-- what is left of a plan by what its body is told as
+abbrev pub by_verdict : Plan → Verdict → Plan
+by_verdict p verdict.Done = p
+by_verdict p (verdict.Refused reason) = refuse reason
 
 abbrev pub limited : Plan → Plan
 limited p = limited_by p p.outcome

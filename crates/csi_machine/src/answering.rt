@@ -8,7 +8,7 @@ ghost use Rattle.csi_keeper.specs.Invariant.{IsInvariant};
 ghost use Rattle.csi_keeper.specs.Keeper.{IsQuiet, Tells, count_after};
 ghost use Rattle.csi_machine.specs.Plan.{after};
 ghost use Rattle.csi_keeper.specs.State.{State, Allows, IsBounded};
-ghost use Rattle.csi_machine.specs.Step.{plan, limited, settled_plan, step};
+ghost use Rattle.csi_machine.specs.Step.{by_verdict, plan, limited, settled_plan, step};
 ghost use Rattle.csi_machine.specs.Verdicts.{Appended, IsTold, told_of};
 
 use crate::body::{Verdict, append_body};
@@ -23,7 +23,7 @@ use crate::calls::publish::plan_publish;
 use crate::calls::unpublish::plan_unpublish;
 use crate::calls::validate::plan_validate;
 use crate::configured::configured;
-use crate::plan::{Outcome, Plan, refuse};
+use crate::plan::{Outcome, Plan};
 use csi_config::Config;
 use csi_keeper::{Keeper, StoreFault};
 use csi_types::Request;
@@ -67,19 +67,15 @@ fn append_outcome(outcome: &Outcome, out: &mut Vec<u8>) -> Result<Verdict, Alloc
     }
 }
 
-// Appends the body of a plan's response. A plan whose body no reply holds becomes a refusal.
-fn write_body(plan: Plan, out: &mut Vec<u8>) -> Result<Plan, AllocError>
-    requires { IfSome plan.change IsBounded }
-    ensures bounded { IfOk result (λ p. IfSome p.change IsBounded) }
-    ensures value { IfOk result (λ p. p ≡ limited plan) }
-    ensures body { IfOk result (λ p. out.new.items ≡ out.old.items ++ body_of p.outcome) }
-    ensures small { IfOk result (λ p. length (body_of p.outcome) ≤ MAX_BODY_BYTES) }
+// Appends the body of a plan's response. A body that no reply holds is a refusal, and then the plan
+// makes no change.
+fn append_plan(plan: &Plan, out: &mut Vec<u8>) -> Result<Verdict, AllocError>
+    ensures value { IfOk result (λ v. limited plan.now ≡ by_verdict plan.now v) }
+    ensures body { OnOk result (out.new.items ≡ out.old.items ++ body_of (limited plan.now).outcome) }
+    ensures small { OnOk result (length (body_of (limited plan.now).outcome) ≤ MAX_BODY_BYTES) }
     ensures err { OnErr result (out.new.items ≡ out.old.items) }
 {
-    match append_outcome(&plan.outcome, out)? {
-        Verdict::Done => Ok(plan),
-        Verdict::Refused(reason) => Ok(refuse(reason)),
-    }
+    append_outcome(&plan.outcome, out)
 }
 
 fn verdict_of(outcome: &Outcome) -> Verdict
@@ -114,19 +110,21 @@ fn carry_out<K: Keeper>(alloc: Global, keeper: &mut K, plan: &Plan) -> Result<Ve
 fn finish<K: Keeper>(
     alloc: Global,
     keeper: &mut K,
-    plan: Plan,
+    plan: &Plan,
     out: &mut Vec<u8>,
 ) -> Result<Verdict, StoreFault>
-    requires { IfSome plan.change IsBounded }
-    ensures carries { Carries K.holds K.doubt K.survivors K.tied (limited plan) keeper.old keeper.new result }
+    requires { IfSome plan.now.change IsBounded }
+    ensures carries { Carries K.holds K.doubt K.survivors K.tied (limited plan.now) keeper.old keeper.new result }
     ensures count { K.refused keeper.new ≡ count_after (K.refused keeper.old) result }
-    ensures body { OnOk result (out.new.items ≡ out.old.items ++ body_of (limited plan).outcome) }
-    ensures small { OnOk result (length (body_of (limited plan).outcome) ≤ MAX_BODY_BYTES) }
+    ensures body { OnOk result (out.new.items ≡ out.old.items ++ body_of (limited plan.now).outcome) }
+    ensures small { OnOk result (length (body_of (limited plan.now).outcome) ≤ MAX_BODY_BYTES) }
     ensures err { OnErr result (out.new.items ≡ out.old.items) }
 {
     let from = out.len();
-    let plan = write_body(plan, out)?;
-    match carry_out(alloc, keeper, &plan) {
+    if let Verdict::Refused(reason) = append_plan(plan, out)? {
+        return Ok(Verdict::Refused(reason));
+    }
+    match carry_out(alloc, keeper, plan) {
         Ok(verdict) => Ok(verdict),
         Err(fault) => {
             out.truncate(from);
@@ -147,7 +145,7 @@ fn answer_by_plan<K: Keeper>(
 {
     configured(config);
     let plan = plan_of(alloc, config, keeper, request)?;
-    finish(alloc, keeper, plan, out)
+    finish(alloc, keeper, &plan, out)
 }
 
 /// Answers a request over any keeper by one step of the machine: the plan that the keeper's State

@@ -8,6 +8,7 @@ ghost use Rattle.csi_codec.specs.Reading.{read_request};
 ghost use Rattle.csi_keeper.specs.Capability.{is_supported_key};
 ghost use Rattle.csi_tables.specs.Encoding.{caps_bytes, params_bytes, FitCaps, FitParams};
 ghost use Rattle.csi_looks.specs.Failing.{FailsForMemory};
+ghost use Rattle.csi_rules.specs.Values.{if_passes};
 ghost use Rattle.csi_rules.specs.Coding.{are_keys, are_params, created, each_key, is_before, key_in, keys_in, message_in, only, params_in, rise};
 
 use csi_codec::{DecodeFault, decode};
@@ -20,13 +21,23 @@ use std::cmp::Ordering;
 
 // ---- what is read
 
+// The message of a request to create a volume.
+fn created(request: Request) -> Option<CreateVolume>
+    ensures { result ≡ created (Ok request) }
+{
+    match request {
+        Request::Create(message) => Some(message),
+        _ => None,
+    }
+}
+
 fn message_in(alloc: Global, bytes: &[u8]) -> Result<Option<CreateVolume>, Error>
     ensures value { IfOk result (λ message. message ≡ message_in bytes.now) }
     ensures memory { FailsForMemory result }
 {
     match decode(alloc, Method::CreateVolume, bytes) {
-        Ok(Request::Create(message)) => Ok(Some(message)),
-        Ok(_) | Err(DecodeFault::Malformed { .. }) => Ok(None),
+        Ok(request) => Ok(created(request)),
+        Err(DecodeFault::Malformed { .. }) => Ok(None),
         Err(DecodeFault::NoMemory) => Err(Error::SqliteFailure(ErrorCode::OutOfMemory)),
     }
 }
@@ -69,10 +80,23 @@ pub(crate) fn keys_in(alloc: Global, bytes: &[u8]) -> Result<Option<Items<CapKey
     ensures fits { IfOk result (λ keys. IfSome keys FitCaps) }
     ensures memory { FailsForMemory result }
 {
-    let Some(message) = message_in(alloc, bytes)? else {
-        return Ok(None);
-    };
-    let Some(keys) = each_key(alloc, message.capabilities.as_slice())? else {
+    match message_in(alloc, bytes)? {
+        Some(message) => keys_of(alloc, message.capabilities.as_slice(), bytes),
+        None => Ok(None),
+    }
+}
+
+// The keys of capabilities, if these are their canonical bytes.
+fn keys_of(
+    alloc: Global,
+    capabilities: &[Capability],
+    bytes: &[u8],
+) -> Result<Option<Items<CapKey>>, Error>
+    ensures value { IfOk result (λ keys. keys ≡ if_passes (λ ks. bytes_eq (caps_bytes ks) bytes.now) (each_key capabilities.now)) }
+    ensures fits { IfOk result (λ keys. IfSome keys FitCaps) }
+    ensures memory { FailsForMemory result }
+{
+    let Some(keys) = each_key(alloc, capabilities)? else {
         return Ok(None);
     };
     if are_caps(alloc, keys.as_slice(), bytes)? {

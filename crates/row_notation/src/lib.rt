@@ -1,0 +1,249 @@
+//! Bytes as people write them, for rows of data about messages, and what the programs of such rows share.
+//!
+//! Two hexadecimal digits are a byte, and a text between quotation marks is its bytes. Parentheses stand for the
+//! length of what is in them, as a varint, and then it, so `0a(61)` is `0a0161`. Square brackets group. `*N` behind
+//! a byte, a text or a group repeats it, so `61*3` is `616161`. In a group `#N` is how often it was repeated
+//! before, as N digits to the base 64, each a byte of that value, and `#0` the same as a decimal text. Spaces are
+//! skipped, and `-` alone is no bytes.
+#![tactic(auto)]
+
+ghost use Rattle.std.specs.Prelude.{◌≡◌, ◌<◌, ◌++◌, [], IfOk, IfSome, codes, length};
+
+mod rows;
+
+pub use rows::{Answer, AnswerRow, answer_rows};
+use std::alloc::{AllocError, AllocFailed, Global};
+use std::str;
+
+// How deep parentheses and brackets may nest.
+const DEEPEST: u8 = 12;
+
+/// Why a text is no bytes.
+#[derive(Clone, Copy, Debug, PartialEq, Eq)]
+pub enum NotationFault {
+    /// The text is not of this notation.
+    NotBytes,
+    /// Memory was refused.
+    NoMemory,
+}
+
+impl From<AllocError> for NotationFault {
+    fn from(_error: AllocError) -> NotationFault {
+        NotationFault::NoMemory
+    }
+}
+
+impl From<AllocFailed<u8>> for NotationFault {
+    fn from(_error: AllocFailed<u8>) -> NotationFault {
+        NotationFault::NoMemory
+    }
+}
+
+// A part of a notation.
+#[derive(Clone, Copy)]
+enum Part<'t> {
+    Space,
+    Byte(u8),
+    // The text between quotation marks.
+    Text(&'t [u8]),
+    // What stands in parentheses.
+    Sized(&'t [u8]),
+    // What stands in square brackets.
+    Group(&'t [u8]),
+    // How many digits the count has.
+    Count(u8),
+}
+
+/// The bytes of a notation.
+///
+/// # Errors
+///
+/// Where the text is not of this notation, or memory was refused.
+pub fn bytes_of(alloc: Global, text: &str) -> Result<Vec<u8>, NotationFault>
+    ensures none { text.now ≡ codes "-" → IfOk result (λ bytes. bytes.items ≡ []) }
+{
+    bytes_counted(alloc, text, 0)
+}
+
+/// The bytes of a notation that stands in a group which was repeated `count` times before.
+///
+/// # Errors
+///
+/// Where the text is not of this notation, or memory was refused.
+pub fn bytes_counted(alloc: Global, text: &str, count: u32) -> Result<Vec<u8>, NotationFault>
+    ensures none { text.now ≡ codes "-" → IfOk result (λ bytes. bytes.items ≡ []) }
+{
+    let mut out = Vec::new(alloc);
+    if text != "-" {
+        put_all(&mut out, alloc, text.as_bytes(), count, DEEPEST)?;
+    }
+    Ok(out)
+}
+
+// Appends the bytes of a notation. The group around it was repeated `count` times before.
+#[cycle(put)]
+fn put_all(
+    out: &mut Vec<u8>,
+    alloc: Global,
+    text: &[u8],
+    count: u32,
+    depth: u8,
+) -> Result<(), NotationFault> {
+    let mut rest = text;
+    // Each part has a byte of the text at least.
+    for _ in 0..text.len() {
+        if rest.is_empty() {
+            break;
+        }
+        let (part, after) = first_part(rest).ok_or(NotationFault::NotBytes)?;
+        let (times, after) = times_of(after).ok_or(NotationFault::NotBytes)?;
+        rest = after;
+        put_times(out, alloc, part, times, count, depth)?;
+    }
+    Ok(())
+}
+
+// Appends a part so many times.
+#[cycle(put)]
+fn put_times(
+    out: &mut Vec<u8>,
+    alloc: Global,
+    part: Part<'_>,
+    times: u32,
+    count: u32,
+    depth: u8,
+) -> Result<(), NotationFault> {
+    let depth = depth.checked_sub(1).ok_or(NotationFault::NotBytes)?;
+    for before in 0..times {
+        match part {
+            Part::Byte(byte) => out.push(byte)?,
+            Part::Text(text) => out.extend_from_slice(text)?,
+            Part::Sized(text) => put_sized(out, alloc, text, count, depth)?,
+            Part::Group(text) => put_all(out, alloc, text, before, depth)?,
+            Part::Count(0) => put_decimal(out, alloc, count)?,
+            Part::Count(digits) => put_count(out, count, digits)?,
+            Part::Space => {}
+        }
+    }
+    Ok(())
+}
+
+// Appends the length of what stands in parentheses, and then it.
+#[cycle(put)]
+fn put_sized(
+    out: &mut Vec<u8>,
+    alloc: Global,
+    text: &[u8],
+    count: u32,
+    depth: u8,
+) -> Result<(), NotationFault> {
+    let mut inside = Vec::new(alloc);
+    put_all(&mut inside, alloc, text, count, depth)?;
+    put_varint(out, inside.len())?;
+    out.extend_from_slice(&inside)?;
+    Ok(())
+}
+
+// Appends a varint (Protocol Buffers encoding guide, 'Base 128 Varints').
+fn put_varint(out: &mut Vec<u8>, number: usize) -> Result<(), NotationFault> {
+    let mut rest = number;
+    for _ in 0..10 {
+        let group = (rest % 128) as u8;
+        rest /= 128;
+        if rest == 0 {
+            out.push(group)?;
+            break;
+        }
+        out.push(group + 128)?;
+    }
+    Ok(())
+}
+
+// Appends a count as one to three digits to the base 64.
+fn put_count(out: &mut Vec<u8>, count: u32, digits: u8) -> Result<(), NotationFault> {
+    let high = (count / 4096 % 64) as u8;
+    let middle = (count / 64 % 64) as u8;
+    let low = (count % 64) as u8;
+    match digits {
+        1 => out.push(low)?,
+        2 => out.extend_from_slice(&[middle, low])?,
+        3 => out.extend_from_slice(&[high, middle, low])?,
+        _ => return Err(NotationFault::NotBytes),
+    }
+    Ok(())
+}
+
+// Appends a count as a decimal text.
+fn put_decimal(out: &mut Vec<u8>, alloc: Global, count: u32) -> Result<(), NotationFault> {
+    let text = format!(in alloc; "{count}").map_err(|_| NotationFault::NoMemory)?;
+    out.extend_from_slice(text.as_bytes())?;
+    Ok(())
+}
+
+// The part in front, and what follows it.
+fn first_part(text: &[u8]) -> Option<(Part<'_>, &[u8])> {
+    let (first, rest) = text.split_first()?;
+    match *first {
+        b' ' => Some((Part::Space, rest)),
+        b'"' => {
+            let end = rest.iter().position(|byte| *byte == b'"')?;
+            Some((Part::Text(rest.get(..end)?), rest.get(end + 1..)?))
+        }
+        b'(' => {
+            let end = closing(rest)?;
+            Some((Part::Sized(rest.get(..end)?), rest.get(end + 1..)?))
+        }
+        b'[' => {
+            let end = closing(rest)?;
+            Some((Part::Group(rest.get(..end)?), rest.get(end + 1..)?))
+        }
+        b'#' => {
+            let (digits, rest) = rest.split_first()?;
+            Some((Part::Count(digit(*digits)?), rest))
+        }
+        high => {
+            let (low, rest) = rest.split_first()?;
+            Some((Part::Byte(digit(high)? * 16 + digit(*low)?), rest))
+        }
+    }
+}
+
+// The value of a hexadecimal digit.
+fn digit(character: u8) -> Option<u8>
+    ensures { IfSome result (λ value. value < 16) }
+{
+    match character {
+        b'0'..=b'9' => Some(character - b'0'),
+        b'a'..=b'f' => Some(character - b'a' + 10),
+        _ => None,
+    }
+}
+
+// The place of the bracket that closes what the text begins in.
+fn closing(text: &[u8]) -> Option<usize>
+    ensures { IfSome result (λ place. place < length text.now) }
+{
+    let mut depth: usize = 0;
+    let mut is_quoted = false;
+    for (place, byte) in text.iter().enumerate() {
+        match *byte {
+            b'"' => is_quoted = !is_quoted,
+            _ if is_quoted => {}
+            b'(' | b'[' => depth = depth.saturating_add(1),
+            b')' | b']' if depth == 0 => return Some(place),
+            b')' | b']' => depth = depth.saturating_sub(1),
+            _ => {}
+        }
+    }
+    None
+}
+
+// How often the part in front of the text is repeated, and what follows.
+fn times_of(text: &[u8]) -> Option<(u32, &[u8])> {
+    let Some((b'*', rest)) = text.split_first() else {
+        return Some((1, text));
+    };
+    let digits = rest.iter().take_while(|byte| byte.is_ascii_digit()).count();
+    let number = str::from_utf8(rest.get(..digits)?).ok()?;
+    Some((number.parse().ok()?, rest.get(digits..)?))
+}
