@@ -1,8 +1,8 @@
 #!/usr/bin/env python3
 """Writes the test vectors of the server: streams of calls, and all that is written for each.
 
-usage: tests/vectors.py > crates/vector_rows/stdin             a vector a line: NAME INPUT OUTPUT
-       tests/vectors.py --names > crates/vector_rows/stdout    what is expected to be printed of them: ok NAME
+usage: tests/vectors.py            a vector a line, NAME INPUT OUTPUT, as `csictl vectors` reads them
+       tests/vectors.py --names    what is expected to be printed of them: ok NAME
 
 There is no server in here: nothing is looked up, chosen, counted or checked. The functions put bytes together, as the Protocol Buffers
 encoding guide and docs/PROTOCOL.md say. Which reply a call gets is stated in its row, and was worked out by hand from docs/PROTOCOL.md and
