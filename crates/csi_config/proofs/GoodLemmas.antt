@@ -3,7 +3,7 @@ use Rattle.std.proofs.Common.{◌≡◌, ◌||◌, true, false, nat_lt, List, le
 use Rattle.csi_types.specs.Names.{is_empty, longer_than}
 use Rattle.csi_types.specs.declared.limits.TheConstants.{MAX_TEXT_BYTES, MAX_POOLS, MAX_NODES, MAX_POOL_BYTES}
 use Rattle.csi_config.proofs.ConfigLemmas.{first_none, rest_none, if_none, map_none, not_off}
-use Rattle.csi_config.specs.Faults.{is_plugin_name, is_whole, all_bytes, place_of_pool, place_of_node, name_at, id_at, plugin_fault, broken_sizes, sizes_fault, pool_fault, pool_names_fault, pool_bytes_fault, segments_fault, node_fault, node_ids_fault}
+use Rattle.csi_config.specs.Faults.{is_plugin_name, is_whole, all_bytes, place_of_pool, place_of_node, name_at, id_at, plugin_fault, broken_sizes, sizes_fault, pool_fault, pool_names_fault, pool_bytes_fault, segments_fault, node_fault, node_ids_fault, node_volumes_fault}
 use Rattle.csi_config.specs.declared.config.Config.{Config}
 use Rattle.csi_config.specs.declared.fault.ConfigFault.TheVariants as Fault
 use Rattle.csi_config.specs.declared.fault.NodeRule.{NodeRule}
@@ -37,6 +37,7 @@ pub record IsGood (config : Config) : Type 0 where
   pub volumes : place_of_node NodeRule.Volumes config.nodes ≡ None
 
 pub good : (config : Config) → IsGood config
+unfolding plugin_fault sizes_fault pool_names_fault pool_bytes_fault segments_fault node_ids_fault node_volumes_fault
 good config =
     let from_sizes = rest_none (plugin_fault config.plugin) _ config.faultless in
     let from_names = rest_none (sizes_fault config.sizes) _ from_sizes in

@@ -1,6 +1,7 @@
 -- What a configuration must not have, as a table of eight lines. The first line that holds is
 -- answered; within a line the first rule, and of that the first pool or node in order.
-use Rattle.std.specs.Prelude.{ℕ, ◌-◌, ◌%◌, ◌==◌, Bool, ◌&&◌, ◌||◌, cond, not, nat_lt, nat_le, List, [], ◌∷◌, length, map, take, get_or, sum_by, position, Option, Some, None}
+use Rattle.std.specs.Prelude.{ℕ, ◌-◌, ◌%◌, ◌==◌, Bool, false, ◌&&◌, ◌||◌, cond, not, nat_lt, nat_le, List, [], ◌∷◌, length, map, take, get_or, sum_by, position, Option, Some, None}
+use Rattle.std.specs.Char.{is_ascii_alphanumeric}
 use Rattle.std.specs.FinMap.{entries, len}
 use Rattle.std.specs.List.{list_any, list_all, enumerate_from}
 use Rattle.std.specs.Option.{option_map, option_or}
@@ -32,25 +33,21 @@ first_of (a ∷ rest) = option_or a (first_of rest)
 abbrev pub fault_if : {A : Type 0} → Bool → A → Option A
 fault_if test fault = cond test (Some fault) None
 
--- an ASCII letter or digit
-unfoldable pub is_alphanumeric : ℕ → Bool
-is_alphanumeric c = (nat_le 48 c && nat_le c 57) || (nat_le 65 c && nat_le c 90) || (nat_le 97 c && nat_le c 122)
-
 -- 1 to 63 bytes, each of which passes
 abbrev pub is_label : (ℕ → Bool) → List ℕ → Bool
 is_label test text = nat_lt 0 (length text) && nat_le (length text) MAX_NAME_BYTES && list_all test text
 
 -- letters, digits, `-` and `.`
 unfoldable pub is_plugin_byte : ℕ → Bool
-is_plugin_byte c = is_alphanumeric c || c == 45 || c == 46
+is_plugin_byte c = is_ascii_alphanumeric c || c == 45 || c == 46
 
 -- and the first and the last a letter or digit
 abbrev pub is_plugin_name : List ℕ → Bool
-is_plugin_name name = is_label is_plugin_byte name && is_alphanumeric (get_or name 0 0) && is_alphanumeric (get_or name (length name - 1) 0)
+is_plugin_name name = is_label is_plugin_byte name && is_ascii_alphanumeric (get_or name 0 0) && is_ascii_alphanumeric (get_or name (length name - 1) 0)
 
 -- letters, digits, `-`, `_` and `.`
 unfoldable pub is_pool_byte : ℕ → Bool
-is_pool_byte c = is_alphanumeric c || c == 45 || c == 95 || c == 46
+is_pool_byte c = is_ascii_alphanumeric c || c == 45 || c == 95 || c == 46
 
 abbrev pub is_pool_name : List ℕ → Bool
 is_pool_name name = is_label is_pool_byte name
@@ -69,6 +66,13 @@ is_bad_id id = is_empty id || longer_than MAX_NODE_ID_BYTES id || list_any is_ba
 -- the bytes of all pools
 abbrev pub all_bytes : List Pool → ℕ
 all_bytes pools = sum_by (λ p. p.bytes) pools
+
+-- a segment, a key with its value, breaks a rule
+abbrev pub breaks_segment : PoolRule → List ℕ × List ℕ → Bool
+breaks_segment KeyEmpty e = is_empty e.0
+breaks_segment KeyTooLong e = longer_than MAX_TEXT_BYTES e.0
+breaks_segment ValueTooLong e = longer_than MAX_TEXT_BYTES e.1
+breaks_segment rule e = false
 
 -- a pool, behind some earlier ones, breaks a rule
 abbrev pub breaks_pool : PoolRule → List Pool → Pool → Bool
@@ -109,7 +113,7 @@ id_at nodes place = get_or (map (λ n. n.id) nodes) place []
 abbrev pub node_fault : NodeRule → List Node → Option ConfigFault
 node_fault rule nodes = option_map (λ place. Fault.Node (id_at nodes place) rule) (place_of_node rule nodes)
 
-abbrev pub plugin_fault : Plugin → Option ConfigFault
+unfoldable pub plugin_fault : Plugin → Option ConfigFault
 plugin_fault plugin = first_of (
     fault_if (not (is_plugin_name plugin.name)) (Fault.PluginName plugin.name)
     ∷ fault_if (is_empty plugin.version || longer_than MAX_TEXT_BYTES plugin.version) Fault.PluginVersion
@@ -124,10 +128,10 @@ broken_sizes sizes = first_of (
     ∷ fault_if (nat_lt MAX_POOL_BYTES sizes.greatest_bytes) Size.Limit
     ∷ [])
 
-abbrev pub sizes_fault : Sizes → Option ConfigFault
+unfoldable pub sizes_fault : Sizes → Option ConfigFault
 sizes_fault sizes = option_map Fault.Sizes (broken_sizes sizes)
 
-abbrev pub pool_names_fault : List Pool → Option ConfigFault
+unfoldable pub pool_names_fault : List Pool → Option ConfigFault
 pool_names_fault pools = first_of (
     fault_if (is_empty pools) Fault.NoPool
     ∷ fault_if (nat_lt MAX_POOLS (length pools)) Fault.TooManyPools
@@ -135,13 +139,13 @@ pool_names_fault pools = first_of (
     ∷ pool_fault NameTwice pools
     ∷ [])
 
-abbrev pub pool_bytes_fault : List Pool → Option ConfigFault
+unfoldable pub pool_bytes_fault : List Pool → Option ConfigFault
 pool_bytes_fault pools = first_of (
     pool_fault Bytes pools
     ∷ fault_if (nat_lt MAX_POOL_BYTES (all_bytes pools)) Fault.AllBytes
     ∷ [])
 
-abbrev pub segments_fault : List Pool → Option ConfigFault
+unfoldable pub segments_fault : List Pool → Option ConfigFault
 segments_fault pools = first_of (
     pool_fault Segments pools
     ∷ pool_fault KeyEmpty pools
@@ -150,14 +154,14 @@ segments_fault pools = first_of (
     ∷ pool_fault KeysAlike pools
     ∷ [])
 
-abbrev pub node_ids_fault : List Node → Option ConfigFault
+unfoldable pub node_ids_fault : List Node → Option ConfigFault
 node_ids_fault nodes = first_of (
     fault_if (nat_lt MAX_NODES (length nodes)) Fault.TooManyNodes
     ∷ node_fault Id nodes
     ∷ node_fault IdTwice nodes
     ∷ [])
 
-abbrev pub node_volumes_fault : List Node → Option ConfigFault
+unfoldable pub node_volumes_fault : List Node → Option ConfigFault
 node_volumes_fault nodes = node_fault Volumes nodes
 
 -- what a configuration of these parts is refused for, if for anything

@@ -77,7 +77,7 @@ pub enum ConfigFault {
     #[error("the plugin's version is not 1 to 128 bytes")]
     PluginVersion,
     /// The sizes of volumes break a rule.
-    #[error("{0}")]
+    #[error(transparent)]
     Sizes(SizeRule),
     /// There is no pool.
     #[error("there is no pool")]

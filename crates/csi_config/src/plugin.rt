@@ -2,7 +2,7 @@
 
 ghost use Rattle.std.specs.Prelude.{◌≡◌, None, OnOk, IfOk, IfErr, Some};
 ghost use Rattle.std.specs.List.{list_all};
-ghost use Rattle.csi_config.specs.Faults.{is_alphanumeric, is_plugin_byte, is_plugin_name, plugin_fault};
+ghost use Rattle.csi_config.specs.Faults.{is_plugin_byte, is_plugin_name, plugin_fault};
 
 use crate::fault::ConfigFault;
 use csi_types::{MAX_TEXT_BYTES, Text};
@@ -22,18 +22,11 @@ pub struct Plugin {
     pub version: Text,
 }
 
-#[tactic(auto, unfolding(crate::specs::Faults::is_alphanumeric))]
-pub(crate) fn is_alphanumeric(byte: u8) -> bool
-    ensures { result ≡ is_alphanumeric byte }
-{
-    matches!(byte, b'0'..=b'9' | b'A'..=b'Z' | b'a'..=b'z')
-}
-
 #[tactic(auto, unfolding(crate::specs::Faults::is_plugin_byte))]
 fn is_plugin_byte(byte: u8) -> bool
     ensures { result ≡ is_plugin_byte byte }
 {
-    is_alphanumeric(byte) || byte == b'-' || byte == b'.'
+    byte.is_ascii_alphanumeric() || byte == b'-' || byte == b'.'
 }
 
 fn are_plugin_bytes(name: &[u8]) -> bool
@@ -48,10 +41,11 @@ fn is_plugin_name(name: &[u8]) -> bool
     if name.is_empty() || name.len() > MAX_NAME_BYTES || !are_plugin_bytes(name) {
         return false;
     }
-    is_alphanumeric(name[0]) && is_alphanumeric(name[name.len() - 1])
+    name[0].is_ascii_alphanumeric() && name[name.len() - 1].is_ascii_alphanumeric()
 }
 
 /// Gives the plugin back, or its first fault.
+#[tactic(auto, unfolding(crate::specs::Faults::plugin_fault))]
 pub(crate) fn check_plugin(plugin: Plugin) -> Result<Plugin, ConfigFault>
     ensures same { IfOk result (λ same. same ≡ plugin) }
     ensures passed { OnOk result (plugin_fault plugin ≡ None) }

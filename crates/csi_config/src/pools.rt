@@ -4,11 +4,10 @@ ghost use Rattle.std.specs.Prelude.{◌≡◌, ◌<◌, ◌-◌, ◌^◌, min, t
 ghost use Rattle.std.specs.FinMap.{entries};
 ghost use Rattle.std.specs.List.{list_all, list_any};
 ghost use Rattle.csi_types.specs.Maps.{same_text};
-ghost use Rattle.csi_types.specs.Names.{is_empty, longer_than};
-ghost use Rattle.csi_config.specs.Faults.{all_bytes, breaks_pool, is_pool_byte, is_pool_name, name_at, pool_bytes_fault, pool_fault, pool_names_fault, place_of_pool, segments_fault};
+ghost use Rattle.csi_config.specs.Faults.{all_bytes, breaks_pool, breaks_segment, is_pool_byte, is_pool_name, name_at, pool_bytes_fault, pool_fault, pool_names_fault, place_of_pool, segments_fault};
 
 use crate::fault::{ConfigFault, PoolRule};
-use crate::plugin::{MAX_NAME_BYTES, is_alphanumeric};
+use crate::plugin::MAX_NAME_BYTES;
 use crate::sizes::is_whole;
 use csi_types::{
     MAX_POOL_BYTES, MAX_POOLS, MAX_SEGMENTS, MAX_TEXT_BYTES, Map, Text, has_alike_keys,
@@ -31,7 +30,7 @@ pub struct Pool {
 fn is_pool_byte(byte: u8) -> bool
     ensures { result ≡ is_pool_byte byte }
 {
-    is_alphanumeric(byte) || byte == b'-' || byte == b'_' || byte == b'.'
+    byte.is_ascii_alphanumeric() || byte == b'-' || byte == b'_' || byte == b'.'
 }
 
 fn are_pool_bytes(name: &[u8]) -> bool
@@ -56,24 +55,24 @@ fn is_named_before(pools: &[Pool], count: usize, name: &Text) -> bool
         .any(|earlier| earlier.name == *name)
 }
 
-fn has_empty_key(segments: &Map) -> bool
-    ensures { result ≡ list_any (λ e. is_empty e.0) (entries segments.now) }
+// Whether a segment breaks a rule of keys and values.
+fn breaks_segment(rule: PoolRule, key: &Text, value: &Text) -> bool
+    ensures { result ≡ breaks_segment rule (key.now, value.now) }
 {
-    segments.iter().any(|(key, _)| key.is_empty())
+    match rule {
+        PoolRule::KeyEmpty => key.is_empty(),
+        PoolRule::KeyTooLong => key.len() > MAX_TEXT_BYTES,
+        PoolRule::ValueTooLong => value.len() > MAX_TEXT_BYTES,
+        _ => false,
+    }
 }
 
-fn has_long_key(segments: &Map) -> bool
-    ensures { result ≡ list_any (λ e. longer_than MAX_TEXT_BYTES e.0) (entries segments.now) }
-{
-    segments.iter().any(|(key, _)| key.len() > MAX_TEXT_BYTES)
-}
-
-fn has_long_value(segments: &Map) -> bool
-    ensures { result ≡ list_any (λ e. longer_than MAX_TEXT_BYTES e.1) (entries segments.now) }
+fn has_broken_segment(rule: PoolRule, segments: &Map) -> bool
+    ensures { result ≡ list_any (breaks_segment rule) (entries segments.now) }
 {
     segments
         .iter()
-        .any(|(_, value)| value.len() > MAX_TEXT_BYTES)
+        .any(|(key, value)| breaks_segment(rule, key, value))
 }
 
 // Whether a pool, which stands behind the first `count`, breaks a rule.
@@ -85,9 +84,9 @@ fn breaks(rule: PoolRule, pools: &[Pool], count: usize, pool: &Pool) -> bool
         PoolRule::NameTwice => is_named_before(pools, count, &pool.name),
         PoolRule::Bytes => !is_whole(pool.bytes),
         PoolRule::Segments => pool.segments.len() > MAX_SEGMENTS,
-        PoolRule::KeyEmpty => has_empty_key(&pool.segments),
-        PoolRule::KeyTooLong => has_long_key(&pool.segments),
-        PoolRule::ValueTooLong => has_long_value(&pool.segments),
+        PoolRule::KeyEmpty | PoolRule::KeyTooLong | PoolRule::ValueTooLong => {
+            has_broken_segment(rule, &pool.segments)
+        }
         PoolRule::KeysAlike => has_alike_keys(&pool.segments),
     }
 }
@@ -127,6 +126,7 @@ fn check_rule(rule: PoolRule, pools: Vec<Pool>) -> Result<Vec<Pool>, ConfigFault
 }
 
 /// Gives the pools back, or the first fault of their number and their names.
+#[tactic(auto, unfolding(crate::specs::Faults::pool_names_fault))]
 pub(crate) fn check_names(pools: Vec<Pool>) -> Result<Vec<Pool>, ConfigFault>
     ensures same { IfOk result (λ same. same.items ≡ pools.items) }
     ensures passed { OnOk result (pool_names_fault pools.items ≡ None) }
@@ -154,6 +154,7 @@ fn all_bytes(pools: &[Pool]) -> u64
 }
 
 /// Gives the pools back, or the first fault of their bytes.
+#[tactic(auto, unfolding(crate::specs::Faults::pool_bytes_fault))]
 pub(crate) fn check_bytes(pools: Vec<Pool>) -> Result<Vec<Pool>, ConfigFault>
     ensures same { IfOk result (λ same. same.items ≡ pools.items) }
     ensures passed { OnOk result (pool_bytes_fault pools.items ≡ None) }
@@ -167,6 +168,7 @@ pub(crate) fn check_bytes(pools: Vec<Pool>) -> Result<Vec<Pool>, ConfigFault>
 }
 
 /// Gives the pools back, or the first fault of their segments.
+#[tactic(auto, unfolding(crate::specs::Faults::segments_fault))]
 pub(crate) fn check_segments(pools: Vec<Pool>) -> Result<Vec<Pool>, ConfigFault>
     ensures same { IfOk result (λ same. same.items ≡ pools.items) }
     ensures passed { OnOk result (segments_fault pools.items ≡ None) }

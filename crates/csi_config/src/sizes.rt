@@ -44,6 +44,7 @@ fn broken_rule(sizes: &Sizes) -> Option<SizeRule>
 }
 
 /// The first fault of the sizes, or `Ok` where they have none.
+#[tactic(auto, unfolding(crate::specs::Faults::sizes_fault))]
 pub(crate) fn check_sizes(sizes: &Sizes) -> Result<(), ConfigFault>
     ensures passed { OnOk result (sizes_fault sizes.now ≡ None) }
     ensures refused { IfErr result (λ fault. sizes_fault sizes.now ≡ Some fault) }

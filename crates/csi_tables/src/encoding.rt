@@ -62,6 +62,19 @@ fn capabilities_of(alloc: Global, keys: &[CapKey]) -> Result<Items<Capability>, 
     Ok(capabilities)
 }
 
+// The canonical bytes of capabilities and parameters. The message is large, and lives here alone.
+fn write_parts(
+    alloc: Global,
+    capabilities: Items<Capability>,
+    parameters: Map,
+) -> Result<Vec<u8>, AllocError>
+    ensures bytes { IfOk result (λ out. out.items ≡ request_bytes (create_with capabilities parameters)) }
+    ensures fits { OnOk result (FitsRequest (create_with capabilities parameters)) }
+{
+    let request = create_with(alloc, capabilities, parameters);
+    write(alloc, &request)
+}
+
 /// The canonical bytes of capabilities, as they stand in a column.
 ///
 /// # Errors
@@ -72,8 +85,7 @@ pub fn write_caps(alloc: Global, keys: &[CapKey]) -> Result<Vec<u8>, AllocError>
     ensures bytes { IfOk result (λ out. out.items ≡ caps_bytes keys.now) }
     ensures fits { OnOk result (FitCaps keys.now) }
 {
-    let request = create_with(alloc, capabilities_of(alloc, keys)?, Map::new(alloc));
-    write(alloc, &request)
+    write_parts(alloc, capabilities_of(alloc, keys)?, Map::new(alloc))
 }
 
 /// The canonical bytes of parameters, as they stand in a column.
@@ -86,8 +98,7 @@ pub fn write_params(alloc: Global, params: &Map) -> Result<Vec<u8>, AllocError>
     ensures bytes { IfOk result (λ out. out.items ≡ params_bytes params.now) }
     ensures fits { OnOk result (FitParams params.now) }
 {
-    let request = create_with(alloc, Items::new(alloc), copy_map(alloc, params)?);
-    write(alloc, &request)
+    write_parts(alloc, Items::new(alloc), copy_map(alloc, params)?)
 }
 
 fn read(alloc: Global, bytes: &[u8]) -> Result<CreateVolume, Fault>
