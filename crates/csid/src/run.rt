@@ -1,19 +1,15 @@
 //! What the program does, and the status that it ends with.
 
-ghost use Rattle.std.specs.Prelude.{◌≡◌, false};
-
 use crate::command::{Task, asked, command};
 use crate::config::configuration;
 use crate::say::{DONE, INPUT_OUTPUT, Peer, USAGE, no_memory, report, say};
 use crate::socket::{listen, serve_all};
-use crate::tables::{close, connect, keep, no_path};
+use crate::tables::{close, no_path, open};
 use clap::error::ErrorKind as WordsKind;
 use command_line::refusal_line;
 use csi_config::Config;
 use csi_machine::{Keeper, MemKeeper};
 use csi_server::serve;
-use sqlite::{Connection, FileStore};
-use sqlite_disk::Disk;
 use std::env;
 use std::io::{self, ErrorKind};
 
@@ -62,32 +58,16 @@ fn pipe_over_memory(rt: &HostRuntime, config: &Config) -> u8 {
     }
 }
 
-// Answers the calls of standard input, and keeps the volumes in the file of a connection.
-fn pipe_over<D: Disk + Drop>(
-    rt: &HostRuntime,
-    config: &Config,
-    path: &str,
-    conn: Connection<FileStore<D>>,
-) -> u8
-    requires { conn.in_transaction ≡ false }
-{
-    match keep(rt, path, conn, config) {
-        Ok(mut tables) => {
-            let status = serve_pipe(rt, config, &mut tables);
-            match close(rt, path, tables) {
-                Ok(()) => status,
-                Err(closing) => closing,
-            }
-        }
-        Err(status) => status,
-    }
-}
-
 // Answers the calls of standard input, and keeps the volumes in a file.
 fn pipe_over_tables(rt: &HostRuntime, config: &Config, path: &str) -> u8 {
-    match connect(rt, path) {
-        Ok(conn) => pipe_over(rt, config, path, conn),
-        Err(status) => status,
+    let mut tables = match open(rt, path, config) {
+        Ok(tables) => tables,
+        Err(status) => return status,
+    };
+    let status = serve_pipe(rt, config, &mut tables);
+    match close(rt, path, tables) {
+        DONE => status,
+        closing => closing,
     }
 }
 

@@ -1,14 +1,10 @@
 //! `csid serve`: connections to a Unix socket.
 
-ghost use Rattle.std.specs.Prelude.{◌≡◌, false};
-
 use crate::say::{DONE, Peer, SOCKET, no_memory, report, say};
-use crate::tables::{close, connect, keep};
+use crate::tables::{close, open};
 use csi_config::Config;
 use csi_machine::Keeper;
 use csi_server::serve;
-use sqlite::{Connection, FileStore};
-use sqlite_disk::Disk;
 use std::io::{self, ErrorKind};
 use std::os::unix::net::{UnixListener, UnixStream};
 
@@ -44,28 +40,12 @@ fn serve_one<K: Keeper>(rt: &HostRuntime, config: &Config, keeper: &mut K, strea
     report(rt, Peer::Connection, end);
 }
 
-// Answers the calls of one connection over the tables in a file. What went wrong is said, and the next
-// connection opens the file anew.
-fn serve_over<D: Disk + Drop>(
-    rt: &HostRuntime,
-    config: &Config,
-    path: &str,
-    conn: Connection<FileStore<D>>,
-    stream: &UnixStream,
-)
-    requires { conn.in_transaction ≡ false }
-{
-    if let Ok(mut keeper) = keep(rt, path, conn, config) {
-        serve_one(rt, config, &mut keeper, stream);
-        let _ = close(rt, path, keeper);
-    }
-}
-
 // Answers the calls of one connection over the tables, which are opened for it; where they cannot be,
-// the connection is closed unanswered.
+// the connection is closed unanswered. What went wrong is said, and the next connection opens them anew.
 fn serve_over_tables(rt: &HostRuntime, config: &Config, path: &str, stream: &UnixStream) {
-    if let Ok(conn) = connect(rt, path) {
-        serve_over(rt, config, path, conn, stream);
+    if let Ok(mut tables) = open(rt, path, config) {
+        serve_one(rt, config, &mut tables, stream);
+        let _ = close(rt, path, tables);
     }
 }
 

@@ -2,7 +2,7 @@
 
 ghost use Rattle.std.specs.Prelude.{◌≡◌, false, IfOk};
 
-use crate::say::{TABLES, no_memory, say};
+use crate::say::{DONE, TABLES, no_memory, say};
 use csi_adoption::{AdoptError, AdoptFault, adopt};
 use csi_config::Config;
 use csi_tables::Tables;
@@ -38,8 +38,8 @@ pub(crate) fn no_path(rt: &HostRuntime) -> u8 {
     TABLES
 }
 
-/// A connection to a file, which is made where there is none; else the status to end with, and why is said.
-pub(crate) fn connect(rt: &HostRuntime, path: &str) -> Result<Connection<Store>, u8>
+// A connection to a file, which is made where there is none; else the status to end with, and why is said.
+fn connect(rt: &HostRuntime, path: &str) -> Result<Connection<Store>, u8>
     ensures { IfOk result (λ conn. conn.in_transaction ≡ false) }
 {
     if path.is_empty() {
@@ -59,9 +59,9 @@ fn refuse_tables(rt: &HostRuntime, path: &str, fault: &AdoptFault) -> u8 {
     }
 }
 
-/// A keeper over the tables on a connection, which are made where the file is new; else the status to end
-/// with, and why is said.
-pub(crate) fn keep<D: Disk + Drop>(
+// A keeper over the tables on a connection, which are made where the file is new; else the status to end
+// with, and why is said.
+fn keep<D: Disk + Drop>(
     rt: &HostRuntime,
     path: &str,
     conn: Connection<FileStore<D>>,
@@ -75,15 +75,20 @@ pub(crate) fn keep<D: Disk + Drop>(
     }
 }
 
-/// Copies what was committed into the file itself, and closes it. Where that fails, nothing is lost:
-/// it stays in the log beside the file.
-pub(crate) fn close<D: Disk + Drop>(
-    rt: &HostRuntime,
-    path: &str,
-    tables: Tables<FileStore<D>>,
-) -> Result<(), u8> {
+/// A keeper over the tables in a file, which is made where there is none; else the status to end with,
+/// and why is said.
+pub(crate) fn open(rt: &HostRuntime, path: &str, config: &Config) -> Result<Tables<Store>, u8> {
+    match connect(rt, path) {
+        Ok(conn) => keep(rt, path, conn, config),
+        Err(status) => Err(status),
+    }
+}
+
+/// Copies what was committed into the file itself, and closes it; gives the status to end with. Where that
+/// fails, nothing is lost: it stays in the log beside the file.
+pub(crate) fn close(rt: &HostRuntime, path: &str, tables: Tables<Store>) -> u8 {
     match tables.into_connection().close() {
-        Ok(()) => Ok(()),
-        Err(error) => Err(refuse_file(rt, path, &error)),
+        Ok(()) => DONE,
+        Err(error) => refuse_file(rt, path, &error),
     }
 }
