@@ -32,7 +32,7 @@ pub(crate) fn answer(alloc: Global, row: &str) -> Result<String, RowFault> {
     }
 }
 
-// What is read is lent to what answers: a value that is so large is dropped in one place.
+// What is read is handed on at once to a function that does not spell out its type: so large a value is dear to own.
 fn message_answer(
     alloc: Global,
     method: Method,
@@ -41,54 +41,56 @@ fn message_answer(
 ) -> Result<String, RowFault> {
     match question {
         "response" | "response-value" => {
-            let response = meant(alloc, decode_response(alloc, method, bytes))?;
-            response_text(alloc, question, &response, bytes)
+            let response = decode_response(alloc, method, bytes);
+            read_answer(alloc, response, question, bytes)
         }
-        _ => {
-            let request = meant(alloc, decode(alloc, method, bytes))?;
-            request_text(alloc, question, &request, bytes)
-        }
+        _ => read_answer(alloc, decode(alloc, method, bytes), question, bytes),
     }
 }
 
-fn response_text(
+// Bytes that mean nothing are answered with their fault.
+fn read_answer<M: Message>(
     alloc: Global,
+    message: Result<M, DecodeFault>,
     question: &str,
-    response: &Response,
     bytes: &[u8],
 ) -> Result<String, RowFault> {
-    if question == "response-value" {
-        return Ok(format!(in alloc; "{response:?}")?);
+    match message {
+        Ok(message) => message.answer(alloc, question, bytes),
+        Err(fault) => Ok(format!(in alloc; "{fault}")?),
     }
-    let mut out = Vec::new(alloc);
-    encode_response(response, &mut out)?;
-    compared(alloc, bytes, &out)
 }
 
-fn request_text(
-    alloc: Global,
-    question: &str,
-    request: &Request,
-    bytes: &[u8],
-) -> Result<String, RowFault> {
-    match question {
-        "request" => {
-            let mut out = Vec::new(alloc);
-            encode_request(request, &mut out)?;
-            let canonical = compared(alloc, bytes, &out)?;
-            Ok(format!(in alloc; "{canonical}, {}", checked(request))?)
+// A request or a response.
+trait Message: Drop {
+    // What is answered of it to a question, where it was read from these bytes.
+    fn answer(&self, alloc: Global, question: &str, bytes: &[u8]) -> Result<String, RowFault>;
+}
+
+impl Message for Request {
+    fn answer(&self, alloc: Global, question: &str, bytes: &[u8]) -> Result<String, RowFault> {
+        match question {
+            "request" => {
+                let mut out = Vec::new(alloc);
+                encode_request(self, &mut out)?;
+                let canonical = compared(alloc, bytes, &out)?;
+                Ok(format!(in alloc; "{canonical}, {}", checked(self))?)
+            }
+            "check" => Ok(String::from_str(alloc, checked(self))?),
+            "request-value" => Ok(format!(in alloc; "{self:?}")?),
+            _ => Err(RowFault::NotRow),
         }
-        "check" => Ok(String::from_str(alloc, checked(request))?),
-        "request-value" => Ok(format!(in alloc; "{request:?}")?),
-        _ => Err(RowFault::NotRow),
     }
 }
 
-// What bytes mean. The fault of those that mean nothing stands in the place of the answer.
-fn meant<T>(alloc: Global, value: Result<T, DecodeFault>) -> Result<T, RowFault> {
-    match value {
-        Ok(value) => Ok(value),
-        Err(fault) => Err(RowFault::Differs(format!(in alloc; "{fault}")?)),
+impl Message for Response {
+    fn answer(&self, alloc: Global, question: &str, bytes: &[u8]) -> Result<String, RowFault> {
+        if question == "response-value" {
+            return Ok(format!(in alloc; "{self:?}")?);
+        }
+        let mut out = Vec::new(alloc);
+        encode_response(self, &mut out)?;
+        compared(alloc, bytes, &out)
     }
 }
 

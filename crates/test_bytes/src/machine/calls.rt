@@ -34,17 +34,26 @@ pub(crate) fn reply_to(
     message: &[u8],
 ) -> Result<Reply, AllocError> {
     for _ in 0..TRIES {
-        match decode(alloc, method, message) {
-            Ok(request) => {
-                if let Some(reply) = request_reply(alloc, config, keeper, &request) {
-                    return Ok(reply);
-                }
-            }
-            Err(DecodeFault::NoMemory) => {}
-            Err(fault) => return Ok(Reply::Malformed(fault)),
+        if let Some(reply) = message_reply(alloc, config, keeper, method, message) {
+            return Ok(reply);
         }
     }
     Err(AllocError)
+}
+
+// The reply to a message; None where memory was refused.
+fn message_reply(
+    alloc: Global,
+    config: &Config,
+    keeper: &mut MemKeeper,
+    method: Method,
+    message: &[u8],
+) -> Option<Reply> {
+    match decode(alloc, method, message) {
+        Ok(request) => request_reply(alloc, config, keeper, &request),
+        Err(DecodeFault::NoMemory) => None,
+        Err(fault) => Some(Reply::Malformed(fault)),
+    }
 }
 
 // The reply to a request; None where memory was refused.
