@@ -1,8 +1,5 @@
 //! Looks over tables in memory.
 
-ghost use Rattle.std.specs.Prelude.{◌≡◌, false};
-ghost use Rattle.csi_layout.specs.Tables.{schema as our_schema};
-
 mod folds;
 mod look;
 
@@ -49,12 +46,6 @@ fn is_ours(alloc: Global, conn: &Connection<MemStore>) -> Result<String, RowFaul
 // What is asked of the rows of our tables.
 fn ask(alloc: Global, conn: &mut Connection<MemStore>, question: &str) -> Result<String, RowFault> {
     let words = words_of(alloc, question)?;
-    if !conn.is_autocommit() {
-        return Err(RowFault::NotRow);
-    }
-    if !is_our_schema(conn.schema()) {
-        return Err(RowFault::Refused("other tables"));
-    }
     let look = Look::named(word_at(&words, 0)?)?;
     match word_at(&words, 1)? {
         "rows" => shown(alloc, conn, look),
@@ -67,10 +58,7 @@ fn ask(alloc: Global, conn: &mut Connection<MemStore>, question: &str) -> Result
 }
 
 // Each row.
-fn shown(alloc: Global, conn: &mut Connection<MemStore>, look: Look) -> Result<String, RowFault>
-    requires idle { conn.old.in_transaction ≡ false }
-    requires ours { conn.old.schema ≡ our_schema }
-{
+fn shown(alloc: Global, conn: &mut Connection<MemStore>, look: Look) -> Result<String, RowFault> {
     let mut fold = Showing {
         alloc,
         text: String::new(alloc),
@@ -85,10 +73,7 @@ fn judged(
     conn: &mut Connection<MemStore>,
     look: Look,
     column: usize,
-) -> Result<String, RowFault>
-    requires idle { conn.old.in_transaction ≡ false }
-    requires ours { conn.old.schema ≡ our_schema }
-{
+) -> Result<String, RowFault> {
     let mut fold = Both {
         first: Every {
             test: HasNumber { column },
@@ -141,10 +126,7 @@ fn summed(
     conn: &mut Connection<MemStore>,
     look: Look,
     sums: Vec<TextSum>,
-) -> Result<String, RowFault>
-    requires idle { conn.old.in_transaction ≡ false }
-    requires ours { conn.old.schema ≡ our_schema }
-{
+) -> Result<String, RowFault> {
     let mut fold = Each { parts: sums };
     look.over(conn, &mut fold)?;
     let mut text = String::new(alloc);

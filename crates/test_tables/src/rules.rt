@@ -1,12 +1,8 @@
 //! Rules of what is stored in tables in memory.
 
-ghost use Rattle.std.specs.Prelude.{◌≡◌, false};
-ghost use Rattle.csi_layout.specs.Tables.{schema as our_schema};
-
 use crate::database::{run, with_tables};
 use crate::looks::Look;
 use csi_config::Config;
-use csi_layout::is_our_schema;
 use csi_looks::RowTest;
 use csi_rules::{
     AttachmentRule, BrokenRule, FirstBroken, HasAttachmentKinds, HasCap, HasCaps, HasFlag,
@@ -26,17 +22,11 @@ pub(crate) fn answer(alloc: Global, row: &str) -> Result<String, RowFault> {
     let (rule, statements) = row.split_once(" | ").ok_or(RowFault::NotRow)?;
     let mut conn = with_tables(alloc)?;
     run(&mut conn, statements)?;
-    if !conn.is_autocommit() || !is_our_schema(conn.schema()) {
-        return Err(RowFault::Refused("refused"));
-    }
     ask(alloc, &mut conn, rule)
 }
 
 // Whether the rows of our tables meet a rule.
-fn ask(alloc: Global, conn: &mut Connection<MemStore>, rule: &str) -> Result<String, RowFault>
-    requires idle { conn.old.in_transaction ≡ false }
-    requires ours { conn.old.schema ≡ our_schema }
-{
+fn ask(alloc: Global, conn: &mut Connection<MemStore>, rule: &str) -> Result<String, RowFault> {
     let words = words_of(alloc, rule)?;
     let look = Look::named(word_at(&words, 0)?)?;
     let rule = word_at(&words, 1)?;
@@ -55,10 +45,11 @@ fn ask(alloc: Global, conn: &mut Connection<MemStore>, rule: &str) -> Result<Str
     }
 }
 
-fn ask_meta(alloc: Global, conn: &mut Connection<MemStore>, rule: &str) -> Result<String, RowFault>
-    requires idle { conn.old.in_transaction ≡ false }
-    requires ours { conn.old.schema ≡ our_schema }
-{
+fn ask_meta(
+    alloc: Global,
+    conn: &mut Connection<MemStore>,
+    rule: &str,
+) -> Result<String, RowFault> {
     let look = Look::Meta;
     let found = match rule {
         "kinds" => surely_broken(alloc, conn, look, HasMetaKinds)?,
@@ -74,10 +65,7 @@ fn ask_volumes(
     alloc: Global,
     conn: &mut Connection<MemStore>,
     words: &[&str],
-) -> Result<String, RowFault>
-    requires idle { conn.old.in_transaction ≡ false }
-    requires ours { conn.old.schema ≡ our_schema }
-{
+) -> Result<String, RowFault> {
     let look = Look::Volumes;
     let config = Config::sample(alloc)?;
     let (found, rule) = match word_at(words, 1)? {
@@ -113,10 +101,7 @@ fn ask_attachments(
     alloc: Global,
     conn: &mut Connection<MemStore>,
     rule: &str,
-) -> Result<String, RowFault>
-    requires idle { conn.old.in_transaction ≡ false }
-    requires ours { conn.old.schema ≡ our_schema }
-{
+) -> Result<String, RowFault> {
     let look = Look::Attachments;
     let config = Config::sample(alloc)?;
     let (found, rule) = match rule {
@@ -144,10 +129,7 @@ fn first_broken<T: RowTrial + Drop>(
     conn: &mut Connection<MemStore>,
     look: Look,
     test: T,
-) -> Result<Option<RowName>, RowFault>
-    requires idle { conn.old.in_transaction ≡ false }
-    requires ours { conn.old.schema ≡ our_schema }
-{
+) -> Result<Option<RowName>, RowFault> {
     let (number, text) = match look {
         Look::Meta => (2, 2),
         Look::Volumes | Look::Owners => (0, 1),
@@ -171,10 +153,7 @@ fn surely_broken<T: RowTest + Drop>(
     conn: &mut Connection<MemStore>,
     look: Look,
     test: T,
-) -> Result<Option<RowName>, RowFault>
-    requires idle { conn.old.in_transaction ≡ false }
-    requires ours { conn.old.schema ≡ our_schema }
-{
+) -> Result<Option<RowName>, RowFault> {
     first_broken(alloc, conn, look, Sure { test })
 }
 

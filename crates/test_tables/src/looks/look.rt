@@ -1,9 +1,7 @@
 //! Which look is taken.
 
-ghost use Rattle.std.specs.Prelude.{◌≡◌, false};
-ghost use Rattle.csi_layout.specs.Tables.{schema as our_schema};
-
 use crate::database::refused;
+use csi_layout::is_our_schema;
 use csi_looks::{
     Fold, look_over_attachments, look_over_meta, look_over_owners, look_over_pairs,
     look_over_volumes,
@@ -34,15 +32,18 @@ impl Look {
         }
     }
 
-    /// Folds each row that the look shows.
+    /// Folds each row that the look shows, between two transactions and over our tables alone.
     pub(crate) fn over<F: Fold>(
         self,
         conn: &mut Connection<MemStore>,
         fold: &mut F,
-    ) -> Result<(), RowFault>
-        requires idle { conn.old.in_transaction ≡ false }
-        requires ours { conn.old.schema ≡ our_schema }
-    {
+    ) -> Result<(), RowFault> {
+        if !conn.is_autocommit() {
+            return Err(RowFault::Refused("refused"));
+        }
+        if !is_our_schema(conn.schema()) {
+            return Err(RowFault::Refused("other tables"));
+        }
         let looked = match self {
             Look::Meta => look_over_meta(conn, fold),
             Look::Volumes => look_over_volumes(conn, fold),

@@ -1,8 +1,5 @@
 //! One request over a keeper, and its reply.
 
-ghost use Rattle.std.specs.Prelude.{None, ◌≡◌};
-ghost use Rattle.csi_types.specs.Checks.{checked};
-
 use csi_checks::check;
 use csi_codec::{DecodeFault, decode};
 use csi_config::Config;
@@ -38,20 +35,18 @@ pub(crate) fn reply_to(
         Ok(request) => request,
         Err(fault) => return Reply::NoRequest(fault),
     };
-    match check(&request) {
-        Ok(()) => checked_reply(alloc, config, tables, &request),
-        Err(reason) => Reply::Refused(reason),
-    }
+    request_reply(alloc, config, tables, &request)
 }
 
-fn checked_reply(
+fn request_reply(
     alloc: Global,
     config: &Config,
     tables: &mut Tables<MemStore>,
     request: &Request,
-) -> Reply
-    requires { checked request.now ≡ None }
-{
+) -> Reply {
+    if let Err(reason) = check(request) {
+        return Reply::Refused(reason);
+    }
     let mut out = Vec::new(alloc);
     match append_answer(alloc, config, tables, request, &mut out) {
         Ok(Verdict::Done) => Reply::Done(out),

@@ -1,0 +1,89 @@
+//! What came of a run, and what was wanted.
+
+use csi_server::RunEnd;
+use std::alloc::{AllocError, Global};
+use test_kit::RowFault;
+
+/// How a run is to end.
+#[derive(Clone, Copy)]
+pub(crate) enum End<'a> {
+    Done,
+    /// At a fault of this text.
+    Fault(&'a str),
+    ReadFailed,
+    WriteFailed,
+}
+
+/// What is wanted of a run.
+#[derive(Clone, Copy)]
+pub(crate) struct Wanted<'a> {
+    pub(crate) end: End<'a>,
+    /// What is written first, which are replies.
+    pub(crate) replies: &'a [u8],
+    /// What is written behind them, and that is all.
+    pub(crate) last: &'a [u8],
+    /// What is kept then.
+    pub(crate) kept: &'a str,
+}
+
+/// What came of a run.
+#[derive(Drop)]
+pub(crate) struct Served {
+    pub(crate) end: RunEnd,
+    pub(crate) written: Vec<u8>,
+    /// All that a keeper keeps then, which was new before.
+    pub(crate) kept: String,
+}
+
+/// What is tried: the words, and a number.
+#[derive(Clone, Copy)]
+pub(crate) struct Trial {
+    pub(crate) name: &'static str,
+    pub(crate) number: u64,
+}
+
+/// Compares what came with what was wanted.
+///
+/// # Errors
+///
+/// Where they differ, or memory is refused.
+pub(crate) fn compare(
+    alloc: Global,
+    trial: Trial,
+    came: &Served,
+    wanted: &Wanted<'_>,
+) -> Result<(), RowFault> {
+    let is_kept = came.kept.as_str() == wanted.kept;
+    if is_end(alloc, came.end, wanted.end)? && is_written(came, wanted) && is_kept {
+        return Ok(());
+    }
+    Err(RowFault::Differs(told(alloc, trial, came)?))
+}
+
+// What came of a trial.
+fn told(alloc: Global, trial: Trial, came: &Served) -> Result<String, AllocError> {
+    let written = hex::encode(alloc, &came.written)?;
+    format!(in alloc;
+        "{} {}: {:?} {written} {}",
+        trial.name, trial.number, came.end, came.kept
+    )
+}
+
+fn is_written(came: &Served, wanted: &Wanted<'_>) -> bool {
+    match came.written.strip_prefix(wanted.replies) {
+        Some(last) => last == wanted.last,
+        None => false,
+    }
+}
+
+fn is_end(alloc: Global, end: RunEnd, wanted: End<'_>) -> Result<bool, AllocError> {
+    match (end, wanted) {
+        (RunEnd::Done, End::Done) => Ok(true),
+        (RunEnd::ReadFailed, End::ReadFailed) => Ok(true),
+        (RunEnd::WriteFailed, End::WriteFailed) => Ok(true),
+        (RunEnd::Malformed(fault), End::Fault(text)) => {
+            Ok(format!(in alloc; "{fault}")?.as_str() == text)
+        }
+        _ => Ok(false),
+    }
+}

@@ -1,0 +1,145 @@
+//! A stream of calls, and what is wanted of it.
+
+use std::alloc::{AllocError, Global};
+
+/// A call: where its frame ends in the stream, and its reply in the output.
+#[derive(Clone, Copy)]
+pub(crate) struct Call {
+    pub(crate) frame_end: usize,
+    pub(crate) reply_end: usize,
+    /// Whether the store is asked for it.
+    pub(crate) asks: bool,
+}
+
+/// The fault that ends a stream.
+#[derive(Drop)]
+pub(crate) struct Fault {
+    pub(crate) text: String,
+    /// How many bytes of the stream make it known.
+    pub(crate) known_at: usize,
+    /// The frame that answers it.
+    pub(crate) frame: Vec<u8>,
+}
+
+/// Calls, and perhaps a fault behind them. The output has the replies to the calls.
+#[derive(Drop)]
+pub(crate) struct Stream {
+    pub(crate) input: Vec<u8>,
+    pub(crate) output: Vec<u8>,
+    pub(crate) calls: Vec<Call>,
+    pub(crate) fault: Option<Fault>,
+}
+
+impl Stream {
+    /// A stream of nothing.
+    pub(crate) fn new(alloc: Global) -> Stream {
+        Stream {
+            input: Vec::new(alloc),
+            output: Vec::new(alloc),
+            calls: Vec::new(alloc),
+            fault: None,
+        }
+    }
+
+    /// Appends a call.
+    pub(crate) fn put_call(
+        &mut self,
+        asks: bool,
+        frame: &[u8],
+        reply: &[u8],
+    ) -> Result<(), AllocError> {
+        self.input.extend_from_slice(frame)?;
+        self.output.extend_from_slice(reply)?;
+        self.calls.push(Call {
+            frame_end: self.input.len(),
+            reply_end: self.output.len(),
+            asks,
+        })?;
+        Ok(())
+    }
+
+    /// Appends bytes of which the last makes a fault known.
+    pub(crate) fn put_fault(
+        &mut self,
+        alloc: Global,
+        text: &str,
+        bytes: &[u8],
+    ) -> Result<(), AllocError> {
+        self.input.extend_from_slice(bytes)?;
+        self.fault = Some(fault_of(alloc, text, self.input.len())?);
+        Ok(())
+    }
+
+    /// Appends bytes that nobody looks at, behind a fault.
+    pub(crate) fn put_behind(&mut self, bytes: &[u8]) -> Result<(), AllocError> {
+        self.input.extend_from_slice(bytes)?;
+        Ok(())
+    }
+
+    /// How many calls are whole in the first bytes.
+    pub(crate) fn calls_within(&self, bytes: usize) -> usize {
+        self.calls
+            .iter()
+            .take_while(|call| call.frame_end <= bytes)
+            .count()
+    }
+
+    /// Where the frames of the first calls end, and their replies.
+    pub(crate) fn ends_of(&self, calls: usize) -> (usize, usize) {
+        let last = calls.checked_sub(1).and_then(|last| self.calls.get(last));
+        match last {
+            Some(call) => (call.frame_end, call.reply_end),
+            None => (0, 0),
+        }
+    }
+
+    /// The replies to the first calls.
+    pub(crate) fn replies(&self, calls: usize) -> &[u8] {
+        let (_, end) = self.ends_of(calls);
+        self.output.get(..end).unwrap_or(&[])
+    }
+
+    /// The reply to a call, and behind all calls the frame that answers the fault, if there is one.
+    pub(crate) fn reply(&self, call: usize) -> &[u8] {
+        if call == self.calls.len() {
+            return self.fault_frame();
+        }
+        let (_, start) = self.ends_of(call);
+        let (_, end) = self.ends_of(call.saturating_add(1));
+        self.output.get(start..end).unwrap_or(&[])
+    }
+
+    /// The frame that answers the fault, if there is one.
+    pub(crate) fn fault_frame(&self) -> &[u8] {
+        match &self.fault {
+            Some(fault) => fault.frame.as_slice(),
+            None => &[],
+        }
+    }
+
+    /// Whether the first bytes make the fault known.
+    pub(crate) fn is_faulty_within(&self, bytes: usize) -> bool {
+        match &self.fault {
+            Some(fault) => fault.known_at <= bytes,
+            None => false,
+        }
+    }
+}
+
+fn fault_of(alloc: Global, text: &str, known_at: usize) -> Result<Fault, AllocError> {
+    Ok(Fault {
+        text: String::from_str(alloc, text)?,
+        known_at,
+        frame: refusal(alloc, text)?,
+    })
+}
+
+/// The reply frame that answers a fault: the status 3 and a text.
+pub(crate) fn refusal(alloc: Global, text: &str) -> Result<Vec<u8>, AllocError> {
+    let length = u16::try_from(text.len()).unwrap_or(u16::MAX);
+    let mut frame = Vec::from_slice(alloc, &[3])?;
+    frame.extend_from_slice(&length.to_be_bytes())?;
+    frame.extend_from_slice(text.as_bytes())?;
+    frame.extend_from_slice(&[0; 5])?;
+    Ok(frame)
+}

@@ -1,0 +1,274 @@
+//! What is tried with a stream: pieces, ends, reads and writes.
+
+use super::compared::{End, Trial, Wanted, compare};
+use super::fakes::{GREATEST_PIECE, Pieces, Takes, Trouble};
+use super::server::Server;
+use super::stream::{Stream, refusal};
+use std::alloc::Global;
+use test_kit::RowFault;
+
+// A longer stream is served in pieces alone.
+const LONGEST: usize = 4096;
+
+/// A stream, its server, and what is kept after the first of its calls: after none, one, and so on.
+#[derive(Clone, Copy)]
+pub(crate) struct Trials<'a> {
+    pub(crate) alloc: Global,
+    pub(crate) server: Server<'a>,
+    pub(crate) stream: &'a Stream,
+    pub(crate) kept: &'a [String],
+}
+
+/// What is kept after none, one and so on of the calls of a stream.
+pub(crate) fn kept_after_each(
+    alloc: Global,
+    server: Server<'_>,
+    stream: &Stream,
+) -> Result<Vec<String>, RowFault> {
+    let mut all = Vec::new(alloc);
+    for calls in 0..=stream.calls.len() {
+        let (end, _) = stream.ends_of(calls);
+        let bytes = stream.input.get(..end).unwrap_or(&[]);
+        let pieces = Pieces::new(bytes, GREATEST_PIECE);
+        all.push(server.run(alloc, pieces, Takes::all())?.kept)?;
+    }
+    Ok(all)
+}
+
+impl Trials<'_> {
+    /// Tries all, and says what was tried.
+    ///
+    /// # Errors
+    ///
+    /// The first that differs.
+    pub(crate) fn all(&self) -> Result<&'static str, RowFault> {
+        self.pieces()?;
+        if self.stream.input.len() > LONGEST {
+            return Ok("ok in pieces");
+        }
+        self.cuts()?;
+        self.ends()?;
+        self.reads()?;
+        self.writes()?;
+        self.flushes()?;
+        match self.server {
+            Server::Volumes(_) => {
+                self.store()?;
+                Ok("ok in pieces, cut, ended, reads failed, writes failed, store refused")
+            }
+            Server::Identity { .. } => Ok("ok in pieces, cut, ended, reads failed, writes failed"),
+        }
+    }
+
+    /// What is kept after the first calls.
+    pub(crate) fn kept_after(&self, calls: usize) -> &str {
+        match self.kept.get(calls) {
+            Some(text) => text.as_str(),
+            None => "",
+        }
+    }
+
+    /// What is wanted of the whole stream.
+    pub(crate) fn whole(&self) -> Wanted<'_> {
+        let end = match &self.stream.fault {
+            Some(fault) => End::Fault(fault.text.as_str()),
+            None => End::Done,
+        };
+        Wanted {
+            end,
+            replies: self.stream.output.as_slice(),
+            last: self.stream.fault_frame(),
+            kept: self.kept_after(self.stream.calls.len()),
+        }
+    }
+
+    /// The stream in the greatest pieces.
+    pub(crate) fn whole_pieces(&self) -> Pieces<'_> {
+        Pieces::new(self.stream.input.as_slice(), GREATEST_PIECE)
+    }
+
+    // Serves the pieces, and compares what comes.
+    fn attempt(
+        &self,
+        trial: Trial,
+        pieces: Pieces<'_>,
+        takes: Takes,
+        wanted: &Wanted<'_>,
+    ) -> Result<(), RowFault> {
+        let served = self.server.run(self.alloc, pieces, takes)?;
+        compare(self.alloc, trial, &served, wanted)
+    }
+
+    fn pieces(&self) -> Result<(), RowFault> {
+        for size in [1usize, 2, 3, GREATEST_PIECE] {
+            let pieces = Pieces::new(self.stream.input.as_slice(), size);
+            let trial = Trial {
+                name: "in pieces of",
+                number: size as u64,
+            };
+            self.attempt(trial, pieces, Takes::all(), &self.whole())?;
+        }
+        Ok(())
+    }
+
+    // Two pieces, cut behind each byte.
+    fn cuts(&self) -> Result<(), RowFault> {
+        for at in 1..self.stream.input.len() {
+            let pieces = Pieces::cut_at(self.stream.input.as_slice(), at);
+            let trial = Trial {
+                name: "cut behind byte",
+                number: at as u64,
+            };
+            self.attempt(trial, pieces, Takes::all(), &self.whole())?;
+        }
+        Ok(())
+    }
+
+    fn ends(&self) -> Result<(), RowFault> {
+        for at in 0..self.stream.input.len() {
+            self.end(at)?;
+        }
+        Ok(())
+    }
+
+    // The input ends behind so many bytes.
+    fn end(&self, at: usize) -> Result<(), RowFault> {
+        let (boundary, _) = self.stream.ends_of(self.stream.calls_within(at));
+        if at == boundary {
+            return self.ended(at, End::Done, &[]);
+        }
+        let text = format!(in self.alloc; "end of input at byte {at}")?;
+        let frame = refusal(self.alloc, text.as_str())?;
+        self.ended(at, End::Fault(text.as_str()), frame.as_slice())
+    }
+
+    // The input ends behind so many bytes, and the run like this, unless they make a fault known.
+    fn ended<'w>(&'w self, at: usize, end: End<'w>, last: &'w [u8]) -> Result<(), RowFault> {
+        let bytes = self.stream.input.get(..at).unwrap_or(&[]);
+        let pieces = Pieces::new(bytes, GREATEST_PIECE);
+        let trial = Trial {
+            name: "ended behind byte",
+            number: at as u64,
+        };
+        let wanted = self.front(at, end, last);
+        self.attempt(trial, pieces, Takes::all(), &wanted)
+    }
+
+    // What is wanted where the first bytes come, and then no more: this end, unless they make a fault
+    // known.
+    fn front<'w>(&'w self, bytes: usize, end: End<'w>, last: &'w [u8]) -> Wanted<'w> {
+        if self.stream.is_faulty_within(bytes) {
+            return self.whole();
+        }
+        let calls = self.stream.calls_within(bytes);
+        Wanted {
+            end,
+            replies: self.stream.replies(calls),
+            last,
+            kept: self.kept_after(calls),
+        }
+    }
+
+    // Each read of a byte fails, also the one that would find the end.
+    fn reads(&self) -> Result<(), RowFault> {
+        for at in 0..=self.stream.input.len() {
+            let pieces = Pieces::failing(self.stream.input.as_slice(), at as u64);
+            let trial = Trial {
+                name: "read failed behind byte",
+                number: at as u64,
+            };
+            let wanted = self.front(at, End::ReadFailed, &[]);
+            self.attempt(trial, pieces, Takes::all(), &wanted)?;
+        }
+        Ok(())
+    }
+
+    // Each write fails, or takes nothing, of one byte, of five, and of a whole reply.
+    fn writes(&self) -> Result<(), RowFault> {
+        for size in [1usize, 5, usize::MAX] {
+            self.writes_of(size, Trouble::Write)?;
+            self.writes_of(size, Trouble::Nothing)?;
+        }
+        Ok(())
+    }
+
+    // Each write of so many bytes has its trouble, and then none.
+    fn writes_of(&self, size: usize, trouble: Trouble) -> Result<(), RowFault> {
+        let mut before = 0;
+        for call in 0..=self.stream.calls.len() {
+            before = self.writes_of_reply(call, size, trouble, before)?;
+        }
+        let takes = Takes::troubled(size, trouble, before);
+        let trial = Trial {
+            name: "all written, of writes",
+            number: before,
+        };
+        self.attempt(trial, self.whole_pieces(), takes, &self.whole())
+    }
+
+    // Each write of a reply, before which so many were made, has its trouble. How many were made
+    // behind it.
+    fn writes_of_reply(
+        &self,
+        call: usize,
+        size: usize,
+        trouble: Trouble,
+        before: u64,
+    ) -> Result<u64, RowFault> {
+        let mut count = before;
+        let mut written: usize = 0;
+        let reply = self.stream.reply(call);
+        for _ in 0..reply.len() {
+            if written >= reply.len() {
+                break;
+            }
+            let takes = Takes::troubled(size, trouble, count);
+            let trial = Trial {
+                name: "trouble after writes",
+                number: count,
+            };
+            self.attempt(
+                trial,
+                self.whole_pieces(),
+                takes,
+                &self.stopped(call, written),
+            )?;
+            count = count.saturating_add(1);
+            written = written.saturating_add(size);
+        }
+        Ok(count)
+    }
+
+    // What is wanted where writing the reply of a call ends behind so many bytes: the call is done.
+    fn stopped(&self, call: usize, written: usize) -> Wanted<'_> {
+        let done = call.saturating_add(1).min(self.stream.calls.len());
+        let reply = self.stream.reply(call);
+        Wanted {
+            end: End::WriteFailed,
+            replies: self.stream.replies(call),
+            last: reply.get(..written).unwrap_or(reply),
+            kept: self.kept_after(done),
+        }
+    }
+
+    // Each flush fails.
+    fn flushes(&self) -> Result<(), RowFault> {
+        for call in 0..=self.stream.calls.len() {
+            let reply = self.stream.reply(call);
+            if !reply.is_empty() {
+                let takes = Takes::troubled(usize::MAX, Trouble::Flush, call as u64);
+                let trial = Trial {
+                    name: "trouble after flushes",
+                    number: call as u64,
+                };
+                self.attempt(
+                    trial,
+                    self.whole_pieces(),
+                    takes,
+                    &self.stopped(call, reply.len()),
+                )?;
+            }
+        }
+        Ok(())
+    }
+}

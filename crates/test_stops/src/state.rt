@@ -1,0 +1,52 @@
+//! The State of a keeper, as a text.
+
+use csi_config::Config;
+use csi_keeper::{Keeper, StoreFault, Volume};
+use csi_types::{Items, Text};
+use std::alloc::Global;
+use std::fmt::Write;
+use test_kit::RowFault;
+
+// More volumes than any row makes.
+const MOST_VOLUMES: u32 = 100;
+
+/// The next number, each volume with its nodes, and what each pool has used.
+pub(crate) fn state_text<K: Keeper>(
+    alloc: Global,
+    config: &Config,
+    keeper: &mut K,
+) -> Result<String, RowFault> {
+    let next = keeper.next_number().map_err(failed)?;
+    let mut text = format!(in alloc; "next {next}")?;
+    let volumes = keeper.page(alloc, 0, MOST_VOLUMES).map_err(failed)?;
+    let nodes = keeper
+        .published_nodes(alloc, 0, MOST_VOLUMES)
+        .map_err(failed)?;
+    for (volume, nodes) in volumes.iter().zip(nodes.iter()) {
+        put_volume(&mut text, volume, nodes)?;
+    }
+    for pool in config.pools() {
+        let used = keeper.used_in(&pool.name).map_err(failed)?;
+        write!(text, "; {} {} in {}", pool.name, used.bytes, used.volumes)?;
+    }
+    Ok(text)
+}
+
+fn put_volume(text: &mut String, volume: &Volume, nodes: &Items<Text>) -> Result<(), RowFault> {
+    write!(
+        text,
+        "; {} '{}' {} {}",
+        volume.number, volume.name, volume.bytes, volume.pool
+    )?;
+    for node in nodes.iter() {
+        write!(text, " at {node}")?;
+    }
+    Ok(())
+}
+
+fn failed(fault: StoreFault) -> RowFault {
+    match fault {
+        StoreFault::NoMemory => RowFault::NoMemory,
+        StoreFault::Refused | StoreFault::Down => RowFault::Refused("refused"),
+    }
+}

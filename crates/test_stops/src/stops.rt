@@ -1,0 +1,76 @@
+//! A call is made again and again over the tables in two files, each time with the disk stopping at a later call of its own, and
+//! what the next start finds is compared.
+
+mod disks;
+mod runs;
+mod serving;
+mod trials;
+
+use csi_config::Config;
+use disks::{NEVER, copies, end, left_of, new_files};
+use runs::Wanted;
+use serving::{adopted, answered, outcome_of};
+use sqlite_disk::{Files, Memory};
+use std::alloc::{AllocError, Global};
+use test_kit::{RowFault, bytes_of, number_at};
+use trials::Trials;
+
+/// The sample configuration, and the two files.
+#[derive(Drop)]
+pub(crate) struct Bench {
+    config: Config,
+    files: Files<Memory>,
+}
+
+impl Bench {
+    /// New files.
+    pub(crate) fn new(alloc: Global) -> Result<Bench, AllocError> {
+        Ok(Bench {
+            config: Config::sample(alloc)?,
+            files: new_files(alloc),
+        })
+    }
+
+    /// The answer to a row.
+    pub(crate) fn answer(&mut self, alloc: Global, row: &str) -> Result<String, RowFault> {
+        let (word, rest) = row.split_once(' ').ok_or(RowFault::NotRow)?;
+        match word {
+            "begin" => self.begin(alloc, rest, true),
+            "begun" => self.begin(alloc, rest, false),
+            "stops" => self.stop(alloc, rest, false),
+            "closes" => self.stop(alloc, rest, true),
+            "new" => {
+                self.files = new_files(alloc);
+                self.stop(alloc, rest, false)
+            }
+            _ => Err(RowFault::NotRow),
+        }
+    }
+
+    // New files with the tables, over which these calls are made.
+    fn begin(&mut self, alloc: Global, calls: &str, closes: bool) -> Result<String, RowFault> {
+        let calls = bytes_of(alloc, calls)?;
+        let disks = copies(alloc, &new_files(alloc), NEVER)?;
+        let mut tables = adopted(alloc, &self.config, disks)?;
+        let made = answered(alloc, &self.config, &mut tables, &calls)?;
+        self.files = left_of(alloc, end(tables.into_connection(), closes), false)?;
+        Ok(made.after)
+    }
+
+    // Stops in a call. The words are how many calls of the disk a run stops later than the last one, and the call.
+    fn stop(&mut self, alloc: Global, words: &str, closes: bool) -> Result<String, RowFault> {
+        let (step, call) = words.split_once(' ').ok_or(RowFault::NotRow)?;
+        let step = number_at(&[step], 0)?;
+        let call = bytes_of(alloc, call)?;
+        let whole = outcome_of(alloc, &self.config, &self.files, &call)?;
+        let wanted = Wanted {
+            alloc,
+            config: &self.config,
+            files: &self.files,
+            call: &call,
+            whole: &whole,
+        };
+        let seen = Trials::new(wanted, step).all(closes)?;
+        Ok(format!(in alloc; "{}, {seen}, all allowed", whole.after)?)
+    }
+}

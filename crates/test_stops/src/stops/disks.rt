@@ -1,0 +1,160 @@
+//! The two files of a database, in memory, which stop behind so many of their calls.
+
+ghost use Rattle.std.specs.Prelude.{◌≡◌, false, IfOk};
+
+use sqlite::{Connection, Error as SqlError, ErrorCode, FileStore, Options};
+use sqlite_disk::{Crash, Disk, Files, Fuse, Memory};
+use std::alloc::Global;
+use std::{fmt, io};
+use test_kit::RowFault;
+
+// The seed of the salts in the log, of which no answer depends.
+const SEED: u64 = 7;
+
+/// So many calls of each file that neither stops.
+pub(crate) const NEVER: (u64, u64) = (u64::MAX, u64::MAX);
+
+/// Files that stop.
+pub(crate) type Disks = Files<Fuse<Memory>>;
+
+/// What a database keeps in them.
+pub(crate) type Store = FileStore<Fuse<Memory>>;
+
+/// The file that stops.
+#[derive(Clone, Copy)]
+pub(crate) enum Which {
+    /// The log.
+    Log,
+    /// The database file.
+    Database,
+    /// Each of the two, behind so many calls of its own.
+    Both,
+}
+
+/// A moment at which a disk stops, and what becomes of it.
+#[derive(Clone, Copy)]
+pub(crate) struct Stop {
+    /// What stops.
+    pub(crate) which: Which,
+    /// Behind so many calls of the disk.
+    pub(crate) calls: u64,
+    /// The connection is closed in the end, and not dropped.
+    pub(crate) closes: bool,
+    /// What was not synchronised is lost.
+    pub(crate) loses: bool,
+}
+
+impl Stop {
+    /// Behind how many calls the log and the database file stop.
+    pub(crate) fn calls_of_each(self) -> (u64, u64) {
+        match self.which {
+            Which::Log => (self.calls, u64::MAX),
+            Which::Database => (u64::MAX, self.calls),
+            Which::Both => (self.calls, self.calls),
+        }
+    }
+}
+
+impl fmt::Display for Stop {
+    fn fmt<W: fmt::Write>(&self, f: &mut fmt::Formatter<W>) -> fmt::Result {
+        let which = match self.which {
+            Which::Log => "log",
+            Which::Database => "database",
+            Which::Both => "both",
+        };
+        let closes = if self.closes { ", closed" } else { "" };
+        let loses = if self.loses {
+            ", unsynchronised lost"
+        } else {
+            ""
+        };
+        write!(
+            f,
+            "stop of {which} behind {} calls{closes}{loses}",
+            self.calls
+        )
+    }
+}
+
+/// Two files that nobody has opened.
+pub(crate) fn new_files(alloc: Global) -> Files<Memory> {
+    Files {
+        log: Memory::new(alloc),
+        db: Memory::new(alloc),
+    }
+}
+
+// A file in memory refuses nothing but memory.
+fn no_memory(_error: io::Error) -> RowFault {
+    RowFault::NoMemory
+}
+
+// A file with the same bytes, all synchronised.
+fn copied(alloc: Global, file: &Memory) -> Result<Memory, RowFault> {
+    let mut copy = Memory::new(alloc);
+    copy.write_at(0, file.bytes()).map_err(no_memory)?;
+    copy.sync().map_err(no_memory)?;
+    Ok(copy)
+}
+
+/// Files with the same bytes, all synchronised, which stop behind so many calls of the log and of the database file.
+pub(crate) fn copies(
+    alloc: Global,
+    files: &Files<Memory>,
+    calls: (u64, u64),
+) -> Result<Disks, RowFault> {
+    Ok(Files {
+        log: Fuse::new(copied(alloc, &files.log)?, calls.0),
+        db: Fuse::new(copied(alloc, &files.db)?, calls.1),
+    })
+}
+
+/// Whether files have the same bytes.
+pub(crate) fn are_same(one: &Files<Memory>, other: &Files<Memory>) -> bool {
+    one.log.bytes() == other.log.bytes() && one.db.bytes() == other.db.bytes()
+}
+
+/// Whether one of the files has stopped.
+pub(crate) fn has_stopped(disks: &mut Disks) -> bool {
+    !disks.may_be_used() || disks.log.len().is_err() || disks.db.len().is_err()
+}
+
+/// What the next start finds of files.
+pub(crate) fn left_of(
+    alloc: Global,
+    mut disks: Disks,
+    loses: bool,
+) -> Result<Files<Memory>, RowFault> {
+    if loses {
+        disks.log.crash();
+        disks.db.crash();
+    }
+    Ok(Files {
+        log: copied(alloc, disks.log.inner())?,
+        db: copied(alloc, disks.db.inner())?,
+    })
+}
+
+/// Opens the database in two files, or gives back why it cannot be opened, and the files.
+pub(crate) fn open(alloc: Global, disks: Disks) -> Result<Connection<Store>, (SqlError, Disks)>
+    ensures { IfOk result (λ conn. conn.in_transaction ≡ false) }
+{
+    if !disks.may_be_used() {
+        return Err((SqlError::SqliteFailure(ErrorCode::SystemIoFailure), disks));
+    }
+    match Connection::open_files(alloc, disks, Options::new(SEED)) {
+        Ok(conn) => Ok(conn),
+        Err((error, left)) => Err((error, left.into_files())),
+    }
+}
+
+/// Ends a connection, and gives its files back: closed, or as a stop leaves them.
+pub(crate) fn end(conn: Connection<Store>, closes: bool) -> Disks {
+    if !closes {
+        return conn.into_store().close();
+    }
+    match conn.close_files() {
+        Ok(disks) => disks,
+        Err((_, store)) => store.close(),
+    }
+}

@@ -1,0 +1,129 @@
+//! One run over files that stop, and what the next start finds of them.
+
+use super::disks::{Stop, copies, has_stopped, left_of};
+use super::serving::{Outcome, outcome_of, serve_files};
+use csi_config::Config;
+use sqlite_disk::{Files, Memory};
+use std::alloc::{AllocError, Global};
+use test_kit::RowFault;
+
+// The status of a reply to a call for which the store failed.
+const INTERNAL: u8 = 13;
+
+/// A call, and what is made of it over files that do not stop.
+#[derive(Clone, Copy)]
+pub(crate) struct Wanted<'a> {
+    pub(crate) alloc: Global,
+    pub(crate) config: &'a Config,
+    /// The files before the call.
+    pub(crate) files: &'a Files<Memory>,
+    pub(crate) call: &'a [u8],
+    /// The reply to it, and the States before and after it.
+    pub(crate) whole: &'a Outcome,
+}
+
+/// What a run leaves in which the disk stops.
+#[derive(Drop)]
+pub(crate) struct Left {
+    /// The disk stopped.
+    pub(crate) is_stopped: bool,
+    pub(crate) reply: Vec<u8>,
+    pub(crate) files: Files<Memory>,
+}
+
+/// What the next start finds of files, in which the same call is made again.
+#[derive(Drop)]
+pub(crate) struct Found {
+    pub(crate) files: Files<Memory>,
+    pub(crate) outcome: Outcome,
+}
+
+/// What came of a run.
+#[derive(Clone, Copy)]
+pub(crate) struct Came {
+    /// The call had its reply.
+    pub(crate) is_answered: bool,
+    /// The State before the call was found.
+    pub(crate) is_before: bool,
+    /// The State after it was found.
+    pub(crate) is_after: bool,
+}
+
+impl Wanted<'_> {
+    /// A run in which the disk stops.
+    pub(crate) fn run(&self, stop: Stop) -> Result<Left, RowFault> {
+        let mut reply = Vec::new(self.alloc);
+        let disks = copies(self.alloc, self.files, stop.calls_of_each())?;
+        let mut disks = serve_files(
+            self.alloc,
+            self.config,
+            disks,
+            self.call,
+            &mut reply,
+            stop.closes,
+        );
+        Ok(Left {
+            is_stopped: has_stopped(&mut disks),
+            reply,
+            files: left_of(self.alloc, disks, stop.loses)?,
+        })
+    }
+
+    /// What the next start finds.
+    pub(crate) fn find(&self, stop: Stop, files: Files<Memory>) -> Result<Found, RowFault> {
+        match outcome_of(self.alloc, self.config, &files, self.call) {
+            Ok(outcome) => Ok(Found { files, outcome }),
+            Err(fault) => Err(RowFault::Differs(format!(in self.alloc; "{stop}: {fault}")?)),
+        }
+    }
+
+    /// What came of a run.
+    ///
+    /// # Errors
+    ///
+    /// Where something was found that must not be.
+    pub(crate) fn judge(
+        &self,
+        stop: Stop,
+        is_stopped: bool,
+        reply: &[u8],
+        found: &Outcome,
+    ) -> Result<Came, RowFault> {
+        let wanted = self.whole.replies.as_slice();
+        let is_done = reply == wanted;
+        let came = Came {
+            is_answered: is_done && !wanted.is_empty(),
+            is_before: found.before == self.whole.before,
+            is_after: found.before == self.whole.after,
+        };
+        let is_allowed = if came.is_answered || !is_stopped {
+            is_done && came.is_after
+        } else {
+            came.is_before || came.is_after
+        };
+        if is_allowed && self.is_reply(reply) && self.is_done_again(found) {
+            return Ok(came);
+        }
+        Err(self.unlike(stop, reply, found)?)
+    }
+
+    // Whether a reply is that of a disk that does not stop, or none, or that the store failed.
+    fn is_reply(&self, reply: &[u8]) -> bool {
+        reply.is_empty()
+            || reply == self.whole.replies.as_slice()
+            || reply.first() == Some(&INTERNAL)
+    }
+
+    fn is_done_again(&self, found: &Outcome) -> bool {
+        found.replies == self.whole.replies && found.after == self.whole.after
+    }
+
+    fn unlike(&self, stop: Stop, reply: &[u8], found: &Outcome) -> Result<RowFault, AllocError> {
+        let reply = hex::encode(self.alloc, reply)?;
+        let again = hex::encode(self.alloc, &found.replies)?;
+        Ok(RowFault::Differs(format!(in self.alloc;
+            "{stop}: answered {reply}, found {}, then answered {again}, found {}",
+            found.before, found.after
+        )?))
+    }
+}

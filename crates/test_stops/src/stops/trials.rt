@@ -1,0 +1,116 @@
+//! Stops at each call of the disk.
+
+use super::disks::{Stop, Which, are_same};
+use super::runs::{Came, Found, Left, Wanted};
+use std::fmt;
+use test_kit::RowFault;
+
+// More calls of the disk than any row makes.
+const MOST_CALLS: u64 = 1_000_000;
+
+/// What the runs left, each at least once or never.
+#[derive(Clone, Copy)]
+pub(crate) struct Seen {
+    before: bool,
+    after: bool,
+    answered: bool,
+}
+
+impl Seen {
+    fn note(&mut self, came: Came) {
+        self.before |= came.is_before;
+        self.after |= came.is_after;
+        self.answered |= came.is_answered;
+    }
+}
+
+fn word(seen: bool) -> &'static str {
+    if seen { "some" } else { "none" }
+}
+
+impl fmt::Display for Seen {
+    fn fmt<W: fmt::Write>(&self, f: &mut fmt::Formatter<W>) -> fmt::Result {
+        let before = word(self.before);
+        let after = word(self.after);
+        let answered = word(self.answered);
+        write!(
+            f,
+            "{before} left before, {after} left after, {answered} answered"
+        )
+    }
+}
+
+/// The runs of a call.
+#[derive(Drop)]
+pub(crate) struct Trials<'a> {
+    wanted: Wanted<'a>,
+    // A run stops so many calls later than the last one.
+    step: u64,
+    // What was found last, which is not looked for again of the same bytes: most calls of a disk are reads.
+    found: Option<Found>,
+    seen: Seen,
+}
+
+impl<'a> Trials<'a> {
+    /// No run yet.
+    pub(crate) fn new(wanted: Wanted<'a>, step: u64) -> Trials<'a> {
+        Trials {
+            wanted,
+            step,
+            found: None,
+            seen: Seen {
+                before: false,
+                after: false,
+                answered: false,
+            },
+        }
+    }
+
+    /// The disk stops at each of its calls, or with a step above 1 at each of so many: first the log, then the database file, then both;
+    /// what was not synchronised is kept, and then lost.
+    ///
+    /// # Errors
+    ///
+    /// The first stop behind which something is found that must not be.
+    pub(crate) fn all(mut self, closes: bool) -> Result<Seen, RowFault> {
+        for which in [Which::Log, Which::Database, Which::Both] {
+            self.stops_of(which, closes, false)?;
+            self.stops_of(which, closes, true)?;
+        }
+        Ok(self.seen)
+    }
+
+    // Each run stops later than the last one, until one does not stop.
+    fn stops_of(&mut self, which: Which, closes: bool, loses: bool) -> Result<(), RowFault> {
+        let mut calls: u64 = 0;
+        for _ in 0..MOST_CALLS {
+            let stop = Stop {
+                which,
+                calls,
+                closes,
+                loses,
+            };
+            if !self.stop(stop)? {
+                return Ok(());
+            }
+            calls = calls.saturating_add(self.step);
+        }
+        Err(RowFault::NotRow)
+    }
+
+    // One run, and whether the disk stopped in it.
+    fn stop(&mut self, stop: Stop) -> Result<bool, RowFault> {
+        let Left {
+            is_stopped,
+            reply,
+            files,
+        } = self.wanted.run(stop)?;
+        let found = match self.found.take() {
+            Some(found) if are_same(&found.files, &files) => found,
+            _ => self.wanted.find(stop, files)?,
+        };
+        self.seen.note(self.wanted.judge(stop, is_stopped, &reply, &found.outcome)?);
+        self.found = Some(found);
+        Ok(is_stopped)
+    }
+}
