@@ -124,8 +124,9 @@ module _ {S : Type 0} (g : Ghosts S) (config : Config) (conn two three : Held S)
 module _ {S : Type 0} (g : Ghosts S) (config : Config) (conn two back : Held S) (fault : AdoptFault) (settled : IsSettled g conn two) (idle : back.in_transaction ≡ false) where
   -- the database is read and not written
   pub is_refused : (HasCleanDisk (state g back) → KeepsCommit (state g two) (state g back)) → Survives (state g two) (state g back) (λ _. ⊥)
-      → (HasCleanDisk (state g back) → is_failure fault ≡ false → IsFaultOf config (state g two).now fault) → (HasCleanDisk (state g back) → (state g two).now.schema ≢ schema → fault ≡ Foreign foreign.Schema) → (HasCleanDisk (state g back) → IsNotRefused config (state g two).now fault) → IsUnadopted g config conn fault back
-  is_refused keeps survives first other sound =
+      → (HasCleanDisk (state g back) → is_failure fault ≡ false → IsFaultOf config (state g two).now fault) → (HasCleanDisk (state g back) → (state g two).now.schema ≢ schema → fault ≡ Foreign foreign.Schema) → (HasCleanDisk (state g back) → IsNotRefused config (state g two).now fault)
+      → ((state g two).now.schema ≢ no_schema) → IsUnadopted g config conn fault back
+  is_refused keeps survives first other sound some =
       let before : HasCleanDisk (state g back) → HasCleanDisk (state g two) = λ clean. omega (arith, survives.clean) in
       let seen : HasCleanDisk (state g back) → IsTrue (state g back).is_open → (state g two).now ≡ (state g conn).committed = λ clean is_open. settled.now (before clean) ((keeps clean).was_open is_open) in
       record {
@@ -138,6 +139,7 @@ module _ {S : Type 0} (g : Ghosts S) (config : Config) (conn two back : Held S) 
         crash = λ clean db may. elim (survives.crash clean db may) [ inl there ↦ inl (settled.crash (before clean) db there) | inr none ↦ absurd none ];
         first = λ clean is_open known. subst (λ (d : Database). IsFaultOf config d fault) (seen clean is_open) (first clean known);
         other = λ clean is_open not_ours _. other clean (λ ours. not_ours (sym (ap (λ (d : Database). d.schema) (seen clean is_open)) ∙ ours));
+        blank = λ clean is_open none. absurd (some (ap (λ (d : Database). d.schema) (seen clean is_open) ∙ none));
         sound = λ clean is_open. subst (λ (d : Database). IsNotRefused config d fault) (seen clean is_open) (sound clean);
       }
 
@@ -174,9 +176,10 @@ module _ {S : Type 0} (g : Ghosts S) (config : Config) (conn two : Held S) (sett
           | inl there ↦ inl (settled.crash (before clean) db there)
           | inr left ↦
               let seen = settled.now (before clean) left.0 in
-              inr (left.1, λ none. subst (λ (d : Database). MakesTables d left.1) seen (left.2 blank), left.3)
+              inr (left.1, sym (ap (λ (d : Database). d.schema) seen) ∙ blank, subst (λ (d : Database). MakesTables d left.1) seen (left.2 blank), left.3)
         ];
         first = λ clean is_open known. absurd (true≢false (sym failure ∙ known));
         other = λ clean is_open _ not_blank. absurd (not_blank (sym (ap (λ (d : Database). d.schema) (settled.now (before clean) ((undone clean).was_open is_open))) ∙ blank));
+        blank = λ clean is_open none. failure;
         sound = λ clean is_open s ours rows invariant texts. failure;
       }

@@ -67,11 +67,13 @@ module _ {S : Type 0} (g : Ghosts S) (config : Config) (conn : Held S) where
     pub clean : conn_doubt g conn ≤ conn_doubt g back
     -- what was committed stays
     pub kept : HasCleanDisk (state g back) → KeepsCommit (state g conn) (state g back)
-    -- a stop leaves what it could leave before, or the new tables that were to be made
-    pub crash : HasCleanDisk (state g back) → (db : Trees) → (state g back).may_leave db → (state g conn).may_leave db ⊎ ((made : Database) × (committed.schema ≡ no_schema → MakesTables committed made) × (db ≡ made.trees))
+    -- a stop leaves what it could leave before; only where there was no table, also the new ones that were to be made
+    pub crash : HasCleanDisk (state g back) → (db : Trees) → (state g back).may_leave db → (state g conn).may_leave db ⊎ ((made : Database) × (committed.schema ≡ no_schema) × MakesTables committed made × (db ≡ made.trees))
     -- the fault is the first one of what was committed, unless something failed
     pub first : HasCleanDisk (state g back) → IsTrue (state g back).is_open → is_failure fault ≡ false → IsFaultOf config committed fault
     -- other tables are told, whatever fails
     pub other : HasCleanDisk (state g back) → IsTrue (state g back).is_open → committed.schema ≢ schema → committed.schema ≢ no_schema → fault ≡ Foreign foreign.Schema
-    -- and rows of a State that meets every rule are refused only if something failed
+    -- a database without a table is refused only if something failed
+    pub blank : HasCleanDisk (state g back) → IsTrue (state g back).is_open → committed.schema ≡ no_schema → is_failure fault ≡ true
+    -- and so are rows of a State that meets every rule
     pub sound : HasCleanDisk (state g back) → IsTrue (state g back).is_open → IsNotRefused config committed fault
