@@ -12,7 +12,6 @@ ghost use Rattle.csi_keeper.specs.Memory.{first_state};
 ghost use Rattle.csi_keeper.specs.State.{State};
 ghost use Rattle.csi_tables.specs.Holding.{IsRows};
 ghost use Rattle.csi_adoption.specs.Adopting.{FoundState, IsAdopted, IsFound, IsNotRefused, IsUnadopted};
-ghost use Rattle.csi_adoption.specs.Passing.{HasTexts};
 ghost use Rattle.csi_adoption.specs.Looking.{Looks};
 ghost use Rattle.csi_adoption.specs.Judging.{is_failure, AreJudged, ArePassed, IsFaultOf, IsMetaFault, JudgesBehind, JudgesJoined, JudgesRows, SeesNext, Says, TablesAreSeen, Tells, code_faults, count_fault, count_faults, kinds_faults, owner_faults, table_faults, told_attachments, told_volumes};
 
@@ -232,9 +231,9 @@ fn judge_rows<S: Alter>(
 #[inline(always)]
 fn rows_tell(config: &Config)
     ensures found { (db : Trees) (seen : VolumesSeen) → IsSound our_schema db → ArePassed config.now db seen → FoundState config.now db seen }
-    ensures no_meta_fault { (db : Trees) (s : State) → IsRows s db → IsInvariant config.now s → HasTexts s → (fault : AdoptFault) → IsMetaFault db fault → ⊥ }
-    ensures no_fault { (db : Trees) (s : State) → IsRows s db → IsInvariant config.now s → HasTexts s → (fault : AdoptFault) → AreJudged config.now db (Some fault) → ⊥ }
-    ensures new { IsInvariant config.now (first_state 1) × HasTexts (first_state 1) }
+    ensures no_meta_fault { (db : Trees) (s : State) → IsRows s db → IsInvariant config.now s → (fault : AdoptFault) → IsMetaFault db fault → ⊥ }
+    ensures no_fault { (db : Trees) (s : State) → IsRows s db → IsInvariant config.now s → (fault : AdoptFault) → AreJudged config.now db (Some fault) → ⊥ }
+    ensures new { IsInvariant config.now (first_state 1) }
 {
     volumes_found();
     attachments_found();
