@@ -1,7 +1,5 @@
 -- What adoption promises, from what was judged.
-use Rattle.std.proofs.Common.{◌≡◌, ◌≢◌, ◌∙◌, inl, inr, refl, sym, ap, subst, arith, ℕ, ◌≤◌, true, false, true≢false, None, IsTrue, IsUtf8}
-use Rattle.std.specs.List.{AllByRecursion}
-use Rattle.std.specs.Ordering.{nat_cmp}
+use Rattle.std.proofs.Common.{◌≡◌, ◌≢◌, ◌∙◌, inl, inr, refl, sym, ap, subst, arith, ℕ, ◌≤◌, true, false, true≢false, None, IsTrue}
 use Rattle.sqlite.specs.Effect.{Database}
 use Rattle.sqlite.specs.Held.{Held, state}
 use Rattle.sqlite.specs.State.{HasCleanDisk, IsLive, IsUnchanged, KeepsCommit, Survives}
@@ -13,10 +11,6 @@ use Rattle.csi_keeper.specs.Invariant.{IsInvariant}
 use Rattle.csi_keeper.specs.State.{State}
 use Rattle.csi_keeper.specs.declared.totals.Totals.{Totals}
 use Rattle.csi_keeper.specs.Memory.{first_state}
-use Rattle.csi_keeper.specs.State.{Place, place_cmp}
-use Rattle.csi_keeper.specs.declared.volume.Attachment.{Attachment}
-use Rattle.csi_keeper.specs.declared.volume.Volume.{Volume}
-use Rattle.csi_keeper.specs.facts.Finite.{none_listed}
 use Rattle.csi_layout.specs.Making.{MakesTables}
 use Rattle.csi_layout.specs.Tables.{no_schema, schema}
 use Rattle.csi_layout.specs.Transactions.{LeavesFrom}
@@ -26,18 +20,9 @@ use Rattle.csi_tables.specs.Keeping.{is_down, refusals, store_of, IsNewOver}
 use Rattle.csi_tables.specs.declared.tables.Tables.{Tables}
 use Rattle.csi_adoption.specs.Adopting.{committed, IsAdopted, IsFound, IsNotRefused, IsStateOf, IsUnadopted}
 use Rattle.csi_adoption.specs.Judging.{is_failure, IsFaultOf}
-use Rattle.csi_adoption.specs.Passing.{HasTexts}
 use Rattle.csi_adoption.specs.declared.fault.AdoptFault.{AdoptFault}
 use Rattle.csi_adoption.specs.declared.fault.AdoptFault.TheVariants.{Foreign}
 use Rattle.csi_adoption.specs.declared.fault.Foreign.TheVariants as foreign
-
--- ---- the first State
-
-pub first_texts : HasTexts (first_state 1)
-first_texts = record {
-  volumes = subst (AllByRecursion (λ (e : ℕ × Volume). IsUtf8 e.1.name × IsUtf8 e.1.pool)) (sym (none_listed nat_cmp)) tt;
-  attachments = subst (AllByRecursion (λ (e : Place × Attachment). IsUtf8 e.0.1)) (sym (none_listed place_cmp)) tt;
-}
 
 -- ---- a connection that was settled
 
@@ -84,7 +69,7 @@ module _ {S : Type 0} (g : Ghosts S) (config : Config) (conn two three : Held S)
   sound clean = subst (λ s. IsSound s (state g two).now.trees) (found clean).schema_is (live (same clean).0.was_open).0
 
   abbrev TheState : Type 0
-  TheState = (s : State) × IsStateOf (committed g config conn) s × IsInvariant config s × HasTexts s × store_holds g (three, totals) s × IsRows s (state g conn).committed.trees
+  TheState = (s : State) × IsStateOf (committed g config conn) s × IsInvariant config s × store_holds g (three, totals) s × IsRows s (state g conn).committed.trees
 
   pub the_state : HasCleanDisk (state g three) → TheState
   the_state clean =
@@ -96,10 +81,10 @@ module _ {S : Type 0} (g : Ghosts S) (config : Config) (conn two three : Held S)
         settled = now clean ∙ sym (kept clean);
         rows = subst (λ (d : Database). IsRows it.0 d.trees) (sym (now clean)) rows;
       } in
-      (it.0, inl (ours, rows), it.2, it.3, (shows, it.4, rows.storable), rows)
+      (it.0, inl (ours, rows), it.2, (shows, it.3, rows.storable), rows)
 
   pub stands : HasCleanDisk (state g three) → (s : State) × store_holds g (three, totals) s
-  stands clean = let it = the_state clean in (it.0, it.4)
+  stands clean = let it = the_state clean in (it.0, it.3)
 
   pub is_adopted : ((s : S) (db : Trees) → IsTrue (g.view s).is_open → g.recovers s db → db ≡ (g.view s).committed) → (t : Tables S g) → store_of g t ≡ (three, totals) → (is_down g t ≡ false) × (refusals g t ≡ 0) → IsAdopted g config conn t
   is_adopted law t over fresh =
@@ -108,13 +93,14 @@ module _ {S : Type 0} (g : Ghosts S) (config : Config) (conn two three : Held S)
       λ clean db may. law three.store db (same clean).0.is_open may ∙ ap (λ (d : Database). d.trees) (kept clean) in
       record {
         clean = subst (λ (x : Held S × Totals). conn_doubt g conn ≤ store_doubt g x) (sym over) (omega (arith, settled.clean, survives.clean));
-        held = λ z. let it = the_state (clean_of z) in (it.0, it.1, it.2, it.3, subst (λ (x : Held S × Totals). store_holds g x it.0) (sym over) it.4);
+        was_open = λ z. let clean = clean_of z in settled.was_open (before clean) (same clean).0.was_open;
+        held = λ z. let it = the_state (clean_of z) in (it.0, it.1, it.2, subst (λ (x : Held S × Totals). store_holds g x it.0) (sym over) it.3);
         settled = λ z u it.
             let clean = clean_of z in
             let there = subst (λ (x : Held S × Totals). store_survivors g x u) over it in
             let ours : (state g conn).committed.schema ≡ schema = sym (ap (λ (d : Database). d.schema) (seen clean)) ∙ (found clean).schema_is in
             inl (ours, subst (IsRows u) (left clean there.0 there.1) there.2);
-        ties = λ z. subst (λ (x : Held S × Totals). store_tied g x) (sym over) (λ clean db may. let it = the_state clean in (it.0, subst (IsRows it.0) (sym (left clean db may)) it.5));
+        ties = λ z. subst (λ (x : Held S × Totals). store_tied g x) (sym over) (λ clean db may. let it = the_state clean in (it.0, subst (IsRows it.0) (sym (left clean db may)) it.4));
         up = fresh.0;
         uncounted = fresh.1;
       }
@@ -124,8 +110,9 @@ module _ {S : Type 0} (g : Ghosts S) (config : Config) (conn two three : Held S)
 module _ {S : Type 0} (g : Ghosts S) (config : Config) (conn two back : Held S) (fault : AdoptFault) (settled : IsSettled g conn two) (idle : back.in_transaction ≡ false) where
   -- the database is read and not written
   pub is_refused : (HasCleanDisk (state g back) → KeepsCommit (state g two) (state g back)) → Survives (state g two) (state g back) (λ _. ⊥)
-      → (HasCleanDisk (state g back) → is_failure fault ≡ false → IsFaultOf config (state g two).now fault) → (HasCleanDisk (state g back) → (state g two).now.schema ≢ schema → fault ≡ Foreign foreign.Schema) → (HasCleanDisk (state g back) → IsNotRefused config (state g two).now fault) → IsUnadopted g config conn fault back
-  is_refused keeps survives first other sound =
+      → (HasCleanDisk (state g back) → is_failure fault ≡ false → IsFaultOf config (state g two).now fault) → (HasCleanDisk (state g back) → (state g two).now.schema ≢ schema → fault ≡ Foreign foreign.Schema) → (HasCleanDisk (state g back) → IsNotRefused config (state g two).now fault)
+      → ((state g two).now.schema ≢ no_schema) → IsUnadopted g config conn fault back
+  is_refused keeps survives first other sound some =
       let before : HasCleanDisk (state g back) → HasCleanDisk (state g two) = λ clean. omega (arith, survives.clean) in
       let seen : HasCleanDisk (state g back) → IsTrue (state g back).is_open → (state g two).now ≡ (state g conn).committed = λ clean is_open. settled.now (before clean) ((keeps clean).was_open is_open) in
       record {
@@ -138,6 +125,7 @@ module _ {S : Type 0} (g : Ghosts S) (config : Config) (conn two back : Held S) 
         crash = λ clean db may. elim (survives.crash clean db may) [ inl there ↦ inl (settled.crash (before clean) db there) | inr none ↦ absurd none ];
         first = λ clean is_open known. subst (λ (d : Database). IsFaultOf config d fault) (seen clean is_open) (first clean known);
         other = λ clean is_open not_ours _. other clean (λ ours. not_ours (sym (ap (λ (d : Database). d.schema) (seen clean is_open)) ∙ ours));
+        blank = λ clean is_open none. absurd (some (ap (λ (d : Database). d.schema) (seen clean is_open) ∙ none));
         sound = λ clean is_open. subst (λ (d : Database). IsNotRefused config d fault) (seen clean is_open) (sound clean);
       }
 
@@ -145,13 +133,14 @@ module _ {S : Type 0} (g : Ghosts S) (config : Config) (conn two back : Held S) 
 
 module _ {S : Type 0} (g : Ghosts S) (config : Config) (conn two : Held S) (settled : IsSettled g conn two) (blank : (state g two).now.schema ≡ no_schema) where
   -- a keeper of the first State
-  pub is_made : IsInvariant config (first_state 1) × HasTexts (first_state 1) → (t : Tables S g) → IsNewOver g two t → (store_doubt g (store_of g t) ≡ 0 → IsTrue (state g two).is_open) → IsAdopted g config conn t
+  pub is_made : IsInvariant config (first_state 1) → (t : Tables S g) → IsNewOver g two t → (store_doubt g (store_of g t) ≡ 0 → IsTrue (state g two).is_open) → IsAdopted g config conn t
   is_made new t made was_open =
       let of_first : store_doubt g (store_of g t) ≡ 0 → IsStateOf (committed g config conn) (first_state 1) =
       λ z. let before : HasCleanDisk (state g two) = omega (arith, z, made.clean) in inr (sym (ap (λ (d : Database). d.schema) (settled.now before (was_open z))) ∙ blank, refl) in
       record {
         clean = omega (arith, settled.clean, made.clean);
-        held = λ z. (first_state 1, of_first z, new.0, new.1, made.begun z blank);
+        was_open = λ z. let before : HasCleanDisk (state g two) = omega (arith, z, made.clean) in settled.was_open before (was_open z);
+        held = λ z. (first_state 1, of_first z, new, made.begun z blank);
         settled = λ z u it. subst (IsStateOf (committed g config conn)) (sym (made.settled z blank u it)) (of_first z);
         ties = λ z. made.ties z blank;
         up = made.up;
@@ -174,9 +163,10 @@ module _ {S : Type 0} (g : Ghosts S) (config : Config) (conn two : Held S) (sett
           | inl there ↦ inl (settled.crash (before clean) db there)
           | inr left ↦
               let seen = settled.now (before clean) left.0 in
-              inr (left.1, λ none. subst (λ (d : Database). MakesTables d left.1) seen (left.2 blank), left.3)
+              inr (left.1, sym (ap (λ (d : Database). d.schema) seen) ∙ blank, subst (λ (d : Database). MakesTables d left.1) seen (left.2 blank), left.3)
         ];
         first = λ clean is_open known. absurd (true≢false (sym failure ∙ known));
         other = λ clean is_open _ not_blank. absurd (not_blank (sym (ap (λ (d : Database). d.schema) (settled.now (before clean) ((undone clean).was_open is_open))) ∙ blank));
-        sound = λ clean is_open s ours rows invariant texts. failure;
+        blank = λ clean is_open none. failure;
+        sound = λ clean is_open s ours rows invariant. failure;
       }

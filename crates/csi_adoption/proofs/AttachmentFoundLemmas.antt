@@ -1,5 +1,5 @@
 -- Rows of attachments that pass every rule are the attachments of a State.
-use Rattle.std.proofs.Common.{◌≡◌, ◌∙◌, inl, inr, refl, sym, ap, subst, ℕ, ◌≤◌, true, false, ◌&&◌, List, [], ◌∷◌, map, filter, length, drop, bytes_eq, Option, Some, IfSome, IsUtf8, unwrap_or, IsPermutation, Ordering, Less, Equal, Greater}
+use Rattle.std.proofs.Common.{◌≡◌, ◌∙◌, inl, inr, refl, sym, ap, subst, ℕ, ◌≤◌, true, false, ◌&&◌, List, [], ◌∷◌, map, filter, length, drop, bytes_eq, Option, Some, IfSome, unwrap_or, IsPermutation, Ordering, Less, Equal, Greater}
 use Rattle.std.specs.FinMap.{FinMap, entries, from_entries, get}
 use Rattle.std.specs.List.{AllByRecursion, list_all}
 use Rattle.std.specs.Ordering.{nat_cmp, ordering_reverse}
@@ -86,7 +86,6 @@ said x = (
 record Says (config : Config) (volumes : FinMap nat_cmp Volume) (x : Row) (e : Place × Attachment) : Type 0 where
   entry : drop 1 x ≡ attachment_entry e
   placed : IsPlaced e
-  text : IsUtf8 e.0.1
   stands : StandsAmong config volumes e.0.0 e.0.1 e.1
   supported : is_supported_key e.1.cap ≡ true
 
@@ -123,8 +122,7 @@ module _ (attachment_agrees : (config : Config) (rowid : Value) (e : Place × At
       let node = ap (λ v. is_some_and (is_node config.nodes) (as_text v)) (sym text.1) ∙ test_has (is_at_node config.nodes) rows (keyed_attachment r) pass.nodes shown in
       let says : Says config volumes (keyed_attachment r) e = record {
         entry = λ i. own.is i ∷ text.1 i ∷ key.2 i ∷ flag.2 i ∷ [];
-        placed = record { node = refl; small = own.stored.small; cap = fit };
-        text = text.2;
+        placed = record { node = refl; text = text.2; small = own.stored.small; cap = fit };
         stands = record { at = refl; known = (attachment_agrees config (column r 0) e).node.0 node; volume = own.volume; stands = own.stands; cap = own.cap key.0 key.2 fit key.3 };
         supported = key.3;
       } in
@@ -232,7 +230,6 @@ module _ (attachment_agrees : (config : Config) (rowid : Value) (e : Place × At
     listed = listed;
     placed = placed;
     keyed = keyed_attachments (db 3) rows order known.rising;
-    texts = each_found _ (λ x has. (says x has).text);
     each = stands_found;
     beside = beside_found;
     nodes = nodes_found;

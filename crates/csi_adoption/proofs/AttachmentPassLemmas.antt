@@ -1,5 +1,5 @@
 -- The rows of a State's attachments pass every rule.
-use Rattle.std.proofs.Common.{◌≡◌, ◌∙◌, inl, inr, refl, sym, ap, ap₂, subst, ℕ, ◌≤◌, Bool, true, false, true≢false, List, [], ◌∷◌, map, filter, sum_by, Some, IsUtf8, IsPermutation}
+use Rattle.std.proofs.Common.{◌≡◌, ◌∙◌, inl, inr, refl, sym, ap, ap₂, subst, ℕ, ◌≤◌, Bool, true, false, true≢false, List, [], ◌∷◌, map, filter, sum_by, Some, IsPermutation}
 use Rattle.std.specs.Cmp.{nat_cmp_total}
 use Rattle.std.specs.FinMap.{entries, get, nat_cmp-IsAntisymmetric}
 use Rattle.std.specs.List.{AllByRecursion, list_all}
@@ -34,7 +34,7 @@ use Rattle.csi_rules.specs.Attachments.{has_flag, is_at_node}
 use Rattle.csi_rules.specs.Coded.{has_cap}
 use Rattle.csi_rules.specs.Joins.{is_beside, is_owned}
 use Rattle.csi_rules.specs.Kinds.{has_attachment_kinds}
-use Rattle.csi_adoption.specs.Passing.{AttachmentsPass, HasTexts}
+use Rattle.csi_adoption.specs.Passing.{AttachmentsPass}
 use Rattle.csi_adoption.proofs.AttachmentCellLemmas.{number_itself, same_number}
 use Rattle.csi_adoption.proofs.AttachmentMapLemmas.{got_has, has_got, has_permuted, shown_by}
 use Rattle.csi_adoption.proofs.AttachmentRowLemmas.{beside_is, counted, of_pair, owned_is}
@@ -92,7 +92,7 @@ module _ (config : Config) (s : State) (db : Trees) (rows_are : IsRows s db) (go
 
   -- ---- the rows of attachments
 
-  module _ (agrees : (config : Config) (rowid : Value) (e : Place × Attachment) → AttachmentAgrees config rowid e) (texts : HasTexts s) (rows : List Row) (order : IsInOrder (map keyed_attachment (db 3)) rows) where
+  module _ (agrees : (config : Config) (rowid : Value) (e : Place × Attachment) → AttachmentAgrees config rowid e) (rows : List Row) (order : IsInOrder (map keyed_attachment (db 3)) rows) where
     row_is : (x : Row) → Has rows x → (rowid : Value) × (e : Place × Attachment) × Has (entries s.attachments) e × (x ≡ keyed_entry rowid e)
     row_is x has =
         let r = has_mapped keyed_attachment (db 3) x (has_permuted (map keyed_attachment (db 3)) rows x order.same has) in
@@ -104,7 +104,7 @@ module _ (config : Config) (s : State) (db : Trees) (rows_are : IsRows s db) (go
 
     pub attachments_pass : AttachmentsPass config rows
     attachments_pass = record {
-      kinds = each_row has_attachment_kinds (λ rowid e has. (agrees config rowid e).kinds (all_has (λ e. IsUtf8 e.0.1) (entries s.attachments) e texts.attachments has));
+      kinds = each_row has_attachment_kinds (λ rowid e has. (agrees config rowid e).kinds (placed e has).text);
       caps = each_row has_cap (λ rowid e has. ((agrees config rowid e).cap (placed e has).cap).1 (supported e has));
       flags = each_row has_flag (λ rowid e has. (agrees config rowid e).readonly);
       nodes = each_row (is_at_node config.nodes) (λ rowid e has. (agrees config rowid e).node.1 (stands e has).known);

@@ -9,7 +9,7 @@ use Rattle.csi_layout.specs.Rows.{seen_meta}
 use Rattle.csi_looks.specs.Looks.{owners, pairs}
 use Rattle.csi_rules.specs.Joins.{is_beside, is_owned}
 use Rattle.csi_rules.specs.declared.named.RowName.{RowName}
-use Rattle.csi_adoption.specs.Judging.{all_faults, count_faults, failure_of, first_named, is_failure, meta_judged, owner_faults, table_faults, told_attachments, told_volumes, volumes_unless, with_rows, AreJudged, ArePassed, AttachmentsFound, JudgesRows, TablesAreSeen, VolumesFound}
+use Rattle.csi_adoption.specs.Judging.{owner_fault as unowned_fault, all_faults, count_faults, failure_of, first_named, is_failure, meta_judged, table_faults, told_attachments, told_volumes, volumes_unless, with_rows, AreJudged, ArePassed, AttachmentsFound, JudgesRows, TablesAreSeen, VolumesFound}
 use Rattle.csi_adoption.specs.declared.adopting.TablesSeen.{TablesSeen}
 use Rattle.csi_adoption.specs.declared.fault.AdoptFault.{AdoptFault}
 use Rattle.csi_adoption.specs.declared.meta.MetaRows.TheVariants as meta
@@ -62,22 +62,22 @@ module _ (config : Config) (db : Trees) (next : ℕ) (rows : List Row) (same : I
       (fault_here (table_faults config next v a) _ e is)
 
   module _ (owned : List Row) (one : AreOwned owned) (unowned : Option RowName) (first : unowned ≡ first_named 0 1 is_owned owned) (fine : table_faults config next v a ≡ None) where
-    pub owner_fault : (e : AdoptFault) → owner_faults unowned a ≡ Some e → AreJudged config db (Some e)
+    pub owner_fault : (e : AdoptFault) → unowned_fault unowned ≡ Some e → AreJudged config db (Some e)
     owner_fault e is =
         judged owned (pairs (db 3)) one (IsPermutation-refl _) unowned (first_named 4 5 is_beside (pairs (db 3))) first refl (Some e)
-        (fault_later (table_faults config next v a) _ fine ∙ fault_here (owner_faults unowned a) _ e is)
+        (fault_later (table_faults config next v a) _ fine ∙ fault_here (unowned_fault unowned) _ e is)
 
-    module _ (paired : List Row) (two : ArePaired paired) (apart : Option RowName) (second : apart ≡ first_named 4 5 is_beside paired) (at_home : owner_faults unowned a ≡ None) where
+    module _ (paired : List Row) (two : ArePaired paired) (apart : Option RowName) (second : apart ≡ first_named 4 5 is_beside paired) (at_home : unowned_fault unowned ≡ None) where
       pub counts_fault : (e : AdoptFault) → count_faults config apart a v ≡ Some e → AreJudged config db (Some e)
       counts_fault e is =
           judged owned paired one two unowned apart first second (Some e)
-          (fault_later (table_faults config next v a) _ fine ∙ fault_later (owner_faults unowned a) _ at_home ∙ fault_here (count_faults config apart a v) _ e is)
+          (fault_later (table_faults config next v a) _ fine ∙ fault_later (unowned_fault unowned) _ at_home ∙ fault_here (count_faults config apart a v) _ e is)
 
       pub none_broken : count_faults config apart a v ≡ None → ArePassed config db tables.volumes
       unfolding judged
       none_broken is = record {
         judged = judged owned paired one two unowned apart first second None
-            (fault_later (table_faults config next v a) _ fine ∙ fault_later (owner_faults unowned a) _ at_home ∙ fault_later (count_faults config apart a v) _ is);
+            (fault_later (table_faults config next v a) _ fine ∙ fault_later (unowned_fault unowned) _ at_home ∙ fault_later (count_faults config apart a v) _ is);
         volumes = seen.sees;
         attachments = tables.attachments;
         placed = seen.placed;

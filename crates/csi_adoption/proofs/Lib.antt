@@ -1,4 +1,5 @@
 mod AdoptLemmas
+mod AgainLemmas
 mod AttachmentCellLemmas
 mod AttachmentFoundLemmas
 mod AttachmentMapLemmas

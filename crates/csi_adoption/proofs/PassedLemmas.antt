@@ -10,7 +10,7 @@ use Rattle.csi_looks.specs.Folds.{added_by, sum_after}
 use Rattle.csi_looks.specs.declared.sums.Weight.TheVariants.{Number, One}
 use Rattle.csi_rules.specs.Joins.{is_beside, is_owned}
 use Rattle.csi_rules.specs.declared.named.RowName.{RowName}
-use Rattle.csi_adoption.specs.Judging.{all_faults, code_faults, count_faults, first_named, in_attachments, in_volumes, kinds_faults, next_fault, number_faults, owner_faults, size_faults, table_faults, AttachmentsFound, VolumesFound}
+use Rattle.csi_adoption.specs.Judging.{all_faults, code_faults, count_faults, first_named, in_attachments, in_volumes, kinds_faults, next_fault, number_faults, owner_fault, size_faults, table_faults, AttachmentsFound, VolumesFound}
 use Rattle.csi_adoption.specs.Passing.{AttachmentsPass, VolumesPass}
 use Rattle.csi_adoption.proofs.JudgingLemmas.{all_unnamed, few_rows, is_next, rows_few, no_full_node, no_full_pool, no_next_fault, none_both, none_first, none_named, roomy_nodes, roomy_pools, unmapped}
 use Rattle.csi_adoption.proofs.SumLemmas.{room_kept, room_told}
@@ -65,7 +65,7 @@ module _ (config : Config) (small : IsSmall config) (volumes attachments owned p
     pub rows_pass : Faultless → (1 ≤ next) × RowsPass config next volumes attachments owned paired
     rows_pass e =
         let a = none_first (table_faults config next in_v in_a) _ e in
-        let b = none_first (owner_faults (first_named 0 1 is_owned owned) in_a) _ a.1 in
+        let b = none_first (owner_fault (first_named 0 1 is_owned owned)) _ a.1 in
         let counts = none_first (count_faults config (first_named 4 5 is_beside paired) in_a in_v) [] b.1 in
         let kinds = none_first (kinds_faults in_v in_a) _ a.0 in
         let numbers = none_first (number_faults next in_v) _ kinds.1 in
@@ -83,8 +83,7 @@ module _ (config : Config) (small : IsSmall config) (volumes attachments owned p
         let c2 = none_first _ _ c1.1 in
         let c3 = none_first _ _ c2.1 in
         let c4 = none_first _ _ c3.1 in
-        let o1 = none_first _ _ b.0 in
-        let o2 = none_first _ _ o1.1 in
+        let c5 = none_first _ _ c4.1 in
         let p1 = none_first _ _ counts.0 in
         let p2 = none_first _ _ p1.1 in
         let p3 = none_first _ _ p2.1 in (
@@ -105,10 +104,10 @@ module _ (config : Config) (small : IsSmall config) (volumes attachments owned p
               kinds = none_named 0 2 _ attachments (unmapped _ _ k2.0);
               caps = none_named 1 2 _ attachments (unmapped _ _ c3.0);
               flags = none_named 1 2 _ attachments (unmapped _ _ c4.0);
-              nodes = none_named 1 2 _ attachments (unmapped _ _ o2.0);
+              nodes = none_named 1 2 _ attachments (unmapped _ _ c5.0);
               counts = told_nodes attachments config.nodes small.nodes (no_full_node (λ m. sum_after 2 m.id One 0 attachments) config.nodes (unmapped _ _ p2.0));
             };
-            owned = none_named 0 1 _ owned (unmapped _ _ o1.0);
+            owned = none_named 0 1 _ owned (unmapped _ _ b.0);
             paired = none_named 4 5 _ paired (unmapped _ _ p1.0);
           },
         )
@@ -122,7 +121,7 @@ module _ (config : Config) (small : IsSmall config) (volumes attachments owned p
       (none_both _ _ (none_both _ _ (named _ 0 1 _ volumes v.kinds) (none_both _ _ (named _ 0 2 _ attachments a.kinds) refl))
       (none_both _ _ (none_both _ _ (is_next n some) (none_both _ _ (named _ 0 1 _ volumes v.numbers) (none_both _ _ (named _ 0 1 _ volumes v.names) refl)))
       (none_both _ _ (none_both _ _ (named _ 0 1 _ volumes v.pools) (none_both _ _ (named _ 0 1 _ volumes v.sizes) (none_both _ _ (mapped _ _ (roomy_pools (λ p. sum_after 3 p.name (Number 2) 0 volumes) config.pools (kept_pools volumes config.pools v.rooms))) refl)))
-      (none_both _ _ (none_both _ _ (named _ 0 1 _ volumes v.caps) (none_both _ _ (named _ 0 1 _ volumes v.params) (none_both _ _ (named _ 1 2 _ attachments a.caps) (none_both _ _ (named _ 1 2 _ attachments a.flags) refl)))) refl))))
-      (none_both _ _ (none_both _ _ (named _ 0 1 _ owned pass.owned) (none_both _ _ (named _ 1 2 _ attachments a.nodes) refl))
+      (none_both _ _ (none_both _ _ (named _ 0 1 _ volumes v.caps) (none_both _ _ (named _ 0 1 _ volumes v.params) (none_both _ _ (named _ 1 2 _ attachments a.caps) (none_both _ _ (named _ 1 2 _ attachments a.flags) (none_both _ _ (named _ 1 2 _ attachments a.nodes) refl))))) refl))))
+      (none_both _ _ (named _ 0 1 _ owned pass.owned)
       (none_both _ _ (none_both _ _ (named _ 4 5 _ paired pass.paired) (none_both _ _ (mapped _ _ (roomy_nodes (λ m. sum_after 2 m.id One 0 attachments) config.nodes (kept_nodes attachments config.nodes a.counts)))
       (none_both _ _ (rows_few (length volumes) v.few) refl))) refl))

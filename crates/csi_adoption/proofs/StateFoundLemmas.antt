@@ -33,7 +33,7 @@ use Rattle.csi_adoption.specs.Adopting.{FoundState}
 use Rattle.csi_adoption.specs.Found.{sizes_of, told_total, FoundVolumes}
 use Rattle.csi_adoption.specs.FoundAttachments.{AttachmentsAreFound, AttachmentsDoPass, OwnersDoPass, PairsDoPass}
 use Rattle.csi_adoption.specs.Judging.{all_faults, first_named, in_attachments, in_volumes, integers_judged, meta_judged, row_judged, total_in, valid_next, with_rows, AreJudged, ArePassed, AttachmentsFound, IsMetaFault, VolumesFound}
-use Rattle.csi_adoption.specs.Passing.{HasTexts, VolumesAreKnown, VolumesPass}
+use Rattle.csi_adoption.specs.Passing.{VolumesAreKnown, VolumesPass}
 use Rattle.csi_adoption.specs.declared.fault.AdoptFault.{AdoptFault}
 use Rattle.csi_adoption.specs.declared.fault.AdoptFault.TheVariants.{Foreign, Newer}
 use Rattle.csi_adoption.specs.declared.fault.Foreign.TheVariants as foreign
@@ -49,7 +49,7 @@ abbrev pub VolumesAreFound : Type 0
 VolumesAreFound = (config : Config) (next : ℕ) (db : Trees) (rows : List Row) → next ≤ MAX_NUMBER → IsSound schema db → IsInOrder (map seen_volume (db 1)) rows → VolumesPass config next rows → VolumesAreKnown rows → FoundVolumes config next rows
 
 abbrev pub VolumesDoPass : Type 0
-VolumesDoPass = (config : Config) (s : State) (db : Trees) (rows : List Row) → IsRows s db → IsInvariant config s → HasTexts s → IsInOrder (map seen_volume (db 1)) rows → VolumesPass config s.next rows
+VolumesDoPass = (config : Config) (s : State) (db : Trees) (rows : List Row) → IsRows s db → IsInvariant config s → IsInOrder (map seen_volume (db 1)) rows → VolumesPass config s.next rows
 
 abbrev pub MetaDoesPass : Type 0
 MetaDoesPass = (config : Config) (s : State) (db : Trees) → IsRows s db → IsInvariant config s → (rows : List Row) → IsPermutation (map seen_meta (db 0)) rows → rows ≡ meta_row s.next ∷ []
@@ -174,7 +174,6 @@ module _ (config : Config) (small : IsSmall config) (bounded : (p : Pool) → Ha
           nodes = fa.nodes;
           few = fv.few;
         };
-        texts = record { volumes = fv.texts; attachments = fa.texts };
         totals = λ pool. ap₂ (λ a b. total_in config.pools a b pool) (ap (λ (f : VolumesFound). f.pool_volumes) passed.volumes.found) (ap (λ (f : VolumesFound). f.pool_bytes) passed.volumes.found)
             ∙ totals_told j.volume_rows config.pools pool ∙ totals_found config n j.volume_rows it.volumes bounded fv pool;
       }
@@ -182,7 +181,7 @@ module _ (config : Config) (small : IsSmall config) (bounded : (p : Pool) → Ha
 -- ---- a State that meets every rule is not refused
 
 module _ (config : Config) (small : IsSmall config) (volumes_pass : VolumesDoPass) (meta_pass : MetaDoesPass) (attachments_pass : AttachmentsDoPass) (owners_pass : OwnersDoPass) (pairs_pass : PairsDoPass)
-    (db : Trees) (s : State) (rows : IsRows s db) (invariant : IsInvariant config s) (texts : HasTexts s) where
+    (db : Trees) (s : State) (rows : IsRows s db) (invariant : IsInvariant config s) where
   judged_next : (meta_rows : List Row) → IsPermutation (map seen_meta (db 0)) meta_rows → meta_judged (with_rows meta.None meta_rows) ≡ Ok s.next
   judged_next meta_rows same = ap (λ (u : List Row). meta_judged (with_rows meta.None u)) (meta_pass config s db rows invariant meta_rows same) ∙ ap Ok (is_valid s.next invariant.next.1)
 
@@ -193,8 +192,8 @@ module _ (config : Config) (small : IsSmall config) (volumes_pass : VolumesDoPas
   no_fault fault j =
       let next : j.next ≡ s.next = ok_is j.next s.next (sym j.meta_is ∙ judged_next j.meta_rows j.seen.meta) in
       let none = rows_faultless config small j.volume_rows j.attachment_rows j.owner_rows j.pair_rows s.next invariant.next.0 (record {
-        volumes = volumes_pass config s db j.volume_rows rows invariant texts j.seen.volumes;
-        attachments = attachments_pass config s db j.attachment_rows rows invariant texts j.seen.attachments;
+        volumes = volumes_pass config s db j.volume_rows rows invariant j.seen.volumes;
+        attachments = attachments_pass config s db j.attachment_rows rows invariant j.seen.attachments;
         owned = owners_pass config s db j.owner_rows rows invariant j.seen.owned;
         paired = pairs_pass config s db j.pair_rows rows invariant j.seen.paired;
       }) in

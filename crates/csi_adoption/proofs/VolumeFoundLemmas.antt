@@ -71,12 +71,11 @@ module _ (config : Config) (next : ℕ) (db : Trees) (rows : List Row) (agrees :
         let has = has_entry n v e in
         let row = has_row n v e in
         let stored = all_has IsStored (entries volumes) (n, v) are.stored has in
-        let texts = all_has _ (entries volumes) (n, v) are.texts has in
         let agree = agrees (n, v) in
         record {
           number = stored.number;
           given = agree.number.0 (test_has _ rows _ pass.numbers row);
-          name = (agree.name texts.0).0 (test_has _ rows _ pass.names row);
+          name = (agree.name stored.name).0 (test_has _ rows _ pass.names row);
           pool = agree.pool.0 (test_has _ rows _ pass.pools row);
           bytes = agree.bytes.0 (test_has _ rows _ pass.sizes row);
           caps = (agree.caps stored.caps).0 (test_has _ rows _ pass.caps row);
@@ -96,7 +95,6 @@ module _ (config : Config) (next : ℕ) (db : Trees) (rows : List Row) (agrees :
           volumes = volumes;
           listed = are.listed;
           stored = are.stored;
-          texts = are.texts;
           each = is_volume;
           names = names_apart;
           few = omega (arith, long, len-entries volumes, length-map (entries volumes) volume_entry, pass.few);

@@ -1,5 +1,5 @@
 -- The rows of a State's volumes pass.
-use Rattle.std.proofs.Common.{◌≡◌, ◌∙◌, inl, inr, refl, sym, subst, ℕ, ◌≤◌, Bool, true, List, [], ◌∷◌, map, sum_by, IsUtf8, IsPermutation, arith}
+use Rattle.std.proofs.Common.{◌≡◌, ◌∙◌, inl, inr, refl, sym, subst, ℕ, ◌≤◌, Bool, true, List, [], ◌∷◌, map, sum_by, IsPermutation, arith}
 use Rattle.std.specs.Cmp.{nat_cmp_total}
 use Rattle.std.specs.FinMap.{entries, len-entries, nat_cmp-IsAntisymmetric}
 use Rattle.std.specs.List.{AllByRecursion, list_all}
@@ -24,7 +24,7 @@ use Rattle.csi_rules.specs.Agreement.{VolumeAgrees}
 use Rattle.csi_rules.specs.Coded.{has_caps, has_params}
 use Rattle.csi_rules.specs.Kinds.{has_volume_kinds}
 use Rattle.csi_rules.specs.Volumes.{is_in_pools, is_named, is_numbered, is_sized}
-use Rattle.csi_adoption.specs.Passing.{HasTexts, VolumesPass}
+use Rattle.csi_adoption.specs.Passing.{VolumesPass}
 use Rattle.csi_adoption.proofs.VolumeSumLemmas.{sum_of}
 
 -- what is so of each of a configuration's list is so of all of it
@@ -36,9 +36,8 @@ all_in P (x ∷ xs) each = (each x (inl refl), all_in P xs (λ y h. each y (inr 
 record IsGood (config : Config) (next : ℕ) (e : ℕ × Volume) : Type 0 where
   pub volume : IsVolume config next e.0 e.1
   pub stored : IsStored e
-  pub texts : IsUtf8 e.1.name × IsUtf8 e.1.pool
 
-module _ (agrees : (config : Config) (next : ℕ) (e : ℕ × Volume) → VolumeAgrees config next e) (config : Config) (s : State) (db : Trees) (rows : List Row) (are : IsRows s db) (inv : IsInvariant config s) (texts : HasTexts s) (order : IsInOrder (map seen_volume (db 1)) rows) where
+module _ (agrees : (config : Config) (next : ℕ) (e : ℕ × Volume) → VolumeAgrees config next e) (config : Config) (s : State) (db : Trees) (rows : List Row) (are : IsRows s db) (inv : IsInvariant config s) (order : IsInOrder (map seen_volume (db 1)) rows) where
   permuted : IsPermutation (map volume_entry (entries s.volumes)) rows
   permuted = IsPermutation-trans _ _ _ are.volumes order.same
 
@@ -48,7 +47,6 @@ module _ (agrees : (config : Config) (next : ℕ) (e : ℕ × Volume) → Volume
       all_from (IsGood config s.next) (entries s.volumes) (λ e has. record {
         volume = all_has (λ (x : ℕ × Volume). IsVolume config s.next x.0 x.1) (entries s.volumes) e volumes has;
         stored = all_has IsStored (entries s.volumes) e are.storable.volumes has;
-        texts = all_has (λ (x : ℕ × Volume). IsUtf8 x.1.name × IsUtf8 x.1.pool) (entries s.volumes) e texts.volumes has;
       })
 
   -- a test that each entry passes
@@ -60,9 +58,9 @@ module _ (agrees : (config : Config) (next : ℕ) (e : ℕ × Volume) → Volume
 
   pub volumes_pass : VolumesPass config s.next rows
   volumes_pass = record {
-    kinds = passes has_volume_kinds (λ e g. (agrees config s.next e).kinds g.texts.0 g.texts.1);
+    kinds = passes has_volume_kinds (λ e g. (agrees config s.next e).kinds g.stored.name g.stored.pool);
     numbers = passes (is_numbered s.next) (λ e g. (agrees config s.next e).number.1 g.volume.given);
-    names = passes is_named (λ e g. ((agrees config s.next e).name g.texts.0).1 g.volume.name);
+    names = passes is_named (λ e g. ((agrees config s.next e).name g.stored.name).1 g.volume.name);
     pools = passes (is_in_pools config.pools) (λ e g. (agrees config s.next e).pool.1 g.volume.pool);
     sizes = passes is_sized (λ e g. (agrees config s.next e).bytes.1 g.volume.bytes);
     rooms = all_in (λ p. sum_by (added_by 3 p.name (Number 2)) rows ≤ p.bytes) config.pools (λ p has.

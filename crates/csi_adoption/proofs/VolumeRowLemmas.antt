@@ -77,7 +77,6 @@ params_are b m e = (bytes_eq-Decides (params_bytes m) b).0 (kept (λ n. bytes_eq
 pub record IsEntry (row : Row) (e : ℕ × Volume) : Type 0 where
   pub cells : volume_entry e ≡ row
   pub stored : IsStored e
-  pub texts : IsUtf8 e.1.name × IsUtf8 e.1.pool
 
 small : (n next : ℕ) → (nat_le 1 n && nat_lt n next) ≡ true → next ≤ MAX_NUMBER → n < 2 ^ 63
 small n next e low = grind (arith, nat_tests)
@@ -109,10 +108,11 @@ row_entry next low row r is kinds numbers sizes caps params fit_caps fit_params 
         stored = record {
           number = refl;
           small = small number.0 next number.2 low;
+          name = name.2;
+          pool = pool.2;
           caps = subst (λ o. IfSome o FitCaps) (ap (λ v. option_and_then keys_in (as_blob v)) cap.2 ∙ cap.3) fit_caps;
           params = subst (λ o. IfSome o FitParams) (ap (λ v. option_and_then params_in (as_blob v)) param.2 ∙ param.3) fit_params;
         };
-        texts = (name.2, pool.2);
       },
     )
 
@@ -121,11 +121,10 @@ row_entry next low row r is kinds numbers sizes caps params fit_caps fit_params 
 pub record AreEntries (rows : List Row) (es : List (ℕ × Volume)) : Type 0 where
   pub listed : map volume_entry es ≡ rows
   pub stored : AllByRecursion IsStored es
-  pub texts : AllByRecursion (λ e. IsUtf8 e.1.name × IsUtf8 e.1.pool) es
 
 pub rows_entries : (rows : List Row) → AllByRecursion (λ r. (e : ℕ × Volume) × IsEntry r e) rows → (es : List (ℕ × Volume)) × AreEntries rows es
-rows_entries [] all = ([], record { listed = refl; stored = tt; texts = tt })
+rows_entries [] all = ([], record { listed = refl; stored = tt })
 rows_entries (r ∷ rows) all =
     let here = all.0 in
     let rest = rows_entries rows all.1 in
-    (here.0 ∷ rest.0, record { listed = λ i. here.1.cells i ∷ rest.1.listed i; stored = (here.1.stored, rest.1.stored); texts = (here.1.texts, rest.1.texts) })
+    (here.0 ∷ rest.0, record { listed = λ i. here.1.cells i ∷ rest.1.listed i; stored = (here.1.stored, rest.1.stored) })

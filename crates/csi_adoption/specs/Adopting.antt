@@ -18,7 +18,6 @@ use Rattle.csi_tables.specs.Holding.{IsRows, conn_doubt, store_doubt, store_hold
 use Rattle.csi_tables.specs.Keeping.{is_down, refusals, store_of}
 use Rattle.csi_tables.specs.declared.tables.Tables.{Tables}
 use Rattle.csi_adoption.specs.Judging.{is_failure, sums_of, total_in, IsFaultOf}
-use Rattle.csi_adoption.specs.Passing.{HasTexts}
 use Rattle.csi_adoption.specs.declared.fault.AdoptFault.{AdoptFault}
 use Rattle.csi_adoption.specs.declared.fault.AdoptFault.TheVariants.{Foreign}
 use Rattle.csi_adoption.specs.declared.fault.Foreign.TheVariants as foreign
@@ -33,17 +32,16 @@ pub record FoundState (config : Config) (db : Trees) (seen : VolumesSeen) : Type
   pub state : State
   pub rows : IsRows state db
   pub invariant : IsInvariant config state
-  pub texts : HasTexts state
   pub totals : (pool : List ℕ) → total_in config.pools (sums_of seen.pool_volumes.items) (sums_of seen.pool_bytes.items) pool ≡ the_total (length (sizes state pool)) (sum (sizes state pool))
 
 -- a State of a database with our tables, which meets every rule, and its totals
 pub record IsFound (config : Config) (db : Database) (totals : Totals) : Type 0 where
   pub schema_is : db.schema ≡ schema
-  pub found : IsSound schema db.trees → (s : State) × IsRows s db.trees × IsInvariant config s × HasTexts s × AreTotals totals s
+  pub found : IsSound schema db.trees → (s : State) × IsRows s db.trees × IsInvariant config s × AreTotals totals s
 
 -- rows of such a State are refused only if something failed
 abbrev pub IsNotRefused : Config → Database → AdoptFault → Type 0
-IsNotRefused config db fault = (s : State) → db.schema ≡ schema → IsRows s db.trees → IsInvariant config s → HasTexts s → is_failure fault ≡ true
+IsNotRefused config db fault = (s : State) → db.schema ≡ schema → IsRows s db.trees → IsInvariant config s → is_failure fault ≡ true
 
 module _ {S : Type 0} (g : Ghosts S) (config : Config) (conn : Held S) where
   -- what was committed on the connection
@@ -53,8 +51,9 @@ module _ {S : Type 0} (g : Ghosts S) (config : Config) (conn : Held S) where
   -- a keeper of the State of what was committed
   pub record IsAdopted (t : Tables S g) : Type 0 where
     pub clean : conn_doubt g conn ≤ store_doubt g (store_of g t)
+    pub was_open : store_doubt g (store_of g t) ≡ 0 → IsTrue (state g conn).is_open
     -- there is such a State, it meets every rule, and the keeper has it
-    pub held : store_doubt g (store_of g t) ≡ 0 → (s : State) × IsStateOf committed s × IsInvariant config s × HasTexts s × store_holds g (store_of g t) s
+    pub held : store_doubt g (store_of g t) ≡ 0 → (s : State) × IsStateOf committed s × IsInvariant config s × store_holds g (store_of g t) s
     -- a stop leaves that State, and nothing else
     pub settled : store_doubt g (store_of g t) ≡ 0 → (s : State) → store_survivors g (store_of g t) s → IsStateOf committed s
     pub ties : store_doubt g (store_of g t) ≡ 0 → store_tied g (store_of g t)
@@ -67,11 +66,13 @@ module _ {S : Type 0} (g : Ghosts S) (config : Config) (conn : Held S) where
     pub clean : conn_doubt g conn ≤ conn_doubt g back
     -- what was committed stays
     pub kept : HasCleanDisk (state g back) → KeepsCommit (state g conn) (state g back)
-    -- a stop leaves what it could leave before, or the new tables that were to be made
-    pub crash : HasCleanDisk (state g back) → (db : Trees) → (state g back).may_leave db → (state g conn).may_leave db ⊎ ((made : Database) × (committed.schema ≡ no_schema → MakesTables committed made) × (db ≡ made.trees))
+    -- a stop leaves what it could leave before; only where there was no table, also the new ones that were to be made
+    pub crash : HasCleanDisk (state g back) → (db : Trees) → (state g back).may_leave db → (state g conn).may_leave db ⊎ ((made : Database) × (committed.schema ≡ no_schema) × MakesTables committed made × (db ≡ made.trees))
     -- the fault is the first one of what was committed, unless something failed
     pub first : HasCleanDisk (state g back) → IsTrue (state g back).is_open → is_failure fault ≡ false → IsFaultOf config committed fault
     -- other tables are told, whatever fails
     pub other : HasCleanDisk (state g back) → IsTrue (state g back).is_open → committed.schema ≢ schema → committed.schema ≢ no_schema → fault ≡ Foreign foreign.Schema
-    -- and rows of a State that meets every rule are refused only if something failed
+    -- a database without a table is refused only if something failed
+    pub blank : HasCleanDisk (state g back) → IsTrue (state g back).is_open → committed.schema ≡ no_schema → is_failure fault ≡ true
+    -- and so are rows of a State that meets every rule
     pub sound : HasCleanDisk (state g back) → IsTrue (state g back).is_open → IsNotRefused config committed fault

@@ -1,5 +1,5 @@
 -- What rows of volumes that pass say: the volumes of a State.
-use Rattle.std.specs.Prelude.{◌≡◌, ℕ, ◌≤◌, bytes_eq, if◌then◌else◌, List, [], ◌∷◌, Some, IsUtf8, filter, length, map, sum, sum_by}
+use Rattle.std.specs.Prelude.{◌≡◌, ℕ, ◌≤◌, bytes_eq, if◌then◌else◌, List, [], ◌∷◌, Some, filter, length, map, sum, sum_by}
 use Rattle.std.specs.FinMap.{FinMap, entries, get, len, values}
 use Rattle.std.specs.List.{AllByRecursion}
 use Rattle.std.specs.Ordering.{nat_cmp}
@@ -25,7 +25,6 @@ pub record FoundVolumes (config : Config) (next : ℕ) (rows : List Row) : Type 
   pub volumes : FinMap nat_cmp Volume
   pub listed : map volume_entry (entries volumes) ≡ rows
   pub stored : AllByRecursion IsStored (entries volumes)
-  pub texts : AllByRecursion (λ e. IsUtf8 e.1.name × IsUtf8 e.1.pool) (entries volumes)
   pub each : (n : ℕ) (v : Volume) → get volumes n ≡ Some v → IsVolume config next n v
   pub names : (m n : ℕ) (v w : Volume) → get volumes m ≡ Some v → get volumes n ≡ Some w → v.name ≡ w.name → m ≡ n
   pub few : len volumes ≤ MAX_VOLUMES

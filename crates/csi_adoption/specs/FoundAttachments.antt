@@ -1,5 +1,5 @@
 -- The attachments that rows stand for, beside the volumes that other rows stand for.
-use Rattle.std.specs.Prelude.{◌≡◌, ℕ, ◌≤◌, true, List, Some, IsSome, IsUtf8, IsPermutation, length, map, filter, bytes_eq}
+use Rattle.std.specs.Prelude.{◌≡◌, ℕ, ◌≤◌, true, List, Some, IsSome, IsPermutation, length, map, filter, bytes_eq}
 use Rattle.std.specs.FinMap.{FinMap, entries, get}
 use Rattle.std.specs.List.{AllByRecursion, list_all}
 use Rattle.std.specs.Ordering.{nat_cmp}
@@ -23,7 +23,7 @@ use Rattle.csi_looks.specs.Looks.{IsInOrder, keyed_attachment, owners, pairs}
 use Rattle.csi_rules.specs.Joins.{is_beside, is_owned}
 use Rattle.csi_statements.specs.Rows.{AreKeyed}
 use Rattle.csi_tables.specs.Holding.{attachment_entry, volume_entry, IsPlaced, IsRows, IsStored}
-use Rattle.csi_adoption.specs.Passing.{AttachmentsAreKnown, AttachmentsPass, HasTexts}
+use Rattle.csi_adoption.specs.Passing.{AttachmentsAreKnown, AttachmentsPass}
 
 -- an attachment that may stand at a number and a node, beside the volumes
 pub record StandsAmong (config : Config) (volumes : FinMap nat_cmp Volume) (n : ℕ) (node : Text) (a : Attachment) : Type 0 where
@@ -39,7 +39,6 @@ pub record FoundAttachments (config : Config) (volumes : FinMap nat_cmp Volume) 
   pub listed : IsPermutation (map attachment_entry (entries attachments)) (map seen_attachment (db 3))
   pub placed : AllByRecursion IsPlaced (entries attachments)
   pub keyed : AreKeyed seen_attachment (db 3)
-  pub texts : AllByRecursion (λ e. IsUtf8 e.0.1) (entries attachments)
   pub each : (n : ℕ) (node : Text) (a : Attachment) → get attachments (n, node) ≡ Some a → StandsAmong config volumes n node a
   -- any two attachments of a volume coexist
   pub beside : (n : ℕ) (d e : Text) (a b : Attachment) → get attachments (n, d) ≡ Some a → get attachments (n, e) ≡ Some b → (d ≡ e → ⊥) → coexist a b ≡ true
@@ -64,7 +63,7 @@ AttachmentsAreFound =
 abbrev pub AttachmentsDoPass : Type 0
 AttachmentsDoPass =
     (config : Config) (s : State) (db : Trees) (rows : List Row)
-    → IsRows s db → IsInvariant config s → HasTexts s → IsInOrder (map keyed_attachment (db 3)) rows → AttachmentsPass config rows
+    → IsRows s db → IsInvariant config s → IsInOrder (map keyed_attachment (db 3)) rows → AttachmentsPass config rows
 
 -- each with its volume
 abbrev pub OwnersDoPass : Type 0

@@ -227,10 +227,11 @@ size_faults config volumes = first_fault (volume_fault volume_rule.Pool volumes.
 
 abbrev pub code_faults : VolumesFound → AttachmentsFound → Option AdoptFault
 code_faults volumes attachments =
-    first_fault (volume_fault volume_rule.Caps volumes.caps ∷ volume_fault volume_rule.Params volumes.params ∷ attachment_fault attachment_rule.Cap attachments.cap ∷ attachment_fault attachment_rule.Readonly attachments.readonly ∷ [])
+    first_fault (volume_fault volume_rule.Caps volumes.caps ∷ volume_fault volume_rule.Params volumes.params ∷ attachment_fault attachment_rule.Cap attachments.cap ∷ attachment_fault attachment_rule.Readonly attachments.readonly ∷ attachment_fault attachment_rule.Node attachments.node ∷ [])
 
-abbrev pub owner_faults : Option RowName → AttachmentsFound → Option AdoptFault
-owner_faults unowned attachments = first_fault (attachment_fault attachment_rule.Owner unowned ∷ attachment_fault attachment_rule.Node attachments.node ∷ [])
+-- a volume stands and has the capability
+abbrev pub owner_fault : Option RowName → Option AdoptFault
+owner_fault unowned = attachment_fault attachment_rule.Owner unowned
 
 abbrev pub count_faults : Config → Option RowName → AttachmentsFound → VolumesFound → Option AdoptFault
 count_faults config apart attachments volumes =
@@ -241,7 +242,7 @@ abbrev pub table_faults : Config → ℕ → VolumesFound → AttachmentsFound �
 table_faults config next volumes attachments = first_fault (kinds_faults volumes attachments ∷ number_faults next volumes ∷ size_faults config volumes ∷ code_faults volumes attachments ∷ [])
 
 abbrev pub all_faults : Config → ℕ → VolumesFound → AttachmentsFound → Option RowName → Option RowName → Option AdoptFault
-all_faults config next volumes attachments unowned apart = first_fault (table_faults config next volumes attachments ∷ owner_faults unowned attachments ∷ count_faults config apart attachments volumes ∷ [])
+all_faults config next volumes attachments unowned apart = first_fault (table_faults config next volumes attachments ∷ owner_fault unowned ∷ count_faults config apart attachments volumes ∷ [])
 
 -- ---- the totals
 

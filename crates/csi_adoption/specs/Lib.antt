@@ -1,4 +1,5 @@
 pub mod Adopting
+pub mod Again
 pub mod Found
 pub mod FoundAttachments
 pub mod Judging

@@ -1,12 +1,10 @@
 -- What looks over the tables have to show for adoption.
-use Rattle.std.specs.Prelude.{◌≡◌, ℕ, ◌≤◌, true, List, None, IfSome, IsUtf8, IsPermutation, [], ◌∷◌, length, map, sum_by}
-use Rattle.std.specs.FinMap.{entries}
+use Rattle.std.specs.Prelude.{◌≡◌, ℕ, ◌≤◌, true, List, None, IfSome, IsPermutation, [], ◌∷◌, length, map, sum_by}
 use Rattle.std.specs.List.{AllByRecursion, list_all}
 use Rattle.sqlite.specs.Order.{Row}
 use Rattle.sqlite.specs.Tree.{Trees}
 use Rattle.csi_types.specs.declared.limits.TheConstants.{MAX_NUMBER, MAX_VOLUMES}
 use Rattle.csi_config.specs.declared.config.Config.{Config}
-use Rattle.csi_keeper.specs.State.{State}
 use Rattle.csi_layout.specs.Rows.{meta_row, seen_meta, seen_volume}
 use Rattle.csi_looks.specs.Folds.{IsRising, added_by}
 use Rattle.csi_looks.specs.Looks.{IsInOrder, keyed_attachment, owners, pairs}
@@ -67,8 +65,3 @@ pub record Pass (config : Config) (number : ℕ) (meta_rows volume_rows attachme
   pub attachments : AttachmentsPass config attachment_rows
   pub owned : list_all is_owned owner_rows ≡ true
   pub paired : list_all is_beside pair_rows ≡ true
-
--- the texts of a State are UTF-8
-pub record HasTexts (s : State) : Type 0 where
-  pub volumes : AllByRecursion (λ e. IsUtf8 e.1.name × IsUtf8 e.1.pool) (entries s.volumes)
-  pub attachments : AllByRecursion (λ e. IsUtf8 e.0.1) (entries s.attachments)

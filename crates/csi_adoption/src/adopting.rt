@@ -12,9 +12,8 @@ ghost use Rattle.csi_keeper.specs.Memory.{first_state};
 ghost use Rattle.csi_keeper.specs.State.{State};
 ghost use Rattle.csi_tables.specs.Holding.{IsRows};
 ghost use Rattle.csi_adoption.specs.Adopting.{FoundState, IsAdopted, IsFound, IsNotRefused, IsUnadopted};
-ghost use Rattle.csi_adoption.specs.Passing.{HasTexts};
 ghost use Rattle.csi_adoption.specs.Looking.{Looks};
-ghost use Rattle.csi_adoption.specs.Judging.{is_failure, AreJudged, ArePassed, IsFaultOf, IsMetaFault, JudgesBehind, JudgesJoined, JudgesRows, SeesNext, Says, TablesAreSeen, Tells, code_faults, count_fault, count_faults, kinds_faults, owner_faults, table_faults, told_attachments, told_volumes};
+ghost use Rattle.csi_adoption.specs.Judging.{is_failure, AreJudged, ArePassed, IsFaultOf, IsMetaFault, JudgesBehind, JudgesJoined, JudgesRows, SeesNext, Says, TablesAreSeen, Tells, code_faults, count_fault, count_faults, kinds_faults, table_faults, told_attachments, told_volumes};
 
 use crate::attachment_laws::{attachments_found, attachments_pass, owners_pass, pairs_pass};
 use crate::attachments::{
@@ -79,7 +78,8 @@ fn check_codes(
     check_volume(&volumes.caps, VolumeRule::Caps)?;
     check_volume(&volumes.params, VolumeRule::Params)?;
     check_attachment(alloc, &attachments.cap, AttachmentRule::Cap)?;
-    check_attachment(alloc, &attachments.readonly, AttachmentRule::Readonly)
+    check_attachment(alloc, &attachments.readonly, AttachmentRule::Readonly)?;
+    check_attachment(alloc, &attachments.node, AttachmentRule::Node)
 }
 
 // The rules of one table alone.
@@ -96,18 +96,6 @@ fn check_tables(
     check_numbers(next, volumes)?;
     check_sizes(alloc, config, volumes)?;
     check_codes(alloc, volumes, attachments)
-}
-
-// The rules of an attachment's volume and node.
-fn check_owners(
-    alloc: Global,
-    unowned: &Option<RowName>,
-    attachments: &AttachmentsSeen,
-) -> Result<(), AdoptFault>
-    ensures { Says (owner_faults unowned.now (told_attachments attachments.now)) result }
-{
-    check_attachment(alloc, unowned, AttachmentRule::Owner)?;
-    check_attachment(alloc, &attachments.node, AttachmentRule::Node)
 }
 
 fn check_count(rows: u64) -> Result<(), AdoptFault>
@@ -160,9 +148,9 @@ fn see_tables<S: Alter>(
     })
 }
 
-// Judges attachments beside their volumes and beside one another, once each table is judged by itself. Two
-// attachments of a volume are looked at together only once each is known to be at a node of the
-// configuration: so they are few.
+// Judges attachments beside their volumes and beside one another, once each table is judged by itself: each
+// is known to be at a node of the configuration then, so those of a volume are few, and its capabilities
+// are read few times.
 fn judge_joined<S: Alter>(
     alloc: Global,
     conn: &mut Connection<S>,
@@ -175,7 +163,7 @@ fn judge_joined<S: Alter>(
     ensures judged { HasCleanDisk (state S.Store conn.new) → (next : ℕ) → JudgesJoined config.now (state S.Store conn.old).now.trees next tables.now result }
 {
     let unowned = see_owners(alloc, conn)?;
-    check_owners(alloc, &unowned, &tables.attachments)?;
+    check_attachment(alloc, &unowned, AttachmentRule::Owner)?;
     let apart = see_pairs(alloc, conn)?;
     check_counts(alloc, config, &apart, &tables.attachments, &tables.volumes)?;
     Ok(())
@@ -232,9 +220,9 @@ fn judge_rows<S: Alter>(
 #[inline(always)]
 fn rows_tell(config: &Config)
     ensures found { (db : Trees) (seen : VolumesSeen) → IsSound our_schema db → ArePassed config.now db seen → FoundState config.now db seen }
-    ensures no_meta_fault { (db : Trees) (s : State) → IsRows s db → IsInvariant config.now s → HasTexts s → (fault : AdoptFault) → IsMetaFault db fault → ⊥ }
-    ensures no_fault { (db : Trees) (s : State) → IsRows s db → IsInvariant config.now s → HasTexts s → (fault : AdoptFault) → AreJudged config.now db (Some fault) → ⊥ }
-    ensures new { IsInvariant config.now (first_state 1) × HasTexts (first_state 1) }
+    ensures no_meta_fault { (db : Trees) (s : State) → IsRows s db → IsInvariant config.now s → (fault : AdoptFault) → IsMetaFault db fault → ⊥ }
+    ensures no_fault { (db : Trees) (s : State) → IsRows s db → IsInvariant config.now s → (fault : AdoptFault) → AreJudged config.now db (Some fault) → ⊥ }
+    ensures new { IsInvariant config.now (first_state 1) }
 {
     volumes_found();
     attachments_found();

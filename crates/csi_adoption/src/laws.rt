@@ -19,8 +19,12 @@ ghost use Rattle.csi_looks.specs.Looks.{IsInOrder};
 ghost use Rattle.csi_looks.specs.declared.sums.Weight.{Weight};
 ghost use Rattle.csi_looks.specs.declared.sums.Weight.TheVariants.{Number, One};
 ghost use Rattle.csi_tables.specs.Holding.{IsRows};
+ghost use Rattle.csi_adoption.specs.Again.{EndsTaken, StopsTaken};
 ghost use Rattle.csi_adoption.specs.Found.{FoundVolumes, sizes_of, told_total};
-ghost use Rattle.csi_adoption.specs.Passing.{HasTexts, VolumesAreKnown, VolumesPass};
+ghost use Rattle.csi_adoption.specs.Passing.{VolumesAreKnown, VolumesPass};
+
+use csi_tables::laws::one_state;
+use sqlite::Alter;
 
 /// Rows of volumes that pass are those of the volumes of a State.
 pub fn volumes_found()
@@ -31,7 +35,7 @@ pub fn volumes_found()
 
 /// The rows of a State's volumes pass.
 pub fn volumes_pass()
-    ensures { (config : Config) (s : State) (db : Trees) (rows : List Row) → IsRows s db → IsInvariant config s → HasTexts s → IsInOrder (map seen_volume (db 1)) rows → VolumesPass config s.next rows }
+    ensures { (config : Config) (s : State) (db : Trees) (rows : List Row) → IsRows s db → IsInvariant config s → IsInOrder (map seen_volume (db 1)) rows → VolumesPass config s.next rows }
 {
     csi_rules::laws::volumes();
 }
@@ -62,3 +66,14 @@ pub fn pools_elsewhere()
 pub fn totals_found()
     ensures { (config : Config) (next : ℕ) (rows : List Row) → VolumesPass config next rows → ((p : Pool) → Has config.pools p → p.bytes < 2 ^ 64 - 1) → (found : FoundVolumes config next rows) (name : List ℕ) → told_total config.pools rows name ≡ the_total (length (sizes_of found.volumes name)) (sum (sizes_of found.volumes name)) }
 {}
+
+/// What a keeper over tables left is adopted as the State that it had, or as what the stop left of it,
+/// unless the database or memory failed: the State has to meet the invariant, as each State does that
+/// the volume machine leads to. After an end that is so of the keeper's own connection, and after a
+/// stop of any connection over the database that the stop left.
+pub fn adopted_again<S: Alter>()
+    ensures ended { EndsTaken S.Store }
+    ensures stopped { StopsTaken S.Store }
+{
+    one_state();
+}

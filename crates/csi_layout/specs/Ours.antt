@@ -24,6 +24,13 @@ pub record IsBare (t : Table) : Type 0 where
   pub stamps : t.stamps ≡ record { places = []; terms = []; formats = [] }
   pub counted : t.is_counted ≡ false
 
+-- the primary key, one other key with an index that ascends, and no CHECK
+pub record HasKeys (primary unique : List ℕ) (t : Table) : Type 0 where
+  pub primary_is : t.primary ≡ primary
+  pub uniques : t.uniques ≡ unique ∷ []
+  pub orders : t.orders ≡ plain ∷ []
+  pub checks : t.checks ≡ []
+
 -- the nodes at a place of a plan say that the first column is 1
 abbrev pub IsKeyCheck : List Op → ℕ → Type 0
 IsKeyCheck ops root =

@@ -1,9 +1,7 @@
 //! A test of each row by itself, and two folds over the same rows.
 
-ghost use Rattle.std.specs.Prelude.{◌≡◌, ◌&&◌, Bool, refl};
-ghost use Rattle.std.specs.List.{list_all};
+ghost use Rattle.std.specs.Prelude.{◌≡◌, Bool};
 ghost use Rattle.sqlite.specs.Order.{Row as Values};
-ghost use Rattle.csi_looks.specs.facts.Starts.{still_good};
 
 use crate::fold::Fold;
 use sqlite::{Error, Row};
@@ -16,27 +14,6 @@ pub trait RowTest {
     /// Whether the row passes.
     fn test(&self, row: &Row) -> bool
         ensures { result ≡ accepts self.now row.now };
-}
-
-/// Whether every row has passed a test.
-#[derive(Drop)]
-pub struct Every<T> {
-    /// The test.
-    pub test: T,
-    /// Whether each row so far has passed. It begins as `true`.
-    pub good: bool,
-}
-
-impl<T: RowTest> Fold for Every<T> {
-    ghost folds = { λ first rows now. (now.test ≡ first.test) × (now.good ≡ (first.good && list_all (T.accepts first.test) rows)) };
-
-    ghost starts = { λ first. (refl, still_good first.good) };
-
-    fn take(&mut self, row: &Row) -> Result<(), Error> {
-        let passed = self.test.test(row);
-        self.good = self.good && passed;
-        Ok(())
-    }
 }
 
 /// Two folds over the same rows.

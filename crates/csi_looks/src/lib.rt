@@ -1,7 +1,7 @@
 //! Looks over the rows of our tables, row by row, in memory that does not grow with their number.
 //!
 //! A look is a query with a fixed text, and a `Fold` takes each row of its answer. Folds are put together
-//! by types: `Every` tests each row by itself, `Both` and `Each` take the same rows side by side,
+//! by types: `Both` and `Each` take the same rows side by side,
 //! `TextSum` adds up, `RowCount` counts and `Rising` tells whether integers rise. So one look judges a table by many rules.
 //!
 //! What is promised of the rows is promised while the connection is clean as the call ends
@@ -22,7 +22,7 @@ pub use cells::integer_at;
 pub use count::RowCount;
 pub use each::Each;
 pub use fold::{Fold, each_row};
-pub use folds::{Both, Every, RowTest};
+pub use folds::{Both, RowTest};
 pub use looks::{
     look_over_attachments, look_over_meta, look_over_owners, look_over_pairs, look_over_volumes,
 };

@@ -8,7 +8,6 @@ use Rattle.std.proofs.lemmas.Str.{is_utf8-from_IsUtf8}
 use Rattle.sqlite.specs.declared.types.Value.{Value}
 use Rattle.csi_types.specs.Maps.{same_text}
 use Rattle.csi_types.specs.Names.{refused_name}
-use Rattle.csi_types.specs.declared.limits.TheConstants.{MAX_NUMBER}
 use Rattle.csi_types.specs.declared.reason.Reason.{Reason}
 use Rattle.csi_config.specs.declared.config.Config.{Config}
 use Rattle.csi_keeper.specs.Capability.{has_key, is_supported_key}
@@ -21,12 +20,11 @@ use Rattle.csi_statements.specs.Cells.{as_flag}
 use Rattle.csi_statements.specs.Rows.{bool_value}
 use Rattle.csi_looks.specs.Looks.{with_owner}
 use Rattle.csi_tables.specs.Encoding.{caps_bytes, FitCaps, ReadsBack}
-use Rattle.csi_rules.specs.Agreement.{AttachmentAgrees, MetaAgrees, OwnerAgrees, PairAgrees, VolumeAgrees}
+use Rattle.csi_rules.specs.Agreement.{AttachmentAgrees, OwnerAgrees, PairAgrees, VolumeAgrees}
 use Rattle.csi_rules.specs.Coded.{key_at}
 use Rattle.csi_rules.specs.Coding.{key_in, keys_in}
 use Rattle.csi_rules.specs.Joins.{attached, attached_with}
 use Rattle.csi_rules.specs.Values.{are_some_and, is_some_and}
-use Rattle.csi_rules.specs.Meta.{is_next}
 use Rattle.csi_rules.specs.Volumes.{is_name}
 use Rattle.csi_rules.proofs.CodingLemmas.{cap_pass, caps_pass, each_back, key_in-caps_bytes, keys_in-caps_bytes, params_pass}
 
@@ -46,9 +44,6 @@ same_found test (x ∷ xs) = go (test x) (same_found test xs)
 found_any : {X : Type 0} (test : X → Bool) (xs : List X) → Decides (list_any test xs) (IsSome (find test xs))
 found_any test xs = some_told (find test xs) (list_any test xs) (same_found test xs)
 
-in_range : (n : ℕ) → Decides (is_next n) ((1 ≤ n) × (n ≤ MAX_NUMBER))
-in_range n = (λ h. (grind (arith, nat_tests), grind (arith, nat_tests)), λ h. grind (arith, nat_tests))
-
 given : (n next : ℕ) → Decides (nat_le 1 n && nat_lt n next) ((1 ≤ n) × (n < next))
 given n next = (λ h. (grind (arith, nat_tests), grind (arith, nat_tests)), λ h. grind (arith, nat_tests))
 
@@ -64,13 +59,6 @@ fine_name name good =
 some_flag : (b : Bool) → is_some (as_flag (bool_value b)) ≡ true
 some_flag true = refl
 some_flag false = refl
-
-pub meta_agrees : (next : ℕ) → MetaAgrees next
-meta_agrees next = record {
-  kinds = refl;
-  format = refl;
-  next = in_range next;
-}
 
 pub volume_agrees : ReadsBack → (config : Config) (next : ℕ) (e : ℕ × Volume) → VolumeAgrees config next e
 volume_agrees back config next e = record {

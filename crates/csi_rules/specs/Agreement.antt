@@ -1,4 +1,4 @@
--- A row that stands for a volume, for an attachment or for the next number passes a rule exactly where the State may have it.
+-- A row that stands for a volume or for an attachment passes a rule exactly where the State may have it.
 use Rattle.std.specs.Prelude.{◌≡◌, ℕ, ◌≤◌, ◌<◌, true, false, List, [], ◌∷◌, ◌++◌, None, Some, IsSome, IsUtf8}
 use Rattle.std.specs.Bool.{Decides}
 use Rattle.sqlite.specs.Order.{Row}
@@ -6,7 +6,7 @@ use Rattle.sqlite.specs.declared.types.Value.{Value}
 use Rattle.sqlite.specs.declared.types.Value.TheVariants.{Blob}
 use Rattle.csi_types.specs.Checks.{map_bytes}
 use Rattle.csi_types.specs.Names.{refused_name}
-use Rattle.csi_types.specs.declared.limits.TheConstants.{MAX_MAP_BYTES, MAX_NUMBER}
+use Rattle.csi_types.specs.declared.limits.TheConstants.{MAX_MAP_BYTES}
 use Rattle.csi_config.specs.Faults.{is_whole}
 use Rattle.csi_config.specs.declared.config.Config.{Config}
 use Rattle.csi_keeper.specs.Capability.{has_key, is_supported_key}
@@ -17,26 +17,19 @@ use Rattle.csi_keeper.specs.State.{Place}
 use Rattle.csi_keeper.specs.declared.capability.CapKey.{CapKey}
 use Rattle.csi_keeper.specs.declared.volume.Attachment.{Attachment}
 use Rattle.csi_keeper.specs.declared.volume.Volume.{Volume}
-use Rattle.csi_statements.specs.Rows.{bool_value, meta_row}
+use Rattle.csi_statements.specs.Rows.{bool_value}
 use Rattle.csi_looks.specs.Looks.{with_owner}
 use Rattle.csi_tables.specs.Encoding.{caps_bytes, FitCaps, FitParams}
 use Rattle.csi_tables.specs.Holding.{attachment_entry, volume_entry}
 use Rattle.csi_rules.specs.Attachments.{has_flag, is_at_node}
 use Rattle.csi_rules.specs.Coded.{has_cap, has_caps, has_params}
 use Rattle.csi_rules.specs.Joins.{is_beside, is_owned}
-use Rattle.csi_rules.specs.Kinds.{has_attachment_kinds, has_meta_kinds, has_volume_kinds}
-use Rattle.csi_rules.specs.Meta.{has_format, has_next}
+use Rattle.csi_rules.specs.Kinds.{has_attachment_kinds, has_volume_kinds}
 use Rattle.csi_rules.specs.Volumes.{is_in_pools, is_named, is_numbered, is_sized}
 
 -- an attachment's row behind its rowid
 abbrev pub keyed_entry : Value → Place × Attachment → Row
 keyed_entry rowid e = rowid ∷ attachment_entry e
-
--- the row of meta
-pub record MetaAgrees (number : ℕ) : Type 0 where
-  pub kinds : has_meta_kinds (meta_row number) ≡ true
-  pub format : has_format 1 (meta_row number) ≡ true
-  pub next : Decides (has_next (meta_row number)) ((1 ≤ number) × (number ≤ MAX_NUMBER))
 
 -- the row of a volume, whose name and pool are texts
 pub record VolumeAgrees (config : Config) (next : ℕ) (e : ℕ × Volume) : Type 0 where

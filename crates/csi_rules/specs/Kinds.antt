@@ -18,10 +18,6 @@ abbrev pub is_blob : Value → Bool
 is_blob (Blob b) = true
 is_blob _ = false
 
--- the key, the number of the format and the next number are integers
-abbrev pub has_meta_kinds : Row → Bool
-has_meta_kinds row = is_integer (column row 0) && is_integer (column row 1) && is_integer (column row 2)
-
 -- the number and the bytes are integers, the name and the pool are texts, and caps and params are bytes
 abbrev pub has_volume_kinds : Row → Bool
 has_volume_kinds row =

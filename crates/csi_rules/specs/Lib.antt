@@ -4,7 +4,6 @@ pub mod Coded
 pub mod Coding
 pub mod Joins
 pub mod Kinds
-pub mod Meta
 pub mod Named
 pub mod Values
 pub mod Volumes

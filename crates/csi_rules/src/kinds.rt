@@ -1,22 +1,10 @@
 //! Whether the values of a row are of the kinds of their columns.
 
-ghost use Rattle.csi_rules.specs.Kinds.{has_attachment_kinds, has_meta_kinds, has_volume_kinds};
+ghost use Rattle.csi_rules.specs.Kinds.{has_attachment_kinds, has_volume_kinds};
 
 use crate::cells::{has_blob, has_integer, has_text};
 use csi_looks::RowTest;
 use sqlite::Row;
-
-/// The key, the number of the format and the next number of a row of meta are integers.
-#[derive(Clone, Copy, Debug)]
-pub struct HasMetaKinds;
-
-impl RowTest for HasMetaKinds {
-    ghost accepts = { λ _ row. has_meta_kinds row };
-
-    fn test(&self, row: &Row) -> bool {
-        has_integer(row, 0) && has_integer(row, 1) && has_integer(row, 2)
-    }
-}
 
 /// The number and the bytes of a row of volumes are integers, its name and pool are texts in UTF-8, and
 /// its caps and params are bytes.

@@ -8,14 +8,9 @@ ghost use Rattle.csi_keeper.specs.declared.capability.CapKey.{CapKey};
 ghost use Rattle.csi_keeper.specs.declared.volume.Attachment.{Attachment};
 ghost use Rattle.csi_keeper.specs.declared.volume.Volume.{Volume};
 ghost use Rattle.csi_tables.specs.Encoding.{ReadsBack};
-ghost use Rattle.csi_rules.specs.Agreement.{AttachmentAgrees, MetaAgrees, OwnerAgrees, PairAgrees, VolumeAgrees};
+ghost use Rattle.csi_rules.specs.Agreement.{AttachmentAgrees, OwnerAgrees, PairAgrees, VolumeAgrees};
 
 use csi_codec::laws::{read_as_meant, round_trip};
-
-/// The rules of the row of meta are those of the next number of a State.
-pub fn meta()
-    ensures { (next : ℕ) → MetaAgrees next }
-{}
 
 // What is written of a request that fits is read as that request.
 #[inline(always)]

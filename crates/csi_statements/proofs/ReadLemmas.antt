@@ -157,16 +157,3 @@ number_read old new (Ok row) inside h = record {
         number_shown old new row h has it.0 it.1 ∙ ap (λ v. v ∷ []) (ap (λ (x : Row). column x 2) it.2);
   };
 }
-
--- what is written behind it is written to the same database
-pub sees_then : {What : Database → Type 0} (Effect : Database → Database → Type 0) (old mid new : State) → Steps (Sees What) old mid → Steps Effect mid new → Steps Effect old new
-sees_then Effect old mid new one two = record {
-  shown = record {
-    was_open = one.shown.was_open;
-    is_open = two.shown.is_open;
-    now_is = refl;
-    committed_is = two.shown.committed_is ∙ one.shown.committed_is;
-    mode = two.shown.mode;
-  };
-  effect = λ has. let seen = one.effect has in subst (λ (d : Database). Effect d new.now) seen.same (two.effect (ap (λ (d : Database). d.schema) seen.same ∙ has));
-}

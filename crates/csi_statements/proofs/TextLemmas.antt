@@ -13,7 +13,7 @@ use Rattle.sqlite_sql.specs.declared.ops.UnaryOp.TheVariants.{ToNumeric}
 use Rattle.sqlite.proofs.Callers.{IsPlain, command_of}
 use Rattle.sqlite_tied.specs.Compute.{everything}
 use Rattle.csi_layout.specs.facts.Writes.{IsCommand}
-use Rattle.csi_statements.specs.Statements.{plain_query, number_query, volume_query, size_query, named_query, sizes_query, page_query, page_numbers_query, nodes_query, attached_query, places_query}
+use Rattle.csi_statements.specs.Statements.{plain_query, number_query, volume_query, named_query, sizes_query, page_query, page_numbers_query, nodes_query, attached_query, places_query}
 use Rattle.csi_statements.specs.Tables.{schema}
 
 -- ---- writes
@@ -104,13 +104,6 @@ volume_text = codes "SELECT number, name, bytes, pool, caps, params FROM volumes
 pub volume_select : IsSelect volume_text volume_query
 unfolding understood everything
 volume_select = record { names = codes "number" ∷ codes "name" ∷ codes "bytes" ∷ codes "pool" ∷ codes "caps" ∷ codes "params" ∷ []; is = refl; plain = (refl, refl); unlisted = refl }
-
-abbrev pub size_text : List ℕ
-size_text = codes "SELECT pool, bytes FROM volumes WHERE number = ?1"
-
-pub size_select : IsSelect size_text size_query
-unfolding understood everything
-size_select = record { names = codes "pool" ∷ codes "bytes" ∷ []; is = refl; plain = (refl, refl); unlisted = refl }
 
 abbrev pub named_text : List ℕ
 named_text = codes "SELECT number, name, bytes, pool, caps, params FROM volumes WHERE name = ?1 ORDER BY number"

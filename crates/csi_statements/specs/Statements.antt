@@ -39,9 +39,6 @@ number_query = record plain_query { project = col 1 3 ∷ [] }
 abbrev pub volume_query : Query
 volume_query = record plain_query { from = inner 1 end; filter = op2 (Compare Eq Binary) (col 1 0) (col 0 0) ∷ []; project = volume_columns }
 
-abbrev pub size_query : Query
-size_query = record plain_query { from = inner 1 end; filter = op2 (Compare Eq Binary) (col 1 0) (col 0 0) ∷ []; project = col 1 4 ∷ col 1 3 ∷ [] }
-
 abbrev pub named_query : Query
 named_query = record plain_query { from = inner 1 end; filter = op2 (Compare Eq Binary) (col 1 2) (col 0 0) ∷ []; project = volume_columns; order = (col 1 0, rising) ∷ [] }
 

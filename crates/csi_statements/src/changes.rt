@@ -4,19 +4,16 @@
 //!
 //! Each asks that no transaction is open on the connection, and leaves it so.
 
-ghost use Rattle.std.specs.Prelude.{◌≡◌, ◌+◌, ◌<◌, ◌^◌, [], ◌∷◌, false, IfOk, OnErr, OnOk};
+ghost use Rattle.std.specs.Prelude.{◌≡◌, ◌+◌, ◌<◌, ◌^◌, false, OnErr, OnOk};
 ghost use Rattle.sqlite.specs.Held.{state};
 ghost use Rattle.sqlite.specs.State.{HasCleanDisk, Survives};
 ghost use Rattle.csi_statements.specs.Deletes.{Drops, is_numbered, is_of, is_place};
-ghost use Rattle.csi_statements.specs.Rows.{AddsAttachment, AddsNumbered, Changes, IsUndone, Leaves, Reads, attachment_row, number_value, seen_attachment, seen_volume, volume_row};
-ghost use Rattle.csi_statements.specs.Shown.{IsFoundBy};
-ghost use Rattle.csi_statements.specs.Statements.{size_query};
+ghost use Rattle.csi_statements.specs.Rows.{AddsAttachment, AddsNumbered, Changes, IsUndone, Leaves, attachment_row, seen_attachment, seen_volume, volume_row};
 
 use crate::statements::attachments::{delete_attachment, delete_attachments, insert_attachment};
 use crate::statements::meta::set_next;
-use crate::statements::volumes::{delete_volume, insert_volume, select_size};
-use crate::values::first;
-use sqlite::{Alter, Connection, Error, Row};
+use crate::statements::volumes::{delete_volume, insert_volume};
+use sqlite::{Alter, Connection, Error};
 
 /// Adds a volume, and makes its number plus 1 the next number.
 ///
@@ -45,22 +42,19 @@ pub fn add_volume<S: Alter>(
     tx.commit()
 }
 
-/// Removes the volume of a number, which is below 2^63, and answers its pool and its bytes: `None`
-/// where no volume has the number. Its attachments are left alone.
-pub fn remove_volume<S: Alter>(conn: &mut Connection<S>, volume: u64) -> Result<Option<Row>, Error>
+/// Removes the volume of a number, which is below 2^63. Where no volume has the number the tables stay.
+/// Its attachments are left alone.
+pub fn remove_volume<S: Alter>(conn: &mut Connection<S>, volume: u64) -> Result<(), Error>
     requires idle { conn.old.in_transaction ≡ false }
     requires volume { volume < 2 ^ 63 }
     ensures idle { conn.new.in_transaction ≡ false }
-    ensures ok { HasCleanDisk (state S.Store conn.new) → IfOk result (λ removed. Reads (λ db. IsFoundBy size_query (db.trees 1) (number_value volume ∷ []) removed) (state S.Store conn.old)
-        × Changes (Drops 1 seen_volume (is_numbered volume)) (state S.Store conn.old) (state S.Store conn.new)) }
+    ensures ok { HasCleanDisk (state S.Store conn.new) → OnOk result (Changes (Drops 1 seen_volume (is_numbered volume)) (state S.Store conn.old) (state S.Store conn.new)) }
     ensures err { HasCleanDisk (state S.Store conn.new) → OnErr result (IsUndone (state S.Store conn.old) (state S.Store conn.new)) }
     ensures survives { Survives (state S.Store conn.old) (state S.Store conn.new) (Leaves (Drops 1 seen_volume (is_numbered volume)) (state S.Store conn.old)) }
 {
     let mut tx = conn.transaction();
-    let sizes = select_size(&mut tx, volume)?;
     delete_volume(&mut tx, volume)?;
-    tx.commit()?;
-    Ok(first(sizes))
+    tx.commit()
 }
 
 /// Attaches the volume of a number, which is below 2^63, at a node. `cap` is kept as it is given. A

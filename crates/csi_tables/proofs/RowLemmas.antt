@@ -1,5 +1,5 @@
 -- The rows after a change.
-use Rattle.std.proofs.Common.{◌≡◌, ◌∙◌, refl, sym, ap, ap₂, subst, ℕ, ◌+◌, ◌<◌, ◌^◌, ◌==◌, ◌&&◌, not, pos, List, [], ◌∷◌, map, filter, Bool, true, false, cond, None, Some, ◌≤◌, IsPermutation, is_eq, Ordering, Less, arith, inl, inr}
+use Rattle.std.proofs.Common.{◌≡◌, ◌∙◌, refl, sym, ap, ap₂, subst, ℕ, ◌+◌, ◌<◌, ◌^◌, ◌==◌, ◌&&◌, not, pos, List, [], ◌∷◌, map, filter, Bool, true, false, cond, None, Some, ◌≤◌, IsUtf8, IsPermutation, is_eq, Ordering, Less, arith, inl, inr}
 use Rattle.std.specs.Cmp.{nat_cmp_total, IsTotalOrder}
 use Rattle.std.specs.FinMap.{FinMap, entries, find, get, get-entries, entries_sorted, same_entries_map, nat_cmp-IsAntisymmetric}
 use Rattle.std.specs.List.{AllByRecursion}
@@ -35,19 +35,19 @@ use Rattle.csi_tables.proofs.TestLemmas.{same_numbers, same_texts, both_eq}
 
 -- ---- a State that rows can say, after a change
 
-pub storable_added : (s : State) (v : Volume) → v.number < 2 ^ 63 → FitCaps v.caps → FitParams v.params → Allows s (AddVolume v) → IsStorable s → IsStorable (changed s (AddVolume v))
-storable_added s v low caps params allowed h = record {
-  volumes = all_inserted nat_cmp nat_cmp_total IsStored s.volumes v.number v allowed.1 (record { number = refl; small = low; caps = caps; params = params }) h.volumes;
+pub storable_added : (s : State) (v : Volume) → v.number < 2 ^ 63 → IsUtf8 v.name → IsUtf8 v.pool → FitCaps v.caps → FitParams v.params → Allows s (AddVolume v) → IsStorable s → IsStorable (changed s (AddVolume v))
+storable_added s v low name pool caps params allowed h = record {
+  volumes = all_inserted nat_cmp nat_cmp_total IsStored s.volumes v.number v allowed.1 (record { number = refl; small = low; name = name; pool = pool; caps = caps; params = params }) h.volumes;
   attachments = h.attachments;
 }
 
 pub storable_removed : (s : State) (n : ℕ) → IsStorable s → IsStorable (changed s (RemoveVolume n))
 storable_removed s n h = record { volumes = all_left _ _ (entries s.volumes) _ (entries-remove nat_cmp_total nat_cmp-IsAntisymmetric s.volumes n) h.volumes; attachments = h.attachments }
 
-pub storable_attached : (s : State) (n : ℕ) (a : Attachment) → n < 2 ^ 63 → FitCaps (a.cap ∷ []) → get s.attachments (n, a.node) ≡ None → IsStorable s → IsStorable (changed s (Attach n a))
-storable_attached s n a low fit none h = record {
+pub storable_attached : (s : State) (n : ℕ) (a : Attachment) → n < 2 ^ 63 → IsUtf8 a.node → FitCaps (a.cap ∷ []) → get s.attachments (n, a.node) ≡ None → IsStorable s → IsStorable (changed s (Attach n a))
+storable_attached s n a low text fit none h = record {
   volumes = h.volumes;
-  attachments = all_inserted place_cmp place_total IsPlaced s.attachments (n, a.node) a none (record { node = refl; small = low; cap = fit }) h.attachments;
+  attachments = all_inserted place_cmp place_total IsPlaced s.attachments (n, a.node) a none (record { node = refl; text = text; small = low; cap = fit }) h.attachments;
 }
 
 pub storable_detached : (s : State) (n : ℕ) (node : List ℕ) → IsStorable s → IsStorable (changed s (Detach n node))
@@ -187,26 +187,26 @@ rows_removed s n old new has p h =
       sound = sound_after new (h.schema ∙ has) h.sound;
     }
 
-pub rows_attached : (s : State) (n : ℕ) (a : Attachment) (old new : Database) → old.schema ≡ schema → IsRows s old.trees → n < 2 ^ 63 → FitCaps (a.cap ∷ []) → get s.attachments (n, a.node) ≡ None
+pub rows_attached : (s : State) (n : ℕ) (a : Attachment) (old new : Database) → old.schema ≡ schema → IsRows s old.trees → n < 2 ^ 63 → IsUtf8 a.node → FitCaps (a.cap ∷ []) → get s.attachments (n, a.node) ≡ None
     → AddsAttachment (attachment_row n a.node (caps_bytes (a.cap ∷ [])) a.readonly) old new → IsRows (changed s (Attach n a)) new.trees
-rows_attached s n a old new has p low fit none h = record {
+rows_attached s n a old new has p low text fit none h = record {
   meta = ap (map seen_meta) h.meta ∙ p.meta;
   volumes = subst (λ rows. IsPermutation (map volume_entry (entries s.volumes)) (map seen_volume rows)) (sym h.volumes) p.volumes;
   attachments = IsPermutation-trans _ _ _ (IsPermutation-sym _ _ (IsPermutation-map attachment_entry _ _ (inserted place_cmp place_total s.attachments (n, a.node) a none)))
       (IsPermutation-trans _ _ _ (IsPermutation-cons _ _ _ p.attachments) h.rows);
   keyed = h.keyed p.keyed;
-  storable = storable_attached s n a low fit none p.storable;
+  storable = storable_attached s n a low text fit none p.storable;
   sound = sound_after new (h.schema ∙ has) h.sound;
 }
 
-pub rows_added : (s : State) (v : Volume) (old new : Database) → old.schema ≡ schema → IsRows s old.trees → v.number < 2 ^ 63 → FitCaps v.caps → FitParams v.params → Allows s (AddVolume v)
+pub rows_added : (s : State) (v : Volume) (old new : Database) → old.schema ≡ schema → IsRows s old.trees → v.number < 2 ^ 63 → IsUtf8 v.name → IsUtf8 v.pool → FitCaps v.caps → FitParams v.params → Allows s (AddVolume v)
     → AddsNumbered (volume_row v.number v.name v.bytes v.pool (caps_bytes v.caps) (params_bytes v.params)) (v.number + 1) old new → IsRows (changed s (AddVolume v)) new.trees
-rows_added s v old new has p low caps params allowed h = record {
+rows_added s v old new has p low name pool caps params allowed h = record {
   meta = h.meta s.next p.meta ∙ ap (λ n. meta_row (n + 1) ∷ []) allowed.0;
   volumes = IsPermutation-trans _ _ _ (IsPermutation-sym _ _ (IsPermutation-map volume_entry _ _ (inserted nat_cmp nat_cmp_total s.volumes v.number v allowed.1)))
       (IsPermutation-trans _ _ _ (IsPermutation-cons _ _ _ p.volumes) (IsPermutation-map seen_volume _ _ h.rows));
   attachments = subst (λ rows. IsPermutation (map attachment_entry (entries s.attachments)) (map seen_attachment rows)) (sym h.attachments) p.attachments;
   keyed = subst (AreKeyed seen_attachment) (sym h.attachments) p.keyed;
-  storable = storable_added s v low caps params allowed p.storable;
+  storable = storable_added s v low name pool caps params allowed p.storable;
   sound = sound_after new (h.schema ∙ has) h.sound;
 }

@@ -36,30 +36,30 @@ attachment_entry e = number_value e.0.0 ∷ Text e.0.1 ∷ Blob (caps_bytes (e.1
 abbrev pub node_entry : Place × Attachment → Row
 node_entry e = Text e.0.1 ∷ Blob (caps_bytes (e.1.cap ∷ [])) ∷ bool_value e.1.readonly ∷ []
 
--- a volume that a row can say
+-- a volume that a row can say: its texts are UTF-8, as what made the row had each from a `Text`
 pub record IsStored (e : ℕ × Volume) : Type 0 where
   pub number : e.1.number ≡ e.0
   pub small : e.0 < 2 ^ 63
+  pub name : IsUtf8 e.1.name
+  pub pool : IsUtf8 e.1.pool
   pub caps : FitCaps e.1.caps
   pub params : FitParams e.1.params
 
 -- an attachment that a row can say
 pub record IsPlaced (e : Place × Attachment) : Type 0 where
   pub node : e.1.node ≡ e.0.1
+  pub text : IsUtf8 e.0.1
   pub small : e.0.0 < 2 ^ 63
   pub cap : FitCaps (e.1.cap ∷ [])
 
--- a volume whose row is read again, where memory is there: its texts are UTF-8, its modes known
+-- a volume whose row is read again, where memory is there: its modes are known
 pub record IsReadable (e : ℕ × Volume) : Type 0 where
   pub stored : IsStored e
-  pub name : IsUtf8 e.1.name
-  pub pool : IsUtf8 e.1.pool
   pub caps : AreKnown e.1.caps
 
 -- an attachment whose row is read again
 pub record IsReadablePlace (e : Place × Attachment) : Type 0 where
   pub placed : IsPlaced e
-  pub node : IsUtf8 e.0.1
   pub cap : AreKnown (e.1.cap ∷ [])
 
 -- a State that rows can say

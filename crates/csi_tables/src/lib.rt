@@ -7,6 +7,7 @@
 
 mod encoding;
 mod fault;
+pub mod laws;
 mod made;
 mod nodes;
 mod opening;

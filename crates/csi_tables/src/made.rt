@@ -4,7 +4,7 @@
 //! change is made and committed; after a fault the State stays, and a stop may leave the change made.
 //! The totals are moved only once the change is committed, and that takes no memory.
 
-ghost use Rattle.std.specs.Prelude.{◌≡◌, ◌<◌, ◌^◌, [], ◌∷◌, List, ℕ, false, OnErr, OnOk};
+ghost use Rattle.std.specs.Prelude.{◌≡◌, ◌<◌, ◌^◌, [], ◌∷◌, List, ℕ, false, IsUtf8, OnErr, OnOk};
 ghost use Rattle.csi_keeper.specs.State.{State, IsBounded, changed};
 ghost use Rattle.csi_keeper.specs.Totals.{HasRoom, IsReserved, total_of};
 ghost use Rattle.csi_keeper.specs.declared.change.Change.{Change as Changing};
@@ -92,7 +92,7 @@ pub(crate) fn make_attachment<S: Alter>(
     requires idle { conn.old.in_transaction ≡ false }
     ensures idle { conn.new.in_transaction ≡ false }
     ensures made { OnOk result (ConnMakes S.Store conn.old conn.new (Attach number attachment.now)) }
-    ensures stored { OnOk result ((number < 2 ^ 63) × FitCaps (attachment.now.cap ∷ [])) }
+    ensures stored { OnOk result ((number < 2 ^ 63) × IsUtf8 attachment.now.node × FitCaps (attachment.now.cap ∷ [])) }
     ensures failed { OnErr result (ConnFails S.Store conn.old conn.new (Attach number attachment.now)) }
 {
     read_back();

@@ -7,8 +7,8 @@ use crate::cells::or_none;
 use crate::database::{run, with_tables, without_tables};
 use crate::numbers::count_at;
 use csi_layout::is_our_schema;
-use csi_looks::{Both, Each, Every, Rising, TextSum, Weight};
-use folds::{HasNumber, Showing};
+use csi_looks::{Each, Rising, TextSum, Weight};
+use folds::Showing;
 pub(crate) use look::Look;
 use sqlite::{Connection, MemStore};
 use std::alloc::Global;
@@ -67,36 +67,21 @@ fn shown(alloc: Global, conn: &mut Connection<MemStore>, look: Look) -> Result<S
     Ok(or_none(fold.text)?)
 }
 
-// Whether each row has a number in a column, and whether its integers rise.
+// Whether each row has an integer in a column, and each is above those before it.
 fn judged(
     alloc: Global,
     conn: &mut Connection<MemStore>,
     look: Look,
     column: usize,
 ) -> Result<String, RowFault> {
-    let mut fold = Both {
-        first: Every {
-            test: HasNumber { column },
-            good: true,
-        },
-        second: Rising {
-            column,
-            last: None,
-            good: true,
-        },
+    let mut fold = Rising {
+        column,
+        last: None,
+        good: true,
     };
     look.over(conn, &mut fold)?;
-    let numbered = if fold.first.good {
-        "numbers"
-    } else {
-        "not all numbers"
-    };
-    let rising = if fold.second.good {
-        "rising"
-    } else {
-        "not rising"
-    };
-    Ok(format!(in alloc; "{numbered}, {rising}")?)
+    let word = if fold.good { "rising" } else { "not rising" };
+    Ok(String::from_str(alloc, word)?)
 }
 
 // A sum for each of the texts in the last word, which have a comma between them.

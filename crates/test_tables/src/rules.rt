@@ -6,16 +6,12 @@ use csi_config::Config;
 use csi_looks::RowTest;
 use csi_rules::{
     AttachmentRule, BrokenRule, FirstBroken, HasAttachmentKinds, HasCap, HasCaps, HasFlag,
-    HasFormat, HasMetaKinds, HasNewerFormat, HasNext, HasParams, HasVolumeKinds, IsAtNode,
-    IsBeside, IsInPools, IsNamed, IsNumbered, IsOwned, IsSized, RowName, RowTrial, Sure,
-    VolumeRule,
+    HasParams, HasVolumeKinds, IsAtNode, IsBeside, IsInPools, IsNamed, IsNumbered, IsOwned, IsSized,
+    RowName, RowTrial, Sure, VolumeRule,
 };
 use sqlite::{Connection, MemStore};
 use std::alloc::Global;
 use test_kit::{RowFault, number_at, word_at, words_of};
-
-// The format of the tables.
-const FORMAT: u64 = 1;
 
 /// The answer to a row: the rule, and the statements that make the rows.
 pub(crate) fn answer(alloc: Global, row: &str) -> Result<String, RowFault> {
@@ -31,7 +27,7 @@ fn ask(alloc: Global, conn: &mut Connection<MemStore>, rule: &str) -> Result<Str
     let look = Look::named(word_at(&words, 0)?)?;
     let rule = word_at(&words, 1)?;
     match look {
-        Look::Meta => ask_meta(alloc, conn, rule),
+        Look::Meta => Err(RowFault::NotRow),
         Look::Volumes => ask_volumes(alloc, conn, &words),
         Look::Attachments => ask_attachments(alloc, conn, rule),
         Look::Owners => {
@@ -43,22 +39,6 @@ fn ask(alloc: Global, conn: &mut Connection<MemStore>, rule: &str) -> Result<Str
             attachment_text(alloc, found, AttachmentRule::Beside)
         }
     }
-}
-
-fn ask_meta(
-    alloc: Global,
-    conn: &mut Connection<MemStore>,
-    rule: &str,
-) -> Result<String, RowFault> {
-    let look = Look::Meta;
-    let found = match rule {
-        "kinds" => surely_broken(alloc, conn, look, HasMetaKinds)?,
-        "format" => surely_broken(alloc, conn, look, HasFormat { format: FORMAT })?,
-        "newer" => surely_broken(alloc, conn, look, HasNewerFormat { format: FORMAT })?,
-        "next" => surely_broken(alloc, conn, look, HasNext)?,
-        _ => return Err(RowFault::NotRow),
-    };
-    row_text(alloc, found)
 }
 
 fn ask_volumes(
@@ -131,8 +111,7 @@ fn first_broken<T: RowTrial + Drop>(
     test: T,
 ) -> Result<Option<RowName>, RowFault> {
     let (number, text) = match look {
-        Look::Meta => (2, 2),
-        Look::Volumes | Look::Owners => (0, 1),
+        Look::Meta | Look::Volumes | Look::Owners => (0, 1),
         Look::Attachments => (1, 2),
         Look::Pairs => (4, 5),
     };

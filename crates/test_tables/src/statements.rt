@@ -57,7 +57,7 @@ impl Bench {
     }
 
     fn remove(&mut self, alloc: Global, words: &[&str]) -> Result<String, RowFault> {
-        found(
+        done(
             alloc,
             changes::remove_volume(&mut self.conn, small_at(words, 1)?),
         )

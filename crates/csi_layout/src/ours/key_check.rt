@@ -1,6 +1,6 @@
 //! The CHECK of meta, `k = 1`, read from its plan.
 
-ghost use Rattle.std.specs.Prelude.{◌≡◌, ◌≢◌, ◌↔◌, IsTrue, IfSome, None, ℕ, pos, [], ◌∷◌};
+ghost use Rattle.std.specs.Prelude.{◌≡◌, ◌≢◌, ◌↔◌, IsTrue, IfSome, None, Some, ℕ, pos, [], ◌∷◌, slice_get};
 ghost use Rattle.sqlite.specs.Collation.TheVariants.{Binary as ByBytes};
 ghost use Rattle.sqlite.specs.declared.types.Value.TheVariants.{Int};
 ghost use Rattle.sqlite_sql.specs.declared.ops.BinaryOp.TheVariants.{Compare};
@@ -14,31 +14,31 @@ use sqlite_sql::ops::{BinaryOp, CompareOp};
 use sqlite_value::keys::Collation;
 use sqlite_value::value::Value;
 
-/// The places of the two sides of an `=`.
-fn sides_of(op: &Op) -> Option<(usize, usize)>
-    ensures some { IfSome result (λ p. op.now ≡ Binary (Compare Eq ByBytes) p.0 p.1) }
-    ensures none { result ≡ None → (a b : ℕ) → op.now ≢ Binary (Compare Eq ByBytes) a b }
+// The places of the two sides of an `=` at a place.
+fn sides_at(nodes: &[Op], at: usize) -> Option<(usize, usize)>
+    ensures some { IfSome result (λ p. slice_get nodes.now at ≡ Some (Binary (Compare Eq ByBytes) p.0 p.1)) }
+    ensures none { result ≡ None → (a b : ℕ) → slice_get nodes.now at ≢ Some (Binary (Compare Eq ByBytes) a b) }
 {
-    match op {
+    match nodes.get(at)? {
         Op::Binary(BinaryOp::Compare(CompareOp::Eq, Collation::Binary), a, b) => Some((*a, *b)),
         _ => None,
     }
 }
 
-fn is_first_column(op: &Op) -> bool
-    ensures { IsTrue result ↔ op.now ≡ Column 1 0 }
+fn is_first_column(nodes: &[Op], at: usize) -> bool
+    ensures { IsTrue result ↔ slice_get nodes.now at ≡ Some (Column 1 0) }
 {
-    match op {
-        Op::Column(slot, at) => *slot == 1 && *at == 0,
+    match nodes.get(at) {
+        Some(Op::Column(slot, column)) => *slot == 1 && *column == 0,
         _ => false,
     }
 }
 
-fn is_one(op: &Op) -> bool
-    ensures { IsTrue result ↔ op.now ≡ Literal (Int (pos 1)) }
+fn is_one(nodes: &[Op], at: usize) -> bool
+    ensures { IsTrue result ↔ slice_get nodes.now at ≡ Some (Literal (Int (pos 1))) }
 {
-    match op {
-        Op::Literal(Value::Int(n)) => *n == 1,
+    match nodes.get(at) {
+        Some(Op::Literal(Value::Int(n))) => *n == 1,
         _ => false,
     }
 }
@@ -46,19 +46,10 @@ fn is_one(op: &Op) -> bool
 fn says_key(nodes: &[Op], root: usize) -> bool
     ensures { IsTrue result ↔ IsKeyCheck nodes.now root }
 {
-    let Some(op) = nodes.get(root) else {
-        return false;
-    };
-    let Some((a, b)) = sides_of(op) else {
-        return false;
-    };
-    let Some(first) = nodes.get(a) else {
-        return false;
-    };
-    let Some(second) = nodes.get(b) else {
-        return false;
-    };
-    is_first_column(first) && is_one(second)
+    match sides_at(nodes, root) {
+        Some((a, b)) => is_first_column(nodes, a) && is_one(nodes, b),
+        None => false,
+    }
 }
 
 fn only_root(roots: &[usize]) -> Option<usize>

@@ -2,7 +2,7 @@
 
 ghost use Rattle.std.specs.Prelude.{◌≡◌, ◌↔◌, [], ◌∷◌, IsTrue};
 ghost use Rattle.sqlite_value.specs.Keys.{plain};
-ghost use Rattle.csi_layout.specs.Ours.{IsBare, plain_column, unique_index};
+ghost use Rattle.csi_layout.specs.Ours.{HasKeys, IsBare, plain_column, unique_index};
 
 use sqlite_items::Items;
 use sqlite_schema::schema::{Column, Index, Kind, Stamps, Table};
@@ -46,8 +46,8 @@ pub(super) fn is_column(column: &Column, name: &[u8], kind: Kind, not_null: bool
         & (column.collation == Collation::Binary)
 }
 
-/// One key, over these columns.
-pub(super) fn is_one_key(uniques: &Items<Items<usize>>, places: &[usize]) -> bool
+// One key, over these columns.
+fn is_one_key(uniques: &Items<Items<usize>>, places: &[usize]) -> bool
     ensures is { IsTrue result → uniques.now ≡ places.now ∷ [] }
     ensures whole { uniques.now ≡ places.now ∷ [] → IsTrue result }
 {
@@ -57,8 +57,8 @@ pub(super) fn is_one_key(uniques: &Items<Items<usize>>, places: &[usize]) -> boo
     are_places(one.as_slice(), places)
 }
 
-/// One index, ascending in each of its columns.
-pub(super) fn is_one_ascending(orders: &Items<Order>) -> bool
+// One index, ascending in each of its columns.
+fn is_one_ascending(orders: &Items<Order>) -> bool
     ensures is { IsTrue result → orders.now ≡ plain ∷ [] }
     ensures whole { orders.now ≡ plain ∷ [] → IsTrue result }
 {
@@ -66,6 +66,17 @@ pub(super) fn is_one_ascending(orders: &Items<Order>) -> bool
         return false;
     };
     one.digits == 0
+}
+
+/// A primary key, one other key, and no CHECK.
+pub(super) fn has_keys(table: &Table, primary: &[usize], unique: &[usize]) -> bool
+    ensures is { IsTrue result → HasKeys primary.now unique.now table.now }
+    ensures whole { HasKeys primary.now unique.now table.now → IsTrue result }
+{
+    are_places(table.primary.as_slice(), primary)
+        & is_one_key(&table.uniques, unique)
+        & is_one_ascending(&table.orders)
+        & table.checks.roots.is_empty()
 }
 
 fn is_no_stamp(stamps: &Stamps) -> bool

@@ -4,7 +4,7 @@ ghost use Rattle.std.specs.Prelude.{◌≡◌, IsTrue};
 ghost use Rattle.csi_layout.specs.Tables.{attachments, meta, volumes};
 
 use super::key_check::is_key_check;
-use super::parts::{are_places, is_bare, is_column, is_named, is_one_ascending, is_one_key};
+use super::parts::{are_places, has_keys, is_bare, is_column, is_named};
 use sqlite_schema::schema::{Column, Kind, Table};
 
 fn are_meta_columns(columns: &[Column]) -> bool
@@ -70,10 +70,7 @@ pub(super) fn is_volumes(table: &Table) -> bool
         & (table.tree == 1)
         & are_volumes_columns(table.columns.as_slice())
         & (table.key == Some(0))
-        & are_places(table.primary.as_slice(), &[0])
-        & is_one_key(&table.uniques, &[2])
-        & is_one_ascending(&table.orders)
-        & table.checks.roots.is_empty()
+        & has_keys(table, &[0], &[2])
         & is_bare(table)
 }
 
@@ -85,9 +82,6 @@ pub(super) fn is_attachments(table: &Table) -> bool
         & (table.tree == 3)
         & are_attachments_columns(table.columns.as_slice())
         & table.key.is_none()
-        & are_places(table.primary.as_slice(), &[1, 2])
-        & is_one_key(&table.uniques, &[1, 2])
-        & is_one_ascending(&table.orders)
-        & table.checks.roots.is_empty()
+        & has_keys(table, &[1, 2], &[1, 2])
         & is_bare(table)
 }

@@ -1,14 +1,10 @@
 -- Over no row a fold stays what it is.
-use Rattle.std.proofs.Common.{◌≡◌, refl, ℕ, ℤ, ◌+◌, ◌-◌, ◌<◌, ◌^◌, min, Bool, true, false, ◌&&◌, List, [], ◌∷◌, Option, Some, None, arith}
+use Rattle.std.proofs.Common.{◌≡◌, refl, ℕ, ℤ, ◌+◌, ◌-◌, ◌<◌, ◌^◌, min, Bool, List, [], ◌∷◌, Option, Some, None, arith}
 use Rattle.std.specs.List.{AllZip}
 use Rattle.std.specs.declared.cmp.Ordering.TheVariants.{Less}
 use Rattle.sqlite.specs.Order.{value_cmp}
 use Rattle.sqlite.specs.Tree.{IsAscending}
 use Rattle.csi_looks.specs.Folds.{IsLast, Rises, values_from}
-
-pub still_good : (good : Bool) → good ≡ (good && true)
-still_good true = refl
-still_good false = refl
 
 pub still_sum : (sum : ℕ) → sum < 2 ^ 64 → sum ≡ min (sum + 0) (2 ^ 64 - 1)
 still_sum sum low = grind (arith)

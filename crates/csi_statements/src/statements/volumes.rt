@@ -6,7 +6,7 @@ ghost use Rattle.csi_layout.specs.Transactions.{KeepsCommitted, LeavesNothingNew
 ghost use Rattle.csi_statements.specs.Deletes.{Drops, is_numbered};
 ghost use Rattle.csi_statements.specs.Rows.{AddsVolume, Looks, number_value, seen_volume, volume_row};
 ghost use Rattle.csi_statements.specs.Shown.{IsBeginningOf, IsPage, IsShownOf};
-ghost use Rattle.csi_statements.specs.Statements.{named_query, page_numbers_query, size_query, sizes_query, volume_query};
+ghost use Rattle.csi_statements.specs.Statements.{named_query, page_numbers_query, sizes_query, volume_query};
 ghost use Rattle.csi_statements.specs.Tables.{schema};
 
 use crate::values::integer;
@@ -70,23 +70,6 @@ pub(crate) fn select_volume<S: Alter>(
 {
     tx.query_all(
         "SELECT number, name, bytes, pool, caps, params FROM volumes WHERE number = ?1",
-        &[integer(volume)],
-    )
-}
-
-/// The pool and the bytes of the volume of a number.
-pub(crate) fn select_size<S: Alter>(
-    tx: &mut Transaction<'_, S>,
-    volume: u64,
-) -> Result<Vec<Row>, Error>
-    requires { volume < 2 ^ 63 }
-    ensures same_reference { tx.new.conn.ghost_name ≡ tx.old.conn.ghost_name }
-    ensures ok { Looks S.Store tx.old.conn.now tx.new.conn.now (λ rows db. IsShownOf size_query (db.trees 1) (number_value volume ∷ []) rows.items) result }
-    ensures kept { KeepsCommitted S.Store tx.old.conn.now tx.new.conn.now }
-    ensures survives { LeavesNothingNew S.Store tx.old.conn.now tx.new.conn.now }
-{
-    tx.query_all(
-        "SELECT pool, bytes FROM volumes WHERE number = ?1",
         &[integer(volume)],
     )
 }

@@ -1,4 +1,4 @@
-use Rattle.std.proofs.Common.{◌≡◌, ◌∙◌, ap, sym}
+use Rattle.std.proofs.Common.{◌≡◌, ◌∙◌, ap, sym, true≢false}
 use Rattle.csi_layout.specs.Tables.{no_schema}
 use Rattle.csi_adoption.specs.Judging.{is_failure}
 use Rattle.csi_adoption.proofs.FaultLemmas.{error_fails}
@@ -34,4 +34,5 @@ pub returns-in-Err-judge-clause-unadopted : goal.returns-in-Err-judge-clause-una
 returns-in-Err-judge-clause-unadopted g c =
     let settled = is_settled g.S.Store c.args.conn c.set_step_limit.new.self c.settle.new.conn c.set_step_limit.ensures c.settle.ensures.undone c.settle.ensures.survives in
     let looks = c.in-Err-judge.ensures.looks in
-    is_refused g.S.Store c.args.config.now c.args.conn c.settle.new.conn c.judge.new.conn c.in-Err-judge.fault settled looks.idle looks.kept looks.survives c.in-Err-judge.ensures.first c.in-Err-judge.ensures.other c.in-Err-judge.ensures.sound
+    let some = λ (none : c.settle.new.conn.schema ≡ no_schema). true≢false (sym (c.is_blank.ensures.whole (c.schema.ensures.value ∙ none)) ∙ c.if-is_blank.false) in
+    is_refused g.S.Store c.args.config.now c.args.conn c.settle.new.conn c.judge.new.conn c.in-Err-judge.fault settled looks.idle looks.kept looks.survives c.in-Err-judge.ensures.first c.in-Err-judge.ensures.other c.in-Err-judge.ensures.sound some

@@ -17,9 +17,9 @@ returns-in_err-volumes-clause-sound g c = λ clean.
     let fault = c.in_err-volumes.field-0.0 in
     let answer : c.from_residual.result ≡ Err fault = is_err c.from_residual.result fault c.from_residual.ensures.1 in
     let db = (state g.S.Store c.args.conn.now).now in
-    subst (λ r. IfErr r (IsNotRefused c.args.config.now db)) (sym answer) (λ s _ rows invariant texts. must_fail fault (λ known. elim (c.in_err-volumes.ensures.judged clean known) [
-      | inl it ↦ c.rows_tell.ensures.no_meta_fault db.trees s rows invariant texts fault it
-      | inr it ↦ c.rows_tell.ensures.no_fault db.trees s rows invariant texts fault it
+    subst (λ r. IfErr r (IsNotRefused c.args.config.now db)) (sym answer) (λ s _ rows invariant. must_fail fault (λ known. elim (c.in_err-volumes.ensures.judged clean known) [
+      | inl it ↦ c.rows_tell.ensures.no_meta_fault db.trees s rows invariant fault it
+      | inr it ↦ c.rows_tell.ensures.no_fault db.trees s rows invariant fault it
     ]))
 
 pub returns-in_err-totals-clause-looks : goal.returns-in_err-totals-clause-looks
@@ -41,7 +41,6 @@ returns-clause-found g c = λ clean.
             it.state,
             it.rows,
             it.invariant,
-            it.texts,
             λ pool. c.in_ok-totals.ensures pool
                 ∙ ap (λ ps. total_in ps (sums_of c.as_slice.result.now) (sums_of c.as_slice-2.result.now) pool) c.pools.ensures
                 ∙ ap₂ (λ a b. total_in c.args.config.now.pools (sums_of a) (sums_of b) pool) c.as_slice.ensures.value c.as_slice-2.ensures.value

@@ -12,19 +12,19 @@ pub returns-in_err-unowned-clause-judged : goal.returns-in_err-unowned-clause-ju
 returns-in_err-unowned-clause-judged g c = λ clean next seen fine rows same is.
     joined_failure c.args.config.now (state g.S.Store c.args.conn.now).now.trees c.args.tables.now c.from_residual.result c.in_err-unowned.field-0.0 c.from_residual.ensures.1
 
-pub returns-in_err-check_owners-clause-looks : goal.returns-in_err-check_owners-clause-looks
-returns-in_err-check_owners-clause-looks g c =
-    ended g.S.Store c.args.conn.now c.see_owners.new.conn _ c.from_residual-in_err-check_owners.result c.in_ok-unowned.ensures.looks
+pub returns-in_err-check_attachment-clause-looks : goal.returns-in_err-check_attachment-clause-looks
+returns-in_err-check_attachment-clause-looks g c =
+    ended g.S.Store c.args.conn.now c.see_owners.new.conn _ c.from_residual-in_err-check_attachment.result c.in_ok-unowned.ensures.looks
 
-pub returns-in_err-check_owners-clause-judged : goal.returns-in_err-check_owners-clause-judged
-returns-in_err-check_owners-clause-judged g c = λ clean next seen fine rows same is.
-    let answer : c.from_residual-in_err-check_owners.result ≡ Err c.in_err-check_owners.field-0.0 = is_err c.from_residual-in_err-check_owners.result c.in_err-check_owners.field-0.0 c.from_residual-in_err-check_owners.ensures.1 in
+pub returns-in_err-check_attachment-clause-judged : goal.returns-in_err-check_attachment-clause-judged
+returns-in_err-check_attachment-clause-judged g c = λ clean next seen fine rows same is.
+    let answer : c.from_residual-in_err-check_attachment.result ≡ Err c.in_err-check_attachment.field-0.0 = is_err c.from_residual-in_err-check_attachment.result c.in_err-check_attachment.field-0.0 c.from_residual-in_err-check_attachment.ensures.1 in
     let config = c.args.config.now in
     let tables = c.args.tables.now in
     let db = (state g.S.Store c.args.conn.now).now.trees in
     let owned = c.in_ok-unowned.ensures.seen clean in
-    subst (λ r. JudgesRows config db (volumes_unless tables r)) (sym answer) (judged_err config db c.in_err-check_owners.field-0.0 (λ known.
-    owner_fault config db next rows same is tables seen owned.0 owned.1 c.in_ok-unowned.unowned owned.2 fine c.in_err-check_owners.field-0.0 (c.in_err-check_owners.ensures (not_memory c.in_err-check_owners.field-0.0 known))))
+    subst (λ r. JudgesRows config db (volumes_unless tables r)) (sym answer) (judged_err config db c.in_err-check_attachment.field-0.0 (λ known.
+    owner_fault config db next rows same is tables seen owned.0 owned.1 c.in_ok-unowned.unowned owned.2 fine c.in_err-check_attachment.field-0.0 (c.in_err-check_attachment.ensures (not_memory c.in_err-check_attachment.field-0.0 known))))
 
 pub returns-in_err-apart-clause-looks : goal.returns-in_err-apart-clause-looks
 returns-in_err-apart-clause-looks g c =
@@ -52,7 +52,7 @@ returns-in_err-check_counts-clause-judged g c = λ clean next seen fine rows sam
     let paired = c.in_ok-apart.ensures.seen clean in
     let two = subst (λ (t : Trees). IsPermutation (pairs (t 3)) paired.0) trees paired.1 in
     subst (λ r. JudgesRows config db (volumes_unless tables r)) (sym answer) (judged_err config db c.in_err-check_counts.field-0.0 (λ known.
-    counts_fault config db next rows same is tables seen owned.0 owned.1 c.in_ok-unowned.unowned owned.2 fine paired.0 two c.in_ok-apart.apart paired.2 c.in_ok-check_owners.ensures
+    counts_fault config db next rows same is tables seen owned.0 owned.1 c.in_ok-unowned.unowned owned.2 fine paired.0 two c.in_ok-apart.apart paired.2 c.in_ok-check_attachment.ensures
     c.in_err-check_counts.field-0.0 (c.in_err-check_counts.ensures (not_memory c.in_err-check_counts.field-0.0 known))))
 
 pub returns-clause-looks : goal.returns-clause-looks
@@ -70,4 +70,4 @@ returns-clause-judged g c = λ clean next seen fine rows same is.
     let owned = c.in_ok-unowned.ensures.seen before in
     let paired = c.in_ok-apart.ensures.seen clean in
     let two = subst (λ (t : Trees). IsPermutation (pairs (t 3)) paired.0) trees paired.1 in
-    none_broken config db next rows same is tables seen owned.0 owned.1 c.in_ok-unowned.unowned owned.2 fine paired.0 two c.in_ok-apart.apart paired.2 c.in_ok-check_owners.ensures c.in_ok-check_counts.ensures
+    none_broken config db next rows same is tables seen owned.0 owned.1 c.in_ok-unowned.unowned owned.2 fine paired.0 two c.in_ok-apart.apart paired.2 c.in_ok-check_attachment.ensures c.in_ok-check_counts.ensures

@@ -10,7 +10,7 @@ pub returns-in-Attach-clause-made : goal.returns-in-Attach-clause-made
 returns-in-Attach-clause-made g c =
     let change = Attach c.in-Attach.number c.in-Attach.attachment in
     subst (λ (x : Change). OnOk c.make_attachment.result (StoreMakes g.S.Store (c.args.conn.now, c.args.totals.now) (c.make_attachment.new.conn, c.args.totals.now) x)) (sym c.in-Attach.is)
-    (on_ok_both (λ made stored. store_makes g.S.Store change (c.args.conn.now, c.args.totals.now) (c.make_attachment.new.conn, c.args.totals.now) (λ s clean held allowed storable totals. totals) (λ s allowed h. storable_attached s c.in-Attach.number c.in-Attach.attachment stored.0 stored.1 allowed.1 h) made) c.make_attachment.result c.make_attachment.ensures.made c.make_attachment.ensures.stored)
+    (on_ok_both (λ made stored. store_makes g.S.Store change (c.args.conn.now, c.args.totals.now) (c.make_attachment.new.conn, c.args.totals.now) (λ s clean held allowed storable totals. totals) (λ s allowed h. storable_attached s c.in-Attach.number c.in-Attach.attachment stored.0 stored.1 stored.2 allowed.1 h) made) c.make_attachment.result c.make_attachment.ensures.made c.make_attachment.ensures.stored)
 
 pub returns-in-Attach-clause-failed : goal.returns-in-Attach-clause-failed
 returns-in-Attach-clause-failed g c =

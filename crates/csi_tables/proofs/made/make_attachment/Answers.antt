@@ -15,7 +15,7 @@ returns-in_err-attach-clause-failed g c =
     let fit = subst (λ (ks : List CapKey). FitCaps ks) c.from_ref.ensures.value c.in_ok-cap.ensures.fits in
     on_err c.from_residual-in_err-attach.result (
     fails g.S.Store c.read_back.ensures (Attach n a) (AddsAttachment (attachment_row n a.node (caps_bytes (a.cap ∷ [])) a.readonly)) (λ old new h. h.schema)
-    (λ s old new has p allowed h. rows_attached s n a old new has p (omega (arith, c.if-number-ge-NUMBERS.false)) fit allowed.1 h) c.args.conn.now c.attach.new.conn (rw (c.as_str.ensures.bytes, cap) at c.attach.ensures.survives)
+    (λ s old new has p allowed h. rows_attached s n a old new has p (omega (arith, c.if-number-ge-NUMBERS.false)) c.as_str.ensures.utf8 fit allowed.1 h) c.args.conn.now c.attach.new.conn (rw (c.as_str.ensures.bytes, cap) at c.attach.ensures.survives)
     c.in_err-attach.ensures.err)
 
 pub returns-clause-made : goal.returns-clause-made
@@ -25,5 +25,5 @@ returns-clause-made g c =
     let cap : c.deref.result.now ≡ caps_bytes (a.cap ∷ []) = c.deref.ensures.value ∙ c.in_ok-cap.ensures.bytes ∙ ap caps_bytes c.from_ref.ensures.value in
     let fit = subst (λ (ks : List CapKey). FitCaps ks) c.from_ref.ensures.value c.in_ok-cap.ensures.fits in
     makes g.S.Store c.read_back.ensures (Attach n a) (AddsAttachment (attachment_row n a.node (caps_bytes (a.cap ∷ [])) a.readonly)) (λ old new h. h.schema)
-    (λ s old new has p allowed h. rows_attached s n a old new has p (omega (arith, c.if-number-ge-NUMBERS.false)) fit allowed.1 h) c.args.conn.now c.attach.new.conn (rw (c.as_str.ensures.bytes, cap) at c.attach.ensures.survives)
+    (λ s old new has p allowed h. rows_attached s n a old new has p (omega (arith, c.if-number-ge-NUMBERS.false)) c.as_str.ensures.utf8 fit allowed.1 h) c.args.conn.now c.attach.new.conn (rw (c.as_str.ensures.bytes, cap) at c.attach.ensures.survives)
     g.met.S.Store.settled (rw (c.as_str.ensures.bytes, cap) at c.in_ok-attach.ensures.ok)

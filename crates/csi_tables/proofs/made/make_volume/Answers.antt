@@ -18,7 +18,7 @@ returns-in_err-add_volume-clause-failed g c =
     on_err c.from_residual-in_err-add_volume.result (
     store_fails g.S.Store (AddVolume v) (c.args.conn.now, c.args.totals.now) (c.add_volume.new.conn, c.reserve.new.totals) c.reserve.ensures.same
     (fails g.S.Store c.read_back.ensures (AddVolume v) (AddsNumbered (volume_row v.number v.name v.bytes v.pool (caps_bytes v.caps) (params_bytes v.params)) (v.number + 1)) (λ old new h. h.schema)
-    (λ s old new has p allowed h. rows_added s v old new has p (omega (arith, c.requires.bounded.0)) fit c.in_ok-params.ensures.fits allowed h) c.args.conn.now c.add_volume.new.conn
+    (λ s old new has p allowed h. rows_added s v old new has p (omega (arith, c.requires.bounded.0)) c.as_str.ensures.utf8 c.as_str-2.ensures.utf8 fit c.in_ok-params.ensures.fits allowed h) c.args.conn.now c.add_volume.new.conn
     (rw (c.as_str.ensures.bytes, c.as_str-2.ensures.bytes, caps, params) at c.add_volume.ensures.survives) c.in_err-add_volume.ensures.err))
 
 pub returns-clause-made : goal.returns-clause-made
@@ -29,8 +29,8 @@ returns-clause-made g c =
     let params : c.deref-2.result.now ≡ params_bytes v.params = c.deref-2.ensures.value ∙ c.in_ok-params.ensures.bytes in
     store_makes g.S.Store (AddVolume v) (c.args.conn.now, c.args.totals.now) (c.add_volume.new.conn, c.count.new.self)
     (λ s clean held allowed storable totals. totals_added c.args.totals.now c.count.new.self s v allowed.1 totals (counted_after c.args.totals.now c.reserve.new.totals c.count.new.self v.pool v.bytes c.in_ok-reserve.ensures.room c.reserve.ensures.same c.count.ensures))
-    (λ s allowed h. storable_added s v (omega (arith, c.requires.bounded.0)) fit c.in_ok-params.ensures.fits allowed h)
+    (λ s allowed h. storable_added s v (omega (arith, c.requires.bounded.0)) c.as_str.ensures.utf8 c.as_str-2.ensures.utf8 fit c.in_ok-params.ensures.fits allowed h)
     (makes g.S.Store c.read_back.ensures (AddVolume v) (AddsNumbered (volume_row v.number v.name v.bytes v.pool (caps_bytes v.caps) (params_bytes v.params)) (v.number + 1)) (λ old new h. h.schema)
-    (λ s old new has p allowed h. rows_added s v old new has p (omega (arith, c.requires.bounded.0)) fit c.in_ok-params.ensures.fits allowed h) c.args.conn.now c.add_volume.new.conn
+    (λ s old new has p allowed h. rows_added s v old new has p (omega (arith, c.requires.bounded.0)) c.as_str.ensures.utf8 c.as_str-2.ensures.utf8 fit c.in_ok-params.ensures.fits allowed h) c.args.conn.now c.add_volume.new.conn
     (rw (c.as_str.ensures.bytes, c.as_str-2.ensures.bytes, caps, params) at c.add_volume.ensures.survives) g.met.S.Store.settled
     (rw (c.as_str.ensures.bytes, c.as_str-2.ensures.bytes, caps, params) at c.in_ok-add_volume.ensures.ok))

@@ -43,7 +43,7 @@ returns-in_default-clause-made g c =
     (λ s allowed h. storable_removed s n h)
     (makes_after g.S.Store (RemoveVolume n) c.args.conn.now c.by_number.new.conn c.remove_volume.new.conn (is_quiet g.S.Store c.args.conn.now c.by_number.new.conn c.by_number.ensures.undone c.by_number.ensures.survives)
     (makes g.S.Store c.read_back.ensures (RemoveVolume n) (Drops 1 seen_volume (is_numbered n)) (λ old new h. h.schema) (λ s old new has p allowed h. rows_removed s n old new has p h)
-    c.by_number.new.conn c.remove_volume.new.conn c.remove_volume.ensures.survives g.met.S.Store.settled (λ clean. (c.in_ok-remove_volume.ensures.ok clean).1)))
+    c.by_number.new.conn c.remove_volume.new.conn c.remove_volume.ensures.survives g.met.S.Store.settled (λ clean. c.in_ok-remove_volume.ensures.ok clean)))
 
 pub returns-clause-made : goal.returns-clause-made
 returns-clause-made g c =
@@ -53,4 +53,4 @@ returns-clause-made g c =
     (λ s allowed h. storable_removed s n h)
     (makes_after g.S.Store (RemoveVolume n) c.args.conn.now c.by_number.new.conn c.remove_volume.new.conn (is_quiet g.S.Store c.args.conn.now c.by_number.new.conn c.by_number.ensures.undone c.by_number.ensures.survives)
     (makes g.S.Store c.read_back.ensures (RemoveVolume n) (Drops 1 seen_volume (is_numbered n)) (λ old new h. h.schema) (λ s old new has p allowed h. rows_removed s n old new has p h)
-    c.by_number.new.conn c.remove_volume.new.conn c.remove_volume.ensures.survives g.met.S.Store.settled (λ clean. (c.in_ok-remove_volume.ensures.ok clean).1)))
+    c.by_number.new.conn c.remove_volume.new.conn c.remove_volume.ensures.survives g.met.S.Store.settled (λ clean. c.in_ok-remove_volume.ensures.ok clean)))
