@@ -43,6 +43,7 @@ use Rattle.csi_machine.proofs.CheckedLemmas.{asked}
 use Rattle.csi_machine.proofs.CreateLemmas.{create_sound}
 use Rattle.csi_machine.proofs.DeleteLemmas.{delete_sound}
 use Rattle.csi_keeper.specs.facts.Finite.{none_some}
+use Rattle.csi_keeper.specs.facts.Reads.{if_ok}
 use Rattle.csi_machine.proofs.PlanLemmas.{IsSound, sound_by, sound_still}
 use Rattle.csi_machine.proofs.PublishLemmas.{publish_fits}
 use Rattle.csi_machine.proofs.UnpublishLemmas.{unpublish_fits}
@@ -58,14 +59,18 @@ appended_by x y (outcome.Done r) (verdict.Refused q) e b l = absurd (cc)
 appended_by x y (outcome.Refused q) verdict.Done e b l = absurd (cc)
 appended_by x y (outcome.Refused q) (verdict.Refused p) e b l = b ∙ no_more x
 
-module _ {K : Type 0} {holds : K → State → Type 0} {doubt : K → ℕ} {refused : K → ℕ} {survivors : K → State → Type 0} {tied : K → Type 0} {is_down : K → Bool} where
-  -- what a stop leaves of a plan is so of the plan that the State gives
-  left_of : (plan : State → Plan) (p : Plan) (s t : State) (Old : Type 0) → p ≡ plan s → Old ⊎ (IsSome p.change × (t ≡ after s p.change)) → Old ⊎ (IsSome (plan s).change × (t ≡ after s (plan s).change))
-  left_of plan p s t Old e = subst (λ (x : Plan). Old ⊎ (IsSome p.change × (t ≡ after s p.change)) → Old ⊎ (IsSome x.change × (t ≡ after s x.change))) e (λ h. h)
+-- what a stop leaves of a plan is left of an equal one
+left_of : (p q : Plan) (s t : State) (Old : Type 0) → p ≡ q → Old ⊎ (IsSome p.change × (t ≡ after s p.change)) → Old ⊎ (IsSome q.change × (t ≡ after s q.change))
+left_of p q s t Old e = subst (λ (x : Plan). Old ⊎ (IsSome p.change × (t ≡ after s p.change)) → Old ⊎ (IsSome x.change × (t ≡ after s x.change))) e (λ h. h)
 
+-- what is told of a keeper that is down, where an answer tells more
+pub told_more : {X : Type 0} {P Q : X → Type 0} {is_down : Bool} (result : Result X StoreFault) → ((x : X) → P x → Q x) → TellsDown is_down P result → TellsDown is_down Q result
+told_more result f told = record { down = told.down; refused = told.refused; unasked = λ is. if_ok f result (told.unasked is) }
+
+module _ {K : Type 0} {holds : K → State → Type 0} {doubt : K → ℕ} {refused : K → ℕ} {survivors : K → State → Type 0} {tied : K → Type 0} {is_down : K → Bool} where
   -- it was given up before the change
   pub gave_up : (config : Config) (plan : State → Plan) (a b : K) (x y : List ℕ) (e : StoreFault) → IsQuiet holds doubt survivors tied is_down a b → y ≡ x → refused b ≡ count_after {X = Verdict} (refused a) (Err e)
-      → (Err {T = Verdict} e ≡ Err Down → is_down a ≡ true) → (Err {T = Verdict} e ≡ Err Refused → is_down a ≡ false)
+      → (◌≡◌ {A = Result Verdict StoreFault} (Err e) (Err Down) → is_down a ≡ true) → (◌≡◌ {A = Result Verdict StoreFault} (Err e) (Err Refused) → is_down a ≡ false)
       → Answered holds doubt refused survivors tied is_down config plan a b x y (Err e)
   gave_up config plan a b x y e q empty count was_down was_up = record {
     clean = q.clean;
@@ -99,7 +104,7 @@ module _ {K : Type 0} {holds : K → State → Type 0} {doubt : K → ℕ} {refu
         settled = tt;
         count = subst (λ n. refused c ≡ count_after {X = Verdict} n (Err e)) before count;
         same = λ d s h inv. k.same d s (q.state (mid d) s h) (may d s h inv);
-        crash = λ d s h inv t u. left_of plan p s t (survivors a t) (tells (mid d) s h) (elim (k.crash d s (q.state (mid d) s h) (may d s h inv) t u) as (λ _. survivors a t ⊎ (IsSome p.change × (t ≡ after s p.change))) [
+        crash = λ d s h inv t u. left_of p (plan s) s t (survivors a t) (tells (mid d) s h) (elim (k.crash d s (q.state (mid d) s h) (may d s h inv) t u) as (λ _. survivors a t ⊎ (IsSome p.change × (t ≡ after s p.change))) [
           | inl v ↦ inl (q.crash (mid d) t v)
           | inr e ↦ inr e
         ]);
@@ -119,7 +124,7 @@ module _ {K : Type 0} {holds : K → State → Type 0} {doubt : K → ℕ} {refu
         kept = λ s inv. sound.keeps s inv;
         same = tt;
         count = count ∙ before;
-        crash = λ d s h inv t u. left_of plan p s t (survivors a t) (tells (mid d) s h) (elim (k.crash d s (q.state (mid d) s h) (may d s h inv) t u) as (λ _. survivors a t ⊎ (IsSome p.change × (t ≡ after s p.change))) [
+        crash = λ d s h inv t u. left_of p (plan s) s t (survivors a t) (tells (mid d) s h) (elim (k.crash d s (q.state (mid d) s h) (may d s h inv) t u) as (λ _. survivors a t ⊎ (IsSome p.change × (t ≡ after s p.change))) [
           | inl v ↦ inl (q.crash (mid d) t v)
           | inr e ↦ inr e
         ]);
@@ -131,9 +136,9 @@ module _ {K : Type 0} {holds : K → State → Type 0} {doubt : K → ℕ} {refu
           down = λ is. absurd (cc);
           refused = λ is. absurd (cc);
           unasked = λ is s.
-            let same = alone is s in
-            let none : p.change ≡ None = k.down.unasked (q.down ∙ is) in
-            (k.verdict ∙ ap (λ (x : Plan). verdict_of x.outcome) same, ok ∙ ap (λ (w : Plan). x ++ body_of w.outcome) same, sym (ap (λ (w : Plan). w.change) same) ∙ none);
+              let same = alone is s in
+              let none : p.change ≡ None = k.down.unasked (q.down ∙ is) in
+              (k.verdict ∙ ap (λ (x : Plan). verdict_of x.outcome) same, ok ∙ ap (λ (w : Plan). x ++ body_of w.outcome) same, sym (ap (λ (w : Plan). w.change) same) ∙ none);
         };
       }
 
@@ -191,7 +196,7 @@ told_by (outcome.Refused q) w (verdict.Refused t) x y e f b = e ∙ ap Denies (s
 
 leaves_by : (old new : State → Type 0) (s : State) (c : Option Change) → ((u : State) → new u → old u ⊎ (IsSome c × (u ≡ after s c))) → (IsSome c → (u : State) → new u → u ≡ after s c)
     → ((after s c ≡ s) × ((u : State) → new u → old u)) ⊎ ((u : State) → new u → u ≡ after s c)
-leaves_by old new s None crash settled = inl (refl, λ u k. elim (crash u k) as (λ _. old u) [ inl o ↦ o | inr n ↦ absurd n.0 ])
+leaves_by old new s None crash settled = inl (refl, λ u k. elim (crash u k) as (λ _. old u) [ inl o ↦ o | inr n ↦ absurd (cc (n.0)) ])
 leaves_by old new s (Some c) crash settled = inr (settled refl)
 
 module _ {K : Type 0} {holds : K → State → Type 0} {doubt : K → ℕ} {refused : K → ℕ} {survivors : K → State → Type 0} {tied : K → Type 0} {is_down : K → Bool} where
@@ -226,8 +231,8 @@ module _ {K : Type 0} {holds : K → State → Type 0} {doubt : K → ℕ} {refu
     down = did.down.down;
     refused = did.down.refused;
     unasked = λ is s.
-      let so = did.down.unasked is s in
-      (told_by (settled_plan config s r).outcome (step config s r).0 v x y (said_is config s r) so.0 so.1, sym (moved_is config s r) ∙ ap (after s) so.2);
+        let so = did.down.unasked is s in
+        (told_by (settled_plan config s r).outcome (step config s r).0 v x y (said_is config s r) so.0 so.1, sym (moved_is config s r) ∙ ap (after s) so.2);
   }
 
 pub keeps : (config : Config) (r : Request) → IsSound config (λ s. settled_plan config s r) → (s : State) → IsInvariant config s → IsInvariant config (step config s r).1

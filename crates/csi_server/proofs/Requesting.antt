@@ -1,5 +1,5 @@
 -- What a machine over requests responds, step by step.
-use Rattle.std.proofs.Common.{◌≡◌, ℕ, List, [], drop, Option, Some, None, Result, Ok, Err, refl, sym, ap, subst, ◌∙◌, inl, inr, arith}
+use Rattle.std.proofs.Common.{◌≡◌, ℕ, List, [], drop, Option, Some, None, Result, Ok, Err, refl, sym, ap, subst, ◌∙◌, inl, inr}
 use Rattle.std.specs.Prelude.{⊤}
 use Rattle.csi_types.specs.declared.method.Method.{Method}
 use Rattle.csi_types.specs.declared.reason.Reason.TheVariants as reason
@@ -70,7 +70,7 @@ pub may_by : {S : Type 0} {f : S → ReplyBytes × S} {May Might : Type 0} {old 
 may_by g a = record { mark = a.mark; allowed = λ is_marked. g (a.allowed is_marked); reply = a.reply; held = a.held; counted = a.counted; left = a.left; ties = a.ties; knows = a.knows }
 
 pub same_by : {S : Type 0} (f g : S → ReplyBytes × S) {May : Type 0} {old new : Sight S} {s : S} {r : ReplyBytes} → ((t : S) → f t ≡ g t) → AnswersBy f May old new s r → AnswersBy g May old new s r
-same_by {S} f g {new = new} {old = old} {s = s} e a = record {
+same_by {S} f g {old = old} {new = new} {s = s} e a = record {
   mark = a.mark;
   allowed = a.allowed;
   reply = a.reply ∙ ap (λ (y : ReplyBytes × S). (marked s y a.mark).0) (e s);

@@ -1,6 +1,6 @@
 -- A keeper's answers, as the volume machine responds.
-use Rattle.std.proofs.Common.{◌≡◌, ◌≢◌, ◌⊎◌, Bool, true, false, ℕ, List, [], ◌++◌, drop, Option, Some, None, Result, Ok, Err, refl, sym, ap, subst, ◌∙◌, inl, inr, arith}
-use Rattle.std.specs.Prelude.{⊤, ◌≤◌}
+use Rattle.std.proofs.Common.{◌≡◌, ◌⊎◌, Bool, true, ℕ, List, [], ◌++◌, drop, None, Result, Ok, Err, refl, sym, ap, subst, ◌∙◌, inl, inr, arith}
+use Rattle.std.specs.Prelude.{⊤}
 use Rattle.csi_types.specs.declared.reason.Reason.TheVariants as reason
 use Rattle.csi_types.specs.declared.requests.Request.{Request}
 use Rattle.frames_core.specs.Envelope.{ReplyBytes}
@@ -16,7 +16,7 @@ use Rattle.csi_keeper.specs.Invariant.{IsInvariant}
 use Rattle.csi_keeper.specs.Keeper.{count_after}
 use Rattle.csi_keeper.specs.State.{State}
 use Rattle.csi_machine.specs.Step.{step}
-use Rattle.csi_machine.specs.Verdicts.{Told, IsTold}
+use Rattle.csi_machine.specs.Verdicts.{IsTold}
 use Rattle.csi_server.specs.Machine.{Mark, Unmarked, OutOfMemory, StoreRefused, StoreDown, Sight, KnowsDown, RoseBy, marked, store_mark, refused}
 use Rattle.csi_server.specs.Requests.{AnswersBy, LeavesBy, after_check, told}
 use Rattle.csi_server.specs.Service.{room}

@@ -1,4 +1,4 @@
-use Rattle.std.proofs.Common.{◌≡◌, ◌∙◌, ℕ, Result, Ok, Err, refl, ap, subst}
+use Rattle.std.proofs.Common.{◌≡◌, ◌∙◌, Result, Ok, Err, refl, ap, subst}
 use Rattle.csi_machine.specs.Answering.{state_after, IsOfAll, Leaves}
 use Rattle.csi_machine.specs.Down.{TellsDown}
 use Rattle.csi_keeper.specs.Keeper.{count_after}
@@ -8,7 +8,6 @@ use Rattle.csi_machine.specs.declared.body.Verdict.{Verdict}
 use Rattle.csi_machine.specs.declared.body.Verdict.TheVariants as verdict
 use Rattle.csi_keeper.specs.declared.change.StoreFault.{StoreFault}
 use Rattle.csi_keeper.specs.declared.change.StoreFault.TheVariants as fault
-use Rattle.csi_server.specs.Volumes.{seen}
 use Rattle.csi_server.proofs.VolumeLemmas.{answered_by}
 use Rattle.csi_server.proofs.volumes.answer_begun.Goals as goal
 
