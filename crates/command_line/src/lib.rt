@@ -2,9 +2,11 @@
 //! or error is closed.
 #![tactic(auto)]
 
+mod lines;
 mod standard;
 
 use clap::Error;
+pub use lines::{is_decimal, line};
 pub use standard::take_closed;
 use std::alloc::{AllocError, Global};
 

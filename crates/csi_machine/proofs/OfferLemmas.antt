@@ -166,32 +166,53 @@ told config rs g available n false e h = absurd (none available n (ap (λ p. p.o
     none : (c d : ℕ) → (tell_capacity 0 0).outcome ≡ (tell_capacity c d).outcome → 0 < d → ⊥
     none c d e h = let z : ◌≡◌ {A = ℕ} 0 d = cc in omega (arith, z, h)
 
+-- a maximum that GetCapacity tells is a multiple of 1 MiB, within the greatest size, and no more than is free where the topology is served
+told_fits : (config : Config) → IsConfigured config → (s : State) (g : GetCapacity) (available n : ℕ) → IsInvariant config s → capacity config s g ≡ tell_capacity available n → 0 < n
+    → IsTimes n × (n ≤ config.sizes.greatest_bytes) × (n ≤ greatest (map free (served (rooms config s) (Some (term_of g.topology)))))
+told_fits config good s g available n inv e h =
+    let rs = rooms config s in
+    let is : n ≡ greatest_size config (served rs g.topology) = told config rs g available n (list_all is_supported g.capabilities) e h in
+    let same = ap (λ (xs : List Room). greatest (map free xs)) (served_as rs g.topology) in (
+      subst IsTimes (sym is) (times_min config.sizes.greatest_bytes (greatest (map free (served rs g.topology))) (times_of _ good.greatest) (times_most rs g.topology 0 (0, omega arith) (all_rooms s config.pools (times_free config s good inv)))),
+      omega (arith, is),
+      omega (arith, is, same),
+    )
+
+-- what is chosen is a pool of the configuration
+of_config : (config : Config) (s : State) (ts : List TextMap) (n : ℕ) (p : Pool) → choice (rooms config s) ts n ≡ Some p → Has config.pools p
+of_config config s ts n p f =
+    let one = chosen (rooms config s) ts n p f in
+    let from = has_map (λ p. (p, used s p.name)) config.pools one.0 one.1 in
+    let same : from.0 ≡ p = ap (λ (x : Room). x.0) from.2 ∙ one.2 in
+    subst (Has config.pools) same from.1
+
+-- a pool is chosen for the maximum that GetCapacity tells, under the topology that it was asked for
+pub offers : (config : Config) → IsConfigured config → (s : State) (g : GetCapacity) (available n : ℕ) → IsInvariant config s → capacity config s g ≡ tell_capacity available n → 0 < n
+    → (pool : Pool) × Has config.pools pool × (choice (rooms config s) (term_of g.topology ∷ []) n ≡ Some pool)
+offers config good s g available n inv e h = go (choice (rooms config s) (term_of g.topology ∷ []) n) refl
+  where
+    go : (o : Option Pool) → choice (rooms config s) (term_of g.topology ∷ []) n ≡ o → (pool : Pool) × Has config.pools pool × (choice (rooms config s) (term_of g.topology ∷ []) n ≡ Some pool)
+    go None f = absurd (has_place (rooms config s) (term_of g.topology) n h (told_fits config good s g available n inv e h).2 f)
+    go (Some p) f = (p, of_config config s (term_of g.topology ∷ []) n p f, f)
+
 -- a volume of the maximum that GetCapacity tells is made, where its topology is one of the terms
 pub offered : (config : Config) → IsConfigured config → (s : State) (g : GetCapacity) (available n : ℕ) (r : CreateVolume) → IsInvariant config s
     → capacity config s g ≡ tell_capacity available n → 0 < n → AsksFor r g.topology n → IsNew config s r.name
     → (pool : Pool) × Has config.pools pool × (create config s r ≡ place_in r s.next n (Some pool))
 offered config good s g available n r inv e h asks new =
-    let rs = rooms config s in
-    let is : n ≡ greatest_size config (served rs g.topology) = told config rs g available n (list_all is_supported g.capabilities) e h in
-    let same = ap (λ (xs : List Room). greatest (map free xs)) (served_as rs g.topology) in
-    let times : IsTimes n = subst IsTimes (sym is) (times_min config.sizes.greatest_bytes (greatest (map free (served rs g.topology))) (times_of _ good.greatest) (times_most rs g.topology 0 (0, omega arith) (all_rooms s config.pools (times_free config s good inv)))) in
-    let most : n ≤ config.sizes.greatest_bytes = omega (arith, is) in
-    let fits : n ≤ greatest (map free (served rs (Some (term_of g.topology)))) = omega (arith, is, same) in
-    let sized : size config.sizes r.range ≡ Some n = ap (size config.sizes) asks.size ∙ size_exact config.sizes n h times most in
-    go fits sized (choice rs (terms r.topology) n) refl
+    let fit = told_fits config good s g available n inv e h in
+    let sized : size config.sizes r.range ≡ Some n = ap (size config.sizes) asks.size ∙ size_exact config.sizes n h fit.0 fit.1 in
+    go fit.2 sized (choice (rooms config s) (terms r.topology) n) refl
   where
     go : n ≤ greatest (map free (served (rooms config s) (Some (term_of g.topology)))) → size config.sizes r.range ≡ Some n → (o : Option Pool) → choice (rooms config s) (terms r.topology) n ≡ o
         → (pool : Pool) × Has config.pools pool × (create config s r ≡ place_in r s.next n (Some pool))
     go fits sized None f = absurd (has_place (rooms config s) (term_of g.topology) n h fits (none_of (rooms config s) (terms r.topology) (term_of g.topology) n asks.term f))
-    go fits sized (Some p) f =
-        let one = chosen (rooms config s) (terms r.topology) n p f in
-        let from = has_map (λ p. (p, used s p.name)) config.pools one.0 one.1 in
-        let same : from.0 ≡ p = ap (λ (x : Room). x.0) from.2 ∙ one.2 in (
-          p,
-          subst (Has config.pools) same from.1,
-          ap (create_named config s r) new.unnamed
-              ∙ ap (place (rooms config s) s.next r) sized
-              ∙ ap (λ b. cond b (refuse TooManyVolumes) (cond (nat_le MAX_NUMBER s.next) (refuse NumbersUsedUp) (place_in r s.next n (choice (rooms config s) (terms r.topology) n)))) (under MAX_VOLUMES (count (rooms config s)) new.few)
-              ∙ ap (λ b. cond b (refuse NumbersUsedUp) (place_in r s.next n (choice (rooms config s) (terms r.topology) n))) (under MAX_NUMBER s.next new.numbered)
-              ∙ ap (place_in r s.next n) f,
-        )
+    go fits sized (Some p) f = (
+      p,
+      of_config config s (terms r.topology) n p f,
+      ap (create_named config s r) new.unnamed
+          ∙ ap (place (rooms config s) s.next r) sized
+          ∙ ap (λ b. cond b (refuse TooManyVolumes) (cond (nat_le MAX_NUMBER s.next) (refuse NumbersUsedUp) (place_in r s.next n (choice (rooms config s) (terms r.topology) n)))) (under MAX_VOLUMES (count (rooms config s)) new.few)
+          ∙ ap (λ b. cond b (refuse NumbersUsedUp) (place_in r s.next n (choice (rooms config s) (terms r.topology) n))) (under MAX_NUMBER s.next new.numbered)
+          ∙ ap (place_in r s.next n) f,
+    )

@@ -1,7 +1,7 @@
 -- What is answered of a volume (CSI specification, 'CreateVolume', the message Volume).
-use Rattle.std.specs.Prelude.{ℕ, ℤ, pos, ◌-◌, ◌^◌, ◌==◌, min, List, [], ◌∷◌, Option, None, Some, find, codes, if◌then◌else◌}
+use Rattle.std.specs.Prelude.{ℕ, ℤ, pos, ◌-◌, ◌^◌, ◌==◌, min, List, [], ◌∷◌, Option, None, Some, codes, if◌then◌else◌}
 use Rattle.std.specs.FinMap.{empty, insert, len}
-use Rattle.csi_types.specs.Maps.{TextMap, same_text}
+use Rattle.csi_types.specs.Maps.{TextMap}
 use Rattle.csi_types.specs.declared.volume.VolumeInfo.{VolumeInfo}
 use Rattle.csi_config.specs.declared.config.Config.{Config}
 use Rattle.csi_config.specs.declared.pools.Pool.{Pool}

@@ -2,6 +2,7 @@ pub mod calls
 pub mod Answering
 pub mod Choice
 pub mod Configured
+pub mod Down
 pub mod Ids
 pub mod Info
 pub mod Offer

@@ -1,9 +1,11 @@
 //! Requests over any keeper.
 
-ghost use Rattle.std.specs.Prelude.{◌≡◌, ◌⊎◌, ◌≤◌, ◌++◌, length, [], IfOk, OnOk, OnErr, IfSome, IsSome, None};
+ghost use Rattle.std.specs.Prelude.{◌≡◌, ◌⊎◌, ◌≤◌, ◌++◌, length, [], true, Err, IfOk, OnOk, OnErr, IfSome, IsSome, None};
 ghost use Rattle.csi_types.specs.Checks.{checked};
 ghost use Rattle.frames_core.specs.declared.limits.TheConstants.{MAX_BODY_BYTES};
-ghost use Rattle.csi_machine.specs.Answering.{Answered, Carries, Leaves, Promises, body_of, state_after, verdict_of};
+ghost use Rattle.csi_machine.specs.Down.{TellsDown};
+ghost use Rattle.csi_keeper.specs.declared.change.StoreFault.TheVariants.{Down};
+ghost use Rattle.csi_machine.specs.Answering.{Answered, Carries, IsOfAll, Leaves, Promises, body_of, state_after, verdict_of};
 ghost use Rattle.csi_keeper.specs.Invariant.{IsInvariant};
 ghost use Rattle.csi_keeper.specs.Keeper.{IsQuiet, Tells, count_after};
 ghost use Rattle.csi_machine.specs.Plan.{after};
@@ -40,6 +42,7 @@ fn plan_of<K: Keeper>(
     ensures bounded { IfOk result (λ p. IfSome p.change IsBounded) }
     ensures value { IfOk result (λ p. Tells K.holds K.doubt keeper.old keeper.new (λ s. p ≡ plan config.now s request.now)) }
     ensures quiet { IsQuiet K.holds K.doubt K.survivors K.tied K.is_down keeper.old keeper.new }
+    ensures down { TellsDown (K.is_down keeper.old) (λ p. (s : State) → p ≡ plan config.now s request.now) result }
     ensures count { K.refused keeper.new ≡ count_after (K.refused keeper.old) result }
 {
     match request {
@@ -95,9 +98,12 @@ fn carry_out<K: Keeper>(alloc: Global, keeper: &mut K, plan: &Plan) -> Result<Ve
     ensures state { K.doubt keeper.new ≡ 0 → OnOk result ((s : State) → K.holds keeper.old s → IfSome plan.now.change (Allows s) → K.holds keeper.new (after s plan.now.change)) }
     ensures same { K.doubt keeper.new ≡ 0 → OnErr result ((s : State) → K.holds keeper.old s → IfSome plan.now.change (Allows s) → K.holds keeper.new s) }
     ensures count { K.refused keeper.new ≡ count_after (K.refused keeper.old) result }
-    ensures crash { K.doubt keeper.new ≡ 0 → (s : State) → K.holds keeper.old s → IfSome plan.now.change (Allows s) → (t : State) → K.survivors keeper.new t → K.survivors keeper.old t ⊎ (t ≡ after s plan.now.change) }
+    ensures crash { K.doubt keeper.new ≡ 0 → (s : State) → K.holds keeper.old s → IfSome plan.now.change (Allows s) → (t : State) → K.survivors keeper.new t → K.survivors keeper.old t ⊎ (IsSome plan.now.change × (t ≡ after s plan.now.change)) }
+    ensures idle { result ≡ Err Down → K.doubt keeper.new ≡ 0 → (t : State) → K.survivors keeper.new t → K.survivors keeper.old t }
     ensures settled { K.doubt keeper.new ≡ 0 → OnOk result ((s : State) → K.holds keeper.old s → IfSome plan.now.change (Allows s) → IsSome plan.now.change → (t : State) → K.survivors keeper.new t → t ≡ after s plan.now.change) }
     ensures ties { K.doubt keeper.new ≡ 0 → (s : State) → K.holds keeper.old s → IfSome plan.now.change (Allows s) → K.tied keeper.old → K.tied keeper.new }
+    ensures down { TellsDown (K.is_down keeper.old) (λ v. plan.now.change ≡ None) result }
+    ensures stays { K.is_down keeper.old ≡ true → K.is_down keeper.new ≡ true }
 {
     if let Some(change) = &plan.change {
         keeper.apply(alloc, change)?;
@@ -114,7 +120,7 @@ fn finish<K: Keeper>(
     out: &mut Vec<u8>,
 ) -> Result<Verdict, StoreFault>
     requires { IfSome plan.now.change IsBounded }
-    ensures carries { Carries K.holds K.doubt K.survivors K.tied (limited plan.now) keeper.old keeper.new result }
+    ensures carries { Carries K.holds K.doubt K.survivors K.tied K.is_down (limited plan.now) keeper.old keeper.new result }
     ensures count { K.refused keeper.new ≡ count_after (K.refused keeper.old) result }
     ensures body { OnOk result (out.new.items ≡ out.old.items ++ body_of (limited plan.now).outcome) }
     ensures small { OnOk result (length (body_of (limited plan.now).outcome) ≤ MAX_BODY_BYTES) }
@@ -141,7 +147,7 @@ fn answer_by_plan<K: Keeper>(
     out: &mut Vec<u8>,
 ) -> Result<Verdict, StoreFault>
     requires { checked request.now ≡ None }
-    ensures { Answered K.holds K.doubt K.refused K.survivors K.tied config.now (λ s. settled_plan config.now s request.now) keeper.old keeper.new out.old.items out.new.items result }
+    ensures { Answered K.holds K.doubt K.refused K.survivors K.tied K.is_down config.now (λ s. settled_plan config.now s request.now) keeper.old keeper.new out.old.items out.new.items result }
 {
     configured(config);
     let plan = plan_of(alloc, config, keeper, request)?;
@@ -174,6 +180,8 @@ pub fn append_answer<K: Keeper>(
     ensures counted { K.refused keeper.new ≡ count_after (K.refused keeper.old) result }
     ensures left { Promises K.holds K.doubt config.now keeper.old keeper.new (λ s. Leaves (K.survivors keeper.old) (K.survivors keeper.new) s (step config.now s request.now).1 result) }
     ensures ties { Promises K.holds K.doubt config.now keeper.old keeper.new (λ s. K.tied keeper.old → K.tied keeper.new) }
+    ensures down { TellsDown (K.is_down keeper.old) (IsOfAll config.now request.now out.old.items out.new.items) result }
+    ensures stays { K.is_down keeper.old ≡ true → K.is_down keeper.new ≡ true }
 {
     configured(config);
     answer_by_plan(alloc, config, keeper, request, out)
@@ -200,6 +208,8 @@ pub fn answer<K: Keeper>(
     ensures counted { K.refused keeper.new ≡ count_after (K.refused keeper.old) result }
     ensures left { Promises K.holds K.doubt config.now keeper.old keeper.new (λ s. Leaves (K.survivors keeper.old) (K.survivors keeper.new) s (step config.now s request.now).1 result) }
     ensures ties { Promises K.holds K.doubt config.now keeper.old keeper.new (λ s. K.tied keeper.old → K.tied keeper.new) }
+    ensures down { TellsDown (K.is_down keeper.old) (IsOfAll config.now request.now [] out.new.items) result }
+    ensures stays { K.is_down keeper.old ≡ true → K.is_down keeper.new ≡ true }
 {
     out.clear();
     append_answer(alloc, config, keeper, request, out)

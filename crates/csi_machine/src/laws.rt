@@ -1,7 +1,7 @@
 //! Laws of the definitions that the contracts cite: each is the contract of a function that does
 //! nothing.
 
-ghost use Rattle.std.specs.Prelude.{◌≡◌, ◌<◌, ◌^◌, ℕ, List, [], Some};
+ghost use Rattle.std.specs.Prelude.{◌≡◌, ◌<◌, ◌^◌, ℕ, List, [], ◌∷◌, Some};
 ghost use Rattle.csi_machine.specs.Ids.{id, number_of_id};
 ghost use Rattle.csi_keeper.specs.Texts.{Text};
 ghost use Rattle.csi_keeper.specs.Invariant.{IsInvariant};
@@ -9,7 +9,8 @@ ghost use Rattle.csi_keeper.specs.State.{State};
 ghost use Rattle.csi_machine.specs.Walk.{Call, pages, AreRead, AreChecked, AreOfVolumes, GoOn, End, Stood, listed_ids, AreApart};
 ghost use Rattle.csi_config.specs.Values.{Has};
 ghost use Rattle.std.specs.List.{AllByRecursion};
-ghost use Rattle.csi_machine.specs.Offer.{AsksFor, IsNew};
+ghost use Rattle.csi_machine.specs.Choice.{choice, rooms};
+ghost use Rattle.csi_machine.specs.Offer.{AsksFor, IsNew, term_of};
 ghost use Rattle.csi_machine.specs.calls.Capacity.{capacity, tell_capacity};
 ghost use Rattle.csi_machine.specs.calls.Create.{create, place_in};
 ghost use Rattle.csi_config.specs.declared.pools.Pool.{Pool};
@@ -46,13 +47,15 @@ pub fn walk(config: &Config)
 
 /// What GetCapacity offers is given (CSI specification, 'GetCapacity', `maximum_volume_size`).
 ///
-/// From a State of the invariant: where the maximum that is told is above zero, a create that asks
-/// for exactly that size, with the topology among its terms, makes a volume of that size in a pool
-/// of the configuration. Its name has to be new, and neither the count of volumes nor their numbers
-/// may be used up.
+/// From a State of the invariant: where the maximum that is told is above zero, a pool of the
+/// configuration is chosen for that size under the topology that was asked for. So a create that asks
+/// for exactly that size, with the topology among its terms, makes a volume of that size in a pool of
+/// the configuration. Its name has to be new, and neither the count of volumes nor their numbers may
+/// be used up.
 #[inline(always)]
 pub fn room(config: &Config)
-    ensures { (s : State) (g : GetCapacity) (available n : ℕ) (r : CreateVolume) → IsInvariant config.now s → capacity config.now s g ≡ tell_capacity available n → 0 < n → AsksFor r g.topology n → IsNew config.now s r.name → (pool : Pool) × Has config.now.pools pool × (create config.now s r ≡ place_in r s.next n (Some pool)) }
+    ensures chosen { (s : State) (g : GetCapacity) (available n : ℕ) → IsInvariant config.now s → capacity config.now s g ≡ tell_capacity available n → 0 < n → (pool : Pool) × Has config.now.pools pool × (choice (rooms config.now s) (term_of g.topology ∷ []) n ≡ Some pool) }
+    ensures made { (s : State) (g : GetCapacity) (available n : ℕ) (r : CreateVolume) → IsInvariant config.now s → capacity config.now s g ≡ tell_capacity available n → 0 < n → AsksFor r g.topology n → IsNew config.now s r.name → (pool : Pool) × Has config.now.pools pool × (create config.now s r ≡ place_in r s.next n (Some pool)) }
 {
     configured(config);
 }

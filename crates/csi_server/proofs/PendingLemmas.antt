@@ -1,16 +1,15 @@
 -- What a stop may leave of a run of the volume machine.
-use Rattle.std.proofs.Common.{◌≡◌, ◌≢◌, ◌⊎◌, List, [], ◌∷◌, ◌++◌, Option, Some, None, Result, Ok, Err, ℕ, inl, inr, refl, sym, ap, subst, ◌∙◌}
+use Rattle.std.proofs.Common.{◌≡◌, ◌⊎◌, List, [], ◌∷◌, ◌++◌, Option, Some, None, Result, Ok, ℕ, inl, inr, refl, sym, ap, subst, ◌∙◌}
 use Rattle.std.specs.List.{AllByRecursion}
 use Rattle.csi_types.specs.declared.method.Method.{Method}
 use Rattle.csi_types.specs.declared.reason.Reason.{Reason}
 use Rattle.csi_types.specs.declared.requests.Request.{Request}
 use Rattle.csi_types.specs.Checks.{checked}
-use Rattle.frames_core.specs.Envelope.{ReplyBytes}
 use Rattle.csi_config.specs.declared.config.Config.{Config}
 use Rattle.csi_keeper.specs.State.{State}
 use Rattle.csi_machine.specs.Step.{step}
 use Rattle.csi_codec.specs.Reading.{read_request}
-use Rattle.csi_server.specs.Machine.{Event, Unmarked, IsAllowed, IsDue, state_after}
+use Rattle.csi_server.specs.Machine.{Event, IsAllowed, IsDue, state_after}
 use Rattle.csi_types.specs.Methods.{method_at}
 use Rattle.csi_server.specs.Requests.{IsRequest, after_path, after_read, after_check}
 use Rattle.csi_server.specs.Volumes.{volumes, IsPending}

@@ -1,6 +1,5 @@
 -- A run that goes on by one call.
-use Rattle.std.proofs.Common.{◌≡◌, ◌≢◌, ℕ, ◌+◌, List, [], ◌∷◌, ◌++◌, length, Option, refl, sym, ap, subst, ◌∙◌, append_assoc, append-nil, arith, All, inl, inr, ◌⊎◌}
-use Rattle.std.specs.Prelude.{◌-◌, ◌^◌, min}
+use Rattle.std.proofs.Common.{◌≡◌, ◌≢◌, Bool, true, false, ◌||◌, ℕ, ◌+◌, List, [], ◌∷◌, ◌++◌, length, Option, refl, sym, ap, subst, ◌∙◌, append_assoc, append-nil, arith, All, inl, inr, ◌⊎◌}
 use Rattle.std.specs.List.{AllByRecursion}
 use Rattle.std.proofs.lemmas.List.{map-append, length-append}
 use Rattle.std.proofs.lemmas.List.Elements.{All-push, All-nil}
@@ -11,7 +10,7 @@ use Rattle.frames_core.specs.declared.fault.FrameWhy.TheVariants.{BadPathLength,
 use Rattle.frames_core.specs.declared.fault.FrameFault.{FrameFault}
 use Rattle.frames_core.specs.Envelope.{CallBytes, ReplyBytes, IsCall, IsReply, frame, reply}
 use Rattle.frames_core.specs.Stream.{Stream, End, Ends, Fault, Open, frames, FaultAt}
-use Rattle.csi_server.specs.Machine.{Machine, Mark, Unmarked, OutOfMemory, StoreRefused, StoreDown, Event, Sight, Runs, Answers, IsDue, Leaves, RoseBy, IsAllowed, done, replies, state_after, store_mark, store_marks, step, calls_of, AreReplies}
+use Rattle.csi_server.specs.Machine.{Machine, Mark, Unmarked, OutOfMemory, StoreRefused, StoreDown, Event, Sight, Runs, Answers, IsDue, Leaves, RoseBy, IsAllowed, IsIdle, KnowsDown, StaysDown, is_down_after, told_down, done, replies, state_after, store_mark, store_marks, step, calls_of, AreReplies}
 use Rattle.csi_server.proofs.Written.{Appends-kept}
 use Rattle.csi_server.specs.Live.{SoFar}
 use Rattle.csi_server.specs.Serving.{IsPrefix, WrotePrefix, Answered, CutOff, HasFault, BeginsWithCalls, AnswersCall, fault_frame}
@@ -109,25 +108,46 @@ left_stays : {S : Type 0} (m : Machine S) (s : S) (es : List Event) (e : Event) 
 left_stays m s es e t (inl is) keeps = inl (is ∙ (sym keeps ∙ sym (state_after-push m s es e)))
 left_stays m s es e t (inr due) keeps = inr (due_kept m s es e t due keeps)
 
-left_either : {S : Type 0} (m : Machine S) (s : S) (es : List Event) (e : Event) (t : S) (Old : Type 0) → (Old → Left m s es t) → Old ⊎ (t ≡ state_after m s es) → Stays m (state_after m s es) e → Left m s (es ++ e ∷ []) t
-left_either m s es e t Old u (inl old) keeps = left_stays m s es e t (u old) keeps
-left_either m s es e t Old u (inr is) keeps = left_stays m s es e t (inl is) keeps
-
 -- a marked call adds what it would have made
-left_marked : {S : Type 0} (m : Machine S) (s : S) (es : List Event) (e : Event) (t : S) (Old : Type 0) → e.mark ≢ Unmarked → (Old → Left m s es t) → Old ⊎ (t ≡ state_after m s es) ⊎ (t ≡ done m (state_after m s es) e.call) → Left m s (es ++ e ∷ []) t
+left_marked : {S : Type 0} (m : Machine S) (s : S) (es : List Event) (e : Event) (t : S) (Old : Type 0) → e.mark ≢ Unmarked → (Old → Left m s es t) → Old ⊎ (t ≡ done m (state_after m s es) e.call) → Left m s (es ++ e ∷ []) t
 left_marked m s es e t Old marked u (inl old) = left_stays m s es e t (u old) (marked_keeps m (state_after m s es) e.call e.mark marked)
-left_marked m s es e t Old marked u (inr (inl is)) = left_stays m s es e t (inl is) (marked_keeps m (state_after m s es) e.call e.mark marked)
-left_marked m s es e t Old marked u (inr (inr is)) = inr (record { before = es; refused = e; after = []; whole = refl; is_marked = marked; still = tt; is = is })
+left_marked m s es e t Old marked u (inr is) = inr (record { before = es; refused = e; after = []; whole = refl; is_marked = marked; still = tt; is = is })
 
 left_push : {S : Type 0} (m : Machine S) (s : S) (es : List Event) (call : CallBytes) (mark : Mark) (old new : S → Type 0) → ((t : S) → old t → Left m s es t) → Leaves m old new (state_after m s es) call mark → (t : S) → new t → Left m s (es ++ record { call = call; mark = mark } ∷ []) t
-left_push m s es call Unmarked old new u (inl kept) t h = left_either m s es (record { call = call; mark = Unmarked }) t (old t) (u t) (kept.1 t h) kept.0
+left_push m s es call Unmarked old new u (inl kept) t h = left_stays m s es (record { call = call; mark = Unmarked }) t (u t (kept.1 t h)) kept.0
 left_push m s es call Unmarked old new u (inr made) t h = inl (made t h ∙ sym (state_after-push m s es (record { call = call; mark = Unmarked })))
 left_push m s es call OutOfMemory old new u l t h = left_marked m s es (record { call = call; mark = OutOfMemory }) t (old t) (λ e. absurd cc) (u t) (l t h)
 left_push m s es call StoreRefused old new u l t h = left_marked m s es (record { call = call; mark = StoreRefused }) t (old t) (λ e. absurd cc) (u t) (l t h)
-left_push m s es call StoreDown old new u l t h = left_marked m s es (record { call = call; mark = StoreDown }) t (old t) (λ e. absurd cc) (u t) (l t h)
+left_push m s es call StoreDown old new u l t h = left_stays m s es (record { call = call; mark = StoreDown }) t (u t (l t h)) (marked_keeps m (state_after m s es) call StoreDown (λ e. absurd cc))
+
+-- ---- a store that is down, with one call more
+
+stays_down_push : {S : Type 0} (m : Machine S) (down : Bool) (es : List Event) (e : Event) → StaysDown m down es → (is_down_after down es ≡ true → IsIdle m e.call e.mark) → StaysDown m down (es ++ e ∷ [])
+unfolding StaysDown is_down_after
+stays_down_push m down [] e h k = (k, tt)
+stays_down_push m down (x ∷ xs) e h k = (h.0, stays_down_push m (down || told_down x.mark) xs e h.1 k)
+
+down_after_push : (down : Bool) (es : List Event) (e : Event) → is_down_after down (es ++ e ∷ []) ≡ (is_down_after down es || told_down e.mark)
+unfolding is_down_after
+down_after_push down [] e = refl
+down_after_push down (x ∷ xs) e = down_after_push (down || told_down x.mark) xs e
+
+-- a call over a store that is down
+idle_by : {S : Type 0} (m : Machine S) (old new : Sight S) (call : CallBytes) (r : ReplyBytes) (mark : Mark) → KnowsDown (λ t. m.respond t call) old new r mark → old.is_down ≡ true → IsIdle m call mark
+idle_by m old new call r Unmarked k is = (r, k.unasked is refl)
+idle_by m old new call r OutOfMemory k is = tt
+idle_by m old new call r StoreRefused k is = absurd (cc (k.refused refl, is))
+idle_by m old new call r StoreDown k is = tt
+
+shut_by : {S : Type 0} (f : S → ReplyBytes × S) (old new : Sight S) (r : ReplyBytes) (mark : Mark) (b : Bool) → KnowsDown f old new r mark → (b ≡ true → old.is_down ≡ true) → (b || told_down mark) ≡ true → new.is_down ≡ true
+shut_by f old new r mark true k was is = k.stays (was refl)
+shut_by f old new r Unmarked false k was is = absurd (cc)
+shut_by f old new r OutOfMemory false k was is = absurd (cc)
+shut_by f old new r StoreRefused false k was is = absurd (cc)
+shut_by f old new r StoreDown false k was is = k.stays (k.down refl)
 
 pub runs_start : {S : Type 0} (m : Machine S) (now : Sight S) (s : S) → now.holds s → Runs m now now s []
-unfolding state_after store_marks AreReplies
+unfolding state_after store_marks AreReplies StaysDown is_down_after
 runs_start m now s h = record {
   allowed = tt;
   formed = tt;
@@ -135,6 +155,8 @@ runs_start m now s h = record {
   counted = inl (refl, refl);
   survive = λ only t k. inl (only t k);
   ties = λ k. k;
+  down = tt;
+  shut = λ is. is;
 }
 
 -- the run with one call more
@@ -148,6 +170,8 @@ runs_push {S} m start mid new s es call r run a good =
       counted = subst (λ (n : ℕ). RoseBy start.refusals new.refusals n) (sym (marks-push es e)) (rose-more start.refusals mid.refusals new.refusals (store_marks es) (store_mark a.mark) run.counted a.counted);
       survive = λ only t h. left_push m s es call a.mark mid.survivors new.survivors (run.survive only) a.left t h;
       ties = λ h. a.ties (run.ties h);
+      down = stays_down_push m start.is_down es e run.down (λ is. idle_by m mid new call r a.mark a.knows (run.shut is));
+      shut = λ is. shut_by (λ t. m.respond t call) mid new r a.mark (is_down_after start.is_down es) a.knows run.shut (sym (down_after_push start.is_down es e) ∙ is);
     }
 
 pub so_far_start : {S : Type 0} (m : Machine S) (now : Sight S) (s : S) (held : Option (List ℕ)) → now.holds s → SoFar m now now s [] held held

@@ -1,6 +1,6 @@
 -- A keeper's answers, as the volume machine responds.
-use Rattle.std.proofs.Common.{◌≡◌, ◌≢◌, ◌⊎◌, ℕ, List, [], ◌++◌, drop, Option, Some, None, Result, Ok, Err, refl, sym, ap, subst, ◌∙◌, inl, inr, arith}
-use Rattle.std.specs.Prelude.{⊤, ◌≤◌}
+use Rattle.std.proofs.Common.{◌≡◌, ◌⊎◌, Bool, true, ℕ, List, [], ◌++◌, drop, None, Result, Ok, Err, refl, sym, ap, subst, ◌∙◌, inl, inr, arith}
+use Rattle.std.specs.Prelude.{⊤}
 use Rattle.csi_types.specs.declared.reason.Reason.TheVariants as reason
 use Rattle.csi_types.specs.declared.requests.Request.{Request}
 use Rattle.frames_core.specs.Envelope.{ReplyBytes}
@@ -10,14 +10,15 @@ use Rattle.csi_machine.specs.declared.body.Verdict.{Verdict}
 use Rattle.csi_machine.specs.declared.body.Verdict.TheVariants as verdict
 use Rattle.csi_keeper.specs.declared.change.StoreFault.{StoreFault}
 use Rattle.csi_keeper.specs.declared.change.StoreFault.TheVariants as fault
-use Rattle.csi_machine.specs.Answering.{state_after, Leaves}
+use Rattle.csi_machine.specs.Answering.{state_after, IsOfAll, Leaves}
+use Rattle.csi_machine.specs.Down.{TellsDown}
 use Rattle.csi_keeper.specs.Invariant.{IsInvariant}
 use Rattle.csi_keeper.specs.Keeper.{count_after}
 use Rattle.csi_keeper.specs.State.{State}
 use Rattle.csi_machine.specs.Step.{step}
-use Rattle.csi_machine.specs.Verdicts.{Told, IsTold}
-use Rattle.csi_server.specs.Machine.{Mark, Unmarked, OutOfMemory, StoreRefused, StoreDown, Sight, refused}
-use Rattle.csi_server.specs.Requests.{AnswersBy, after_check, told}
+use Rattle.csi_machine.specs.Verdicts.{IsTold}
+use Rattle.csi_server.specs.Machine.{Mark, Unmarked, OutOfMemory, StoreRefused, StoreDown, Sight, KnowsDown, RoseBy, marked, store_mark, refused}
+use Rattle.csi_server.specs.Requests.{AnswersBy, LeavesBy, after_check, told}
 use Rattle.csi_server.specs.Service.{room}
 use Rattle.csi_server.specs.Volumes.{seen}
 
@@ -29,13 +30,30 @@ RepliesTo out r (Err fault.NoMemory) = r ≡ refused reason.OutOfMemory
 RepliesTo out r (Err fault.Refused) = r ≡ refused reason.StoreRefused
 RepliesTo out r (Err fault.Down) = r ≡ refused reason.StoreDown
 
-module _ {K : Type 0} (holds : K → State → Type 0) (doubt refusals : K → ℕ) (survivors : K → State → Type 0) (tied : K → Type 0) (config : Config) (request : Request) (a b : K) where
+-- the mark of a fault
+abbrev pub mark_of : StoreFault → Mark
+mark_of fault.NoMemory = OutOfMemory
+mark_of fault.Refused = StoreRefused
+mark_of fault.Down = StoreDown
+
+module _ {K : Type 0} (holds : K → State → Type 0) (doubt refusals : K → ℕ) (survivors : K → State → Type 0) (tied : K → Type 0) (is_down : K → Bool) (config : Config) (request : Request) (a b : K) where
+  -- a keeper before and after, and what is responded from each State
+  abbrev before : Sight State
+  before = seen holds doubt refusals survivors tied is_down config a
+
+  abbrev behind : Sight State
+  behind = seen holds doubt refusals survivors tied is_down config b
+
+  abbrev to_request : State → ReplyBytes × State
+  to_request t = after_check (step config) t request None
+
   done_by : (s : State) (r : ReplyBytes) → r ≡ told (step config s request).0
       → holds b (step config s request).1 → IsInvariant config (step config s request).1 → refusals b ≡ refusals a
-      → ((((step config s request).1 ≡ s) × ((u : State) → survivors b u → survivors a u ⊎ (u ≡ s))) ⊎ ((u : State) → survivors b u → u ≡ (step config s request).1))
+      → ((((step config s request).1 ≡ s) × ((u : State) → survivors b u → survivors a u)) ⊎ ((u : State) → survivors b u → u ≡ (step config s request).1))
       → (tied a → tied b)
-      → AnswersBy (after_check (step config) s request None) ⊤ (seen holds doubt refusals survivors tied config a) (seen holds doubt refusals survivors tied config b) s r
-  done_by s r e held inv count left ties = record {
+      → (is_down a ≡ true → (t : State) → to_request t ≡ (r, t)) → (is_down a ≡ true → is_down b ≡ true)
+      → AnswersBy to_request ⊤ before behind s r
+  done_by s r e held inv count left ties alone stays = record {
     mark = Unmarked;
     allowed = λ is_marked. tt;
     reply = e;
@@ -43,6 +61,33 @@ module _ {K : Type 0} (holds : K → State → Type 0) (doubt refusals : K → �
     counted = inl (refl, count);
     left = left;
     ties = ties;
+    knows = record { down = λ is. absurd (cc); refused = λ is. absurd (cc); unasked = λ is unmarked. alone is; stays = stays };
+  }
+
+  -- what every State is told is what is responded from each
+  told_all : (v : Verdict) (old out : List ℕ) (r : ReplyBytes) → old ≡ room → RepliesTo out r (Ok v) → IsOfAll config request old out v → (t : State) → to_request t ≡ (r, t)
+  told_all verdict.Done old out r begun e all t =
+      let is = (all t).0 in
+      let said : told (step config t request).0 ≡ r = ap told is.1 ∙ sym (e ∙ ap (λ (o : List ℕ). record { status = 0; text = []; body = drop REPLY_HEAD_BYTES o }) (is.2 ∙ ap (λ (o : List ℕ). o ++ is.0) begun)) in
+      ap (λ (x : ReplyBytes). (x, (step config t request).1)) said ∙ ap (λ (u : State). (r, u)) (all t).1
+  told_all (verdict.Refused q) old out r begun e all t =
+      ap (λ (x : ReplyBytes). (x, (step config t request).1)) (ap told (all t).0 ∙ sym e) ∙ ap (λ (u : State). (r, u)) (all t).1
+
+  -- a fault of the keeper
+  failed_by : (s : State) (r : ReplyBytes) (e : StoreFault) → r ≡ (marked s (to_request s) (mark_of e)).0 → (marked s (to_request s) (mark_of e)).1 ≡ s → holds b s → IsInvariant config s
+      → RoseBy (refusals a) (refusals b) (store_mark (mark_of e))
+      → LeavesBy (to_request s) (survivors a) (survivors b) s (mark_of e)
+      → (tied a → tied b) → KnowsDown to_request before behind r (mark_of e)
+      → AnswersBy to_request ⊤ before behind s r
+  failed_by s r e reply kept held inv counted left ties knows = record {
+    mark = mark_of e;
+    allowed = λ is_marked. tt;
+    reply = reply;
+    held = subst (λ (u : State). holds b u × IsInvariant config u) (sym kept) (held, inv);
+    counted = counted;
+    left = left;
+    ties = ties;
+    knows = knows;
   }
 
   -- an answer from a State of the invariant is one of the machine's
@@ -55,36 +100,21 @@ module _ {K : Type 0} (holds : K → State → Type 0) (doubt refusals : K → �
       → refusals b ≡ count_after (refusals a) v
       → Leaves (survivors a) (survivors b) s (step config s request).1 v
       → (tied a → tied b)
+      → TellsDown (is_down a) (IsOfAll config request old out) v
+      → (is_down a ≡ true → is_down b ≡ true)
       → RepliesTo out r v
-      → AnswersBy (after_check (step config) s request None) ⊤ (seen holds doubt refusals survivors tied config a) (seen holds doubt refusals survivors tied config b) s r
-  answered_by (Ok verdict.Done) old out s r begun tells held inv next count left ties e =
+      → AnswersBy to_request ⊤ before behind s r
+  answered_by (Ok verdict.Done) old out s r begun tells held inv next count left ties down stays e =
       done_by s r (e ∙ ap (λ (o : List ℕ). record { status = 0; text = []; body = drop REPLY_HEAD_BYTES o }) (tells.2 ∙ ap (λ (o : List ℕ). o ++ tells.0) begun) ∙ ap told (sym tells.1)) held next count left ties
-  answered_by (Ok (verdict.Refused q)) old out s r begun tells held inv next count left ties e =
-      done_by s r (e ∙ ap told (sym tells)) held next count left ties
-  answered_by (Err fault.NoMemory) old out s r begun tells held inv next count left ties e = record {
-    mark = OutOfMemory;
-    allowed = λ is_marked. tt;
-    reply = e;
-    held = (held, inv);
-    counted = inl (refl, count);
-    left = left;
-    ties = ties;
-  }
-  answered_by (Err fault.Refused) old out s r begun tells held inv next count left ties e = record {
-    mark = StoreRefused;
-    allowed = λ is_marked. tt;
-    reply = e;
-    held = (held, inv);
-    counted = inr (omega arith, count);
-    left = left;
-    ties = ties;
-  }
-  answered_by (Err fault.Down) old out s r begun tells held inv next count left ties e = record {
-    mark = StoreDown;
-    allowed = λ is_marked. tt;
-    reply = e;
-    held = (held, inv);
-    counted = inr (omega arith, count);
-    left = left;
-    ties = ties;
-  }
+      (λ is. told_all verdict.Done old out r begun e (down.unasked is)) stays
+  answered_by (Ok (verdict.Refused q)) old out s r begun tells held inv next count left ties down stays e =
+      done_by s r (e ∙ ap told (sym tells)) held next count left ties (λ is. told_all (verdict.Refused q) old out r begun e (down.unasked is)) stays
+  answered_by (Err fault.NoMemory) old out s r begun tells held inv next count left ties down stays e =
+      failed_by s r fault.NoMemory e refl held inv (inl (refl, count)) left ties
+      (record { down = λ is. absurd (cc); refused = λ is. absurd (cc); unasked = λ is unmarked. absurd (cc); stays = stays })
+  answered_by (Err fault.Refused) old out s r begun tells held inv next count left ties down stays e =
+      failed_by s r fault.Refused e refl held inv (inr (omega arith, count)) left ties
+      (record { down = λ is. absurd (cc); refused = λ is. down.refused refl; unasked = λ is unmarked. absurd (cc); stays = stays })
+  answered_by (Err fault.Down) old out s r begun tells held inv next count left ties down stays e =
+      failed_by s r fault.Down e refl held inv (inr (omega arith, count)) left ties
+      (record { down = λ is. down.down refl; refused = λ is. absurd (cc); unasked = λ is unmarked. absurd (cc); stays = stays })

@@ -1,5 +1,5 @@
 -- The identity service: Probe and GetPluginInfo.
-use Rattle.std.specs.Prelude.{⊤, ℕ, List, Option, Some, None, true}
+use Rattle.std.specs.Prelude.{⊤, ℕ, List, Option, Some, None, true, false}
 use Rattle.csi_types.specs.declared.method.Method.{Method}
 use Rattle.csi_types.specs.declared.method.Method.TheVariants as method
 use Rattle.csi_types.specs.declared.reason.Reason.TheVariants.{UnknownMethod}
@@ -52,4 +52,4 @@ abbrev pub identity : List ℕ → List ℕ → Machine ⊤
 identity name version = requests (λ path. known (method_at path)) (λ s r. (told_of (said name version r), s))
 
 abbrev pub still : Sight ⊤
-still = record { holds = λ s. ⊤; doubt = 0; refusals = 0; survivors = λ s. ⊤; tied = ⊤ }
+still = record { holds = λ s. ⊤; doubt = 0; refusals = 0; survivors = λ s. ⊤; tied = ⊤; is_down = false }

@@ -10,7 +10,7 @@ use Rattle.csi_types.specs.Codes.{number_of}
 use Rattle.frames_core.specs.Envelope.{ReplyBytes}
 use Rattle.csi_codec.specs.Reading.{read_request}
 use Rattle.csi_machine.specs.Verdicts.{Told, Says, Denies}
-use Rattle.csi_server.specs.Machine.{Machine, Mark, Unmarked, OutOfMemory, StoreRefused, StoreDown, Sight, RoseBy, refusal, refused, marked, store_mark}
+use Rattle.csi_server.specs.Machine.{Machine, Mark, Unmarked, OutOfMemory, StoreRefused, StoreDown, Sight, KnowsDown, RoseBy, refusal, refused, marked, store_mark}
 
 -- the reply to a message that is refused at this place
 abbrev pub malformed : ℕ → ReplyBytes
@@ -50,19 +50,20 @@ IsRequest (Some m) message = (r : Request) × (read_request m message ≡ Ok r)
 abbrev pub requests : {S : Type 0} → (List ℕ → Option Method) → (S → Request → Told × S) → Machine S
 requests method answer = record { respond = λ s call. after_path answer s (method call.path) call.message; may_fail = λ call. IsRequest (method call.path) call.message }
 
--- what a call may leave behind a stop, beside s: as `Leaves`, over what it responds
+-- what a call may leave behind a stop: as `Leaves`, over what it responds
 abbrev pub LeavesBy : {S : Type 0} → ReplyBytes × S → (S → Type 0) → (S → Type 0) → S → Mark → Type 0
-LeavesBy {S} x old new s Unmarked = ((x.1 ≡ s) × ((t : S) → new t → old t ⊎ (t ≡ s))) ⊎ ((t : S) → new t → t ≡ x.1)
-LeavesBy {S} x old new s OutOfMemory = (t : S) → new t → old t ⊎ (t ≡ s) ⊎ (t ≡ x.1)
-LeavesBy {S} x old new s StoreRefused = (t : S) → new t → old t ⊎ (t ≡ s) ⊎ (t ≡ x.1)
-LeavesBy {S} x old new s StoreDown = (t : S) → new t → old t ⊎ (t ≡ s) ⊎ (t ≡ x.1)
+LeavesBy {S} x old new s Unmarked = ((x.1 ≡ s) × ((t : S) → new t → old t)) ⊎ ((t : S) → new t → t ≡ x.1)
+LeavesBy {S} x old new s OutOfMemory = (t : S) → new t → old t ⊎ (t ≡ x.1)
+LeavesBy {S} x old new s StoreRefused = (t : S) → new t → old t ⊎ (t ≡ x.1)
+LeavesBy {S} x old new s StoreDown = (t : S) → new t → old t
 
--- One answer from the state s to what would respond x, with the reply r.
-pub record AnswersBy {S : Type 0} (x : ReplyBytes × S) (MayFail : Type 0) (old new : Sight S) (s : S) (r : ReplyBytes) : Type 0 where
+-- One answer from the state s, with the reply r, to what responds so to each state.
+pub record AnswersBy {S : Type 0} (respond : S → ReplyBytes × S) (MayFail : Type 0) (old new : Sight S) (s : S) (r : ReplyBytes) : Type 0 where
   pub mark : Mark
   pub allowed : mark ≢ Unmarked → MayFail
-  pub reply : r ≡ (marked s x mark).0
-  pub held : new.holds (marked s x mark).1
+  pub reply : r ≡ (marked s (respond s) mark).0
+  pub held : new.holds (marked s (respond s) mark).1
   pub counted : RoseBy old.refusals new.refusals (store_mark mark)
-  pub left : LeavesBy x old.survivors new.survivors s mark
+  pub left : LeavesBy (respond s) old.survivors new.survivors s mark
   pub ties : old.tied → new.tied
+  pub knows : KnowsDown respond old new r mark

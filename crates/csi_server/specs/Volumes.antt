@@ -1,5 +1,5 @@
 -- The volume machine over calls, and what is seen of a keeper.
-use Rattle.std.specs.Prelude.{◌≡◌, ◌≢◌, ℕ, List, ◌∷◌, ◌++◌, Some, None, Ok}
+use Rattle.std.specs.Prelude.{◌≡◌, ◌≢◌, Bool, ℕ, List, ◌∷◌, ◌++◌, Some, None, Ok}
 use Rattle.std.specs.List.{AllByRecursion}
 use Rattle.csi_types.specs.declared.method.Method.{Method}
 use Rattle.csi_types.specs.declared.requests.Request.{Request}
@@ -18,10 +18,10 @@ use Rattle.csi_server.specs.Requests.{requests}
 abbrev pub volumes : Config → Machine State
 volumes config = requests method_at (step config)
 
-module _ {K : Type 0} (holds : K → State → Type 0) (doubt : K → ℕ) (refused : K → ℕ) (survivors : K → State → Type 0) (tied : K → Type 0) where
+module _ {K : Type 0} (holds : K → State → Type 0) (doubt : K → ℕ) (refused : K → ℕ) (survivors : K → State → Type 0) (tied : K → Type 0) (is_down : K → Bool) where
   -- a keeper as a run sees it: of the States that it may have those of the invariant, and the rest as the keeper has it
   abbrev pub seen : Config → K → Sight State
-  seen config k = record { holds = λ s. holds k s × IsInvariant config s; doubt = doubt k; refusals = refused k; survivors = survivors k; tied = tied k }
+  seen config k = record { holds = λ s. holds k s × IsInvariant config s; doubt = doubt k; refusals = refused k; survivors = survivors k; tied = tied k; is_down = is_down k }
 
 -- What a stop may leave beside the last State: what a call would have made that was refused inside, whose request was read and passed the checks,
 -- and after which no call moved the State.

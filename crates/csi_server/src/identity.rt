@@ -73,7 +73,7 @@ fn answer_request(
     request: &Request,
     reply: &mut Vec<u8>,
 ) -> Answer
-    ensures step { AnswersBy (after_check (λ s r. (told_of (said names.now.name.now names.now.version.now r), s)) tt request.now None) ⊤ still still tt (reply_of result reply.new.items) }
+    ensures step { AnswersBy (λ t. after_check (λ s r. (told_of (said names.now.name.now names.now.version.now r), s)) t request.now None) ⊤ still still tt (reply_of result reply.new.items) }
     ensures room { HoldsBody result reply.new.items }
 {
     match put_response(alloc, names, request, reply) {
@@ -91,7 +91,7 @@ fn answer_message(
     message: &[u8],
     reply: &mut Vec<u8>,
 ) -> Answer
-    ensures step { AnswersBy (after_read (λ s r. (told_of (said names.now.name.now names.now.version.now r), s)) tt (read_request method message.now)) ((r : AnyRequest) × (read_request method message.now ≡ Ok r)) still still tt (reply_of result reply.new.items) }
+    ensures step { AnswersBy (λ t. after_read (λ s r. (told_of (said names.now.name.now names.now.version.now r), s)) t (read_request method message.now)) ((r : AnyRequest) × (read_request method message.now ≡ Ok r)) still still tt (reply_of result reply.new.items) }
     ensures room { HoldsBody result reply.new.items }
 {
     match read_message(alloc, method, message) {

@@ -63,7 +63,7 @@ pub fn formed_volumes()
 /// the State after the run, or what a call would have made that was refused for memory or by the store, whose
 /// request was read and passed the checks, and after which no call moved the State.
 pub fn pending<K: Keeper>(config: &Config)
-    ensures { (old new : K) (s : MachineState) (events : List Event) → Runs (volumes config.now) (seen K.holds K.doubt K.refused K.survivors K.tied config.now old) (seen K.holds K.doubt K.refused K.survivors K.tied config.now new) s events
+    ensures { (old new : K) (s : MachineState) (events : List Event) → Runs (volumes config.now) (seen K.holds K.doubt K.refused K.survivors K.tied K.is_down config.now old) (seen K.holds K.doubt K.refused K.survivors K.tied K.is_down config.now new) s events
         → ((t : MachineState) → K.survivors old t → t ≡ s)
         → (t : MachineState) → K.survivors new t → (t ≡ state_after (volumes config.now) s events) ⊎ IsPending config.now s events t }
 {}

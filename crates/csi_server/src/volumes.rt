@@ -34,8 +34,8 @@ fn answer_begun<K: Keeper>(
     requires passed { checked request.now ≡ None }
     requires begun { reply.old.items ≡ room }
     ensures clean { K.doubt keeper.old ≤ K.doubt keeper.new }
-    ensures step { K.doubt keeper.new ≡ 0 → (s : MachineState) → (seen K.holds K.doubt K.refused K.survivors K.tied config.now keeper.old).holds s
-        → AnswersBy (after_check (step config.now) s request.now None) ⊤ (seen K.holds K.doubt K.refused K.survivors K.tied config.now keeper.old) (seen K.holds K.doubt K.refused K.survivors K.tied config.now keeper.new) s (reply_of result reply.new.items) }
+    ensures step { K.doubt keeper.new ≡ 0 → (s : MachineState) → (seen K.holds K.doubt K.refused K.survivors K.tied K.is_down config.now keeper.old).holds s
+        → AnswersBy (λ t. after_check (step config.now) t request.now None) ⊤ (seen K.holds K.doubt K.refused K.survivors K.tied K.is_down config.now keeper.old) (seen K.holds K.doubt K.refused K.survivors K.tied K.is_down config.now keeper.new) s (reply_of result reply.new.items) }
     ensures room { HoldsBody result reply.new.items }
 {
     match append_answer(alloc, config, keeper, request, reply) {
@@ -57,8 +57,8 @@ fn answer_request<K: Keeper>(
 ) -> Answer
     requires passed { checked request.now ≡ None }
     ensures clean { K.doubt keeper.old ≤ K.doubt keeper.new }
-    ensures step { K.doubt keeper.new ≡ 0 → (s : MachineState) → (seen K.holds K.doubt K.refused K.survivors K.tied config.now keeper.old).holds s
-        → AnswersBy (after_check (step config.now) s request.now None) ⊤ (seen K.holds K.doubt K.refused K.survivors K.tied config.now keeper.old) (seen K.holds K.doubt K.refused K.survivors K.tied config.now keeper.new) s (reply_of result reply.new.items) }
+    ensures step { K.doubt keeper.new ≡ 0 → (s : MachineState) → (seen K.holds K.doubt K.refused K.survivors K.tied K.is_down config.now keeper.old).holds s
+        → AnswersBy (λ t. after_check (step config.now) t request.now None) ⊤ (seen K.holds K.doubt K.refused K.survivors K.tied K.is_down config.now keeper.old) (seen K.holds K.doubt K.refused K.survivors K.tied K.is_down config.now keeper.new) s (reply_of result reply.new.items) }
     ensures room { HoldsBody result reply.new.items }
 {
     match begin_body(reply) {
@@ -77,8 +77,8 @@ fn answer_message<K: Keeper>(
     reply: &mut Vec<u8>,
 ) -> Answer
     ensures clean { K.doubt keeper.old ≤ K.doubt keeper.new }
-    ensures step { K.doubt keeper.new ≡ 0 → (s : MachineState) → (seen K.holds K.doubt K.refused K.survivors K.tied config.now keeper.old).holds s
-        → AnswersBy (after_read (step config.now) s (read_request method message.now)) ((r : AnyRequest) × (read_request method message.now ≡ Ok r)) (seen K.holds K.doubt K.refused K.survivors K.tied config.now keeper.old) (seen K.holds K.doubt K.refused K.survivors K.tied config.now keeper.new) s (reply_of result reply.new.items) }
+    ensures step { K.doubt keeper.new ≡ 0 → (s : MachineState) → (seen K.holds K.doubt K.refused K.survivors K.tied K.is_down config.now keeper.old).holds s
+        → AnswersBy (λ t. after_read (step config.now) t (read_request method message.now)) ((r : AnyRequest) × (read_request method message.now ≡ Ok r)) (seen K.holds K.doubt K.refused K.survivors K.tied K.is_down config.now keeper.old) (seen K.holds K.doubt K.refused K.survivors K.tied K.is_down config.now keeper.new) s (reply_of result reply.new.items) }
     ensures room { HoldsBody result reply.new.items }
 {
     match read_message(alloc, method, message) {
@@ -96,7 +96,7 @@ impl<K: Keeper> Service<Config> for K {
 
     ghost machine = { λ c. volumes c };
 
-    ghost sight = { λ c k. seen K.holds K.doubt K.refused K.survivors K.tied c k };
+    ghost sight = { λ c k. seen K.holds K.doubt K.refused K.survivors K.tied K.is_down c k };
 
     fn answer(
         &mut self,
@@ -131,7 +131,7 @@ pub fn serve<K: Keeper, R: Read, W: Write>(
     reader: &mut R,
     writer: &mut W,
 ) -> RunEnd
-    ensures serves { Serves (volumes config.now) (seen K.holds K.doubt K.refused K.survivors K.tied config.now keeper.old) (seen K.holds K.doubt K.refused K.survivors K.tied config.now keeper.new) (R.remaining reader.old) (R.remaining reader.new) (W.contents writer.old) (W.contents writer.new) result }
+    ensures serves { Serves (volumes config.now) (seen K.holds K.doubt K.refused K.survivors K.tied K.is_down config.now keeper.old) (seen K.holds K.doubt K.refused K.survivors K.tied K.is_down config.now keeper.new) (R.remaining reader.old) (R.remaining reader.new) (W.contents writer.old) (W.contents writer.new) result }
     ensures clean { K.doubt keeper.old ≤ K.doubt keeper.new }
     ensures unread { result ≡ RunEnd.NoMemory → Keeps (R.remaining reader.old) (R.remaining reader.new) }
     ensures unwritten { result ≡ RunEnd.NoMemory → Keeps (W.contents writer.old) (W.contents writer.new) }

@@ -25,6 +25,13 @@ pub(crate) struct Field {
     help: &'static str,
 }
 
+impl Field {
+    /// Whether it takes a number.
+    pub(crate) fn is_number(&self) -> bool {
+        matches!(self.takes, Takes::Number(_) | Takes::Bytes(_))
+    }
+}
+
 /// The options that are fields of a message.
 pub(crate) const FIELDS: [Field; 12] = [
     Field {

@@ -2,6 +2,7 @@
 
 use crate::command::{FIELDS, Field};
 use clap::ArgMatches;
+use command_line::is_decimal;
 use csi_types::{Access, Capability, CapacityRange, Items, Map, Method, Mount, Requirement, Text};
 use std::alloc::{AllocError, AllocFailed, Global};
 
@@ -16,6 +17,8 @@ pub(crate) enum WordsFault {
     BesideMessage(&'static str),
     /// The message is not an even number of hexadecimal digits.
     NotHex,
+    /// The value of this option is no number in decimal digits alone.
+    NotDecimal(&'static str),
     /// A pair has no `=`.
     NotPair,
     /// The message has more than 1,048,576 bytes.
@@ -70,6 +73,14 @@ fn is_given(words: &ArgMatches<'_>, name: &str) -> bool {
     }
 }
 
+// Whether an option takes a number, and is given otherwise than in decimal digits alone: `clap` takes a sign.
+fn is_odd(words: &ArgMatches<'_>, field: &Field) -> bool {
+    match words.get_str(field.name) {
+        Some(word) => field.is_number() && !is_decimal(word),
+        None => false,
+    }
+}
+
 /// Whether the words give no field.
 ///
 /// # Errors
@@ -103,9 +114,12 @@ impl<'m, 'w> Fields<'m, 'w> {
         words: &'m ArgMatches<'w>,
     ) -> Result<Fields<'m, 'w>, WordsFault> {
         let known = fields_of(method);
-        for Field { name, .. } in FIELDS {
-            if is_given(words, name) && !known.contains(&name) {
-                return Err(WordsFault::NoField(name));
+        for field in &FIELDS {
+            if is_given(words, field.name) && !known.contains(&field.name) {
+                return Err(WordsFault::NoField(field.name));
+            }
+            if is_odd(words, field) {
+                return Err(WordsFault::NotDecimal(field.name));
             }
         }
         Ok(Fields { alloc, words })

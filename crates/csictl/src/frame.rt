@@ -29,6 +29,12 @@ pub(crate) fn say_words(rt: &HostRuntime, words: &ArgMatches<'_>, fault: WordsFa
             "--message: not an even number of hexadecimal digits",
             USAGE,
         ),
+        WordsFault::NotDecimal(name) => match format!(in rt.alloc();
+            "--{name}: not decimal digits alone"
+        ) {
+            Ok(line) => say(rt, line.as_str(), USAGE),
+            Err(_) => no_memory(rt),
+        },
         WordsFault::NotPair => say(rt, "a pair without '=': write KEY=VALUE,KEY=VALUE", USAGE),
         WordsFault::TooLong => say(rt, "the message has more than 1048576 bytes", USAGE),
         WordsFault::NoMemory => no_memory(rt),

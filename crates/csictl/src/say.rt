@@ -1,5 +1,6 @@
 //! What is said on standard error, and the statuses that the program ends with.
 
+use command_line::line;
 use std::io::{self, ErrorKind, Write};
 
 /// All went well.
@@ -23,10 +24,10 @@ pub(crate) const NO_MEMORY: u8 = 6;
 /// Says one line on standard error, and gives the status back. That the line cannot be written changes
 /// no status.
 pub(crate) fn say(rt: &HostRuntime, text: &str, status: u8) -> u8 {
-    let mut stderr = rt.stderr();
-    let _ = stderr.write_all(b"csictl: ");
-    let _ = stderr.write_all(text.as_bytes());
-    let _ = stderr.write_all(b"\n");
+    let _ = match line(rt.alloc(), "csictl", text) {
+        Ok(line) => rt.stderr().write_all(line.as_bytes()),
+        Err(_) => rt.stderr().write_all(b"csictl: out of memory\n"),
+    };
     status
 }
 

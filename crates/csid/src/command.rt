@@ -1,6 +1,7 @@
 //! The command line.
 
 use clap::{Arg, ArgMatches, Command, Error, value_parser};
+use command_line::is_decimal;
 use std::alloc::Global;
 
 /// What the command line asks for.
@@ -92,6 +93,13 @@ pub(crate) fn command<'a>(alloc: Global) -> Result<Command<'a>, Error> {
     );
     let command = with_subcommand(command, pipe(alloc))?;
     with_subcommand(command, serve(alloc))
+}
+
+/// The number of connections that is given otherwise than in decimal digits alone: `clap` takes a sign.
+pub(crate) fn odd_number<'a>(matches: &ArgMatches<'a>) -> Option<&'a str> {
+    let (_, words) = matches.subcommand()?;
+    let number = words.get_str("connections")?;
+    if is_decimal(number) { None } else { Some(number) }
 }
 
 /// What the words that [`command`] takes ask for.

@@ -12,7 +12,7 @@ fn refuse_file(rt: &HostRuntime, path: &str, error: &io::Error) -> u8 {
         return no_memory(rt);
     }
     match format!(in rt.alloc(); "{path}: {error}") {
-        Ok(text) => say(rt, text.as_bytes()),
+        Ok(text) => say(rt, text.as_str()),
         Err(_) => return no_memory(rt),
     }
     CONFIGURATION
@@ -24,7 +24,7 @@ fn refuse_config(rt: &HostRuntime, path: &str, error: &ConfigError) -> u8 {
         return no_memory(rt);
     }
     match format!(in rt.alloc(); "{path}: {error}") {
-        Ok(text) => say(rt, text.as_bytes()),
+        Ok(text) => say(rt, text.as_str()),
         Err(_) => return no_memory(rt),
     }
     CONFIGURATION

@@ -1,10 +1,11 @@
 //! What the program does, and the status that it ends with.
 
-use crate::command::{Task, asked, command};
+use crate::command::{Task, asked, command, odd_number};
 use crate::config::configuration;
 use crate::say::{DONE, INPUT_OUTPUT, Peer, USAGE, no_memory, report, say};
 use crate::socket::{listen, serve_all};
 use crate::tables::{close, no_path, open};
+use clap::ArgMatches;
 use clap::error::ErrorKind as WordsKind;
 use command_line::refusal_line;
 use csi_config::Config;
@@ -20,7 +21,7 @@ const FIRST_NUMBER: u64 = 1;
 fn refuse_words(rt: &HostRuntime, error: &clap::Error) -> u8 {
     match refusal_line(rt.alloc(), error) {
         Ok(line) => {
-            say(rt, line.as_bytes());
+            say(rt, line.as_str());
             USAGE
         }
         Err(_) => no_memory(rt),
@@ -34,7 +35,7 @@ fn end_words(rt: &HostRuntime, error: &clap::Error) -> u8 {
         WordsKind::DisplayHelp | WordsKind::DisplayVersion => match error.print(rt) {
             Ok(()) => DONE,
             Err(_) => {
-                say(rt, b"a write to standard output failed");
+                say(rt, "a write to standard output failed");
                 INPUT_OUTPUT
             }
         },
@@ -90,16 +91,45 @@ fn listening(
     config: Option<&str>,
     connections: u32,
 ) -> u8 {
-    if tables.is_empty() {
-        return no_path(rt);
-    }
     let config = match configuration(rt, config) {
         Ok(config) => config,
         Err(status) => return status,
     };
+    if tables.is_empty() {
+        return no_path(rt);
+    }
     match listen(rt, socket) {
         Ok(listener) => serve_all(rt, &config, tables, socket, &listener, connections),
         Err(status) => status,
+    }
+}
+
+// Says that the number of connections is no number in decimal digits.
+fn refuse_number(rt: &HostRuntime, number: &str) -> u8 {
+    match format!(in rt.alloc();
+        "invalid value '{number}' for '--connections <N>': not decimal digits alone"
+    ) {
+        Ok(line) => {
+            say(rt, line.as_str());
+            USAGE
+        }
+        Err(_) => no_memory(rt),
+    }
+}
+
+// Does what the words ask.
+fn obey(rt: &HostRuntime, words: &ArgMatches<'_>) -> u8 {
+    if let Some(number) = odd_number(words) {
+        return refuse_number(rt, number);
+    }
+    match asked(words) {
+        Task::Pipe { config, tables } => pipe(rt, config, tables),
+        Task::Serve {
+            socket,
+            tables,
+            config,
+            connections,
+        } => listening(rt, socket, tables, config, connections),
     }
 }
 
@@ -109,7 +139,7 @@ pub(crate) fn run(rt: &HostRuntime) -> u8 {
         Ok(words) => words,
         Err(error) if error.kind() == ErrorKind::OutOfMemory => return no_memory(rt),
         Err(_) => {
-            say(rt, b"a word is no text");
+            say(rt, "a word is no text");
             return USAGE;
         }
     };
@@ -118,15 +148,7 @@ pub(crate) fn run(rt: &HostRuntime) -> u8 {
         Err(error) => return end_words(rt, &error),
     };
     match command.try_get_matches_from(words.as_slice()) {
-        Ok(matches) => match asked(&matches) {
-            Task::Pipe { config, tables } => pipe(rt, config, tables),
-            Task::Serve {
-                socket,
-                tables,
-                config,
-                connections,
-            } => listening(rt, socket, tables, config, connections),
-        },
+        Ok(matches) => obey(rt, &matches),
         Err(error) => end_words(rt, &error),
     }
 }

@@ -3,8 +3,9 @@
 ghost use Rattle.std.specs.Prelude.{◌≡◌};
 ghost use Rattle.csid.specs.Statuses.{status_of};
 
+use command_line::line;
 use csi_server::RunEnd;
-use frames_core::fault_text;
+use frames_core::FrameFault;
 use std::io::Write;
 
 /// All went well.
@@ -32,18 +33,18 @@ pub(crate) const NO_MEMORY: u8 = 6;
 pub(crate) const SOCKET: u8 = 7;
 
 /// Says one line on standard error. That it cannot be written changes no status.
-pub(crate) fn say(rt: &HostRuntime, text: &[u8]) {
-    let mut stderr = rt.stderr();
-    let _ = stderr.write_all(b"csid: ");
-    let _ = stderr.write_all(text);
-    let _ = stderr.write_all(b"\n");
+pub(crate) fn say(rt: &HostRuntime, text: &str) {
+    let _ = match line(rt.alloc(), "csid", text) {
+        Ok(line) => rt.stderr().write_all(line.as_bytes()),
+        Err(_) => rt.stderr().write_all(b"csid: out of memory\n"),
+    };
 }
 
 /// Says that there is no memory.
 pub(crate) fn no_memory(rt: &HostRuntime) -> u8
     ensures { result ≡ 6 }
 {
-    say(rt, b"out of memory");
+    say(rt, "out of memory");
     NO_MEMORY
 }
 
@@ -55,18 +56,26 @@ pub(crate) enum Peer {
 }
 
 // Why reading ended.
-fn read_failed(peer: Peer) -> &'static [u8] {
+fn read_failed(peer: Peer) -> &'static str {
     match peer {
-        Peer::Pipe => b"a read of standard input failed",
-        Peer::Connection => b"a read of a connection failed",
+        Peer::Pipe => "a read of standard input failed",
+        Peer::Connection => "a read of a connection failed",
     }
 }
 
 // Why writing ended.
-fn write_failed(peer: Peer) -> &'static [u8] {
+fn write_failed(peer: Peer) -> &'static str {
     match peer {
-        Peer::Pipe => b"a write to standard output failed",
-        Peer::Connection => b"a write to a connection failed",
+        Peer::Pipe => "a write to standard output failed",
+        Peer::Connection => "a write to a connection failed",
+    }
+}
+
+// Says where a frame is malformed.
+fn say_fault(rt: &HostRuntime, fault: &FrameFault) {
+    match format!(in rt.alloc(); "{fault}") {
+        Ok(text) => say(rt, text.as_str()),
+        Err(_) => say(rt, "out of memory"),
     }
 }
 
@@ -77,7 +86,7 @@ pub(crate) fn report(rt: &HostRuntime, peer: Peer, end: RunEnd) -> u8
     match end {
         RunEnd::Done => DONE,
         RunEnd::Malformed(fault) => {
-            say(rt, fault_text(&fault).bytes());
+            say_fault(rt, &fault);
             MALFORMED
         }
         RunEnd::ReadFailed => {
@@ -85,7 +94,7 @@ pub(crate) fn report(rt: &HostRuntime, peer: Peer, end: RunEnd) -> u8
             INPUT_OUTPUT
         }
         RunEnd::TurnsSpent => {
-            say(rt, b"the reads of one run are spent");
+            say(rt, "the reads of one run are spent");
             INPUT_OUTPUT
         }
         RunEnd::WriteFailed => {

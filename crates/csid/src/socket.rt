@@ -16,7 +16,7 @@ fn refuse(rt: &HostRuntime, path: &str, error: &io::Error) -> u8 {
         _ => format!(in rt.alloc(); "{path}: {error}"),
     };
     match line {
-        Ok(text) => say(rt, text.as_bytes()),
+        Ok(text) => say(rt, text.as_str()),
         Err(_) => return no_memory(rt),
     }
     SOCKET
@@ -26,7 +26,7 @@ fn refuse(rt: &HostRuntime, path: &str, error: &io::Error) -> u8 {
 pub(crate) fn listen(rt: &HostRuntime, path: &str) -> Result<UnixListener, u8> {
     if path.is_empty() {
         // The system would choose an address of its own.
-        say(rt, b"the socket's path is empty");
+        say(rt, "the socket's path is empty");
         return Err(SOCKET);
     }
     UnixListener::bind(rt, path).map_err(|error| refuse(rt, path, &error))

@@ -17,7 +17,7 @@ pub(crate) type Store = FileStore<File>;
 fn refuse<T: Display>(rt: &HostRuntime, path: &str, why: &T) -> u8 {
     match format!(in rt.alloc(); "{path}: {why}") {
         Ok(line) => {
-            say(rt, line.as_bytes());
+            say(rt, line.as_str());
             TABLES
         }
         Err(_) => no_memory(rt),
@@ -34,7 +34,7 @@ fn refuse_file(rt: &HostRuntime, path: &str, error: &Error) -> u8 {
 
 /// Says that no file is named.
 pub(crate) fn no_path(rt: &HostRuntime) -> u8 {
-    say(rt, b"the path of the tables is empty");
+    say(rt, "the path of the tables is empty");
     TABLES
 }
 

@@ -2,7 +2,8 @@
 
 ghost use Rattle.std.specs.Prelude.{◌≡◌, IfOk, IfSome, find};
 ghost use Rattle.csi_keeper.specs.Keeper.{IsQuiet, Tells, count_after};
-ghost use Rattle.csi_keeper.specs.State.{IsBounded};
+ghost use Rattle.csi_keeper.specs.State.{State, IsBounded};
+ghost use Rattle.csi_machine.specs.Down.{TellsDown};
 ghost use Rattle.csi_machine.specs.calls.Publish.{is_at};
 ghost use Rattle.csi_machine.specs.calls.Unpublish.{detach_all, detach_one, detach, unpublish};
 
@@ -70,6 +71,7 @@ pub(crate) fn plan_unpublish<K: Keeper>(
     ensures bounded { IfOk result (λ p. IfSome p.change IsBounded) }
     ensures value { IfOk result (λ p. Tells K.holds K.doubt keeper.old keeper.new (λ s. p ≡ unpublish s request.now)) }
     ensures quiet { IsQuiet K.holds K.doubt K.survivors K.tied K.is_down keeper.old keeper.new }
+    ensures down { TellsDown (K.is_down keeper.old) (λ p. (s : State) → p ≡ unpublish s request.now) result }
     ensures count { K.refused keeper.new ≡ count_after (K.refused keeper.old) result }
 {
     let Some(number) = number_of_id(alloc, request.volume_id.as_str())? else {

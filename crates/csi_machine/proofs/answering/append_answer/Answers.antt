@@ -1,4 +1,4 @@
-use Rattle.csi_machine.proofs.AnsweringLemmas.{tells, state, left, keeps, settled_sound}
+use Rattle.csi_machine.proofs.AnsweringLemmas.{tells, state, left, keeps, alone, settled_sound}
 use Rattle.csi_machine.proofs.answering.append_answer.Goals as goal
 
 pub returns-clause-told : goal.returns-clause-told
@@ -12,3 +12,6 @@ returns-clause-invariant g c = keeps c.args.config.now c.args.request.now (settl
 
 pub returns-clause-left : goal.returns-clause-left
 returns-clause-left g c = left c.args.config.now c.args.request.now _ _ _ _ _ c.answer_by_plan.ensures
+
+pub returns-clause-down : goal.returns-clause-down
+returns-clause-down g c = alone c.args.config.now c.args.request.now _ _ _ _ _ c.answer_by_plan.ensures

@@ -1,5 +1,6 @@
-use Rattle.std.proofs.Common.{◌≡◌, ◌∙◌, ℕ, Result, Ok, Err, refl, ap, subst}
-use Rattle.csi_machine.specs.Answering.{state_after, Leaves}
+use Rattle.std.proofs.Common.{◌≡◌, ◌∙◌, Result, Ok, Err, refl, ap, subst}
+use Rattle.csi_machine.specs.Answering.{state_after, IsOfAll, Leaves}
+use Rattle.csi_machine.specs.Down.{TellsDown}
 use Rattle.csi_keeper.specs.Keeper.{count_after}
 use Rattle.csi_machine.specs.Step.{step}
 use Rattle.csi_machine.specs.Verdicts.{IsTold}
@@ -7,7 +8,6 @@ use Rattle.csi_machine.specs.declared.body.Verdict.{Verdict}
 use Rattle.csi_machine.specs.declared.body.Verdict.TheVariants as verdict
 use Rattle.csi_keeper.specs.declared.change.StoreFault.{StoreFault}
 use Rattle.csi_keeper.specs.declared.change.StoreFault.TheVariants as fault
-use Rattle.csi_server.specs.Volumes.{seen}
 use Rattle.csi_server.proofs.VolumeLemmas.{answered_by}
 use Rattle.csi_server.proofs.volumes.answer_begun.Goals as goal
 
@@ -18,7 +18,7 @@ returns-in-Ok-Done-clause-step g c d s h =
     let out = c.append_answer.new.out.items in
     let config = c.args.config.now in
     let q = c.args.request.now in
-    answered_by k.holds k.doubt k.refused k.survivors k.tied config q c.args.keeper.now c.append_answer.new.keeper (Ok verdict.Done) c.args.reply.now.items out s _
+    answered_by k.holds k.doubt k.refused k.survivors k.tied k.is_down config q c.args.keeper.now c.append_answer.new.keeper (Ok verdict.Done) c.args.reply.now.items out s _
     c.requires.begun
     (subst (λ (x : Result Verdict StoreFault). IsTold (step config s q).0 c.args.reply.now.items out x) e (c.append_answer.ensures.told d s h.0 h.1))
     (subst (λ (x : Result Verdict StoreFault). k.holds c.append_answer.new.keeper (state_after s (step config s q).1 x)) e (c.append_answer.ensures.state d s h.0 h.1))
@@ -27,6 +27,8 @@ returns-in-Ok-Done-clause-step g c d s h =
     (subst (λ (x : Result Verdict StoreFault). k.refused c.append_answer.new.keeper ≡ count_after (k.refused c.args.keeper.now) x) e c.append_answer.ensures.counted)
     (subst (λ (x : Result Verdict StoreFault). Leaves (k.survivors c.args.keeper.now) (k.survivors c.append_answer.new.keeper) s (step config s q).1 x) e (c.append_answer.ensures.left d s h.0 h.1))
     (c.append_answer.ensures.ties d s h.0 h.1)
+    (subst (λ (x : Result Verdict StoreFault). TellsDown (k.is_down c.args.keeper.now) (IsOfAll config q c.args.reply.now.items out) x) e c.append_answer.ensures.down)
+    c.append_answer.ensures.stays
     refl
 
 pub returns-in-Ok-Refused-clause-step : goal.returns-in-Ok-Refused-clause-step
@@ -36,7 +38,7 @@ returns-in-Ok-Refused-clause-step g c d s h =
     let out = c.append_answer.new.out.items in
     let config = c.args.config.now in
     let q = c.args.request.now in
-    answered_by k.holds k.doubt k.refused k.survivors k.tied config q c.args.keeper.now c.append_answer.new.keeper (Ok (verdict.Refused c.in-Ok-Refused.reason)) c.args.reply.now.items out s _
+    answered_by k.holds k.doubt k.refused k.survivors k.tied k.is_down config q c.args.keeper.now c.append_answer.new.keeper (Ok (verdict.Refused c.in-Ok-Refused.reason)) c.args.reply.now.items out s _
     c.requires.begun
     (subst (λ (x : Result Verdict StoreFault). IsTold (step config s q).0 c.args.reply.now.items out x) e (c.append_answer.ensures.told d s h.0 h.1))
     (subst (λ (x : Result Verdict StoreFault). k.holds c.append_answer.new.keeper (state_after s (step config s q).1 x)) e (c.append_answer.ensures.state d s h.0 h.1))
@@ -45,6 +47,8 @@ returns-in-Ok-Refused-clause-step g c d s h =
     (subst (λ (x : Result Verdict StoreFault). k.refused c.append_answer.new.keeper ≡ count_after (k.refused c.args.keeper.now) x) e c.append_answer.ensures.counted)
     (subst (λ (x : Result Verdict StoreFault). Leaves (k.survivors c.args.keeper.now) (k.survivors c.append_answer.new.keeper) s (step config s q).1 x) e (c.append_answer.ensures.left d s h.0 h.1))
     (c.append_answer.ensures.ties d s h.0 h.1)
+    (subst (λ (x : Result Verdict StoreFault). TellsDown (k.is_down c.args.keeper.now) (IsOfAll config q c.args.reply.now.items out) x) e c.append_answer.ensures.down)
+    c.append_answer.ensures.stays
     (c.refuse.ensures.answered c.append_answer.new.out.items)
 
 pub returns-in-Err-NoMemory-clause-step : goal.returns-in-Err-NoMemory-clause-step
@@ -54,7 +58,7 @@ returns-in-Err-NoMemory-clause-step g c d s h =
     let out = c.append_answer.new.out.items in
     let config = c.args.config.now in
     let q = c.args.request.now in
-    answered_by k.holds k.doubt k.refused k.survivors k.tied config q c.args.keeper.now c.append_answer.new.keeper (Err fault.NoMemory) c.args.reply.now.items out s _
+    answered_by k.holds k.doubt k.refused k.survivors k.tied k.is_down config q c.args.keeper.now c.append_answer.new.keeper (Err fault.NoMemory) c.args.reply.now.items out s _
     c.requires.begun
     (subst (λ (x : Result Verdict StoreFault). IsTold (step config s q).0 c.args.reply.now.items out x) e (c.append_answer.ensures.told d s h.0 h.1))
     (subst (λ (x : Result Verdict StoreFault). k.holds c.append_answer.new.keeper (state_after s (step config s q).1 x)) e (c.append_answer.ensures.state d s h.0 h.1))
@@ -63,6 +67,8 @@ returns-in-Err-NoMemory-clause-step g c d s h =
     (subst (λ (x : Result Verdict StoreFault). k.refused c.append_answer.new.keeper ≡ count_after (k.refused c.args.keeper.now) x) e c.append_answer.ensures.counted)
     (subst (λ (x : Result Verdict StoreFault). Leaves (k.survivors c.args.keeper.now) (k.survivors c.append_answer.new.keeper) s (step config s q).1 x) e (c.append_answer.ensures.left d s h.0 h.1))
     (c.append_answer.ensures.ties d s h.0 h.1)
+    (subst (λ (x : Result Verdict StoreFault). TellsDown (k.is_down c.args.keeper.now) (IsOfAll config q c.args.reply.now.items out) x) e c.append_answer.ensures.down)
+    c.append_answer.ensures.stays
     (c.refuse-in-Err-NoMemory.ensures.answered c.append_answer.new.out.items)
 
 pub returns-in-Err-Refused-clause-step : goal.returns-in-Err-Refused-clause-step
@@ -72,7 +78,7 @@ returns-in-Err-Refused-clause-step g c d s h =
     let out = c.append_answer.new.out.items in
     let config = c.args.config.now in
     let q = c.args.request.now in
-    answered_by k.holds k.doubt k.refused k.survivors k.tied config q c.args.keeper.now c.append_answer.new.keeper (Err fault.Refused) c.args.reply.now.items out s _
+    answered_by k.holds k.doubt k.refused k.survivors k.tied k.is_down config q c.args.keeper.now c.append_answer.new.keeper (Err fault.Refused) c.args.reply.now.items out s _
     c.requires.begun
     (subst (λ (x : Result Verdict StoreFault). IsTold (step config s q).0 c.args.reply.now.items out x) e (c.append_answer.ensures.told d s h.0 h.1))
     (subst (λ (x : Result Verdict StoreFault). k.holds c.append_answer.new.keeper (state_after s (step config s q).1 x)) e (c.append_answer.ensures.state d s h.0 h.1))
@@ -81,6 +87,8 @@ returns-in-Err-Refused-clause-step g c d s h =
     (subst (λ (x : Result Verdict StoreFault). k.refused c.append_answer.new.keeper ≡ count_after (k.refused c.args.keeper.now) x) e c.append_answer.ensures.counted)
     (subst (λ (x : Result Verdict StoreFault). Leaves (k.survivors c.args.keeper.now) (k.survivors c.append_answer.new.keeper) s (step config s q).1 x) e (c.append_answer.ensures.left d s h.0 h.1))
     (c.append_answer.ensures.ties d s h.0 h.1)
+    (subst (λ (x : Result Verdict StoreFault). TellsDown (k.is_down c.args.keeper.now) (IsOfAll config q c.args.reply.now.items out) x) e c.append_answer.ensures.down)
+    c.append_answer.ensures.stays
     (c.refuse-in-Err-Refused.ensures.answered c.append_answer.new.out.items)
 
 pub returns-in-Err-Down-clause-step : goal.returns-in-Err-Down-clause-step
@@ -90,7 +98,7 @@ returns-in-Err-Down-clause-step g c d s h =
     let out = c.append_answer.new.out.items in
     let config = c.args.config.now in
     let q = c.args.request.now in
-    answered_by k.holds k.doubt k.refused k.survivors k.tied config q c.args.keeper.now c.append_answer.new.keeper (Err fault.Down) c.args.reply.now.items out s _
+    answered_by k.holds k.doubt k.refused k.survivors k.tied k.is_down config q c.args.keeper.now c.append_answer.new.keeper (Err fault.Down) c.args.reply.now.items out s _
     c.requires.begun
     (subst (λ (x : Result Verdict StoreFault). IsTold (step config s q).0 c.args.reply.now.items out x) e (c.append_answer.ensures.told d s h.0 h.1))
     (subst (λ (x : Result Verdict StoreFault). k.holds c.append_answer.new.keeper (state_after s (step config s q).1 x)) e (c.append_answer.ensures.state d s h.0 h.1))
@@ -99,4 +107,6 @@ returns-in-Err-Down-clause-step g c d s h =
     (subst (λ (x : Result Verdict StoreFault). k.refused c.append_answer.new.keeper ≡ count_after (k.refused c.args.keeper.now) x) e c.append_answer.ensures.counted)
     (subst (λ (x : Result Verdict StoreFault). Leaves (k.survivors c.args.keeper.now) (k.survivors c.append_answer.new.keeper) s (step config s q).1 x) e (c.append_answer.ensures.left d s h.0 h.1))
     (c.append_answer.ensures.ties d s h.0 h.1)
+    (subst (λ (x : Result Verdict StoreFault). TellsDown (k.is_down c.args.keeper.now) (IsOfAll config q c.args.reply.now.items out) x) e c.append_answer.ensures.down)
+    c.append_answer.ensures.stays
     (c.refuse-in-Err-Down.ensures.answered c.append_answer.new.out.items)
