@@ -45,7 +45,7 @@ func run(log *log.Logger) int {
 		log.Print(err)
 		return noSocket
 	}
-	server := newServer(&handler{backend: newBackend(asked.csid), log: log})
+	server := newServer(&handler{backend: newBackend(asked.csid, asked.late), log: log})
 	failed := make(chan error, 1)
 	go func() { failed <- serve(server, listener) }()
 	select {

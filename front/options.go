@@ -11,7 +11,7 @@ import (
 
 const usage = `Answers gRPC calls on a Unix socket by a csid that serves another one (docs/DEPLOY.md).
 
-usage: front --csid PATH [--listen PATH] [--grace TIME]
+usage: front --csid PATH [--listen PATH] [--grace TIME] [--late TIME]
 `
 
 // options is what the command line asks for.
@@ -19,6 +19,7 @@ type options struct {
 	listen string
 	csid   string
 	grace  time.Duration
+	late   time.Duration
 }
 
 // readOptions reads the words; endpoint is the value of CSI_ENDPOINT, and counts where no --listen is given.
@@ -29,6 +30,7 @@ func readOptions(words []string, endpoint string, shown io.Writer) (options, err
 	flags.StringVar(&asked.listen, "listen", endpoint, "the `PATH` of the socket for the orchestrator, also as unix://PATH; without it CSI_ENDPOINT")
 	flags.StringVar(&asked.csid, "csid", "", "the `PATH` of the socket that csid serves")
 	flags.DurationVar(&asked.grace, "grace", 20*time.Second, "how long calls may go on after SIGTERM, as 20s: a `TIME`")
+	flags.DurationVar(&asked.late, "late", time.Minute, "how long csid may take for the reply to a call that was given up, before its connection is closed: a `TIME`")
 	if err := flags.Parse(words); err != nil {
 		if errors.Is(err, flag.ErrHelp) {
 			fmt.Fprint(shown, usage)
@@ -49,6 +51,9 @@ func readOptions(words []string, endpoint string, shown io.Writer) (options, err
 	}
 	if asked.listen == asked.csid {
 		return options{}, errors.New("the two sockets are one")
+	}
+	if asked.late < 0 {
+		return options{}, fmt.Errorf("--late: %v is below 0", asked.late)
 	}
 	return asked, nil
 }

@@ -14,12 +14,12 @@ func TestOptions(t *testing.T) {
 		words, endpoint string
 		want            options
 	}{
-		{"--csid c --listen l", "", options{"l", "c", 20 * time.Second}},
-		{"-csid=c -listen=l -grace=1m", "", options{"l", "c", time.Minute}},
-		{"--csid c", "unix:///run/csi.sock", options{"/run/csi.sock", "c", 20 * time.Second}},
-		{"--csid c", "/run/csi.sock", options{"/run/csi.sock", "c", 20 * time.Second}},
-		{"--csid unix:c", "unix:l", options{"l", "c", 20 * time.Second}},
-		{"--csid c --listen unix://l", "unix:///run/csi.sock", options{"l", "c", 20 * time.Second}},
+		{"--csid c --listen l", "", options{"l", "c", 20 * time.Second, time.Minute}},
+		{"-csid=c -listen=l -grace=1m -late=30s", "", options{"l", "c", time.Minute, 30 * time.Second}},
+		{"--csid c", "unix:///run/csi.sock", options{"/run/csi.sock", "c", 20 * time.Second, time.Minute}},
+		{"--csid c", "/run/csi.sock", options{"/run/csi.sock", "c", 20 * time.Second, time.Minute}},
+		{"--csid unix:c", "unix:l", options{"l", "c", 20 * time.Second, time.Minute}},
+		{"--csid c --listen unix://l", "unix:///run/csi.sock", options{"l", "c", 20 * time.Second, time.Minute}},
 	}
 	for _, row := range rows {
 		got, err := readOptions(strings.Fields(row.words), row.endpoint, io.Discard)
@@ -40,6 +40,7 @@ func TestRefusedOptions(t *testing.T) {
 		{"--csid c --listen l x", "", "a word that is not known"},
 		{"--csid c --listen l --frobnicate", "", "frobnicate"},
 		{"--csid c --listen l --grace x", "", "grace"},
+		{"--csid c --listen l --late -1s", "", "--late: -1s is below 0"},
 		{"--csid", "l", "needs an argument"},
 	}
 	for _, row := range rows {
@@ -55,7 +56,7 @@ func TestHelp(t *testing.T) {
 	if !errors.Is(err, flag.ErrHelp) {
 		t.Error(err)
 	}
-	for _, word := range []string{"usage: ", "-csid", "-listen", "-grace"} {
+	for _, word := range []string{"usage: ", "-csid", "-listen", "-grace", "-late"} {
 		if !strings.Contains(shown.String(), word) {
 			t.Errorf("no %s in %s", word, shown.String())
 		}

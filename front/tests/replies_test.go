@@ -7,10 +7,12 @@ import (
 	"google.golang.org/grpc/codes"
 )
 
+// text is the longest text of a reply.
+var text = strings.Repeat(" ~", 512)
+
 // Every status, and the greatest parts of a reply, come back as they are.
 func TestEveryReplyComesBack(t *testing.T) {
 	t.Parallel()
-	text := strings.Repeat(" ~", 512)
 	rows := []struct {
 		reply []byte
 		want  answer
@@ -93,6 +95,23 @@ func TestConnectionThatBreaks(t *testing.T) {
 			t.Parallel()
 			losesOneCall(t, step{write: reply, close: true})
 		})
+	}
+}
+
+// A connection that csid closes in place of a reply is told as that, also where it read nothing of the call.
+func TestUnansweredCall(t *testing.T) {
+	t.Parallel()
+	unanswered := refused(codes.Unavailable, "csid: the connection was closed unanswered: see the log of csid")
+	csid, front := behindFront(t, step{close: true})
+	front.wants(t, "/a/b", "", unanswered)
+	csid.ended(t, 1)
+	front.wants(t, probe, "", ok(ready))
+	closing := (&fake{closes: true}).start(t)
+	front = newClient(t, startFront(t, closing.socket).socket)
+	for _, size := range []int{0, 1048576} {
+		if got := front.send(soon(t, patience), "/a/b", make([]byte, size)); got != unanswered {
+			t.Errorf("%v, wanted %v", got, unanswered)
+		}
 	}
 }
 
