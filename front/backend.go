@@ -6,6 +6,8 @@ import (
 	"fmt"
 	"os"
 	"time"
+
+	"google.golang.org/grpc/codes"
 )
 
 // backend hands calls to csid, one after the other over one connection, since csid serves one connection at a time.
@@ -119,13 +121,16 @@ func (b *backend) awaitLate(sent <-chan outcome) {
 	<-b.turn
 }
 
-// settle draws from an outcome what the next call has to know.
+// settle draws from an outcome what the next call has to know. After status 13 csid refuses each further change over the connection.
 func (b *backend) settle(got outcome) {
 	if got.err == nil {
 		b.usual += (got.took - b.usual) / 8
 		b.kept.hasServed = true
 		b.failure = nil
 		b.pace.served()
+		if got.answer.code == codes.Internal {
+			b.drop()
+		}
 		return
 	}
 	if !b.kept.hasServed {

@@ -135,6 +135,23 @@ func TestLateReplyThatNeverComes(t *testing.T) {
 	}
 }
 
+// Behind status 13 the next call has another connection.
+func TestRefusedChange(t *testing.T) {
+	path, connections := csid(t, func(conn net.Conn) {
+		if isCalled(conn) {
+			conn.Write([]byte{13, 0, 0, 0, 0, 0, 0, 0})
+		}
+		isCalled(conn)
+	})
+	b := newBackend(path, time.Minute)
+	for round := int32(1); round <= 3; round++ {
+		wants(t, b, codes.Internal)
+		if made := atomic.LoadInt32(connections); made != round || b.kept != nil {
+			t.Errorf("%d connections, the last one kept: %v", made, b.kept != nil)
+		}
+	}
+}
+
 // However many call, few connections are made to a csid that closes each; all calls are told of it, and none waits for the others.
 func TestFewConnections(t *testing.T) {
 	path, connections := csid(t, func(net.Conn) {})

@@ -66,7 +66,7 @@ func (h *handler) answer(path string, stream grpc.ServerStream) error {
 		return refusal(stream.Context(), err)
 	}
 	if answer.code != codes.OK {
-		return status.Error(answer.code, answer.text)
+		return status.Error(shownCode(answer), answer.text)
 	}
 	return stream.SendMsg(&answer.body)
 }
@@ -85,6 +85,18 @@ func onlyMessage(stream grpc.ServerStream) ([]byte, error) {
 		return nil, err
 	}
 	return message, nil
+}
+
+// shownCode is the code that an orchestrator is told. Behind each of these three texts it is open whether a change was made, and
+// sidecars take INTERNAL for a final answer, after which they believe that it was not.
+func shownCode(answer reply) codes.Code {
+	if answer.code == codes.Internal {
+		switch answer.text {
+		case "out of memory", "store refused", "store is down":
+			return codes.Unavailable
+		}
+	}
+	return answer.code
 }
 
 // refusal is the answer to a call that got no reply. It has one of the codes after which an orchestrator takes the outcome as open,

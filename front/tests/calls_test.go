@@ -87,6 +87,7 @@ func TestLateReplyThatIsWrong(t *testing.T) {
 		"no reply":            {close: true},
 		"a part of a reply":   {write: fromHex(t, "00 0000"), close: true},
 		"more than one reply": {write: append(okFrame("01"), okFrame("02")...)},
+		"status 13":           {write: refusalFrame(13, "store refused")},
 	}
 	for name, does := range rows {
 		name, does := name, does

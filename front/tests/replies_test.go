@@ -10,7 +10,7 @@ import (
 // text is the longest text of a reply.
 var text = strings.Repeat(" ~", 512)
 
-// Every status, and the greatest parts of a reply, come back as they are.
+// Every status but 13, and the greatest parts of a reply, come back as they are.
 func TestEveryReplyComesBack(t *testing.T) {
 	t.Parallel()
 	rows := []struct {
@@ -28,7 +28,7 @@ func TestEveryReplyComesBack(t *testing.T) {
 		{refusalFrame(10, "bad starting token"), refused(codes.Aborted, "bad starting token")},
 		{refusalFrame(11, "capacity is out of range"), refused(codes.OutOfRange, "capacity is out of range")},
 		{refusalFrame(12, ""), refused(codes.Unimplemented, "")},
-		{refusalFrame(13, text), refused(codes.Internal, text)},
+		{refusalFrame(11, text), refused(codes.OutOfRange, text)},
 	}
 	var steps []step
 	for _, row := range rows {
@@ -42,6 +42,36 @@ func TestEveryReplyComesBack(t *testing.T) {
 	}
 	if calls, ends := csid.seen(); len(calls) != len(rows) || ends != 0 || calls[0] != "/a/b 0102" {
 		t.Errorf("csid saw %d calls %q and %d ends", len(calls), calls[0], ends)
+	}
+}
+
+// Behind status 13 the next call has a new connection, since csid makes no change any more over the old one. Of its three texts the
+// outcome is open, so they are UNAVAILABLE.
+func TestRefusedChange(t *testing.T) {
+	t.Parallel()
+	rows := []struct {
+		text string
+		code codes.Code
+	}{
+		{"out of memory", codes.Unavailable},
+		{"store refused", codes.Unavailable},
+		{"store is down", codes.Unavailable},
+		{"store is down ", codes.Internal},
+		{text, codes.Internal},
+		{"", codes.Internal},
+	}
+	var steps []step
+	for _, row := range rows {
+		steps = append(steps, step{write: refusalFrame(13, row.text)})
+	}
+	csid, front := behindFront(t, steps...)
+	for i, row := range rows {
+		front.wants(t, "/a/b", "", refused(row.code, row.text))
+		csid.ended(t, i+1)
+	}
+	front.wants(t, probe, "", ok(ready))
+	if _, ends := csid.seen(); ends != len(rows) {
+		t.Errorf("%d connections ended", ends)
 	}
 }
 
