@@ -2,7 +2,6 @@ package main
 
 import (
 	"context"
-	"fmt"
 	"io"
 	"sync"
 	"time"
@@ -15,8 +14,8 @@ import (
 // How many messages are received at once: until one has come, it may be of any length.
 const maxReceived = 16
 
-// How long a message may take once it is received. One that does not come holds up the others for no longer.
-const messageTime = 5 * time.Second
+// How long a message may hold one of these places. One that comes later than that holds up nobody.
+const placeTime = 5 * time.Second
 
 // messages bounds what the messages of all calls take that wait for their turn or for their replies.
 type messages struct {
@@ -32,7 +31,12 @@ func newMessages(limit int) *messages {
 
 // receive receives the message of a call, and counts it until it is given back.
 func (m *messages) receive(stream grpc.ServerStream) ([]byte, error) {
-	message, err := m.awaitOnly(stream)
+	leave, err := m.place(stream.Context())
+	if err != nil {
+		return nil, err
+	}
+	message, err := onlyMessage(stream)
+	leave()
 	if err != nil {
 		return nil, err
 	}
@@ -60,33 +64,19 @@ func (m *messages) giveBack(message []byte) {
 	m.bytes -= len(message)
 }
 
-// awaitOnly receives the message of a call once few enough others are received. Where it does not come in time the call is refused;
-// with its end the receiving ends too.
-func (m *messages) awaitOnly(stream grpc.ServerStream) ([]byte, error) {
+// place waits until few enough messages are received, and gives the function that ends the receiving of this one.
+func (m *messages) place(ctx context.Context) (leave func(), err error) {
 	select {
 	case m.receiving <- struct{}{}:
-	case <-stream.Context().Done():
-		return nil, status.FromContextError(stream.Context().Err()).Err()
-	}
-	var message []byte
-	came := make(chan error, 1)
-	go func() {
-		defer func() { <-m.receiving }()
-		var err error
-		message, err = onlyMessage(stream)
-		came <- err
-	}()
-	ctx, cancel := context.WithTimeout(stream.Context(), messageTime)
-	defer cancel()
-	select {
-	case err := <-came:
-		return message, err
 	case <-ctx.Done():
-		if err := stream.Context().Err(); err != nil {
-			return nil, status.FromContextError(err).Err()
-		}
-		return nil, status.Error(codes.Unavailable, fmt.Sprintf("the message did not come within %v", messageTime))
+		return nil, status.FromContextError(ctx.Err()).Err()
 	}
+	late := time.AfterFunc(placeTime, func() { <-m.receiving })
+	return func() {
+		if late.Stop() {
+			<-m.receiving
+		}
+	}, nil
 }
 
 // onlyMessage receives the message of a call. A message that is too long is refused by RecvMsg, before it is read.

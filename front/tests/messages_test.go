@@ -81,18 +81,22 @@ func TestManyGreatMessages(t *testing.T) {
 	}
 }
 
-// Callers that never send their messages end so late at most, and then the others are served.
+// Callers that never send their messages hold up the others for a while at most, and are served themselves once they do.
 func TestMessagesThatNeverCome(t *testing.T) {
 	t.Parallel()
 	csid := startFake(t)
 	process := startFront(t, csid.socket)
 	silent := newClient(t, process.socket)
+	var streams []grpc.ClientStream
 	for call := 0; call < 20; call++ {
 		stream, err := silent.NewStream(soon(t, 3*patience), &grpc.StreamDesc{ClientStreams: true}, fmt.Sprintf("/a/silent%d", call))
 		if err != nil {
 			t.Fatal(err)
 		}
-		go stream.SendMsg([]byte{1})
+		if err := stream.SendMsg([]byte{1}); err != nil {
+			t.Fatal(err)
+		}
+		streams = append(streams, stream)
 	}
 	time.Sleep(500 * time.Millisecond)
 	begin := time.Now()
@@ -101,4 +105,10 @@ func TestMessagesThatNeverCome(t *testing.T) {
 		t.Errorf("served after %v", spent)
 	}
 	csid.sees(t, probe+" ")
+	var body []byte
+	streams[0].CloseSend()
+	if err := streams[0].RecvMsg(&body); err != nil {
+		t.Error(err)
+	}
+	csid.sees(t, probe+" ", "/a/silent0 01")
 }
