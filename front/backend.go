@@ -95,8 +95,7 @@ func (b *backend) ready(ctx context.Context, came time.Time) (isOld bool, err er
 	if err := b.pace.wait(ctx); err != nil {
 		return false, err
 	}
-	b.kept, err = connect(ctx, b.path)
-	if err != nil && ctx.Err() == nil {
+	if b.kept, err = connect(b.path); err != nil {
 		b.failed(err)
 	}
 	return false, err

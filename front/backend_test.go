@@ -178,7 +178,7 @@ func TestFewConnections(t *testing.T) {
 		<-ended
 	}
 	// At 0, 0.2, 0.6, 1.4 and 2.4 seconds.
-	if made := atomic.LoadInt32(connections); made < 4 || made > 6 {
+	if made := atomic.LoadInt32(connections); made < 3 || made > 6 {
 		t.Errorf("%d connections", made)
 	}
 	if told < 150 || time.Duration(most) > greatestPause+time.Second {

@@ -2,7 +2,6 @@ package main
 
 import (
 	"bufio"
-	"context"
 	"errors"
 	"fmt"
 	"io"
@@ -23,13 +22,12 @@ type connection struct {
 	hasServed bool
 }
 
-// connect makes a connection to the socket of csid.
-func connect(ctx context.Context, path string) (*connection, error) {
-	conn, err := (&net.Dialer{}).DialContext(ctx, "unix", path)
+// connect makes a connection to the socket of csid, or tells at once why there is none: it never waits.
+func connect(path string) (*connection, error) {
+	unix, err := net.DialUnix("unix", nil, &net.UnixAddr{Name: path, Net: "unix"})
 	if err != nil {
 		return nil, err
 	}
-	unix := conn.(*net.UnixConn)
 	raw, err := unix.SyscallConn()
 	if err != nil {
 		unix.Close()

@@ -1,7 +1,6 @@
 package main
 
 import (
-	"context"
 	"errors"
 	"io"
 	"net"
@@ -26,7 +25,7 @@ func listening(t *testing.T) (net.Listener, string) {
 func pair(t *testing.T) (*connection, net.Conn) {
 	t.Helper()
 	listener, path := listening(t)
-	conn, err := connect(context.Background(), path)
+	conn, err := connect(path)
 	if err != nil {
 		t.Fatal(err)
 	}

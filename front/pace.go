@@ -24,6 +24,9 @@ func (p *pace) wait(ctx context.Context) error {
 	defer pause.Stop()
 	select {
 	case <-pause.C:
+		if err := ctx.Err(); err != nil {
+			return err
+		}
 		p.last = time.Now()
 		return nil
 	case <-ctx.Done():
