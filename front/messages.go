@@ -46,8 +46,7 @@ func (m *messages) receive(stream grpc.ServerStream) ([]byte, error) {
 	return message, nil
 }
 
-// take counts a message, unless there is no room for it. Behind a greatest one there is none for the next, but for an empty one, as that
-// of Probe is, there always is.
+// take counts a message, unless there is no room for it. For an empty one, as that of Probe is, there always is.
 func (m *messages) take(bytes int) bool {
 	m.mutex.Lock()
 	defer m.mutex.Unlock()
@@ -64,7 +63,7 @@ func (m *messages) giveBack(message []byte) {
 	m.bytes -= len(message)
 }
 
-// place waits until few enough messages are received, and gives the function that ends the receiving of this one.
+// place waits until few enough messages are received, and gives the function that leaves the place again.
 func (m *messages) place(ctx context.Context) (leave func(), err error) {
 	select {
 	case m.receiving <- struct{}{}:
