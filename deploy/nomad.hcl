@@ -1,4 +1,5 @@
-# csid and its front as a CSI controller plugin of Nomad. The folder of the allocation, /alloc, is shared by the two tasks.
+# csid and its front as a CSI controller plugin of Nomad. The folder of the allocation, /alloc, is shared by the two tasks. Both run as
+# root without any capability, since Nomad's folder /csi is root's.
 job "pools-controller" {
   type = "service"
 
@@ -20,9 +21,22 @@ job "pools-controller" {
       }
 
       config {
-        image   = "registry.example.org/csid:1"
-        command = "sh"
-        args    = ["-c", "rm -f /alloc/csid.sock && exec csid serve --socket /alloc/csid.sock --tables /tables/volumes.db --config /local/config.toml"]
+        image      = "registry.example.org/csid:1"
+        entrypoint = ["tini", "--"]
+        command    = "sh"
+        args       = ["-c", "rm -f /alloc/csid.sock && exec csid serve --socket /alloc/csid.sock --tables /tables/volumes.db --config /local/config.toml"]
+
+        readonly_rootfs = true
+        cap_drop        = ["all"]
+        security_opt    = ["no-new-privileges"]
+      }
+
+      user = "root"
+
+      resources {
+        cpu        = 200
+        memory     = 256
+        memory_max = 1024
       }
 
       volume_mount {
@@ -49,9 +63,28 @@ TOML
       driver = "docker"
 
       config {
-        image   = "registry.example.org/csid:1"
-        command = "front"
-        args    = ["--csid", "/alloc/csid.sock", "--listen", "unix:///csi/csi.sock"]
+        image      = "registry.example.org/csid:1"
+        entrypoint = ["tini", "--"]
+        command    = "front"
+        args       = ["--csid", "/alloc/csid.sock", "--grace", "20s"]
+
+        readonly_rootfs = true
+        cap_drop        = ["all"]
+        security_opt    = ["no-new-privileges"]
+      }
+
+      user         = "root"
+      kill_timeout = "30s"
+
+      env {
+        CSI_ENDPOINT = "unix:///csi/csi.sock"
+        GOMEMLIMIT   = "400MiB"
+      }
+
+      resources {
+        cpu        = 200
+        memory     = 128
+        memory_max = 512
       }
 
       csi_plugin {

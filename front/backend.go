@@ -2,61 +2,154 @@ package main
 
 import (
 	"context"
+	"errors"
+	"fmt"
+	"os"
+	"time"
+
+	"google.golang.org/grpc/codes"
 )
 
 // backend hands calls to csid, one after the other over one connection, since csid serves one connection at a time.
 type backend struct {
 	path string
+	// How long a reply may take once its caller gave the call up.
+	late time.Duration
 	// Holds one value while a call has its turn. A channel and not a mutex, so that waiting ends with a call's deadline.
 	turn chan struct{}
-	// Belongs to the call that has the turn; nil while there is none.
+	// The rest belongs to the call that has the turn. There is no connection where kept is nil.
 	kept *connection
+	pace pace
+	// What exchanges took of late, the last ones most.
+	usual time.Duration
+	// The last connection that gave no reply, or could not be made: why, and when that was seen. A reply wipes it out.
+	failure   error
+	failureAt time.Time
 }
 
-func newBackend(path string) *backend {
-	return &backend{path: path, turn: make(chan struct{}, 1)}
+func newBackend(path string, late time.Duration) *backend {
+	return &backend{path: path, late: late, turn: make(chan struct{}, 1), pace: pace{pause: leastPause}}
 }
 
 // call hands a call to csid when it is its turn, and gives the reply. No call is sent twice: where an error comes csid may have done
 // it, or not, and the caller has to repeat it.
 func (b *backend) call(ctx context.Context, path string, message []byte) (reply, error) {
-	select {
-	case b.turn <- struct{}{}:
-		defer func() { <-b.turn }()
-	case <-ctx.Done():
-		return reply{}, ctx.Err()
+	came := time.Now()
+	if err := b.takeTurn(ctx); err != nil {
+		return reply{}, err
 	}
-	if b.kept != nil && !b.kept.isQuiet() {
-		b.drop()
-	}
-	isOld := b.kept != nil
-	answer, isSent, err := b.attempt(ctx, path, message)
-	if err != nil && isOld && !isSent && ctx.Err() == nil {
-		// csid closed the connection in this moment, so it has seen nothing of the call.
-		answer, _, err = b.attempt(ctx, path, message)
-	}
-	return answer, err
-}
-
-// attempt sends a call once, over a new connection where there is none. A connection that failed is closed, so the next call never
-// meets half of a frame, or the reply of this one.
-func (b *backend) attempt(ctx context.Context, path string, message []byte) (answer reply, isSent bool, err error) {
-	if err := ctx.Err(); err != nil {
-		return reply{}, false, err
-	}
-	if b.kept == nil {
-		if b.kept, err = connect(ctx, b.path); err != nil {
-			return reply{}, false, err
+	for {
+		isOld, err := b.ready(ctx, came)
+		if err != nil {
+			<-b.turn
+			return reply{}, err
+		}
+		sent := b.send(path, message)
+		select {
+		case got := <-sent:
+			b.settle(got)
+			if got.err != nil && !got.isSent && isOld && ctx.Err() == nil {
+				// csid closed the connection in this moment, so it has seen nothing of the call.
+				continue
+			}
+			<-b.turn
+			return got.answer, got.err
+		case <-ctx.Done():
+			b.kept.SetDeadline(time.Now().Add(b.late))
+			go b.awaitLate(sent)
+			return reply{}, ctx.Err()
 		}
 	}
-	answer, isSent, err = b.kept.exchange(ctx, path, message)
-	if err != nil {
-		b.drop()
-	}
-	return answer, isSent, err
 }
 
+// takeTurn waits for the turn. A call whose deadline is nearer than an exchange usually takes lets the others that wait go before it,
+// once: with more callers than there is time for, most calls that are sent would else be given up before their replies.
+func (b *backend) takeTurn(ctx context.Context) error {
+	for isLast := false; ; isLast = true {
+		select {
+		case b.turn <- struct{}{}:
+		case <-ctx.Done():
+			return ctx.Err()
+		}
+		deadline, isLimited := ctx.Deadline()
+		if isLast || !isLimited || time.Until(deadline) > b.usual {
+			return nil
+		}
+		<-b.turn
+	}
+}
+
+// ready sees to a connection on which nothing is on its way: the one that is kept, or a new one. A call that came before a connection
+// failed is told of that, so those who wait need not fail one after the other.
+func (b *backend) ready(ctx context.Context, came time.Time) (isOld bool, err error) {
+	if err := ctx.Err(); err != nil {
+		return false, err
+	}
+	if b.kept != nil && b.kept.isQuiet() {
+		return true, nil
+	}
+	b.drop()
+	if b.failure != nil && came.Before(b.failureAt) {
+		return false, b.failure
+	}
+	if err := b.pace.wait(ctx); err != nil {
+		return false, err
+	}
+	if b.kept, err = connect(b.path); err != nil {
+		b.failed(err)
+	}
+	return false, err
+}
+
+// send begins an exchange over the connection that is kept.
+func (b *backend) send(path string, message []byte) <-chan outcome {
+	sent := make(chan outcome, 1)
+	go func(c *connection) {
+		begin := time.Now()
+		got := c.exchange(path, message)
+		got.took = time.Since(begin)
+		sent <- got
+	}(b.kept)
+	return sent
+}
+
+// awaitLate gives the turn of a call that was given up to the next one, once its late reply came and was dropped. So the connection
+// stays as clean as behind any other call.
+func (b *backend) awaitLate(sent <-chan outcome) {
+	b.settle(<-sent)
+	<-b.turn
+}
+
+// settle draws from an outcome what the next call has to know. After status 13 csid refuses each further change over the connection.
+func (b *backend) settle(got outcome) {
+	if got.err == nil {
+		b.usual += (got.took - b.usual) / 8
+		b.kept.hasServed = true
+		b.failure = nil
+		b.pace.served()
+		if got.answer.code == codes.Internal {
+			b.drop()
+		}
+		return
+	}
+	if !b.kept.hasServed {
+		b.failed(got.err)
+	}
+	b.drop()
+}
+
+func (b *backend) failed(err error) {
+	if errors.Is(err, os.ErrDeadlineExceeded) {
+		err = fmt.Errorf("an earlier call was given up, and no reply to it came within %v", b.late)
+	}
+	b.failure, b.failureAt = err, time.Now()
+	b.pace.failed()
+}
+
+// drop closes the connection, if there is one: the next call gets a new one.
 func (b *backend) drop() {
-	b.kept.Close()
-	b.kept = nil
+	if b.kept != nil {
+		b.kept.Close()
+		b.kept = nil
+	}
 }

@@ -2,27 +2,32 @@ package main
 
 import (
 	"bufio"
-	"context"
+	"errors"
 	"fmt"
+	"io"
 	"net"
 	"syscall"
 	"time"
 )
+
+// errUnanswered is the end of a connection where a reply should begin. csid tells on its own standard error why it closes one.
+var errUnanswered = errors.New("the connection was closed unanswered: see the log of csid")
 
 // connection is one connection to csid. Between two calls nothing is on its way in it, in either direction.
 type connection struct {
 	*net.UnixConn
 	raw syscall.RawConn
 	in  *bufio.Reader
+	// Whether a reply came over it.
+	hasServed bool
 }
 
-// connect makes a connection to the socket of csid.
-func connect(ctx context.Context, path string) (*connection, error) {
-	conn, err := (&net.Dialer{}).DialContext(ctx, "unix", path)
+// connect makes a connection to the socket of csid, or tells at once why there is none: it never waits.
+func connect(path string) (*connection, error) {
+	unix, err := net.DialUnix("unix", nil, &net.UnixAddr{Name: path, Net: "unix"})
 	if err != nil {
 		return nil, err
 	}
-	unix := conn.(*net.UnixConn)
 	raw, err := unix.SyscallConn()
 	if err != nil {
 		unix.Close()
@@ -46,38 +51,36 @@ func (c *connection) isQuiet() bool {
 	return err == nil && quiet
 }
 
-// exchange sends one call and reads its reply, unless the context ends before. After an error the connection has to be closed;
-// isSent tells whether csid may have seen anything of the call.
-func (c *connection) exchange(ctx context.Context, path string, message []byte) (answer reply, isSent bool, err error) {
-	if err := c.SetDeadline(time.Time{}); err != nil {
-		return reply{}, false, err
-	}
-	defer c.interruptBy(ctx)()
-	frame := net.Buffers{requestHead(path, len(message)), message}
-	sent, err := frame.WriteTo(c.UnixConn)
-	if err != nil {
-		return reply{}, sent > 0, fmt.Errorf("sending the call: %w", err)
-	}
-	answer, err = readReply(c.in)
-	if err != nil {
-		return reply{}, true, fmt.Errorf("reading the reply: %w", err)
-	}
-	return answer, true, nil
+// outcome is what a call came to. Where there is an error its connection has to be closed, and isSent tells whether csid may have seen
+// anything of the call.
+type outcome struct {
+	answer reply
+	isSent bool
+	took   time.Duration
+	err    error
 }
 
-// interruptBy lets each read and write fail once the context ends, until the function that it returns was called.
-func (c *connection) interruptBy(ctx context.Context) func() {
-	finished, watched := make(chan struct{}), make(chan struct{})
-	go func() {
-		defer close(watched)
-		select {
-		case <-ctx.Done():
-			c.SetDeadline(time.Unix(0, 1))
-		case <-finished:
-		}
-	}()
-	return func() {
-		close(finished)
-		<-watched
+// exchange sends one call and reads its reply, however long that takes: a deadline of the connection bounds it.
+func (c *connection) exchange(path string, message []byte) outcome {
+	frame := net.Buffers{requestHead(path, len(message)), message}
+	sent, err := frame.WriteTo(c.UnixConn)
+	if isClosing(err) {
+		return outcome{isSent: sent > 0, err: errUnanswered}
 	}
+	if err != nil {
+		return outcome{isSent: sent > 0, err: fmt.Errorf("sending the call: %w", err)}
+	}
+	answer, err := readReply(c.in)
+	if isClosing(err) {
+		return outcome{isSent: true, err: errUnanswered}
+	}
+	if err != nil {
+		return outcome{isSent: true, err: fmt.Errorf("reading the reply: %w", err)}
+	}
+	return outcome{answer: answer, isSent: true}
+}
+
+// isClosing tells whether csid closed the connection: an end where it read all that was sent, else a reset or a broken pipe.
+func isClosing(err error) bool {
+	return err == io.EOF || errors.Is(err, syscall.ECONNRESET) || errors.Is(err, syscall.EPIPE)
 }

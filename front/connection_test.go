@@ -1,13 +1,12 @@
 package main
 
 import (
-	"context"
+	"errors"
+	"io"
 	"net"
 	"path/filepath"
 	"testing"
 	"time"
-
-	"google.golang.org/grpc/codes"
 )
 
 // listening is a socket of a csid, and its path.
@@ -26,7 +25,7 @@ func listening(t *testing.T) (net.Listener, string) {
 func pair(t *testing.T) (*connection, net.Conn) {
 	t.Helper()
 	listener, path := listening(t)
-	conn, err := connect(context.Background(), path)
+	conn, err := connect(path)
 	if err != nil {
 		t.Fatal(err)
 	}
@@ -67,53 +66,45 @@ func TestQuietConnection(t *testing.T) {
 func TestUnsentCall(t *testing.T) {
 	conn, other := pair(t)
 	other.Close()
-	if _, isSent, err := conn.exchange(context.Background(), "/a/b", []byte{1}); err == nil || isSent {
-		t.Errorf("to a csid that went before: %v, %v", isSent, err)
+	if got := conn.exchange("/a/b", []byte{1}); got.err != errUnanswered || got.isSent {
+		t.Errorf("to a csid that went before: %v", got)
 	}
 	conn, other = pair(t)
 	go func() {
 		other.Read(make([]byte, 1))
 		other.Close()
 	}()
-	if _, isSent, err := conn.exchange(context.Background(), "/a/b", make([]byte, maxMessageBytes)); err == nil || !isSent {
-		t.Errorf("to a csid that took a part: %v, %v", isSent, err)
+	if got := conn.exchange("/a/b", make([]byte, maxMessageBytes)); got.err != errUnanswered || !got.isSent {
+		t.Errorf("to a csid that took a part: %v", got)
 	}
 }
 
-// An old connection that closes just when the call begins is no reason to refuse it.
-func TestUnsentCallIsSentAnew(t *testing.T) {
-	listener, path := listening(t)
-	go func() {
-		for {
-			conn, err := listener.Accept()
-			if err != nil {
-				return
-			}
-			conn.Read(make([]byte, 64))
-			conn.Write([]byte{5, 0, 0, 0, 0, 0, 0, 0})
-		}
-	}()
-	b := newBackend(path)
-	for round := 0; round < 3; round++ {
-		got, err := b.call(context.Background(), "/a/b", nil)
-		if err != nil || got.code != codes.NotFound {
-			t.Fatalf("%v, %v", got, err)
-		}
-		// Half closed: nothing comes from csid, so the connection looks quiet, and nothing can be sent.
-		b.kept.CloseWrite()
+// However csid closes a connection in place of a reply, it is told as that; an end within a reply is another thing.
+func TestClosedConnection(t *testing.T) {
+	const callBytes = 11
+	rows := []struct {
+		name  string
+		reads int
+		sends string
+		want  error
+	}{
+		{"an end, behind all of the call", callBytes, "", errUnanswered},
+		{"a reset, behind a part", 1, "", errUnanswered},
+		{"an end within the reply", callBytes, "05 0001", io.ErrUnexpectedEOF},
+		{"a reset within the reply", 1, "05 0001", io.ErrUnexpectedEOF},
 	}
-}
-
-// A context that ended makes no connection, and one that ends in a call leaves none.
-func TestEndedContext(t *testing.T) {
-	_, path := listening(t)
-	b := newBackend(path)
-	ctx, cancel := context.WithCancel(context.Background())
-	time.AfterFunc(20*time.Millisecond, cancel)
-	if _, err := b.call(ctx, "/a/b", nil); err == nil || b.kept != nil {
-		t.Errorf("in a call: %v, %v", err, b.kept)
-	}
-	if _, err := b.call(ctx, "/a/b", nil); err != context.Canceled || b.kept != nil {
-		t.Errorf("before a call: %v, %v", err, b.kept)
+	for _, row := range rows {
+		conn, other := pair(t)
+		went := make(chan struct{})
+		go func() {
+			defer close(went)
+			io.ReadFull(other, make([]byte, row.reads))
+			other.Write(fromHex(t, row.sends))
+			other.Close()
+		}()
+		if got := conn.exchange("/a/b", nil); !errors.Is(got.err, row.want) || !got.isSent {
+			t.Errorf("%s: %v", row.name, got)
+		}
+		<-went
 	}
 }

@@ -79,7 +79,7 @@ func readReply(in *bufio.Reader) (reply, error) {
 
 // inside is the error of a read behind the first byte of a reply, where an end is never right.
 func inside(err error) error {
-	if err == io.EOF {
+	if isClosing(err) {
 		return io.ErrUnexpectedEOF
 	}
 	return err

@@ -2,7 +2,6 @@ package main
 
 import (
 	"context"
-	"io"
 	"log"
 	"strconv"
 	"time"
@@ -15,8 +14,15 @@ import (
 // How long a client may take until its connection speaks HTTP/2; it holds up a graceful end for no longer.
 const greetingTime = 5 * time.Second
 
-// How many calls one client may have waiting, each with a message of at most 1 MiB.
+// How many calls one client may have at once.
 const maxWaitingCalls = 256
+
+// What a call of a client may have sent before its message is received, and what all of them may have on their way. They are the least
+// that gRPC has, and stay so.
+const (
+	callWindow   = 64 << 10
+	clientWindow = 1 << 20
+)
 
 // bytesCodec hands messages on as they are.
 type bytesCodec struct{}
@@ -27,8 +33,13 @@ func (bytesCodec) String() string                             { return "bytes" }
 
 // handler answers every unary method by csid.
 type handler struct {
-	backend *backend
-	log     *log.Logger
+	backend  *backend
+	messages *messages
+	log      *log.Logger
+}
+
+func newHandler(asked options, log *log.Logger) *handler {
+	return &handler{newBackend(asked.csid, asked.late), newMessages(asked.waiting << 20), log}
 }
 
 func newServer(h *handler) *grpc.Server {
@@ -37,6 +48,8 @@ func newServer(h *handler) *grpc.Server {
 		grpc.UnknownServiceHandler(h.handle),
 		grpc.MaxRecvMsgSize(maxMessageBytes),
 		grpc.MaxConcurrentStreams(maxWaitingCalls),
+		grpc.InitialWindowSize(callWindow),
+		grpc.InitialConnWindowSize(clientWindow),
 		grpc.ConnectionTimeout(greetingTime),
 	)
 }
@@ -57,34 +70,31 @@ func (h *handler) answer(path string, stream grpc.ServerStream) error {
 	if !isPath(path) {
 		return status.Error(codes.Unimplemented, "unknown method")
 	}
-	message, err := onlyMessage(stream)
+	message, err := h.messages.receive(stream)
 	if err != nil {
 		return err
 	}
+	defer h.messages.giveBack(message)
 	answer, err := h.backend.call(stream.Context(), path, message)
 	if err != nil {
 		return refusal(stream.Context(), err)
 	}
 	if answer.code != codes.OK {
-		return status.Error(answer.code, answer.text)
+		return status.Error(shownCode(answer), answer.text)
 	}
 	return stream.SendMsg(&answer.body)
 }
 
-// onlyMessage receives the message of a call. A message that is too long is refused by RecvMsg, before it is read.
-func onlyMessage(stream grpc.ServerStream) ([]byte, error) {
-	var message, second []byte
-	if err := stream.RecvMsg(&message); err == io.EOF {
-		return nil, status.Error(codes.Unimplemented, "a call without a message")
-	} else if err != nil {
-		return nil, err
+// shownCode is the code that an orchestrator is told. Whether a change was made behind which csid says one of these three is open, and
+// sidecars take INTERNAL for a final answer, after which they believe that it was not.
+func shownCode(answer reply) codes.Code {
+	if answer.code == codes.Internal {
+		switch answer.text {
+		case "out of memory", "store refused", "store is down":
+			return codes.Unavailable
+		}
 	}
-	if err := stream.RecvMsg(&second); err == nil {
-		return nil, status.Error(codes.Unimplemented, "a call with more than one message")
-	} else if err != io.EOF {
-		return nil, err
-	}
-	return message, nil
+	return answer.code
 }
 
 // refusal is the answer to a call that got no reply. It has one of the codes after which an orchestrator takes the outcome as open,

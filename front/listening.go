@@ -6,12 +6,21 @@ import (
 	"net"
 	"os"
 	"path/filepath"
+	"sync"
 	"syscall"
 )
 
+// socket is the socket of the front, whose file goes with it.
+type socket struct {
+	*net.UnixListener
+	path  string
+	file  os.FileInfo
+	close sync.Once
+}
+
 // listen makes the socket of the front. A socket that nobody answers on is what an earlier front left, and gives way; any other file
 // stays, and is an error.
-func listen(path string) (net.Listener, error) {
+func listen(path string) (*socket, error) {
 	folder, err := lockedFolder(path)
 	if err != nil {
 		return nil, err
@@ -20,7 +29,39 @@ func listen(path string) (net.Listener, error) {
 	if err := removeDeadSocket(path); err != nil {
 		return nil, err
 	}
-	return net.Listen("unix", path)
+	listener, err := net.ListenUnix("unix", &net.UnixAddr{Name: path, Net: "unix"})
+	if err != nil {
+		return nil, err
+	}
+	listener.SetUnlinkOnClose(false)
+	file, err := os.Lstat(path)
+	if err != nil {
+		listener.Close()
+		return nil, err
+	}
+	return &socket{UnixListener: listener, path: path, file: file}, nil
+}
+
+// Close ends the socket, and removes its file.
+func (s *socket) Close() (err error) {
+	s.close.Do(func() {
+		s.remove()
+		err = s.UnixListener.Close()
+	})
+	return err
+}
+
+// remove removes the file of the socket, unless another one stands there now. They are compared by device and inode before the listener
+// is closed, since until then no other file is given that inode.
+func (s *socket) remove() {
+	folder, err := lockedFolder(s.path)
+	if err != nil {
+		return
+	}
+	defer folder.Close()
+	if file, err := os.Lstat(s.path); err == nil && os.SameFile(file, s.file) {
+		os.Remove(s.path)
+	}
 }
 
 // lockedFolder locks the folder of a file until it is closed, so that of two fronts that start together none removes the new socket of

@@ -25,6 +25,9 @@ const (
 	noSocket = 7
 )
 
+// version is the repository's: front/build takes it from the file VERSION.
+var version = "unknown"
+
 func main() {
 	os.Exit(run(log.New(os.Stderr, "front: ", 0)))
 }
@@ -38,6 +41,10 @@ func run(log *log.Logger) int {
 		log.Print(err)
 		return badWords
 	}
+	if asked.version {
+		fmt.Println("front", version)
+		return done
+	}
 	stop := make(chan os.Signal, 2)
 	signal.Notify(stop, syscall.SIGTERM, syscall.SIGINT)
 	listener, err := listen(asked.listen)
@@ -45,7 +52,7 @@ func run(log *log.Logger) int {
 		log.Print(err)
 		return noSocket
 	}
-	server := newServer(&handler{backend: newBackend(asked.csid), log: log})
+	server := newServer(newHandler(asked, log))
 	failed := make(chan error, 1)
 	go func() { failed <- serve(server, listener) }()
 	select {

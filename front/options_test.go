@@ -10,16 +10,19 @@ import (
 )
 
 func TestOptions(t *testing.T) {
+	with := func(grace, late time.Duration, waiting int) options {
+		return options{listen: "l", csid: "c", grace: grace, late: late, waiting: waiting}
+	}
 	rows := []struct {
 		words, endpoint string
 		want            options
 	}{
-		{"--csid c --listen l", "", options{"l", "c", 20 * time.Second}},
-		{"-csid=c -listen=l -grace=1m", "", options{"l", "c", time.Minute}},
-		{"--csid c", "unix:///run/csi.sock", options{"/run/csi.sock", "c", 20 * time.Second}},
-		{"--csid c", "/run/csi.sock", options{"/run/csi.sock", "c", 20 * time.Second}},
-		{"--csid unix:c", "unix:l", options{"l", "c", 20 * time.Second}},
-		{"--csid c --listen unix://l", "unix:///run/csi.sock", options{"l", "c", 20 * time.Second}},
+		{"--csid c --listen l", "", with(20*time.Second, time.Minute, 64)},
+		{"-csid=c -listen=l -grace=1m -late=30s -waiting=1", "", with(time.Minute, 30*time.Second, 1)},
+		{"--csid c", "unix:///run/csi.sock", options{listen: "/run/csi.sock", csid: "c", grace: 20 * time.Second, late: time.Minute, waiting: 64}},
+		{"--csid c", "/run/csi.sock", options{listen: "/run/csi.sock", csid: "c", grace: 20 * time.Second, late: time.Minute, waiting: 64}},
+		{"--csid unix:c", "unix:l", with(20*time.Second, time.Minute, 64)},
+		{"--csid c --listen unix://l", "unix:///run/csi.sock", with(20*time.Second, time.Minute, 64)},
 	}
 	for _, row := range rows {
 		got, err := readOptions(strings.Fields(row.words), row.endpoint, io.Discard)
@@ -40,6 +43,11 @@ func TestRefusedOptions(t *testing.T) {
 		{"--csid c --listen l x", "", "a word that is not known"},
 		{"--csid c --listen l --frobnicate", "", "frobnicate"},
 		{"--csid c --listen l --grace x", "", "grace"},
+		{"--csid c --listen l --late -1s", "", "--late: -1s is below 0"},
+		{"--csid c --listen l --waiting 0", "", "--waiting: 0 is not 1 to 1048576"},
+		{"--csid c --listen l --waiting 1048577", "", "--waiting: 1048577 is not 1 to 1048576"},
+		{"--csid c --listen l --waiting x", "", "waiting"},
+		{"--version x", "", "a word that is not known"},
 		{"--csid", "l", "needs an argument"},
 	}
 	for _, row := range rows {
@@ -55,7 +63,7 @@ func TestHelp(t *testing.T) {
 	if !errors.Is(err, flag.ErrHelp) {
 		t.Error(err)
 	}
-	for _, word := range []string{"usage: ", "-csid", "-listen", "-grace"} {
+	for _, word := range []string{"usage: ", "-csid", "-listen", "-grace", "-late", "-waiting", "-version"} {
 		if !strings.Contains(shown.String(), word) {
 			t.Errorf("no %s in %s", word, shown.String())
 		}

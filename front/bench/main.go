@@ -1,6 +1,10 @@
-// bench measures calls through the front beside the same calls to csid alone over its socket (bench/front runs it).
+// bench measures calls through the front beside the same calls to csid alone over its socket (bench/front runs it), and how service comes
+// back behind a stop of csid, and under callers who give up (front/stalls does).
 //
-// usage: bench CSID FRONT [ROUNDS]
+// usage: bench calls CSID FRONT [ROUNDS]
+//
+//	bench stop CSID FRONT FILE
+//	bench hasty CSID FRONT
 package main
 
 import (
@@ -209,7 +213,7 @@ func start(socket, program string, words ...string) (*exec.Cmd, error) {
 	return nil, errors.New("nobody answers on " + socket)
 }
 
-func startCsid(program, folder, socket string) (*exec.Cmd, error) {
+func startCsid(program, folder, socket, tables string) (*exec.Cmd, error) {
 	file := filepath.Join(folder, "config.toml")
 	if err := os.WriteFile(file, []byte(config), 0o600); err != nil {
 		return nil, err
@@ -220,7 +224,7 @@ func startCsid(program, folder, socket string) (*exec.Cmd, error) {
 	}
 	words := []string{"serve", "--socket", socket, "--config", file}
 	if strings.Contains(string(help), "--tables") {
-		words = append(words, "--tables", filepath.Join(folder, "volumes.db"))
+		words = append(words, "--tables", tables)
 	}
 	return start(socket, program, words...)
 }
@@ -274,7 +278,7 @@ func run(program, front string, rounds int) error {
 	}
 	defer os.RemoveAll(folder)
 	socket := filepath.Join(folder, "csid.sock")
-	csid, err := startCsid(program, folder, socket)
+	csid, err := startCsid(program, folder, socket, filepath.Join(folder, "volumes.db"))
 	if err != nil {
 		return err
 	}
@@ -286,19 +290,39 @@ func run(program, front string, rounds int) error {
 	return throughFront(front, socket, folder, rounds)
 }
 
+// rounds is the number of rounds that the words ask for.
+func rounds(words []string) (int, error) {
+	if len(words) == 0 {
+		return 5, nil
+	}
+	count, err := strconv.Atoi(words[0])
+	if err != nil || count < 1 {
+		return 0, errors.New("the rounds are no number above 0")
+	}
+	return count, nil
+}
+
 func main() {
 	log.SetFlags(0)
-	if len(os.Args) < 3 {
-		log.Fatal("usage: bench CSID FRONT [ROUNDS]")
+	words := os.Args[1:]
+	if len(words) < 3 || (words[0] == "stop") != (len(words) == 4) && words[0] != "calls" {
+		log.Fatal("usage: bench calls CSID FRONT [ROUNDS]; bench stop CSID FRONT FILE; bench hasty CSID FRONT")
 	}
-	rounds := 5
-	if len(os.Args) > 3 {
-		var err error
-		if rounds, err = strconv.Atoi(os.Args[3]); err != nil || rounds < 1 {
-			log.Fatal("bench/front: the rounds are no number above 0")
+	var err error
+	switch csid, front := words[1], words[2]; words[0] {
+	case "calls":
+		var count int
+		if count, err = rounds(words[3:]); err == nil {
+			err = run(csid, front, count)
 		}
+	case "stop":
+		err = behindFront(csid, front, words[3], stop)
+	case "hasty":
+		err = behindFront(csid, front, "", hasty)
+	default:
+		err = errors.New(words[0] + " is not known")
 	}
-	if err := run(os.Args[1], os.Args[2], rounds); err != nil {
-		log.Fatal("bench/front: ", err)
+	if err != nil {
+		log.Fatal("bench: ", err)
 	}
 }

@@ -11,10 +11,11 @@ import (
 	"google.golang.org/grpc/codes"
 )
 
-// A deadline ends a call that csid does not answer; the next one meets neither the late reply nor the connection.
+// A deadline ends a call that csid does not answer; the next one goes over the same connection, and does not get the late reply.
 func TestDeadline(t *testing.T) {
 	t.Parallel()
-	csid := startFake(t, step{mute: true})
+	let := make(chan struct{})
+	csid := startFake(t, step{wait: let, write: okFrame("01")})
 	process := startFront(t, csid.socket)
 	front := newClient(t, process.socket)
 	begin := time.Now()
@@ -24,10 +25,20 @@ func TestDeadline(t *testing.T) {
 	if spent := time.Since(begin); spent > patience/2 {
 		t.Errorf("it took %v", spent)
 	}
-	csid.ended(t, 1)
-	front.wants(t, probe, "", ok(ready))
-	csid.sees(t, "/a/b ", probe+" ")
 	eventually(t, "the call in the log", func() bool { return gaveUp(process, "/a/b") })
+	csid.dropsLate(t, front, let)
+}
+
+// dropsLate lets csid send the reply to a call that was given up, while the next call waits for that.
+func (f *fake) dropsLate(t *testing.T, front *client, let chan struct{}) {
+	t.Helper()
+	calls, _ := f.seen()
+	time.AfterFunc(100*time.Millisecond, func() { close(let) })
+	front.wants(t, probe, "", ok(ready))
+	f.sees(t, append(calls, probe+" ")...)
+	if _, ends := f.seen(); ends != 0 {
+		t.Errorf("%d connections ended", ends)
+	}
 }
 
 // gaveUp tells whether the front logged that a call ended by its deadline or its caller: a client whose deadline is over cancels its
@@ -40,7 +51,8 @@ func gaveUp(front *process, path string) bool {
 // So does a caller that gives up without a deadline.
 func TestCancelledCall(t *testing.T) {
 	t.Parallel()
-	csid, front := behindFront(t, step{mute: true})
+	let := make(chan struct{})
+	csid, front := behindFront(t, step{wait: let, write: okFrame("01")})
 	ctx, cancel := context.WithCancel(context.Background())
 	go func() {
 		csid.called(t, 1)
@@ -49,14 +61,14 @@ func TestCancelledCall(t *testing.T) {
 	if got := front.send(ctx, "/a/b", nil); got.code != codes.Canceled {
 		t.Errorf("%v, wanted CANCELLED", got)
 	}
-	csid.ended(t, 1)
-	front.wants(t, probe, "", ok(ready))
+	csid.dropsLate(t, front, let)
 }
 
 // And so does one whose connection goes away.
 func TestClientThatGoesAway(t *testing.T) {
 	t.Parallel()
-	csid := startFake(t, step{mute: true})
+	let := make(chan struct{})
+	csid := startFake(t, step{wait: let, write: okFrame("01")})
 	process := startFront(t, csid.socket)
 	leaving := newClient(t, process.socket)
 	go func() {
@@ -64,8 +76,68 @@ func TestClientThatGoesAway(t *testing.T) {
 		leaving.Close()
 	}()
 	leaving.send(context.Background(), "/a/b", nil)
+	csid.dropsLate(t, newClient(t, process.socket), let)
+}
+
+// A late reply that is none, breaks off, or has something behind it ends the connection, as ever.
+func TestLateReplyThatIsWrong(t *testing.T) {
+	t.Parallel()
+	rows := map[string]step{
+		"malformed":           {write: fromHex(t, "01")},
+		"no reply":            {close: true},
+		"a part of a reply":   {write: fromHex(t, "00 0000"), close: true},
+		"more than one reply": {write: append(okFrame("01"), okFrame("02")...)},
+		"status 13":           {write: refusalFrame(13, "store refused")},
+	}
+	for name, does := range rows {
+		name, does := name, does
+		t.Run(name, func(t *testing.T) {
+			t.Parallel()
+			let := make(chan struct{})
+			does.wait = let
+			csid, front := behindFront(t, step{write: okFrame("")}, does)
+			front.wants(t, "/a/b", "", ok(""))
+			if got := front.send(soon(t, 100*time.Millisecond), "/a/c", nil); got.code != codes.DeadlineExceeded {
+				t.Errorf("%v, wanted DEADLINE_EXCEEDED", got)
+			}
+			close(let)
+			front.wants(t, probe, "", ok(ready))
+			csid.ended(t, 1)
+			csid.sees(t, "/a/b ", "/a/c ", probe+" ")
+		})
+	}
+}
+
+// A late reply is waited for so long, and then the next call has a new connection.
+func TestLateReplyThatNeverComes(t *testing.T) {
+	t.Parallel()
+	csid := startFake(t, step{write: okFrame("")}, step{mute: true})
+	front := newClient(t, startFront(t, csid.socket, "--late", "500ms").socket)
+	front.wants(t, "/a/b", "", ok(""))
+	for call := 0; call < 3; call++ {
+		if got := front.send(soon(t, 100*time.Millisecond), "/a/c", nil); got.code != codes.DeadlineExceeded {
+			t.Errorf("%v, wanted DEADLINE_EXCEEDED", got)
+		}
+	}
+	front.wants(t, probe, "", ok(ready))
 	csid.ended(t, 1)
-	newClient(t, process.socket).wants(t, probe, "", ok(ready))
+	csid.sees(t, "/a/b ", "/a/c ", probe+" ")
+}
+
+// Callers that all give up cost csid one call and no connection, and once it goes on the next call is served.
+func TestCallersThatAllGiveUp(t *testing.T) {
+	t.Parallel()
+	let := make(chan struct{})
+	csid, front := behindFront(t, step{wait: let, write: okFrame("01")})
+	together(50, func(int) {
+		for round := 0; round < 3; round++ {
+			if got := front.send(soon(t, 200*time.Millisecond), "/a/b", nil); got.code != codes.DeadlineExceeded {
+				t.Errorf("%v, wanted DEADLINE_EXCEEDED", got)
+			}
+		}
+	})
+	csid.sees(t, "/a/b ")
+	csid.dropsLate(t, front, let)
 }
 
 // What speaks no HTTP/2, or says nothing, is nobody's trouble but its own.
@@ -84,7 +156,7 @@ func TestClientThatSpeaksNothing(t *testing.T) {
 	newClient(t, process.socket).wants(t, probe, "", ok(ready))
 }
 
-// A call that ended while half of its frame was written leaves no half frame before the next one.
+// A call that was given up while half of its frame was written is written to its end, and leaves no half frame before the next one.
 func TestHalfFrame(t *testing.T) {
 	t.Parallel()
 	listening := make(chan struct{})
@@ -96,12 +168,11 @@ func TestHalfFrame(t *testing.T) {
 	}
 	eventually(t, "the call in the log", func() bool { return gaveUp(process, "/a/b") })
 	close(listening)
-	csid.ended(t, 1)
-	if csid.rest == 0 || csid.rest > 1048576 {
-		t.Errorf("csid got %d bytes of a frame", csid.rest)
-	}
 	front.wants(t, probe, "", ok(ready))
-	csid.sees(t, probe+" ")
+	csid.sees(t, "/a/b "+strings.Repeat("00", 1048576), probe+" ")
+	if _, ends := csid.seen(); ends != 0 {
+		t.Errorf("%d connections ended", ends)
+	}
 }
 
 // A call that waits for its turn ends with its own deadline, or when its caller gives up, and csid never sees it.
@@ -186,7 +257,7 @@ func TestLog(t *testing.T) {
 	front.call(t, "/a/no path", secret)
 	eventually(t, "three lines", func() bool { return strings.Count(process.log.String(), "\n") >= 3 })
 	lines := strings.SplitAfter(process.log.String(), "\n")
-	want := []string{`front: /a/refused 9 "volume is in use" `, `front: /a/lost 14 "csid: reading the reply: `, `front: "/a/no path" 12 "unknown method" `, ""}
+	want := []string{`front: /a/refused 9 "volume is in use" `, `front: /a/lost 14 "csid: the connection was closed unanswered: see the log of csid" `, `front: "/a/no path" 12 "unknown method" `, ""}
 	if len(lines) != len(want) {
 		t.Fatalf("logged: %q", lines)
 	}

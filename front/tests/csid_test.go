@@ -8,6 +8,7 @@ import (
 	"strings"
 	"sync"
 	"sync/atomic"
+	"syscall"
 	"testing"
 	"time"
 
@@ -285,6 +286,42 @@ func TestImpatientCallers(t *testing.T) {
 	})
 	t.Logf("%d calls ended before their replies", gaveUp)
 	told.isListed(t, newClient(t, socket))
+}
+
+// A csid that stands still for a while is met by no further connection, and serves every caller once it goes on.
+func TestCsidThatStandsStill(t *testing.T) {
+	t.Parallel()
+	const callers, still = 20, 1500 * time.Millisecond
+	csid := startCsid(t)
+	socket := startFront(t, csid.socket()).socket
+	newClient(t, socket).wants(t, probe, "", ok(ready))
+	signal := func(which syscall.Signal) {
+		if err := csid.current.Process.Signal(which); err != nil {
+			t.Fatal(err)
+		}
+	}
+	signal(syscall.SIGSTOP)
+	begin := time.Now()
+	time.AfterFunc(still, func() { signal(syscall.SIGCONT) })
+	together(callers, func(int) {
+		front := newClient(t, socket)
+		for {
+			got := front.send(soon(t, 300*time.Millisecond), probe, nil)
+			if got == ok(ready) {
+				break
+			}
+			if got.code != codes.DeadlineExceeded || time.Since(begin) > patience {
+				t.Errorf("%v after %v, wanted DEADLINE_EXCEEDED", got, time.Since(begin))
+				break
+			}
+		}
+	})
+	if spent := time.Since(begin); spent < still || spent > still+soonBack {
+		t.Errorf("all callers were served after %v", spent)
+	}
+	if log := csid.current.log.String(); log != "" {
+		t.Errorf("csid said: %s", log)
+	}
 }
 
 // A csid that was killed and started again between two calls costs none.

@@ -36,6 +36,8 @@ type fake struct {
 	rest int
 	// Until this is closed nothing is read from a connection; nil does not hold up anything.
 	deaf <-chan struct{}
+	// Closes each connection unread.
+	closes bool
 }
 
 func startFake(t *testing.T, steps ...step) *fake {
@@ -104,7 +106,7 @@ func (f *fake) serve(conn net.Conn) {
 		<-f.deaf
 	}
 	rest := 0
-	for {
+	for !f.closes {
 		call, size, err := readFrame(conn)
 		if err != nil {
 			rest = size

@@ -142,8 +142,10 @@ func startFront(t *testing.T, csid string, words ...string) *process {
 
 // server is a place for a csid, which may be killed and started again there.
 type server struct {
-	folder  string
-	config  string
+	folder string
+	config string
+	// The file of the volumes; an empty one stands for one in the folder.
+	tables  string
 	current *process
 }
 
@@ -179,7 +181,11 @@ func (s *server) start(t *testing.T) *server {
 		words = append(words, "--config", s.config)
 	}
 	if hasTables(t) {
-		words = append(words, "--tables", filepath.Join(s.folder, "volumes.db"))
+		tables := s.tables
+		if tables == "" {
+			tables = filepath.Join(s.folder, "volumes.db")
+		}
+		words = append(words, "--tables", tables)
 	}
 	s.current = start(t, s.socket(), exec.Command(csidProgram(t), words...)).answers(t)
 	return s

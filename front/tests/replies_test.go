@@ -7,10 +7,12 @@ import (
 	"google.golang.org/grpc/codes"
 )
 
-// Every status, and the greatest parts of a reply, come back as they are.
+// text is the longest text of a reply.
+var text = strings.Repeat(" ~", 512)
+
+// Every status but 13, and the greatest parts of a reply, come back as they are.
 func TestEveryReplyComesBack(t *testing.T) {
 	t.Parallel()
-	text := strings.Repeat(" ~", 512)
 	rows := []struct {
 		reply []byte
 		want  answer
@@ -26,7 +28,7 @@ func TestEveryReplyComesBack(t *testing.T) {
 		{refusalFrame(10, "bad starting token"), refused(codes.Aborted, "bad starting token")},
 		{refusalFrame(11, "capacity is out of range"), refused(codes.OutOfRange, "capacity is out of range")},
 		{refusalFrame(12, ""), refused(codes.Unimplemented, "")},
-		{refusalFrame(13, text), refused(codes.Internal, text)},
+		{refusalFrame(11, text), refused(codes.OutOfRange, text)},
 	}
 	var steps []step
 	for _, row := range rows {
@@ -40,6 +42,36 @@ func TestEveryReplyComesBack(t *testing.T) {
 	}
 	if calls, ends := csid.seen(); len(calls) != len(rows) || ends != 0 || calls[0] != "/a/b 0102" {
 		t.Errorf("csid saw %d calls %q and %d ends", len(calls), calls[0], ends)
+	}
+}
+
+// Behind status 13 the next call has a new connection, since csid makes no change any more over the old one. Of its three texts the
+// outcome is open, so they are UNAVAILABLE.
+func TestRefusedChange(t *testing.T) {
+	t.Parallel()
+	rows := []struct {
+		text string
+		code codes.Code
+	}{
+		{"out of memory", codes.Unavailable},
+		{"store refused", codes.Unavailable},
+		{"store is down", codes.Unavailable},
+		{"store is down ", codes.Internal},
+		{text, codes.Internal},
+		{"", codes.Internal},
+	}
+	var steps []step
+	for _, row := range rows {
+		steps = append(steps, step{write: refusalFrame(13, row.text)})
+	}
+	csid, front := behindFront(t, steps...)
+	for i, row := range rows {
+		front.wants(t, "/a/b", "", refused(row.code, row.text))
+		csid.ended(t, i+1)
+	}
+	front.wants(t, probe, "", ok(ready))
+	if _, ends := csid.seen(); ends != len(rows) {
+		t.Errorf("%d connections ended", ends)
 	}
 }
 
@@ -93,6 +125,23 @@ func TestConnectionThatBreaks(t *testing.T) {
 			t.Parallel()
 			losesOneCall(t, step{write: reply, close: true})
 		})
+	}
+}
+
+// A connection that csid closes in place of a reply is told as that, also where it read nothing of the call.
+func TestUnansweredCall(t *testing.T) {
+	t.Parallel()
+	unanswered := refused(codes.Unavailable, "csid: the connection was closed unanswered: see the log of csid")
+	csid, front := behindFront(t, step{close: true})
+	front.wants(t, "/a/b", "", unanswered)
+	csid.ended(t, 1)
+	front.wants(t, probe, "", ok(ready))
+	closing := (&fake{closes: true}).start(t)
+	front = newClient(t, startFront(t, closing.socket).socket)
+	for _, size := range []int{0, 1048576} {
+		if got := front.send(soon(t, patience), "/a/b", make([]byte, size)); got != unanswered {
+			t.Errorf("%v, wanted %v", got, unanswered)
+		}
 	}
 }
 

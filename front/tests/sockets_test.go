@@ -139,6 +139,22 @@ func TestTermDuringACall(t *testing.T) {
 	running.csid.sees(t, "/a/b ")
 }
 
+// A socket of another front, which stands where that of the first was, outlives the first.
+func TestTermBehindAnotherFront(t *testing.T) {
+	t.Parallel()
+	csid := startFake(t)
+	first := startFront(t, csid.socket)
+	if err := os.Remove(first.socket); err != nil {
+		t.Fatal(err)
+	}
+	second := frontAt(t, csid.socket, first.socket).answers(t)
+	first.terminate(t)
+	if status := first.status(t); status != 0 {
+		t.Errorf("status %d", status)
+	}
+	newClient(t, second.socket).wants(t, probe, "", ok(ready))
+}
+
 func TestTermWithoutACall(t *testing.T) {
 	t.Parallel()
 	csid := startFake(t)
@@ -175,5 +191,37 @@ func TestTermWithACallThatNeverEnds(t *testing.T) {
 				t.Errorf("status %d", status)
 			}
 		})
+	}
+}
+
+// A call that was given up holds nothing up at the end, though its reply did not come.
+func TestTermWhileAReplyIsLate(t *testing.T) {
+	t.Parallel()
+	csid := startFake(t, step{mute: true})
+	process := startFront(t, csid.socket)
+	front := newClient(t, process.socket)
+	if got := front.send(soon(t, 100*time.Millisecond), "/a/b", nil); got.code != codes.DeadlineExceeded {
+		t.Errorf("%v, wanted DEADLINE_EXCEEDED", got)
+	}
+	eventually(t, "the call in the log", func() bool { return gaveUp(process, "/a/b") })
+	begin := time.Now()
+	process.terminate(t)
+	if status := process.status(t); status != 0 || time.Since(begin) > patience/4 {
+		t.Errorf("status %d after %v", status, time.Since(begin))
+	}
+}
+
+// The version is the repository's, and so is that of csid.
+func TestVersion(t *testing.T) {
+	t.Parallel()
+	number, err := os.ReadFile("../../VERSION")
+	if err != nil {
+		t.Fatal(err)
+	}
+	for name, program := range map[string]string{"front": frontProgram(t), "csid": csidProgram(t)} {
+		said, err := exec.Command(program, "--version").Output()
+		if err != nil || string(said) != name+" "+string(number) {
+			t.Errorf("%s said %q, %v", name, said, err)
+		}
 	}
 }

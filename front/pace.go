@@ -1,0 +1,51 @@
+package main
+
+import (
+	"context"
+	"time"
+)
+
+// csid opens and judges its whole file for each connection, also for one that was left meanwhile. So connections begin a pause apart at
+// least, and it doubles with each that gave no reply.
+const (
+	leastPause    = 100 * time.Millisecond
+	greatestPause = time.Second
+)
+
+// pace keeps connections apart.
+type pace struct {
+	last  time.Time
+	pause time.Duration
+}
+
+// wait waits until a connection may begin, unless the context ends before.
+func (p *pace) wait(ctx context.Context) error {
+	pause := time.NewTimer(time.Until(p.last.Add(p.pause)))
+	defer pause.Stop()
+	select {
+	case <-pause.C:
+		if err := ctx.Err(); err != nil {
+			return err
+		}
+		p.last = time.Now()
+		return nil
+	case <-ctx.Done():
+		return ctx.Err()
+	}
+}
+
+// served notes that a reply came over the last connection: where it stood for the least pause, the next one need not wait.
+func (p *pace) served() {
+	p.pause = leastPause
+}
+
+// failed notes that the last connection, or the attempt at one, gave no reply.
+func (p *pace) failed() {
+	p.pause *= 2
+	if p.pause < leastPause {
+		p.pause = leastPause
+	}
+	if p.pause > greatestPause {
+		p.pause = greatestPause
+	}
+}

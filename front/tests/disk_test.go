@@ -1,0 +1,181 @@
+package tests
+
+import (
+	"fmt"
+	"os"
+	"os/exec"
+	"path/filepath"
+	"strconv"
+	"strings"
+	"syscall"
+	"testing"
+	"time"
+
+	"google.golang.org/grpc/codes"
+)
+
+// How soon service has to be back once a fault has passed.
+const soonBack = 2 * time.Second
+
+// smallDisk is a folder with so many bytes.
+func smallDisk(t *testing.T, bytes int) string {
+	t.Helper()
+	if os.Geteuid() != 0 {
+		t.Skip("left out: only root mounts a file system")
+	}
+	path := folder(t)
+	if err := syscall.Mount("tmpfs", path, "tmpfs", 0, fmt.Sprintf("size=%d", bytes)); err != nil {
+		t.Skipf("left out: no file system can be mounted: %v", err)
+	}
+	t.Cleanup(func() { syscall.Unmount(path, syscall.MNT_DETACH) })
+	return path
+}
+
+// fill takes all the room of a disk, until the file is removed.
+func fill(t *testing.T, path string) {
+	t.Helper()
+	file, err := os.Create(path)
+	if err != nil {
+		t.Fatal(err)
+	}
+	defer file.Close()
+	for size := 4096; size > 0; {
+		if _, err := file.Write(make([]byte, size)); err != nil {
+			size /= 2
+		}
+	}
+}
+
+// back creates a volume of a name again and again, and tells its id and how long it took.
+func back(t *testing.T, front *client, name string) (string, time.Duration) {
+	t.Helper()
+	for begin := time.Now(); ; time.Sleep(10 * time.Millisecond) {
+		id, got := create(soon(t, patience), front, name)
+		if got.code == codes.OK {
+			return id, time.Since(begin)
+		}
+		if got.code != codes.Unavailable || time.Since(begin) > patience {
+			t.Fatalf("%s: %v after %v", name, got, time.Since(begin))
+		}
+	}
+}
+
+// While the disk is full each change is told to be open, and what needs none is answered. Once there is room again service is back, though
+// nobody started anything again, and the rows are those of the volumes that were told.
+func TestFullDisk(t *testing.T) {
+	t.Parallel()
+	disk := smallDisk(t, 1<<20)
+	csid := newServer(t, roomy)
+	csid.tables = filepath.Join(disk, "volumes.db")
+	front := newClient(t, startFront(t, csid.start(t).socket()).socket)
+	told := &book{}
+	for round := 0; round < 3; round++ {
+		name := fmt.Sprintf("before-%d", round)
+		id, _ := back(t, front, name)
+		told.note(t, name, id)
+		fill(t, filepath.Join(disk, "filler"))
+		refusals := refusedCreates(t, front, round, told)
+		if len(refusals) == 0 {
+			t.Fatal("the disk is full, and every volume was made")
+		}
+		front.wants(t, probe, "", ok(ready))
+		if err := os.Remove(filepath.Join(disk, "filler")); err != nil {
+			t.Fatal(err)
+		}
+		begin := time.Now()
+		for _, name := range refusals {
+			id, _ := back(t, front, name)
+			told.note(t, name, id)
+		}
+		if spent := time.Since(begin); spent > soonBack {
+			t.Errorf("service was back after %v", spent)
+		}
+	}
+	told.isListed(t, front)
+}
+
+// refusedCreates creates volumes on a full disk, and gives the names of those that were refused: a few still have room in what the log has.
+func refusedCreates(t *testing.T, front *client, round int, told *book) (names []string) {
+	t.Helper()
+	for i := 0; i < 50 && len(names) < 3; i++ {
+		name := fmt.Sprintf("full-%d-%d", round, i)
+		id, got := create(soon(t, patience), front, name)
+		switch got.code {
+		case codes.OK:
+			told.note(t, name, id)
+		case codes.Unavailable:
+			names = append(names, name)
+		default:
+			t.Fatalf("%s: %v", name, got)
+		}
+	}
+	return names
+}
+
+// inject has the next system calls of these names, from the next one on, fail once in a process.
+func (p *process) inject(t *testing.T, calls, fault string) {
+	t.Helper()
+	program, err := exec.LookPath("strace")
+	if err != nil {
+		t.Skip("left out: strace is not here")
+	}
+	command := exec.Command(program, "-f", "-qq", "-o", "/dev/null", "-p", strconv.Itoa(p.Process.Pid), "-e", "trace="+calls, "-e", "inject="+calls+":error="+fault+":when=1")
+	said := &errorLog{}
+	command.Stderr = said
+	if err := command.Start(); err != nil {
+		t.Fatal(err)
+	}
+	ended := make(chan struct{})
+	go func() {
+		command.Wait()
+		close(ended)
+	}()
+	t.Cleanup(func() {
+		command.Process.Signal(syscall.SIGTERM)
+		<-ended
+	})
+	eventually(t, "strace to attach", func() bool {
+		select {
+		case <-ended:
+			t.Skipf("left out: strace cannot attach: %s", said)
+		default:
+		}
+		return isTraced(t, p.Process.Pid)
+	})
+}
+
+func isTraced(t *testing.T, id int) bool {
+	t.Helper()
+	text, err := os.ReadFile(fmt.Sprintf("/proc/%d/status", id))
+	if err != nil {
+		t.Fatal(err)
+	}
+	return !strings.Contains(string(text), "\nTracerPid:\t0\n")
+}
+
+// A write or a sync that fails once costs the change that it was for, or leaves it open, and nothing else.
+func TestFaultOfTheDisk(t *testing.T) {
+	t.Parallel()
+	for calls, fault := range map[string]string{"fdatasync": "EIO", "pwrite64": "ENOSPC"} {
+		calls, fault := calls, fault
+		t.Run(calls, func(t *testing.T) {
+			t.Parallel()
+			csid := newServer(t, roomy).start(t)
+			front := newClient(t, startFront(t, csid.socket()).socket)
+			told := &book{}
+			id, _ := back(t, front, "before")
+			told.note(t, "before", id)
+			csid.current.inject(t, calls, fault)
+			if id, got := create(soon(t, patience), front, "open"); got.code != codes.Unavailable {
+				t.Errorf("%s, %v, wanted UNAVAILABLE", id, got)
+			}
+			front.wants(t, probe, "", ok(ready))
+			id, spent := back(t, front, "open")
+			told.note(t, "open", id)
+			if spent > soonBack {
+				t.Errorf("service was back after %v", spent)
+			}
+			told.isListed(t, front)
+		})
+	}
+}
