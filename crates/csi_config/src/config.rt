@@ -10,13 +10,18 @@ use crate::pools::{Pool, check_bytes, check_names, check_segments};
 use crate::sizes::{Sizes, check_sizes};
 use csi_types::Items;
 
-/// A configuration, which has none of the faults of [`ConfigFault`].
+/// A configuration, which has none of the faults of [`ConfigFault`]: so it was made by [`Config::new`],
+/// or whoever made it has proved as much.
 #[derive(Debug, Drop)]
 pub struct Config {
-    plugin: Plugin,
-    sizes: Sizes,
-    pools: Items<Pool>,
-    nodes: Items<Node>,
+    /// Who the plugin is.
+    pub plugin: Plugin,
+    /// The sizes of volumes.
+    pub sizes: Sizes,
+    /// The pools, in the order in which they are tried.
+    pub pools: Items<Pool>,
+    /// The nodes.
+    pub nodes: Items<Node>,
     ghost faultless: { fault_of plugin sizes pools nodes ≡ None },
 }
 

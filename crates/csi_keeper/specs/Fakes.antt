@@ -1,17 +1,46 @@
 -- A keeper that refuses one call.
-use Rattle.std.specs.Prelude.{ℕ, ◌-◌, ◌==◌, Option, Some, None, Result, Ok, Err, if◌then◌else◌, ⊤}
+use Rattle.std.specs.Prelude.{◌≡◌, ◌≢◌, ℕ, ◌-◌, ◌==◌, Bool, false, Option, Some, None, Result, Ok, Err, if◌then◌else◌, ⊤}
 use Rattle.csi_keeper.specs.Holding.{Holds}
-use Rattle.csi_keeper.specs.Keeper.{Applies}
+use Rattle.csi_keeper.specs.Keeper.{Applies, IsQuiet, Tells}
+use Rattle.csi_keeper.specs.State.{State}
 use Rattle.csi_keeper.specs.declared.change.Change.{Change}
 use Rattle.csi_keeper.specs.declared.change.StoreFault.{StoreFault}
 use Rattle.csi_keeper.specs.declared.change.StoreFault.TheVariants.{Refused}
 use Rattle.csi_keeper.specs.declared.fakes.FusedMem.{FusedMem}
+use Rattle.csi_keeper.specs.declared.mem.MemKeeper.{MemKeeper}
 
 -- what a call is answered before which so many go by, and how many go by behind it
 abbrev pub burnt : Option ℕ → Result (Unit {0}) StoreFault × Option ℕ
 burnt None = (Ok tt, None)
 burnt (Some n) = if n == 0 then (Err Refused, None) else (Ok tt, Some (n - 1))
 
+-- what is seen of a keeper that refuses a call: the keeper below it, how many calls go by before the one that is refused (none is behind it), how many were
+-- answered `Refused` or `Down`, and whether it is down
+abbrev pub kept : FusedMem → MemKeeper
+kept fused = fused.keeper
+
+abbrev pub calls_left : FusedMem → Option ℕ
+calls_left fused = fused.fuse.left
+
+abbrev pub refusals_of : FusedMem → ℕ
+refusals_of fused = fused.fuse.refusals
+
+abbrev pub is_shut : FusedMem → Bool
+is_shut fused = fused.fuse.is_down
+
+-- A call goes by, or is the one that is refused: no other is, and none goes uncounted.
+pub record Burns {X : Type 0} (old new : FusedMem) (result : Result X StoreFault) : Type 0 where
+  pub left : is_shut old ≡ false → calls_left new ≡ (burnt (calls_left old)).1
+  pub refused : is_shut old ≡ false → (burnt (calls_left old)).0 ≡ Err Refused → result ≡ Err Refused
+  pub goes_by : is_shut old ≡ false → (burnt (calls_left old)).0 ≡ Ok tt → result ≢ Err Refused
+
+-- what a keeper's read is, at one that refuses a call
+abbrev pub FusedTells : FusedMem → FusedMem → (State → Type 0) → Type 0
+FusedTells old new P = Tells (λ k s. Holds (kept k) s) (λ k. 0) old new P
+
+abbrev pub FusedIsQuiet : FusedMem → FusedMem → Type 0
+FusedIsQuiet old new = IsQuiet (λ k s. Holds (kept k) s) (λ k. 0) (λ k s. ⊥) (λ k. ⊤) is_shut old new
+
 -- what a keeper does with a change, at one that refuses a call
 abbrev pub FusedApplies : FusedMem → FusedMem → Change → Result (Unit {0}) StoreFault → Type 0
-FusedApplies old new change result = Applies (λ k s. Holds k.keeper s) (λ k. 0) (λ k s. ⊥) (λ k. ⊤) (λ k. k.fuse.is_down) old new change result
+FusedApplies old new change result = Applies (λ k s. Holds (kept k) s) (λ k. 0) (λ k s. ⊥) (λ k. ⊤) is_shut old new change result

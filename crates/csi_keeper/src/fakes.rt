@@ -1,11 +1,12 @@
 //! Keepers that fail where a test asks for it.
 
 ghost use Rattle.std.specs.Prelude.{◌≡◌, ◌≤◌, ◌+◌, ◌-◌, ◌^◌, ◌↔◌, min, false, Some, Err, IfOk, IsTrue};
+ghost use Rattle.std.specs.FinMap.{get};
 ghost use Rattle.csi_keeper.specs.Holding.{Holds};
-ghost use Rattle.csi_keeper.specs.Fakes.{burnt, FusedApplies};
+ghost use Rattle.csi_keeper.specs.Fakes.{burnt, calls_left, is_shut, kept, refusals_of, Burns, FusedApplies, FusedIsQuiet, FusedTells};
 ghost use Rattle.csi_keeper.specs.Keeper.{count_after};
 ghost use Rattle.csi_keeper.specs.Memory.{first_state};
-ghost use Rattle.csi_keeper.specs.State.{IsBounded};
+ghost use Rattle.csi_keeper.specs.State.{IsBounded, attached, attached_at, named, page, published_of_page, sizes, used};
 ghost use Rattle.csi_keeper.specs.declared.change.StoreFault.TheVariants.{Down, Refused};
 
 use crate::change::{Change, StoreFault, Usage};
@@ -81,8 +82,8 @@ impl FusedMem {
     pub fn new(alloc: Global, first: u64, at: u64) -> Result<FusedMem, AllocError>
         requires least { 1 ≤ first }
         requires most { first ≤ 2 ^ 62 }
-        ensures state { IfOk result (λ fused. Holds fused.keeper (first_state first)) }
-        ensures fuse { IfOk result (λ fused. (fused.fuse.left ≡ Some at) × (fused.fuse.is_down ≡ false) × (fused.fuse.refusals ≡ 0)) }
+        ensures state { IfOk result (λ fused. Holds (kept fused) (first_state first)) }
+        ensures fuse { IfOk result (λ fused. (calls_left fused ≡ Some at) × (is_shut fused ≡ false) × (refusals_of fused ≡ 0)) }
     {
         Ok(FusedMem {
             keeper: MemKeeper::new(alloc, first)?,
@@ -96,14 +97,14 @@ impl FusedMem {
 
     /// Whether each further call is answered `Down`.
     pub fn is_down(&self) -> bool
-        ensures { result ≡ self.now.fuse.is_down }
+        ensures { result ≡ is_shut self.now }
     {
         self.fuse.is_down
     }
 
     /// The keeper as it is opened again: it keeps what was kept, and refuses nothing.
     pub fn into_keeper(self) -> MemKeeper
-        ensures { result ≡ self.keeper }
+        ensures { result ≡ kept self }
     {
         self.keeper
     }
@@ -114,13 +115,13 @@ impl Keeper for FusedMem {
     ghost use Rattle.csi_keeper.specs.State.{State};
     ghost use Rattle.csi_keeper.specs.Holding.{Holds};
 
-    ghost holds = { λ fused s. Holds fused.keeper s };
+    ghost holds = { λ fused s. Holds (kept fused) s };
 
     ghost doubt = { λ _. 0 };
 
-    ghost refused = { λ fused. fused.fuse.refusals };
+    ghost refused = { refusals_of };
 
-    ghost is_down = { λ fused. fused.fuse.is_down };
+    ghost is_down = { is_shut };
 
     ghost survivors = { λ _ _. ⊥ };
 
@@ -130,42 +131,90 @@ impl Keeper for FusedMem {
         self.fuse.refusals
     }
 
-    fn next_number(&mut self) -> Result<u64, StoreFault> {
+    fn next_number(&mut self) -> Result<u64, StoreFault>
+        ensures value { IfOk result (λ n. FusedTells self.old self.new (λ s. n ≡ s.next)) }
+        ensures quiet { FusedIsQuiet self.old self.new }
+        ensures count { refusals_of self.new ≡ count_after (refusals_of self.old) result }
+        ensures down { (result ≡ Err Down) ↔ IsTrue (is_shut self.old) }
+        ensures turn { Burns self.old self.new result }
+    {
         self.fuse.burn()?;
         self.keeper.next_number()
     }
 
-    fn by_name(&mut self, alloc: Global, name: &str) -> Result<Option<Volume>, StoreFault> {
+    fn by_name(&mut self, alloc: Global, name: &str) -> Result<Option<Volume>, StoreFault>
+        ensures value { IfOk result (λ v. FusedTells self.old self.new (λ s. v ≡ named s name.now)) }
+        ensures quiet { FusedIsQuiet self.old self.new }
+        ensures count { refusals_of self.new ≡ count_after (refusals_of self.old) result }
+        ensures down { (result ≡ Err Down) ↔ IsTrue (is_shut self.old) }
+        ensures turn { Burns self.old self.new result }
+    {
         self.fuse.burn()?;
         self.keeper.by_name(alloc, name)
     }
 
-    fn by_number(&mut self, alloc: Global, number: u64) -> Result<Option<Volume>, StoreFault> {
+    fn by_number(&mut self, alloc: Global, number: u64) -> Result<Option<Volume>, StoreFault>
+        ensures value { IfOk result (λ v. FusedTells self.old self.new (λ s. v ≡ get s.volumes number)) }
+        ensures quiet { FusedIsQuiet self.old self.new }
+        ensures count { refusals_of self.new ≡ count_after (refusals_of self.old) result }
+        ensures down { (result ≡ Err Down) ↔ IsTrue (is_shut self.old) }
+        ensures turn { Burns self.old self.new result }
+    {
         self.fuse.burn()?;
         self.keeper.by_number(alloc, number)
     }
 
-    fn attachments(&mut self, alloc: Global, number: u64) -> Result<Items<Attachment>, StoreFault> {
+    fn attachments(&mut self, alloc: Global, number: u64) -> Result<Items<Attachment>, StoreFault>
+        ensures value { IfOk result (λ xs. FusedTells self.old self.new (λ s. xs ≡ attached s number)) }
+        ensures quiet { FusedIsQuiet self.old self.new }
+        ensures count { refusals_of self.new ≡ count_after (refusals_of self.old) result }
+        ensures down { (result ≡ Err Down) ↔ IsTrue (is_shut self.old) }
+        ensures turn { Burns self.old self.new result }
+    {
         self.fuse.burn()?;
         self.keeper.attachments(alloc, number)
     }
 
-    fn attached_at(&mut self, alloc: Global, node: &str) -> Result<Items<u64>, StoreFault> {
+    fn attached_at(&mut self, alloc: Global, node: &str) -> Result<Items<u64>, StoreFault>
+        ensures value { IfOk result (λ xs. FusedTells self.old self.new (λ s. xs ≡ attached_at s node.now)) }
+        ensures quiet { FusedIsQuiet self.old self.new }
+        ensures count { refusals_of self.new ≡ count_after (refusals_of self.old) result }
+        ensures down { (result ≡ Err Down) ↔ IsTrue (is_shut self.old) }
+        ensures turn { Burns self.old self.new result }
+    {
         self.fuse.burn()?;
         self.keeper.attached_at(alloc, node)
     }
 
-    fn sizes_in(&mut self, alloc: Global, pool: &str) -> Result<Items<u64>, StoreFault> {
+    fn sizes_in(&mut self, alloc: Global, pool: &str) -> Result<Items<u64>, StoreFault>
+        ensures value { IfOk result (λ xs. FusedTells self.old self.new (λ s. xs ≡ sizes s pool.now)) }
+        ensures quiet { FusedIsQuiet self.old self.new }
+        ensures count { refusals_of self.new ≡ count_after (refusals_of self.old) result }
+        ensures down { (result ≡ Err Down) ↔ IsTrue (is_shut self.old) }
+        ensures turn { Burns self.old self.new result }
+    {
         self.fuse.burn()?;
         self.keeper.sizes_in(alloc, pool)
     }
 
-    fn used_in(&mut self, pool: &Text) -> Result<Usage, StoreFault> {
+    fn used_in(&mut self, pool: &Text) -> Result<Usage, StoreFault>
+        ensures value { IfOk result (λ u. FusedTells self.old self.new (λ s. u ≡ used s pool.now)) }
+        ensures quiet { FusedIsQuiet self.old self.new }
+        ensures count { refusals_of self.new ≡ count_after (refusals_of self.old) result }
+        ensures down { (result ≡ Err Down) ↔ IsTrue (is_shut self.old) }
+        ensures turn { Burns self.old self.new result }
+    {
         self.fuse.burn()?;
         self.keeper.used_in(pool)
     }
 
-    fn page(&mut self, alloc: Global, after: u64, count: u32) -> Result<Items<Volume>, StoreFault> {
+    fn page(&mut self, alloc: Global, after: u64, count: u32) -> Result<Items<Volume>, StoreFault>
+        ensures value { IfOk result (λ xs. FusedTells self.old self.new (λ s. xs ≡ page s after count)) }
+        ensures quiet { FusedIsQuiet self.old self.new }
+        ensures count { refusals_of self.new ≡ count_after (refusals_of self.old) result }
+        ensures down { (result ≡ Err Down) ↔ IsTrue (is_shut self.old) }
+        ensures turn { Burns self.old self.new result }
+    {
         self.fuse.burn()?;
         self.keeper.page(alloc, after, count)
     }
@@ -175,7 +224,13 @@ impl Keeper for FusedMem {
         alloc: Global,
         after: u64,
         count: u32,
-    ) -> Result<Items<Items<Text>>, StoreFault> {
+    ) -> Result<Items<Items<Text>>, StoreFault>
+        ensures value { IfOk result (λ xs. FusedTells self.old self.new (λ s. xs ≡ published_of_page s after count)) }
+        ensures quiet { FusedIsQuiet self.old self.new }
+        ensures count { refusals_of self.new ≡ count_after (refusals_of self.old) result }
+        ensures down { (result ≡ Err Down) ↔ IsTrue (is_shut self.old) }
+        ensures turn { Burns self.old self.new result }
+    {
         self.fuse.burn()?;
         self.keeper.published_nodes(alloc, after, count)
     }
@@ -183,9 +238,10 @@ impl Keeper for FusedMem {
     fn apply(&mut self, alloc: Global, change: &Change) -> Result<(), StoreFault>
         requires { IsBounded change.now }
         ensures applies { FusedApplies self.old self.new change.now result }
-        ensures count { self.new.fuse.refusals ≡ count_after self.old.fuse.refusals result }
-        ensures down { (result ≡ Err Down) ↔ IsTrue self.old.fuse.is_down }
-        ensures stops { result ≡ Err Refused → IsTrue self.new.fuse.is_down }
+        ensures count { refusals_of self.new ≡ count_after (refusals_of self.old) result }
+        ensures down { (result ≡ Err Down) ↔ IsTrue (is_shut self.old) }
+        ensures turn { Burns self.old self.new result }
+        ensures stops { result ≡ Err Refused → IsTrue (is_shut self.new) }
     {
         if let Err(fault) = self.fuse.burn() {
             self.fuse.is_down = true;
