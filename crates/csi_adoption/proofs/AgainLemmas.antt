@@ -9,10 +9,9 @@ use Rattle.csi_config.specs.declared.config.Config.{Config}
 use Rattle.csi_keeper.specs.Invariant.{IsInvariant}
 use Rattle.csi_keeper.specs.State.{State}
 use Rattle.csi_layout.specs.Tables.{no_schema, schema}
-use Rattle.csi_tables.specs.Holding.{IsRows, store_doubt, store_holds, store_survivors, store_tied}
+use Rattle.csi_tables.specs.Holding.{IsRows, store_holds}
 use Rattle.csi_tables.specs.Keeping.{connection_of, store_of}
-use Rattle.csi_tables.specs.declared.tables.Tables.{Tables}
-use Rattle.csi_adoption.specs.Adopting.{committed, IsAdopted, IsStateOf}
+use Rattle.csi_adoption.specs.Adopting.{committed, IsStateOf}
 use Rattle.csi_adoption.specs.Again.{EndsTaken, IsTakenAs, StopsTaken}
 
 abbrev OneState : Type 0

@@ -112,6 +112,26 @@ fn nodes(alloc: Global, config: &Config) -> Result<Nodes<'_>, AllocError>
     })
 }
 
+// What the fold has found. It owns much, and nothing fails here.
+fn seen_by(fold: AttachmentsFold<'_>) -> AttachmentsSeen
+    ensures { result ≡ record { kinds = fold.entry.first.first.first.found; cap = fold.entry.first.second.first.found; readonly = fold.entry.first.second.second.found; node = fold.entry.second.first.found; node_volumes = fold.entry.second.second.parts } }
+{
+    let Both {
+        first: Both {
+            first: kinds,
+            second: codes,
+        },
+        second: nodes,
+    } = fold;
+    AttachmentsSeen {
+        kinds: kinds.first.found,
+        cap: codes.first.found,
+        readonly: codes.second.found,
+        node: nodes.first.found,
+        node_volumes: nodes.second.parts,
+    }
+}
+
 /// Looks over attachments, each behind its rowid.
 pub(crate) fn see_attachments<S: Alter>(
     alloc: Global,
@@ -123,31 +143,19 @@ pub(crate) fn see_attachments<S: Alter>(
     ensures looks { Looks S.Store conn.old conn.new result }
     ensures seen { SeenBy S.Store conn.old conn.new result (λ db rows. IsInOrder (map keyed_attachment (db 3)) rows) (λ rows seen. SeesAttachments config.now rows seen) }
 {
+    let nodes = nodes(alloc, config)?;
     let mut fold: AttachmentsFold<'_> = Both {
         first: Both {
             first: kinds(alloc),
             second: codes(alloc),
         },
-        second: nodes(alloc, config)?,
+        second: nodes,
     };
     look_over_attachments(conn, &mut fold)?;
-    let Both {
-        first: Both {
-            first: kinds,
-            second: codes,
-        },
-        second: nodes,
-    } = fold;
-    if !kinds.second.good {
+    if !fold.first.first.second.good {
         return Err(Error::SqliteFailure(ErrorCode::DatabaseCorrupt));
     }
-    Ok(AttachmentsSeen {
-        kinds: kinds.first.found,
-        cap: codes.first.found,
-        readonly: codes.second.found,
-        node: nodes.first.found,
-        node_volumes: nodes.second.parts,
-    })
+    Ok(seen_by(fold))
 }
 
 /// The first attachment whose volume does not stand, or has not its capability.

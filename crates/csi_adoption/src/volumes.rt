@@ -162,32 +162,10 @@ fn sums(alloc: Global, config: &Config) -> Result<Sums, AllocError>
     })
 }
 
-/// Looks over volumes.
-pub(crate) fn see_volumes<S: Alter>(
-    alloc: Global,
-    conn: &mut Connection<S>,
-    config: &Config,
-    next: u64,
-) -> Result<VolumesSeen, Error>
-    requires idle { conn.old.in_transaction ≡ false }
-    requires ours { HasCleanDisk (state S.Store conn.old) → conn.old.schema ≡ our_schema }
-    ensures looks { Looks S.Store conn.old conn.new result }
-    ensures seen { SeenBy S.Store conn.old conn.new result (λ db rows. IsInOrder (map seen_volume (db 1)) rows) (λ rows seen. SeesVolumes config.now next rows seen) }
+// What the fold has found. It owns much, and nothing fails here.
+fn seen_by(fold: VolumesFold<'_>) -> VolumesSeen
+    ensures { result ≡ record { kinds = fold.entry.first.first.first.first.found; number = fold.entry.first.first.second.first.found; name = fold.entry.first.first.second.second.found; pool = fold.entry.first.second.first.first.found; bytes = fold.entry.first.second.first.second.found; caps = fold.entry.first.second.second.first.found; params = fold.entry.first.second.second.second.found; pool_bytes = fold.entry.second.first.first.parts; pool_volumes = fold.entry.second.first.second.parts; rows = fold.entry.second.second.rows } }
 {
-    let mut fold: VolumesFold<'_> = Both {
-        first: Both {
-            first: Both {
-                first: kinds(alloc),
-                second: names(alloc, next),
-            },
-            second: Both {
-                first: sizes(alloc, config),
-                second: codes(alloc),
-            },
-        },
-        second: sums(alloc, config)?,
-    };
-    look_over_volumes(conn, &mut fold)?;
     let Both {
         first: Both {
             first: Both {
@@ -201,10 +179,7 @@ pub(crate) fn see_volumes<S: Alter>(
         },
         second: sums,
     } = fold;
-    if !kinds.second.good {
-        return Err(Error::SqliteFailure(ErrorCode::DatabaseCorrupt));
-    }
-    Ok(VolumesSeen {
+    VolumesSeen {
         kinds: kinds.first.found,
         number: names.first.found,
         name: names.second.found,
@@ -215,7 +190,40 @@ pub(crate) fn see_volumes<S: Alter>(
         pool_bytes: sums.first.first.parts,
         pool_volumes: sums.first.second.parts,
         rows: sums.second.rows,
-    })
+    }
+}
+
+/// Looks over volumes.
+pub(crate) fn see_volumes<S: Alter>(
+    alloc: Global,
+    conn: &mut Connection<S>,
+    config: &Config,
+    next: u64,
+) -> Result<VolumesSeen, Error>
+    requires idle { conn.old.in_transaction ≡ false }
+    requires ours { HasCleanDisk (state S.Store conn.old) → conn.old.schema ≡ our_schema }
+    ensures looks { Looks S.Store conn.old conn.new result }
+    ensures seen { SeenBy S.Store conn.old conn.new result (λ db rows. IsInOrder (map seen_volume (db 1)) rows) (λ rows seen. SeesVolumes config.now next rows seen) }
+{
+    let sums = sums(alloc, config)?;
+    let mut fold: VolumesFold<'_> = Both {
+        first: Both {
+            first: Both {
+                first: kinds(alloc),
+                second: names(alloc, next),
+            },
+            second: Both {
+                first: sizes(alloc, config),
+                second: codes(alloc),
+            },
+        },
+        second: sums,
+    };
+    look_over_volumes(conn, &mut fold)?;
+    if !fold.first.first.first.second.good {
+        return Err(Error::SqliteFailure(ErrorCode::DatabaseCorrupt));
+    }
+    Ok(seen_by(fold))
 }
 
 /// The fault of a volume that breaks a rule.

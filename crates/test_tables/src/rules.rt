@@ -6,8 +6,8 @@ use csi_config::Config;
 use csi_looks::RowTest;
 use csi_rules::{
     AttachmentRule, BrokenRule, FirstBroken, HasAttachmentKinds, HasCap, HasCaps, HasFlag,
-    HasParams, HasVolumeKinds, IsAtNode, IsBeside, IsInPools, IsNamed, IsNumbered, IsOwned, IsSized,
-    RowName, RowTrial, Sure, VolumeRule,
+    HasParams, HasVolumeKinds, IsAtNode, IsBeside, IsInPools, IsNamed, IsNumbered, IsOwned,
+    IsSized, RowName, RowTrial, Sure, VolumeRule,
 };
 use sqlite::{Connection, MemStore};
 use std::alloc::Global;

@@ -1,7 +1,7 @@
-use Rattle.std.proofs.Common.{◌≡◌, ◌∙◌, sym, subst, Err, IsPermutation}
+use Rattle.std.proofs.Common.{◌≡◌, sym, subst, Err, IsPermutation}
 use Rattle.sqlite.specs.Held.{state}
 use Rattle.sqlite.specs.Tree.{Trees}
-use Rattle.csi_looks.specs.Looks.{owners, pairs}
+use Rattle.csi_looks.specs.Looks.{pairs}
 use Rattle.csi_adoption.specs.Judging.{JudgesRows, volumes_unless}
 use Rattle.csi_adoption.proofs.JudgedLemmas.{counts_fault, joined_failure, judged_err, none_broken, owner_fault}
 use Rattle.csi_adoption.proofs.FaultLemmas.{is_err, not_memory}

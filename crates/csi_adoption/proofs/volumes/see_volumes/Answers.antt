@@ -1,7 +1,9 @@
+use Rattle.std.proofs.Common.{subst, sym}
 use Rattle.csi_looks.specs.declared.sums.Weight.TheVariants.{Number, One}
 use Rattle.csi_rules.specs.Coded.{has_caps, has_params}
 use Rattle.csi_rules.specs.Kinds.{has_volume_kinds}
 use Rattle.csi_rules.specs.Volumes.{is_in_pools, is_named, is_numbered, is_sized}
+use Rattle.csi_adoption.specs.Judging.{SeesVolumes}
 use Rattle.csi_adoption.proofs.SeeingLemmas.{all_sums, counted, named, named_by, risen, sees_volumes}
 use Rattle.csi_adoption.proofs.volumes.see_volumes.Goals as goal
 
@@ -17,7 +19,7 @@ returns-clause-seen g c clean =
     let sums = c.in_ok-sums.ensures in (
       rows,
       seen.1,
-      sees_volumes c.args.config.now c.args.next rows _
+      subst (SeesVolumes c.args.config.now c.args.next rows) (sym c.seen_by.ensures) (sees_volumes c.args.config.now c.args.next rows _
           (named 0 1 _ _ has_volume_kinds _ _ rows kinds.number kinds.text kinds.none all.0.0.0.0.3)
           (named_by 0 1 _ _ is_numbered _ _ _ _ rows names.next names.number_first names.text_first names.none_first all.0.0.1.0.3)
           (named 0 1 _ _ is_named _ _ rows names.number_second names.text_second names.none_second all.0.0.1.1.3)
@@ -28,7 +30,7 @@ returns-clause-seen g c clean =
           (all_sums 3 (λ p. p.name) (Number 2) rows c.args.config.now.pools _ _ sums.bytes all.1.0.0)
           (all_sums 3 (λ p. p.name) One rows c.args.config.now.pools _ _ sums.volumes all.1.0.1)
           (counted _ _ rows sums.rows all.1.1)
-          (risen _ _ _ _ _ rows kinds.column kinds.good kinds.last all.0.0.0.1.1 c.if-not-kinds.false)
+          (risen _ _ _ _ _ rows kinds.column kinds.good kinds.last all.0.0.0.1.1 c.if-not-fold.false)
           all.0.1.1.0.4
-          all.0.1.1.1.4,
+          all.0.1.1.1.4),
     )
