@@ -339,6 +339,11 @@ abbrev pub JudgesJoined : Config → Trees → ℕ → TablesSeen → Result (Un
 JudgesJoined config db next tables result = TablesAreSeen config next db tables → table_faults config next (told_volumes tables.volumes) (told_attachments tables.attachments) ≡ None
     → (rows : List Row) → IsPermutation (map seen_meta (db 0)) rows → meta_judged (with_rows meta.None rows) ≡ Ok next → JudgesRows config db (volumes_unless tables result)
 
+-- where this was seen of the tables, and this is the next number that meta has
+abbrev pub JudgesSeen : Config → Trees → ℕ → TablesSeen → Result (Unit {0}) AdoptFault → Type 0
+JudgesSeen config db next tables result = TablesAreSeen config next db tables
+    → (rows : List Row) → IsPermutation (map seen_meta (db 0)) rows → meta_judged (with_rows meta.None rows) ≡ Ok next → JudgesRows config db (volumes_unless tables result)
+
 -- where this is the next number that meta has
 abbrev pub JudgesBehind : Config → Trees → ℕ → Result VolumesSeen AdoptFault → Type 0
 JudgesBehind config db next result = (rows : List Row) → IsPermutation (map seen_meta (db 0)) rows → meta_judged (with_rows meta.None rows) ≡ Ok next → JudgesRows config db result

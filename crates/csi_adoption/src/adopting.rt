@@ -13,7 +13,7 @@ ghost use Rattle.csi_keeper.specs.State.{State};
 ghost use Rattle.csi_tables.specs.Holding.{IsRows};
 ghost use Rattle.csi_adoption.specs.Adopting.{FoundState, IsAdopted, IsFound, IsNotRefused, IsUnadopted};
 ghost use Rattle.csi_adoption.specs.Looking.{Looks};
-ghost use Rattle.csi_adoption.specs.Judging.{is_failure, AreJudged, ArePassed, IsFaultOf, IsMetaFault, JudgesBehind, JudgesJoined, JudgesRows, SeesNext, Says, TablesAreSeen, Tells, code_faults, count_fault, count_faults, kinds_faults, table_faults, told_attachments, told_volumes};
+ghost use Rattle.csi_adoption.specs.Judging.{is_failure, AreJudged, ArePassed, IsFaultOf, IsMetaFault, JudgesBehind, JudgesJoined, JudgesRows, JudgesSeen, SeesNext, Says, TablesAreSeen, Tells, code_faults, count_fault, count_faults, kinds_faults, table_faults, told_attachments, told_volumes};
 
 use crate::attachment_laws::{attachments_found, attachments_pass, owners_pass, pairs_pass};
 use crate::attachments::{
@@ -169,8 +169,25 @@ fn judge_joined<S: Alter>(
     Ok(())
 }
 
+// Judges what was seen of the tables, and what is seen of two of them together.
+fn judge_seen<S: Alter>(
+    alloc: Global,
+    conn: &mut Connection<S>,
+    config: &Config,
+    next: u64,
+    tables: &TablesSeen,
+) -> Result<(), AdoptFault>
+    requires idle { conn.old.in_transaction ≡ false }
+    requires ours { HasCleanDisk (state S.Store conn.old) → conn.old.schema ≡ our_schema }
+    ensures looks { Looks S.Store conn.old conn.new result }
+    ensures judged { HasCleanDisk (state S.Store conn.new) → JudgesSeen config.now (state S.Store conn.old).now.trees next tables.now result }
+{
+    check_tables(alloc, config, next, &tables.volumes, &tables.attachments)?;
+    judge_joined(alloc, conn, config, tables)
+}
+
 // Judges the rows behind that of meta by the rules in their order. What is seen of the tables is large, and
-// so is lent to whatever may fail.
+// so is lent to what may fail.
 fn judge_behind<S: Alter>(
     alloc: Global,
     conn: &mut Connection<S>,
@@ -183,8 +200,7 @@ fn judge_behind<S: Alter>(
     ensures judged { HasCleanDisk (state S.Store conn.new) → JudgesBehind config.now (state S.Store conn.old).now.trees next result }
 {
     let tables = see_tables(alloc, conn, config, next)?;
-    check_tables(alloc, config, next, &tables.volumes, &tables.attachments)?;
-    judge_joined(alloc, conn, config, &tables)?;
+    judge_seen(alloc, conn, config, next, &tables)?;
     let TablesSeen { volumes, .. } = tables;
     Ok(volumes)
 }

@@ -99,7 +99,11 @@ pub(crate) fn command<'a>(alloc: Global) -> Result<Command<'a>, Error> {
 pub(crate) fn odd_number<'a>(matches: &ArgMatches<'a>) -> Option<&'a str> {
     let (_, words) = matches.subcommand()?;
     let number = words.get_str("connections")?;
-    if is_decimal(number) { None } else { Some(number) }
+    if is_decimal(number) {
+        None
+    } else {
+        Some(number)
+    }
 }
 
 /// What the words that [`command`] takes ask for.

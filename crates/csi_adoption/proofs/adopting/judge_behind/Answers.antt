@@ -1,9 +1,9 @@
 use Rattle.std.proofs.Common.{◌≡◌, sym, subst, Ok, Err}
 use Rattle.sqlite.specs.Held.{state}
 use Rattle.sqlite.specs.Tree.{Trees}
-use Rattle.csi_adoption.specs.Judging.{JudgesJoined, JudgesRows}
-use Rattle.csi_adoption.proofs.JudgedLemmas.{judged_err, judged_failure, table_fault}
-use Rattle.csi_adoption.proofs.FaultLemmas.{is_err, not_memory}
+use Rattle.csi_adoption.specs.Judging.{JudgesRows, JudgesSeen}
+use Rattle.csi_adoption.proofs.JudgedLemmas.{judged_failure}
+use Rattle.csi_adoption.proofs.FaultLemmas.{is_err}
 use Rattle.csi_adoption.proofs.TurnLemmas.{clean_before, ended, failed, same_trees, turns}
 use Rattle.csi_adoption.proofs.adopting.judge_behind.Goals as goal
 
@@ -11,38 +11,30 @@ pub returns-in_err-tables-clause-judged : goal.returns-in_err-tables-clause-judg
 returns-in_err-tables-clause-judged g c = λ clean rows same is.
     judged_failure c.args.config.now (state g.S.Store c.args.conn.now).now.trees c.from_residual.result c.in_err-tables.field-0.0 c.from_residual.ensures.1
 
-pub returns-in_err-check_tables-clause-judged : goal.returns-in_err-check_tables-clause-judged
-returns-in_err-check_tables-clause-judged g c = λ clean rows same is.
-    let answer : c.from_residual-in_err-check_tables.result ≡ Err c.in_err-check_tables.field-0.0 = is_err c.from_residual-in_err-check_tables.result c.in_err-check_tables.field-0.0 c.from_residual-in_err-check_tables.ensures.1 in
+pub returns-in_err-judge_seen-clause-looks : goal.returns-in_err-judge_seen-clause-looks
+returns-in_err-judge_seen-clause-looks g c =
+    failed g.S.Store c.args.conn.now c.judge_seen.new.conn _ c.from_residual-in_err-judge_seen.result c.from_residual-in_err-judge_seen.ensures.0
+    (turns g.S.Store c.args.conn.now c.see_tables.new.conn c.judge_seen.new.conn c.in_ok-tables.tables _ c.in_ok-tables.ensures.looks c.in_err-judge_seen.ensures.looks)
+
+pub returns-in_err-judge_seen-clause-judged : goal.returns-in_err-judge_seen-clause-judged
+returns-in_err-judge_seen-clause-judged g c = λ clean rows same is.
+    let answer : c.from_residual-in_err-judge_seen.result ≡ Err c.in_err-judge_seen.field-0.0 = is_err c.from_residual-in_err-judge_seen.result c.in_err-judge_seen.field-0.0 c.from_residual-in_err-judge_seen.ensures.1 in
     let config = c.args.config.now in
     let db = (state g.S.Store c.args.conn.now).now.trees in
-    let seen = c.in_ok-tables.ensures.seen clean in
-    subst (JudgesRows config db) (sym answer) (judged_err config db c.in_err-check_tables.field-0.0 (λ known. table_fault config db c.args.next rows same is c.in_ok-tables.tables seen c.in_err-check_tables.field-0.0 (c.in_err-check_tables.ensures (not_memory c.in_err-check_tables.field-0.0 known))))
-
-pub returns-in_err-judge_joined-clause-looks : goal.returns-in_err-judge_joined-clause-looks
-returns-in_err-judge_joined-clause-looks g c =
-    failed g.S.Store c.args.conn.now c.judge_joined.new.conn _ c.from_residual-in_err-judge_joined.result c.from_residual-in_err-judge_joined.ensures.0
-    (turns g.S.Store c.args.conn.now c.see_tables.new.conn c.judge_joined.new.conn c.in_ok-tables.tables _ c.in_ok-tables.ensures.looks c.in_err-judge_joined.ensures.looks)
-
-pub returns-in_err-judge_joined-clause-judged : goal.returns-in_err-judge_joined-clause-judged
-returns-in_err-judge_joined-clause-judged g c = λ clean rows same is.
-    let answer : c.from_residual-in_err-judge_joined.result ≡ Err c.in_err-judge_joined.field-0.0 = is_err c.from_residual-in_err-judge_joined.result c.in_err-judge_joined.field-0.0 c.from_residual-in_err-judge_joined.ensures.1 in
-    let config = c.args.config.now in
-    let db = (state g.S.Store c.args.conn.now).now.trees in
-    let before = clean_before g.S.Store c.see_tables.new.conn c.judge_joined.new.conn _ c.in_err-judge_joined.ensures.looks clean in
+    let before = clean_before g.S.Store c.see_tables.new.conn c.judge_seen.new.conn _ c.in_err-judge_seen.ensures.looks clean in
     let trees = same_trees g.S.Store c.args.conn.now c.see_tables.new.conn (c.in_ok-tables.ensures.looks.same before) in
-    let joined = subst (λ (t : Trees). JudgesJoined config t c.args.next c.in_ok-tables.tables (Err c.in_err-judge_joined.field-0.0)) trees (c.in_err-judge_joined.ensures.judged clean c.args.next) in
-    subst (JudgesRows config db) (sym answer) (joined (c.in_ok-tables.ensures.seen before) c.in_ok-check_tables.ensures rows same is)
+    let joined = subst (λ (t : Trees). JudgesSeen config t c.args.next c.in_ok-tables.tables (Err c.in_err-judge_seen.field-0.0)) trees (c.in_err-judge_seen.ensures.judged clean) in
+    subst (JudgesRows config db) (sym answer) (joined (c.in_ok-tables.ensures.seen before) rows same is)
 
 pub returns-clause-looks : goal.returns-clause-looks
 returns-clause-looks g c =
-    ended g.S.Store c.args.conn.now c.judge_joined.new.conn _ _
-    (turns g.S.Store c.args.conn.now c.see_tables.new.conn c.judge_joined.new.conn c.in_ok-tables.tables _ c.in_ok-tables.ensures.looks c.in_ok-judge_joined.ensures.looks)
+    ended g.S.Store c.args.conn.now c.judge_seen.new.conn _ _
+    (turns g.S.Store c.args.conn.now c.see_tables.new.conn c.judge_seen.new.conn c.in_ok-tables.tables _ c.in_ok-tables.ensures.looks c.in_ok-judge_seen.ensures.looks)
 
 pub returns-clause-judged : goal.returns-clause-judged
 returns-clause-judged g c = λ clean rows same is.
     let config = c.args.config.now in
-    let before = clean_before g.S.Store c.see_tables.new.conn c.judge_joined.new.conn _ c.in_ok-judge_joined.ensures.looks clean in
+    let before = clean_before g.S.Store c.see_tables.new.conn c.judge_seen.new.conn _ c.in_ok-judge_seen.ensures.looks clean in
     let trees = same_trees g.S.Store c.args.conn.now c.see_tables.new.conn (c.in_ok-tables.ensures.looks.same before) in
-    let joined = subst (λ (t : Trees). JudgesJoined config t c.args.next c.in_ok-tables.tables (Ok tt)) trees (c.in_ok-judge_joined.ensures.judged clean c.args.next) in
-    joined (c.in_ok-tables.ensures.seen before) c.in_ok-check_tables.ensures rows same is
+    let joined = subst (λ (t : Trees). JudgesSeen config t c.args.next c.in_ok-tables.tables (Ok tt)) trees (c.in_ok-judge_seen.ensures.judged clean) in
+    joined (c.in_ok-tables.ensures.seen before) rows same is
