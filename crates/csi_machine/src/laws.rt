@@ -1,7 +1,7 @@
 //! Laws of the definitions that the contracts cite: each is the contract of a function that does
 //! nothing.
 
-ghost use Rattle.std.specs.Prelude.{◌≡◌, ◌<◌, ◌^◌, ℕ, List, [], ◌∷◌, Some};
+ghost use Rattle.std.specs.Prelude.{◌≡◌, ◌<◌, ◌^◌, ℕ, List, [], ◌∷◌, None, Some};
 ghost use Rattle.csi_machine.specs.Ids.{id, number_of_id};
 ghost use Rattle.csi_keeper.specs.Texts.{Text};
 ghost use Rattle.csi_keeper.specs.Invariant.{IsInvariant};
@@ -13,9 +13,12 @@ ghost use Rattle.csi_machine.specs.Choice.{choice, rooms};
 ghost use Rattle.csi_machine.specs.Offer.{AsksFor, IsNew, term_of};
 ghost use Rattle.csi_machine.specs.calls.Capacity.{capacity, tell_capacity};
 ghost use Rattle.csi_machine.specs.calls.Create.{create, place_in};
+ghost use Rattle.csi_machine.specs.Step.{step};
 ghost use Rattle.csi_config.specs.declared.pools.Pool.{Pool};
 ghost use Rattle.csi_types.specs.declared.requests.CreateVolume.{CreateVolume};
 ghost use Rattle.csi_types.specs.declared.requests.GetCapacity.{GetCapacity};
+ghost use Rattle.csi_types.specs.declared.requests.Request.{Request};
+ghost use Rattle.csi_types.specs.Checks.{checked};
 
 use crate::configured::configured;
 use csi_config::Config;
@@ -27,6 +30,15 @@ pub fn ids()
     ensures read { (n : ℕ) → n < 2 ^ 64 → number_of_id (id n) ≡ Some n }
     ensures only { (t : Text) (n : ℕ) → number_of_id t ≡ Some n → t ≡ id n }
 {}
+
+/// The State after a request meets the invariant, where the State before it does and the request passes
+/// the checks of its arguments. What is answered does not matter.
+#[inline(always)]
+pub fn kept(config: &Config)
+    ensures { (s : State) (r : Request) → IsInvariant config.now s → checked r ≡ None → IsInvariant config.now (step config.now s r).1 }
+{
+    configured(config);
+}
 
 /// A walk over the pages of a listing, from a State of the invariant (CSI specification,
 /// 'ListVolumes').
