@@ -7,3 +7,4 @@ mod Requesting
 mod Forms
 mod VolumeLemmas
 mod PendingLemmas
+mod KeptLemmas

@@ -1,5 +1,5 @@
 -- A keeper's answers, as the volume machine responds.
-use Rattle.std.proofs.Common.{◌≡◌, ◌⊎◌, Bool, true, ℕ, List, [], ◌++◌, drop, None, Result, Ok, Err, refl, sym, ap, subst, ◌∙◌, inl, inr, arith}
+use Rattle.std.proofs.Common.{◌≡◌, ◌⊎◌, Bool, true, ℕ, List, [], ◌++◌, ◌+◌, drop, length, length-append, None, Result, Ok, Err, refl, sym, ap, subst, ◌∙◌, inl, inr, arith}
 use Rattle.std.specs.Prelude.{⊤}
 use Rattle.csi_types.specs.declared.reason.Reason.TheVariants as reason
 use Rattle.csi_types.specs.declared.requests.Request.{Request}
@@ -16,19 +16,20 @@ use Rattle.csi_keeper.specs.Invariant.{IsInvariant}
 use Rattle.csi_keeper.specs.Keeper.{count_after}
 use Rattle.csi_keeper.specs.State.{State}
 use Rattle.csi_machine.specs.Step.{step}
-use Rattle.csi_machine.specs.Verdicts.{IsTold}
+use Rattle.csi_machine.specs.Verdicts.{Appended, IsTold}
 use Rattle.csi_server.specs.Machine.{Mark, Unmarked, OutOfMemory, StoreRefused, StoreDown, Sight, KnowsDown, RoseBy, marked, store_mark, refused}
 use Rattle.csi_server.specs.Requests.{AnswersBy, LeavesBy, after_check, told}
-use Rattle.csi_server.specs.Service.{room}
-use Rattle.csi_server.specs.Volumes.{seen}
+use Rattle.csi_server.specs.Service.{HoldsBody, room}
+use Rattle.csi_server.specs.declared.service.Answer.TheVariants as answer
+use Rattle.csi_server.specs.Volumes.{RepliesTo, seen}
 
--- the reply that an answer makes
-abbrev pub RepliesTo : List ℕ → ReplyBytes → Result Verdict StoreFault → Type 0
-RepliesTo out r (Ok verdict.Done) = r ≡ record { status = 0; text = []; body = drop REPLY_HEAD_BYTES out }
-RepliesTo out r (Ok (verdict.Refused q)) = r ≡ refused q
-RepliesTo out r (Err fault.NoMemory) = r ≡ refused reason.OutOfMemory
-RepliesTo out r (Err fault.Refused) = r ≡ refused reason.StoreRefused
-RepliesTo out r (Err fault.Down) = r ≡ refused reason.StoreDown
+-- what was appended behind the room for a head is a body
+pub holds_body : (old out : List ℕ) (v : Result Verdict StoreFault) → old ≡ room → Appended old out v → v ≡ Ok verdict.Done → HoldsBody answer.Body out
+holds_body old out (Ok verdict.Done) begun (body, is, few) e =
+    let long : length out ≡ 8 + length body = ap length is ∙ (length-append old body ∙ ap (λ (xs : List ℕ). length xs + length body) begun) in
+    (omega (arith, long), omega (arith, long, few))
+holds_body old out (Ok (verdict.Refused q)) begun is e = absurd (cc)
+holds_body old out (Err f) begun is e = absurd (cc)
 
 -- the mark of a fault
 abbrev pub mark_of : StoreFault → Mark

@@ -1,7 +1,10 @@
 -- The volume machine over calls, and what is seen of a keeper.
-use Rattle.std.specs.Prelude.{◌≡◌, ◌≢◌, Bool, ℕ, List, ◌∷◌, ◌++◌, Some, None, Ok}
+use Rattle.std.specs.Prelude.{◌≡◌, ◌≢◌, Bool, ℕ, List, [], ◌∷◌, ◌++◌, drop, Some, None, Result, Ok, Err}
 use Rattle.std.specs.List.{AllByRecursion}
+use Rattle.frames_core.specs.Envelope.{ReplyBytes}
+use Rattle.frames_core.specs.declared.limits.TheConstants.{REPLY_HEAD_BYTES}
 use Rattle.csi_types.specs.declared.method.Method.{Method}
+use Rattle.csi_types.specs.declared.reason.Reason.TheVariants as reason
 use Rattle.csi_types.specs.declared.requests.Request.{Request}
 use Rattle.csi_types.specs.Checks.{checked}
 use Rattle.csi_types.specs.Methods.{method_at}
@@ -9,8 +12,12 @@ use Rattle.csi_codec.specs.Reading.{read_request}
 use Rattle.csi_config.specs.declared.config.Config.{Config}
 use Rattle.csi_keeper.specs.Invariant.{IsInvariant}
 use Rattle.csi_keeper.specs.State.{State}
+use Rattle.csi_keeper.specs.declared.change.StoreFault.{StoreFault}
+use Rattle.csi_keeper.specs.declared.change.StoreFault.TheVariants as fault
 use Rattle.csi_machine.specs.Step.{step}
-use Rattle.csi_server.specs.Machine.{Machine, Sight, Event, Unmarked, state_after}
+use Rattle.csi_machine.specs.declared.body.Verdict.{Verdict}
+use Rattle.csi_machine.specs.declared.body.Verdict.TheVariants as verdict
+use Rattle.csi_server.specs.Machine.{Machine, Sight, Event, Unmarked, refused, state_after}
 use Rattle.csi_server.specs.Machine.{step as call_step}
 use Rattle.csi_server.specs.Requests.{requests}
 
@@ -22,6 +29,14 @@ module _ {K : Type 0} (holds : K → State → Type 0) (doubt : K → ℕ) (refu
   -- a keeper as a run sees it: of the States that it may have those of the invariant, and the rest as the keeper has it
   abbrev pub seen : Config → K → Sight State
   seen config k = record { holds = λ s. holds k s × IsInvariant config s; doubt = doubt k; refusals = refused k; survivors = survivors k; tied = tied k; is_down = is_down k }
+
+-- the reply to a call of which the machine answered this, where the body stands behind room for the head
+abbrev pub RepliesTo : List ℕ → ReplyBytes → Result Verdict StoreFault → Type 0
+RepliesTo out r (Ok verdict.Done) = r ≡ record { status = 0; text = []; body = drop REPLY_HEAD_BYTES out }
+RepliesTo out r (Ok (verdict.Refused q)) = r ≡ refused q
+RepliesTo out r (Err fault.NoMemory) = r ≡ refused reason.OutOfMemory
+RepliesTo out r (Err fault.Refused) = r ≡ refused reason.StoreRefused
+RepliesTo out r (Err fault.Down) = r ≡ refused reason.StoreDown
 
 -- What a stop may leave beside the last State: what a call would have made that was refused inside, whose request was read and passed the checks,
 -- and after which no call moved the State.

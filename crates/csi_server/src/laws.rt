@@ -8,6 +8,7 @@ ghost use Rattle.frames_core.specs.Envelope.{CallBytes, IsReply};
 ghost use Rattle.frames_core.specs.Texts.{fault_words};
 ghost use Rattle.csi_types.specs.declared.code.Code.TheVariants as Code;
 ghost use Rattle.csi_types.specs.Codes.{number_of};
+ghost use Rattle.csi_keeper.specs.Invariant.{IsInvariant};
 ghost use Rattle.csi_server.specs.Machine.{Unmarked, Event, Runs, AreReplies, refusal, state_after};
 ghost use Rattle.csi_server.specs.Identity.{identity};
 ghost use Rattle.csi_server.specs.Volumes.{volumes, seen, IsPending};
@@ -18,6 +19,7 @@ use crate::service::Service;
 use csi_codec::laws::reading;
 use csi_config::Config;
 use csi_machine::Keeper;
+use csi_machine::laws::kept as kept_by_answers;
 use frames_core::laws::decimal_is_text;
 
 /// After a run in which no call is marked, what a stop may leave is the state after the run.
@@ -57,6 +59,15 @@ pub fn formed_volumes()
 {
     decimal_is_text();
     reading();
+}
+
+/// From a State of the invariant a run of the volume machine, whatever its calls and marks, leaves one of the
+/// invariant, and so is each State that [`pending`] says a stop may leave.
+pub fn kept(config: &Config)
+    ensures run { (s : MachineState) (events : List Event) → IsInvariant config.now s → IsInvariant config.now (state_after (volumes config.now) s events) }
+    ensures pending { (s : MachineState) (events : List Event) (t : MachineState) → IsInvariant config.now s → IsPending config.now s events t → IsInvariant config.now t }
+{
+    kept_by_answers(config);
 }
 
 /// After a run of the volume machine from a State that alone would have been left by a stop, a stop leaves

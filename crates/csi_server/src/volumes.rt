@@ -1,6 +1,6 @@
 //! The volume machine over a keeper.
 
-ghost use Rattle.std.specs.Prelude.{◌≡◌, ◌≤◌, ⊤, None, Ok};
+ghost use Rattle.std.specs.Prelude.{◌≡◌, ◌≤◌, ⊤, ℕ, List, None, Ok};
 ghost use Rattle.std.specs.Io.KnownBytes.{Consumes, IsAtEnd, Keeps};
 ghost use Rattle.csi_types.specs.Checks.{checked};
 ghost use Rattle.csi_types.specs.declared.requests.Request.{Request as AnyRequest};
@@ -10,7 +10,7 @@ ghost use Rattle.csi_machine.specs.Step.{step};
 ghost use Rattle.csi_server.specs.Requests.{after_check, after_read, AnswersBy};
 ghost use Rattle.csi_server.specs.Service.{reply_of, HoldsBody, room};
 ghost use Rattle.csi_server.specs.Serving.{Serves};
-ghost use Rattle.csi_server.specs.Volumes.{volumes, seen};
+ghost use Rattle.csi_server.specs.Volumes.{volumes, seen, RepliesTo};
 
 use crate::end::RunEnd;
 use crate::message::{read_message, refuse};
@@ -22,6 +22,20 @@ use csi_types::{Method, Reason, Request, method_of};
 use frames_core::Call;
 use std::alloc::Global;
 use std::io::{Read, Write};
+
+// The answer to a call of which the machine answered this.
+fn answer_of(verdict: Result<Verdict, StoreFault>) -> Answer
+    ensures reply { (buffer : List ℕ) → RepliesTo buffer (reply_of result buffer) verdict }
+    ensures room { (buffer : List ℕ) → (verdict ≡ Ok Verdict.Done → HoldsBody Answer.Body buffer) → HoldsBody result buffer }
+{
+    match verdict {
+        Ok(Verdict::Done) => Answer::Body,
+        Ok(Verdict::Refused(reason)) => refuse(reason),
+        Err(StoreFault::NoMemory) => refuse(Reason::OutOfMemory),
+        Err(StoreFault::Refused) => refuse(Reason::StoreRefused),
+        Err(StoreFault::Down) => refuse(Reason::StoreDown),
+    }
+}
 
 // Answers a request that passes the checks, behind the room for a head.
 fn answer_begun<K: Keeper>(
@@ -38,13 +52,7 @@ fn answer_begun<K: Keeper>(
         → AnswersBy (λ t. after_check (step config.now) t request.now None) ⊤ (seen K.holds K.doubt K.refused K.survivors K.tied K.is_down config.now keeper.old) (seen K.holds K.doubt K.refused K.survivors K.tied K.is_down config.now keeper.new) s (reply_of result reply.new.items) }
     ensures room { HoldsBody result reply.new.items }
 {
-    match append_answer(alloc, config, keeper, request, reply) {
-        Ok(Verdict::Done) => Answer::Body,
-        Ok(Verdict::Refused(reason)) => refuse(reason),
-        Err(StoreFault::NoMemory) => refuse(Reason::OutOfMemory),
-        Err(StoreFault::Refused) => refuse(Reason::StoreRefused),
-        Err(StoreFault::Down) => refuse(Reason::StoreDown),
-    }
+    answer_of(append_answer(alloc, config, keeper, request, reply))
 }
 
 // Answers a request that passes the checks.
