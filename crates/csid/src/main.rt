@@ -3,6 +3,7 @@
 
 mod command;
 mod config;
+pub mod laws;
 mod run;
 mod say;
 mod socket;

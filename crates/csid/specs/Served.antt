@@ -1,0 +1,45 @@
+-- What adoption makes of tables over which calls were served.
+use Rattle.std.specs.Prelude.{◌≡◌, ◌⊎◌, List}
+use Rattle.sqlite.specs.Held.{Held, state}
+use Rattle.sqlite.specs.Store.{Ghosts}
+use Rattle.sqlite.specs.Tree.{Trees}
+use Rattle.csi_config.specs.declared.config.Config.{Config}
+use Rattle.csi_keeper.specs.Invariant.{IsInvariant}
+use Rattle.csi_keeper.specs.State.{State}
+use Rattle.csi_layout.specs.Tables.{schema}
+use Rattle.csi_tables.specs.Holding.{store_doubt, store_holds, store_survivors, store_tied}
+use Rattle.csi_tables.specs.Keeping.{connection_of, is_down, refusals, store_of}
+use Rattle.csi_tables.specs.declared.tables.Tables.{Tables}
+use Rattle.csi_adoption.specs.Adopting.{committed}
+use Rattle.csi_adoption.specs.Again.{IsTakenAs}
+use Rattle.csi_server.specs.Machine.{Event, Runs, Sight, state_after}
+use Rattle.csi_server.specs.Volumes.{IsPending, seen, volumes}
+
+module _ {S : Type 0} (g : Ghosts S) (config : Config) where
+  -- a keeper over tables as a run of `serve` sees it
+  abbrev pub tables_seen : Tables S g → Sight State
+  tables_seen = seen (λ t. store_holds g (store_of g t)) (λ t. store_doubt g (store_of g t)) (refusals g) (λ t. store_survivors g (store_of g t)) (λ t. store_tied g (store_of g t)) (is_down g) config
+
+  -- a run of `serve` over tables: of these calls, from the State s to what it left
+  abbrev pub Serves : Tables S g → Tables S g → State → List Event → Type 0
+  Serves old new s events = Runs (volumes config) (tables_seen old) (tables_seen new) s events
+
+  -- What a stop left: the State after the run, or what a call would have made that was refused inside. Any connection over it is taken as that.
+  pub record IsTakenBehind (s : State) (events : List Event) (db : Trees) : Type 0 where
+    pub left : State
+    pub is : (left ≡ state_after (volumes config) s events) ⊎ IsPending config s events left
+    pub again : (conn : Held S) → (committed g config conn).schema ≡ schema → (committed g config conn).trees ≡ db → IsTakenAs g config conn left
+
+  -- ---- laws
+
+  -- the run came to its end
+  abbrev pub EndsServed : Type 0
+  EndsServed = (old new : Tables S g) (s : State) (events : List Event) → Serves old new s events → IsTakenAs g config (connection_of g new) (state_after (volumes config) s events)
+
+  -- a stop came behind the last call of the run, from tables of which a stop would have left s
+  abbrev pub StopsServed : Type 0
+  StopsServed =
+      (old new : Tables S g) (s : State) (events : List Event) → Serves old new s events → IsInvariant config s
+      → ((t : State) → store_survivors g (store_of g old) t → t ≡ s) → store_tied g (store_of g old)
+      → store_doubt g (store_of g new) ≡ 0
+      → (db : Trees) → (state g (connection_of g new)).may_leave db → IsTakenBehind s events db
