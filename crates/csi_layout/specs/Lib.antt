@@ -1,3 +1,4 @@
+pub mod Failing
 pub mod Making
 pub mod Ours
 pub mod Rows

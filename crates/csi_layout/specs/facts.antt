@@ -1,2 +1,3 @@
+pub mod Failing
 pub mod Steps
 pub mod Writes

@@ -1,5 +1,5 @@
 -- What a look over two tables shows.
-use Rattle.std.proofs.Common.{◌≡◌, ◌∙◌, refl, sym, ap, ap₂, subst, codes, ℕ, List, [], ◌∷◌, ◌++◌, map, filter, flat_map, Bool, true, false, cond, ◌&&◌, IsPermutation}
+use Rattle.std.proofs.Common.{◌≡◌, ◌∙◌, refl, sym, ap, ap₂, subst, codes, ℕ, List, [], ◌∷◌, ◌++◌, map, filter, flat_map, Bool, true, false, cond, ◌&&◌, IsPermutation, inl, inr, true≢false, arith}
 use Rattle.std.specs.List.{list_all}
 use Rattle.std.proofs.lemmas.List.Sorted.{IsPermutation-map}
 use Rattle.sqlite.specs.Collation.TheVariants.{Binary}
@@ -14,6 +14,7 @@ use Rattle.sqlite_sql.specs.declared.ops.BinaryOp.TheVariants.{Compare}
 use Rattle.sqlite_sql.specs.declared.ops.CompareOp.TheVariants.{Eq, Gt}
 use Rattle.sqlite_tied.specs.Compute.{everything}
 use Rattle.csi_layout.specs.Tables.{schema}
+use Rattle.csi_layout.specs.facts.Failing.{IsSure}
 use Rattle.csi_statements.specs.Deletes.{is_same}
 use Rattle.csi_statements.specs.Statements.{plain_query}
 use Rattle.csi_looks.specs.Looks.{owns, with_owner, owners, are_pair, pair_row, pairs}
@@ -45,9 +46,33 @@ pub owners_select : IsSelect owners_text owners_query
 unfolding understood everything
 owners_select = record { names = codes "number" ∷ codes "node" ∷ codes "cap" ∷ codes "readonly" ∷ codes "caps" ∷ []; is = refl; plain = (refl, refl); unlisted = refl }
 
+pub owners_sure : IsSure schema owners_text []
+unfolding understood everything
+owners_sure = record {
+  query = _;
+  names = owners_select.names;
+  is = owners_select.is;
+  plain = owners_select.plain;
+  unlisted = owners_select.unlisted;
+  alone = (omega arith, refl, refl);
+  unrefused = λ limit db e h. elim h [ inl typed ↦ absurd (true≢false typed.1) | inr (inl (is, inl none)) ↦ absurd none | inr (inl (is, inr over)) ↦ absurd over.4.4 | inr (inr limited) ↦ limited ];
+}
+
 pub pairs_select : IsSelect pairs_text pairs_query
 unfolding understood everything
 pairs_select = record { names = codes "cap" ∷ codes "readonly" ∷ codes "cap" ∷ codes "readonly" ∷ codes "number" ∷ codes "node" ∷ codes "node" ∷ []; is = refl; plain = (refl, refl); unlisted = refl }
+
+pub pairs_sure : IsSure schema pairs_text []
+unfolding understood everything
+pairs_sure = record {
+  query = _;
+  names = pairs_select.names;
+  is = pairs_select.is;
+  plain = pairs_select.plain;
+  unlisted = pairs_select.unlisted;
+  alone = (omega arith, refl, refl);
+  unrefused = λ limit db e h. elim h [ inl typed ↦ absurd (true≢false typed.1) | inr (inl (is, inl none)) ↦ absurd none | inr (inl (is, inr over)) ↦ absurd over.4.4 | inr (inr limited) ↦ limited ];
+}
 
 map-append : {A B : Type 0} (f : A → B) (xs ys : List A) → map f (xs ++ ys) ≡ map f xs ++ map f ys
 map-append f [] ys = refl

@@ -1,5 +1,5 @@
 -- Steps of a query that is read row by row.
-use Rattle.std.proofs.Common.{◌≡◌, ◌⊎◌, inl, inr, ◌∙◌, List, ℕ, sym, subst, Ok, Err, Result, OnOk, Option, Some, None}
+use Rattle.std.proofs.Common.{◌≡◌, ◌⊎◌, inl, inr, ◌∙◌, List, [], ◌∷◌, ◌++◌, length, length-append, ℕ, ◌+◌, arith, sym, subst, Ok, Err, Result, IfErr, IsErrAnd, OnOk, Option, Some, None}
 use Rattle.sqlite.specs.Effect.{Database}
 use Rattle.sqlite.specs.Clock.{timed}
 use Rattle.sqlite.specs.Order.{Row}
@@ -11,6 +11,12 @@ use Rattle.sqlite_resolve.specs.declared.compiled.Compiled.{Compiled}
 use Rattle.sqlite_schema.specs.declared.command.Returning.{Returning}
 use Rattle.sqlite.proofs.StateLemmas.{survives_weaker}
 use Rattle.sqlite.proofs.Callers.{never_commits, unchanged_then}
+use Rattle.sqlite.specs.Held.{Held, state}
+use Rattle.sqlite.specs.Store.{Ghosts}
+use Rattle.csi_layout.specs.Failing.{FailsFor, for_memory, by_disk, as_shut, at_limit, as_refused, SqlRefusesToRead, Unrefused}
+use Rattle.csi_layout.specs.Tables.{schema}
+use Rattle.csi_layout.specs.facts.Failing.{IsSure, fails_behind, fails_weaker, query_fails, sure_fails}
+use Rattle.csi_looks.specs.Failing.{HasTooMany, RefusesRows}
 use Rattle.csi_looks.specs.Looks.{HasFolded}
 
 pub commits_nothing : (sql : List ℕ) (params : Row) (old new : State) → (HasCleanDisk new → IsPlain (understood old.now.schema sql)) → Survives old new (CommitsShowing sql params old) → Survives old new (λ _. ⊥)
@@ -59,3 +65,39 @@ pub looked : {F X E : Type 0} (folds : F → List Row → F → Type 0) (old new
     → OnOk r (HasFolded folds old new P) → OnOk r (HasFolded folds old new Q)
 looked folds old new P Q (Ok x) f h = (h.0, f h.0 h.1, h.2)
 looked folds old new P Q (Err e) f h = tt
+
+-- ---- why it failed
+
+-- behind rows that were read
+pub behind_rows : (text : List ℕ) (old mid new : State) (e : Error) → IsPlain (understood old.now.schema text) → Survives old mid (λ _. ⊥) → IsUnchanged old mid → FailsToQuery text [] mid new e
+    → FailsFor (SqlRefusesToRead text [] old) old new e
+behind_rows text old mid new e plain left same h =
+    let now : mid.now ≡ old.now = same.0.now_is in
+    let told : FailsFor (SqlRefusesToRead text [] mid) mid new e = query_fails text [] mid new e (subst (λ (d : Database). IsPlain (understood d.schema text)) (sym now) plain) h in
+    fails_behind (SqlRefusesToRead text [] mid) (SqlRefusesToRead text [] old) old mid new e left.counts same.0.is_open left.limit
+    (λ why. subst (λ (l : Option ℕ). SqlRefusesToRead text [] (record old { step_limit = l }) e) left.limit (subst (λ (d : Database). SqlRefusesToRead text [] (record old { now = d; step_limit = mid.step_limit }) e) now why)) told
+
+-- an error that is handed on
+pub handed : {X E : Type 0} (r : Result X E) (e : E) (P : E → Type 0) → IsErrAnd r (λ x. x ≡ e) → P e → IfErr r P
+handed (Ok x) e P is h = tt
+handed (Err x) e P is h = subst P (sym is) h
+
+pub one_longer : {X : Type 0} (xs : List X) (x : X) (n : ℕ) → length xs ≡ n → length (xs ++ x ∷ []) ≡ n + 1
+one_longer xs x n h = let e = length-append xs (x ∷ []) in omega (arith, e, h)
+
+pub fails_at : (P : Error → Type 0) (old new mid : State) (e : Error) → mid ≡ new → FailsFor P old mid e → FailsFor P old new e
+fails_at P old new mid e same h = subst (λ (s : State). FailsFor P old s e) same h
+
+-- a look is refused for nothing but its rows
+pub look_fails : {S X : Type 0} (g : Ghosts S) (text : List ℕ) → IsSure schema text [] → (old : Held S) (new : State) (r : Result X Error) → old.schema ≡ schema
+    → IfErr r (FailsFor (RefusesRows g text old) (state g old) new) → IfErr r (FailsFor (HasTooMany g old) (state g old) new)
+look_fails g text sure old new (Ok x) has h = tt
+look_fails g text sure old new (Err e) has h = go h
+  where
+    go : FailsFor (RefusesRows g text old) (state g old) new e → FailsFor (HasTooMany g old) (state g old) new e
+    go (for_memory is) = for_memory is
+    go (by_disk is more) = by_disk is more
+    go (as_shut is shut) = as_shut is shut
+    go (at_limit is some) = at_limit is some
+    go (as_refused (inl why)) = fails_weaker Unrefused (HasTooMany g old) (state g old) new e (λ none. absurd none) (sure_fails schema text [] sure (state g old) new e has (as_refused why))
+    go (as_refused (inr many)) = as_refused (text, many)

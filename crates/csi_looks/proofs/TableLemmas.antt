@@ -1,5 +1,5 @@
 -- What a look over one table shows: each row once, and in order where it is asked.
-use Rattle.std.proofs.Common.{◌≡◌, ◌∙◌, refl, sym, ap, subst, zero, suc, ℕ, ◌+◌, false, List, [], ◌∷◌, map, flat_map, length, slice_index_or, codes, arith, IsPermutation, IsSorted}
+use Rattle.std.proofs.Common.{◌≡◌, ◌∙◌, refl, sym, ap, subst, zero, suc, ℕ, ◌+◌, false, List, [], ◌∷◌, map, flat_map, length, slice_index_or, codes, arith, IsPermutation, IsSorted, inl, inr, true, true≢false}
 use Rattle.std.specs.declared.cmp.Ordering.{Ordering}
 use Rattle.std.specs.declared.cmp.Ordering.TheVariants.{Less, Equal, Greater}
 use Rattle.std.specs.Ordering.{is_lt, ordering_then}
@@ -20,6 +20,7 @@ use Rattle.sqlite_trees.proofs.ListLemmas.{all-permutation}
 use Rattle.sqlite_value.specs.declared.keys.Key.{Key}
 use Rattle.csi_layout.specs.Rows.{seen_meta, seen_volume}
 use Rattle.csi_layout.specs.Tables.{schema}
+use Rattle.csi_layout.specs.facts.Failing.{IsSure}
 use Rattle.csi_statements.specs.Statements.{plain_query, rising}
 use Rattle.csi_looks.specs.Looks.{IsInOrder, first_cmp, keyed_attachment}
 
@@ -45,6 +46,18 @@ pub meta_select : IsSelect meta_text (table_query 0 (col 1 0 ∷ col 1 2 ∷ col
 unfolding understood everything
 meta_select = record { names = codes "k" ∷ codes "format_no" ∷ codes "next_number" ∷ []; is = refl; plain = (refl, refl); unlisted = refl }
 
+pub meta_sure : IsSure schema meta_text []
+unfolding understood everything
+meta_sure = record {
+  query = _;
+  names = meta_select.names;
+  is = meta_select.is;
+  plain = meta_select.plain;
+  unlisted = meta_select.unlisted;
+  alone = (omega arith, refl, refl);
+  unrefused = λ limit db e h. elim h [ inl typed ↦ absurd (true≢false typed.1) | inr (inl (is, inl none)) ↦ absurd none | inr (inl (is, inr over)) ↦ absurd over.4 | inr (inr limited) ↦ limited ];
+}
+
 abbrev pub volumes_text : List ℕ
 volumes_text = codes "SELECT number, name, bytes, pool, caps, params FROM volumes ORDER BY number"
 
@@ -52,12 +65,36 @@ pub volumes_select : IsSelect volumes_text (ordered_query 1 (col 1 0) (col 1 2 �
 unfolding understood everything
 volumes_select = record { names = codes "number" ∷ codes "name" ∷ codes "bytes" ∷ codes "pool" ∷ codes "caps" ∷ codes "params" ∷ []; is = refl; plain = (refl, refl); unlisted = refl }
 
+pub volumes_sure : IsSure schema volumes_text []
+unfolding understood everything
+volumes_sure = record {
+  query = _;
+  names = volumes_select.names;
+  is = volumes_select.is;
+  plain = volumes_select.plain;
+  unlisted = volumes_select.unlisted;
+  alone = (omega arith, refl, refl);
+  unrefused = λ limit db e h. elim h [ inl typed ↦ absurd (true≢false typed.1) | inr (inl (is, inl none)) ↦ absurd none | inr (inl (is, inr over)) ↦ absurd over.4 | inr (inr limited) ↦ limited ];
+}
+
 abbrev pub attachments_text : List ℕ
 attachments_text = codes "SELECT rowid, number, node, cap, readonly FROM attachments ORDER BY rowid"
 
 pub attachments_select : IsSelect attachments_text (ordered_query 3 (col 1 0) (col 1 1 ∷ col 1 2 ∷ col 1 3 ∷ col 1 4 ∷ []))
 unfolding understood everything
 attachments_select = record { names = codes "rowid" ∷ codes "number" ∷ codes "node" ∷ codes "cap" ∷ codes "readonly" ∷ []; is = refl; plain = (refl, refl); unlisted = refl }
+
+pub attachments_sure : IsSure schema attachments_text []
+unfolding understood everything
+attachments_sure = record {
+  query = _;
+  names = attachments_select.names;
+  is = attachments_select.is;
+  plain = attachments_select.plain;
+  unlisted = attachments_select.unlisted;
+  alone = (omega arith, refl, refl);
+  unrefused = λ limit db e h. elim h [ inl typed ↦ absurd (true≢false typed.1) | inr (inl (is, inl none)) ↦ absurd none | inr (inl (is, inr over)) ↦ absurd over.4 | inr (inr limited) ↦ limited ];
+}
 
 -- ---- each row once
 

@@ -1,12 +1,12 @@
 //! The rows of a query, one at a time.
 
-ghost use Rattle.std.specs.Prelude.{◌≡◌, ◌++◌, ◌∷◌, [], List, false, OnOk};
+ghost use Rattle.std.specs.Prelude.{◌≡◌, ◌++◌, ◌∷◌, [], List, false, IfErr, OnOk};
 ghost use Rattle.sqlite.specs.Given.{IsPlain};
 ghost use Rattle.sqlite.specs.Held.{state};
 ghost use Rattle.sqlite.specs.Listing.{understood};
 ghost use Rattle.sqlite.specs.Order.{Row as Values};
 ghost use Rattle.sqlite.specs.State.{HasCleanDisk, IsUnchanged, KeepsCommit, Shown, Survives};
-ghost use Rattle.csi_looks.specs.Failing.{FailsForMemory};
+ghost use Rattle.csi_looks.specs.Failing.{FailsFor, FailsForMemory, RefusesRows};
 ghost use Rattle.csi_looks.specs.Looks.{HasFolded};
 
 use sqlite::{Alter, Connection, Error, ErrorCode, Row};
@@ -45,6 +45,7 @@ pub fn each_row<S: Alter, F: Fold>(
     requires plain { HasCleanDisk (state S.Store conn.old) → IsPlain (understood conn.old.schema sql.now) }
     ensures idle { conn.new.in_transaction ≡ false }
     ensures ok { HasCleanDisk (state S.Store conn.new) → OnOk result (HasFolded F.folds fold.old fold.new (Shown sql.now [] (state S.Store conn.old) (state S.Store conn.new))) }
+    ensures failed { HasCleanDisk (state S.Store conn.new) → IfErr result (FailsFor (RefusesRows S.Store sql.now conn.old) (state S.Store conn.old) (state S.Store conn.new)) }
     ensures same { HasCleanDisk (state S.Store conn.new) → OnOk result (IsUnchanged (state S.Store conn.old) (state S.Store conn.new)) }
     ensures kept { HasCleanDisk (state S.Store conn.new) → KeepsCommit (state S.Store conn.old) (state S.Store conn.new) }
     ensures survives { Survives (state S.Store conn.old) (state S.Store conn.new) (λ _. ⊥) }

@@ -1,10 +1,11 @@
 //! The looks: each a query with a fixed text over our tables.
 
-ghost use Rattle.std.specs.Prelude.{◌≡◌, IsPermutation, OnOk, false, map};
+ghost use Rattle.std.specs.Prelude.{◌≡◌, IfErr, IsPermutation, OnOk, false, map};
 ghost use Rattle.sqlite.specs.Held.{state};
 ghost use Rattle.sqlite.specs.State.{HasCleanDisk, IsUnchanged, KeepsCommit, Survives};
 ghost use Rattle.csi_layout.specs.Rows.{seen_meta, seen_volume};
 ghost use Rattle.csi_layout.specs.Tables.{schema as our_schema};
+ghost use Rattle.csi_looks.specs.Failing.{FailsFor, HasTooMany};
 ghost use Rattle.csi_looks.specs.Looks.{HasFolded, IsInOrder, keyed_attachment, owners, pairs};
 
 use crate::fold::{Fold, each_row};
@@ -23,6 +24,7 @@ pub fn look_over_meta<S: Alter, F: Fold>(
     requires ours { HasCleanDisk (state S.Store conn.old) → conn.old.schema ≡ our_schema }
     ensures idle { conn.new.in_transaction ≡ false }
     ensures ok { HasCleanDisk (state S.Store conn.new) → OnOk result (HasFolded F.folds fold.old fold.new (IsPermutation (map seen_meta ((state S.Store conn.old).now.trees 0)))) }
+    ensures failed { HasCleanDisk (state S.Store conn.new) → IfErr result (FailsFor (HasTooMany S.Store conn.old) (state S.Store conn.old) (state S.Store conn.new)) }
     ensures same { HasCleanDisk (state S.Store conn.new) → OnOk result (IsUnchanged (state S.Store conn.old) (state S.Store conn.new)) }
     ensures kept { HasCleanDisk (state S.Store conn.new) → KeepsCommit (state S.Store conn.old) (state S.Store conn.new) }
     ensures survives { Survives (state S.Store conn.old) (state S.Store conn.new) (λ _. ⊥) }
@@ -43,6 +45,7 @@ pub fn look_over_volumes<S: Alter, F: Fold>(
     requires ours { HasCleanDisk (state S.Store conn.old) → conn.old.schema ≡ our_schema }
     ensures idle { conn.new.in_transaction ≡ false }
     ensures ok { HasCleanDisk (state S.Store conn.new) → OnOk result (HasFolded F.folds fold.old fold.new (IsInOrder (map seen_volume ((state S.Store conn.old).now.trees 1)))) }
+    ensures failed { HasCleanDisk (state S.Store conn.new) → IfErr result (FailsFor (HasTooMany S.Store conn.old) (state S.Store conn.old) (state S.Store conn.new)) }
     ensures same { HasCleanDisk (state S.Store conn.new) → OnOk result (IsUnchanged (state S.Store conn.old) (state S.Store conn.new)) }
     ensures kept { HasCleanDisk (state S.Store conn.new) → KeepsCommit (state S.Store conn.old) (state S.Store conn.new) }
     ensures survives { Survives (state S.Store conn.old) (state S.Store conn.new) (λ _. ⊥) }
@@ -68,6 +71,7 @@ pub fn look_over_attachments<S: Alter, F: Fold>(
     requires ours { HasCleanDisk (state S.Store conn.old) → conn.old.schema ≡ our_schema }
     ensures idle { conn.new.in_transaction ≡ false }
     ensures ok { HasCleanDisk (state S.Store conn.new) → OnOk result (HasFolded F.folds fold.old fold.new (IsInOrder (map keyed_attachment ((state S.Store conn.old).now.trees 3)))) }
+    ensures failed { HasCleanDisk (state S.Store conn.new) → IfErr result (FailsFor (HasTooMany S.Store conn.old) (state S.Store conn.old) (state S.Store conn.new)) }
     ensures same { HasCleanDisk (state S.Store conn.new) → OnOk result (IsUnchanged (state S.Store conn.old) (state S.Store conn.new)) }
     ensures kept { HasCleanDisk (state S.Store conn.new) → KeepsCommit (state S.Store conn.old) (state S.Store conn.new) }
     ensures survives { Survives (state S.Store conn.old) (state S.Store conn.new) (λ _. ⊥) }
@@ -93,6 +97,7 @@ pub fn look_over_owners<S: Alter, F: Fold>(
     requires ours { HasCleanDisk (state S.Store conn.old) → conn.old.schema ≡ our_schema }
     ensures idle { conn.new.in_transaction ≡ false }
     ensures ok { HasCleanDisk (state S.Store conn.new) → OnOk result (HasFolded F.folds fold.old fold.new (IsPermutation (owners ((state S.Store conn.old).now.trees 3) ((state S.Store conn.old).now.trees 1)))) }
+    ensures failed { HasCleanDisk (state S.Store conn.new) → IfErr result (FailsFor (HasTooMany S.Store conn.old) (state S.Store conn.old) (state S.Store conn.new)) }
     ensures same { HasCleanDisk (state S.Store conn.new) → OnOk result (IsUnchanged (state S.Store conn.old) (state S.Store conn.new)) }
     ensures kept { HasCleanDisk (state S.Store conn.new) → KeepsCommit (state S.Store conn.old) (state S.Store conn.new) }
     ensures survives { Survives (state S.Store conn.old) (state S.Store conn.new) (λ _. ⊥) }
@@ -118,6 +123,7 @@ pub fn look_over_pairs<S: Alter, F: Fold>(
     requires ours { HasCleanDisk (state S.Store conn.old) → conn.old.schema ≡ our_schema }
     ensures idle { conn.new.in_transaction ≡ false }
     ensures ok { HasCleanDisk (state S.Store conn.new) → OnOk result (HasFolded F.folds fold.old fold.new (IsPermutation (pairs ((state S.Store conn.old).now.trees 3)))) }
+    ensures failed { HasCleanDisk (state S.Store conn.new) → IfErr result (FailsFor (HasTooMany S.Store conn.old) (state S.Store conn.old) (state S.Store conn.new)) }
     ensures same { HasCleanDisk (state S.Store conn.new) → OnOk result (IsUnchanged (state S.Store conn.old) (state S.Store conn.new)) }
     ensures kept { HasCleanDisk (state S.Store conn.new) → KeepsCommit (state S.Store conn.old) (state S.Store conn.new) }
     ensures survives { Survives (state S.Store conn.old) (state S.Store conn.new) (λ _. ⊥) }

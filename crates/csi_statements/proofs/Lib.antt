@@ -1,5 +1,6 @@
 mod CommitLemmas
 mod DeleteLemmas
+mod FailLemmas
 mod FilterLemmas
 mod InsertLemmas
 mod ReadLemmas

@@ -1,25 +1,26 @@
 -- The texts of the statements, and what each computes to under the schema.
-use Rattle.std.proofs.Common.{◌≡◌, refl, false, [], ◌∷◌, codes, List, ℕ}
+use Rattle.std.proofs.Common.{◌≡◌, inl, inr, refl, true, false, true≢false, [], ◌∷◌, arith, codes, length, List, ℕ}
+use Rattle.sqlite.specs.Order.{Row}
 use Rattle.sqlite.specs.Command.TheVariants.{Insert, Select, Update, Delete}
 use Rattle.sqlite.specs.Listing.{understood, reads_listing}
 use Rattle.sqlite.specs.Query.{Query, inner, end}
 use Rattle.sqlite.specs.Source.TheVariants.{Values}
 use Rattle.sqlite.specs.Collation.TheVariants.{Binary}
 use Rattle.sqlite.specs.Term.{Term, lit, col, op1, op2}
-use Rattle.sqlite.specs.declared.types.Value.TheVariants.{Null}
+use Rattle.sqlite.specs.declared.types.Value.TheVariants.{Null, Text}
 use Rattle.sqlite_sql.specs.declared.ops.BinaryOp.TheVariants.{Compare}
 use Rattle.sqlite_sql.specs.declared.ops.CompareOp.TheVariants.{Eq}
 use Rattle.sqlite_sql.specs.declared.ops.UnaryOp.TheVariants.{ToNumeric}
 use Rattle.sqlite.proofs.Callers.{IsPlain, command_of}
 use Rattle.sqlite_tied.specs.Compute.{everything}
+use Rattle.csi_layout.specs.facts.Failing.{IsAlone, IsAloneWrite, IsNeverRefused, IsSure}
 use Rattle.csi_layout.specs.facts.Writes.{IsCommand}
 use Rattle.csi_statements.specs.Statements.{plain_query, number_query, volume_query, named_query, sizes_query, page_query, page_numbers_query, nodes_query, attached_query, places_query}
+use Rattle.csi_statements.specs.Rows.{number_value}
 use Rattle.csi_statements.specs.Tables.{schema}
+pub use Rattle.csi_statements.specs.Texts.{attach_text, add_text, next_text, detach_text, detach_all_text, remove_text}
 
 -- ---- writes
-
-abbrev pub attach_text : List ℕ
-attach_text = codes "INSERT INTO attachments (number, node, cap, readonly) VALUES (?1, ?2, ?3, ?4)"
 
 -- SQL gives the rowid
 abbrev pub attach_terms : List Term
@@ -29,8 +30,9 @@ pub attach_command : IsCommand attach_text (Insert 2 (Values attach_terms 5))
 unfolding understood everything
 attach_command = record { is = refl; plain = (refl, refl) }
 
-abbrev pub add_text : List ℕ
-add_text = codes "INSERT INTO volumes (number, name, bytes, pool, caps, params) VALUES (?1, ?2, ?3, ?4, ?5, ?6)"
+pub attach_alone : IsAloneWrite attach_text 4 (understood schema attach_text)
+unfolding understood everything
+attach_alone = (omega arith, refl, refl, tt, refl)
 
 -- the number is the rowid, and its own column is kept as NULL
 abbrev pub add_terms : List Term
@@ -40,8 +42,9 @@ pub add_command : IsCommand add_text (Insert 1 (Values add_terms 7))
 unfolding understood everything
 add_command = record { is = refl; plain = (refl, refl) }
 
-abbrev pub next_text : List ℕ
-next_text = codes "UPDATE meta SET next_number = ?1"
+pub add_alone : IsAloneWrite add_text 6 (understood schema add_text)
+unfolding understood everything
+add_alone = (omega arith, refl, refl, tt, refl)
 
 -- the rowid, and then each column as it will be
 abbrev pub next_query : Query
@@ -51,10 +54,11 @@ pub next_command : IsCommand next_text (Update 0 (record { lets = []; body = nex
 unfolding understood everything
 next_command = record { is = refl; plain = (refl, refl) }
 
--- a DELETE asks for the rowids of what passes
-abbrev pub detach_text : List ℕ
-detach_text = codes "DELETE FROM attachments WHERE number = ?1 AND node = ?2"
+pub next_alone : IsAloneWrite next_text 1 (understood schema next_text)
+unfolding understood everything
+next_alone = (omega arith, refl, refl, tt, refl)
 
+-- a DELETE asks for the rowids of what passes
 abbrev pub detach_query : Query
 detach_query = record plain_query { from = inner 3 end; filter = op2 (Compare Eq Binary) (col 1 1) (op1 ToNumeric (col 0 0)) ∷ op2 (Compare Eq Binary) (col 1 2) (col 0 1) ∷ []; project = col 1 0 ∷ [] }
 
@@ -62,8 +66,9 @@ pub detach_command : IsCommand detach_text (Delete 2 (record { lets = []; body =
 unfolding understood everything
 detach_command = record { is = refl; plain = (refl, refl) }
 
-abbrev pub detach_all_text : List ℕ
-detach_all_text = codes "DELETE FROM attachments WHERE number = ?1"
+pub detach_alone : IsAloneWrite detach_text 2 (understood schema detach_text)
+unfolding understood everything
+detach_alone = (omega arith, refl, refl, tt, refl)
 
 abbrev pub detach_all_query : Query
 detach_all_query = record plain_query { from = inner 3 end; filter = op2 (Compare Eq Binary) (col 1 1) (op1 ToNumeric (col 0 0)) ∷ []; project = col 1 0 ∷ [] }
@@ -72,8 +77,9 @@ pub detach_all_command : IsCommand detach_all_text (Delete 2 (record { lets = []
 unfolding understood everything
 detach_all_command = record { is = refl; plain = (refl, refl) }
 
-abbrev pub remove_text : List ℕ
-remove_text = codes "DELETE FROM volumes WHERE number = ?1"
+pub detach_all_alone : IsAloneWrite detach_all_text 1 (understood schema detach_all_text)
+unfolding understood everything
+detach_all_alone = (omega arith, refl, refl, tt, refl)
 
 abbrev pub remove_query : Query
 remove_query = record plain_query { from = inner 1 end; filter = op2 (Compare Eq Binary) (col 1 0) (col 0 0) ∷ []; project = col 1 0 ∷ [] }
@@ -81,6 +87,10 @@ remove_query = record plain_query { from = inner 1 end; filter = op2 (Compare Eq
 pub remove_command : IsCommand remove_text (Delete 1 (record { lets = []; body = remove_query }))
 unfolding understood everything
 remove_command = record { is = refl; plain = (refl, refl) }
+
+pub remove_alone : IsAloneWrite remove_text 1 (understood schema remove_text)
+unfolding understood everything
+remove_alone = (omega arith, refl, refl, tt, refl)
 
 -- ---- reads
 
@@ -91,12 +101,20 @@ pub record IsSelect (text : List ℕ) (q : Query) : Type 0 where
   pub plain : IsPlain (understood schema text)
   pub unlisted : reads_listing schema text ≡ false
 
+pub sure_of : {text : List ℕ} {q : Query} (params : Row) → IsSelect text q → IsAlone text (length params) (understood schema text) → IsNeverRefused schema params q → IsSure schema text params
+sure_of params it alone unrefused = record { query = _; names = it.names; is = it.is; plain = it.plain; unlisted = it.unlisted; alone = alone; unrefused = unrefused }
+
 abbrev pub number_text : List ℕ
 number_text = codes "SELECT next_number FROM meta"
 
 pub number_select : IsSelect number_text number_query
 unfolding understood everything
 number_select = record { names = codes "next_number" ∷ []; is = refl; plain = (refl, refl); unlisted = refl }
+
+pub number_sure : IsSure schema number_text ([])
+unfolding understood everything
+number_sure = sure_of ([]) number_select (omega arith, refl, refl)
+    (λ limit db e h. elim h [ inl typed ↦ absurd (true≢false typed.1) | inr (inl (is, inl none)) ↦ absurd none | inr (inl (is, inr over)) ↦ absurd over.4 | inr (inr limited) ↦ limited ])
 
 abbrev pub volume_text : List ℕ
 volume_text = codes "SELECT number, name, bytes, pool, caps, params FROM volumes WHERE number = ?1"
@@ -105,12 +123,22 @@ pub volume_select : IsSelect volume_text volume_query
 unfolding understood everything
 volume_select = record { names = codes "number" ∷ codes "name" ∷ codes "bytes" ∷ codes "pool" ∷ codes "caps" ∷ codes "params" ∷ []; is = refl; plain = (refl, refl); unlisted = refl }
 
+pub volume_sure : (volume : ℕ) → IsSure schema volume_text (number_value volume ∷ [])
+unfolding understood everything
+volume_sure volume = sure_of (number_value volume ∷ []) volume_select (omega arith, refl, refl)
+    (λ limit db e h. elim h [ inl typed ↦ absurd (true≢false typed.1) | inr (inl (is, inl none)) ↦ absurd none | inr (inl (is, inr over)) ↦ absurd over.4 | inr (inr limited) ↦ limited ])
+
 abbrev pub named_text : List ℕ
 named_text = codes "SELECT number, name, bytes, pool, caps, params FROM volumes WHERE name = ?1 ORDER BY number"
 
 pub named_select : IsSelect named_text named_query
 unfolding understood everything
 named_select = record { names = codes "number" ∷ codes "name" ∷ codes "bytes" ∷ codes "pool" ∷ codes "caps" ∷ codes "params" ∷ []; is = refl; plain = (refl, refl); unlisted = refl }
+
+pub named_sure : (name : List ℕ) → IsSure schema named_text (Text name ∷ [])
+unfolding understood everything
+named_sure name = sure_of (Text name ∷ []) named_select (omega arith, refl, refl)
+    (λ limit db e h. elim h [ inl typed ↦ absurd (true≢false typed.1) | inr (inl (is, inl none)) ↦ absurd none | inr (inl (is, inr over)) ↦ absurd over.4 | inr (inr limited) ↦ limited ])
 
 abbrev pub sizes_text : List ℕ
 sizes_text = codes "SELECT bytes FROM volumes WHERE pool = ?1 ORDER BY number"
@@ -119,12 +147,22 @@ pub sizes_select : IsSelect sizes_text sizes_query
 unfolding understood everything
 sizes_select = record { names = codes "bytes" ∷ []; is = refl; plain = (refl, refl); unlisted = refl }
 
+pub sizes_sure : (pool : List ℕ) → IsSure schema sizes_text (Text pool ∷ [])
+unfolding understood everything
+sizes_sure pool = sure_of (Text pool ∷ []) sizes_select (omega arith, refl, refl)
+    (λ limit db e h. elim h [ inl typed ↦ absurd (true≢false typed.1) | inr (inl (is, inl none)) ↦ absurd none | inr (inl (is, inr over)) ↦ absurd over.4 | inr (inr limited) ↦ limited ])
+
 abbrev pub page_text : List ℕ
 page_text = codes "SELECT number, name, bytes, pool, caps, params FROM volumes WHERE number > ?1 ORDER BY number LIMIT ?2"
 
 pub page_select : IsSelect page_text page_query
 unfolding understood everything
 page_select = record { names = codes "number" ∷ codes "name" ∷ codes "bytes" ∷ codes "pool" ∷ codes "caps" ∷ codes "params" ∷ []; is = refl; plain = (refl, refl); unlisted = refl }
+
+pub page_sure : (after count : ℕ) → IsSure schema page_text (number_value after ∷ number_value count ∷ [])
+unfolding understood everything
+page_sure after count = sure_of (number_value after ∷ number_value count ∷ []) page_select (omega arith, refl, refl)
+    (λ limit db e h. elim h [ inl typed ↦ absurd (true≢false typed.1) | inr (inl (is, inl none)) ↦ absurd none | inr (inl (is, inr over)) ↦ absurd over.4 | inr (inr limited) ↦ limited ])
 
 abbrev pub page_numbers_text : List ℕ
 page_numbers_text = codes "SELECT number FROM volumes WHERE number > ?1 ORDER BY number LIMIT ?2"
@@ -133,12 +171,22 @@ pub page_numbers_select : IsSelect page_numbers_text page_numbers_query
 unfolding understood everything
 page_numbers_select = record { names = codes "number" ∷ []; is = refl; plain = (refl, refl); unlisted = refl }
 
+pub page_numbers_sure : (after count : ℕ) → IsSure schema page_numbers_text (number_value after ∷ number_value count ∷ [])
+unfolding understood everything
+page_numbers_sure after count = sure_of (number_value after ∷ number_value count ∷ []) page_numbers_select (omega arith, refl, refl)
+    (λ limit db e h. elim h [ inl typed ↦ absurd (true≢false typed.1) | inr (inl (is, inl none)) ↦ absurd none | inr (inl (is, inr over)) ↦ absurd over.4 | inr (inr limited) ↦ limited ])
+
 abbrev pub nodes_text : List ℕ
 nodes_text = codes "SELECT node, cap, readonly FROM attachments WHERE number = ?1 ORDER BY node"
 
 pub nodes_select : IsSelect nodes_text nodes_query
 unfolding understood everything
 nodes_select = record { names = codes "node" ∷ codes "cap" ∷ codes "readonly" ∷ []; is = refl; plain = (refl, refl); unlisted = refl }
+
+pub nodes_sure : (volume : ℕ) → IsSure schema nodes_text (number_value volume ∷ [])
+unfolding understood everything
+nodes_sure volume = sure_of (number_value volume ∷ []) nodes_select (omega arith, refl, refl)
+    (λ limit db e h. elim h [ inl typed ↦ absurd (true≢false typed.1) | inr (inl (is, inl none)) ↦ absurd none | inr (inl (is, inr over)) ↦ absurd over.4 | inr (inr limited) ↦ limited ])
 
 abbrev pub attached_text : List ℕ
 attached_text = codes "SELECT number FROM attachments WHERE node = ?1 ORDER BY number"
@@ -147,9 +195,19 @@ pub attached_select : IsSelect attached_text attached_query
 unfolding understood everything
 attached_select = record { names = codes "number" ∷ []; is = refl; plain = (refl, refl); unlisted = refl }
 
+pub attached_sure : (node : List ℕ) → IsSure schema attached_text (Text node ∷ [])
+unfolding understood everything
+attached_sure node = sure_of (Text node ∷ []) attached_select (omega arith, refl, refl)
+    (λ limit db e h. elim h [ inl typed ↦ absurd (true≢false typed.1) | inr (inl (is, inl none)) ↦ absurd none | inr (inl (is, inr over)) ↦ absurd over.4 | inr (inr limited) ↦ limited ])
+
 abbrev pub places_text : List ℕ
 places_text = codes "SELECT number, node FROM attachments WHERE number > ?1 AND number <= ?2 ORDER BY number, node"
 
 pub places_select : IsSelect places_text places_query
 unfolding understood everything
 places_select = record { names = codes "number" ∷ codes "node" ∷ []; is = refl; plain = (refl, refl); unlisted = refl }
+
+pub places_sure : (after last : ℕ) → IsSure schema places_text (number_value after ∷ number_value last ∷ [])
+unfolding understood everything
+places_sure after last = sure_of (number_value after ∷ number_value last ∷ []) places_select (omega arith, refl, refl)
+    (λ limit db e h. elim h [ inl typed ↦ absurd (true≢false typed.1) | inr (inl (is, inl none)) ↦ absurd none | inr (inl (is, inr over)) ↦ absurd over.4 | inr (inr limited) ↦ limited ])

@@ -8,7 +8,9 @@ ghost use Rattle.std.specs.Prelude.{◌≡◌, ◌+◌, ◌<◌, ◌^◌, false,
 ghost use Rattle.sqlite.specs.Held.{state};
 ghost use Rattle.sqlite.specs.State.{HasCleanDisk, Survives};
 ghost use Rattle.csi_statements.specs.Deletes.{Drops, is_numbered, is_of, is_place};
+ghost use Rattle.csi_statements.specs.Failing.{FailsOver, RefusesAttachment, RefusesDetaching, RefusesDetachingAll, RefusesNumbered, RefusesRemoval};
 ghost use Rattle.csi_statements.specs.Rows.{AddsAttachment, AddsNumbered, Changes, IsUndone, Leaves, attachment_row, seen_attachment, seen_volume, volume_row};
+ghost use Rattle.csi_statements.specs.Tables.{schema};
 
 use crate::statements::attachments::{delete_attachment, delete_attachments, insert_attachment};
 use crate::statements::meta::set_next;
@@ -34,6 +36,7 @@ pub fn add_volume<S: Alter>(
     ensures idle { conn.new.in_transaction ≡ false }
     ensures ok { HasCleanDisk (state S.Store conn.new) → OnOk result (Changes (AddsNumbered (volume_row volume name.now bytes pool.now caps.now params.now) (volume + 1)) (state S.Store conn.old) (state S.Store conn.new)) }
     ensures err { HasCleanDisk (state S.Store conn.new) → OnErr result (IsUndone (state S.Store conn.old) (state S.Store conn.new)) }
+    ensures failed { HasCleanDisk (state S.Store conn.new) → FailsOver schema (RefusesNumbered (volume_row volume name.now bytes pool.now caps.now params.now) (volume + 1)) (state S.Store conn.old) (state S.Store conn.new) result }
     ensures survives { Survives (state S.Store conn.old) (state S.Store conn.new) (Leaves (AddsNumbered (volume_row volume name.now bytes pool.now caps.now params.now) (volume + 1)) (state S.Store conn.old)) }
 {
     let mut tx = conn.transaction();
@@ -50,6 +53,7 @@ pub fn remove_volume<S: Alter>(conn: &mut Connection<S>, volume: u64) -> Result<
     ensures idle { conn.new.in_transaction ≡ false }
     ensures ok { HasCleanDisk (state S.Store conn.new) → OnOk result (Changes (Drops 1 seen_volume (is_numbered volume)) (state S.Store conn.old) (state S.Store conn.new)) }
     ensures err { HasCleanDisk (state S.Store conn.new) → OnErr result (IsUndone (state S.Store conn.old) (state S.Store conn.new)) }
+    ensures failed { HasCleanDisk (state S.Store conn.new) → FailsOver schema (RefusesRemoval volume) (state S.Store conn.old) (state S.Store conn.new) result }
     ensures survives { Survives (state S.Store conn.old) (state S.Store conn.new) (Leaves (Drops 1 seen_volume (is_numbered volume)) (state S.Store conn.old)) }
 {
     let mut tx = conn.transaction();
@@ -71,6 +75,7 @@ pub fn attach<S: Alter>(
     ensures idle { conn.new.in_transaction ≡ false }
     ensures ok { HasCleanDisk (state S.Store conn.new) → OnOk result (Changes (AddsAttachment (attachment_row volume node.now cap.now readonly)) (state S.Store conn.old) (state S.Store conn.new)) }
     ensures err { HasCleanDisk (state S.Store conn.new) → OnErr result (IsUndone (state S.Store conn.old) (state S.Store conn.new)) }
+    ensures failed { HasCleanDisk (state S.Store conn.new) → FailsOver schema (RefusesAttachment (attachment_row volume node.now cap.now readonly)) (state S.Store conn.old) (state S.Store conn.new) result }
     ensures survives { Survives (state S.Store conn.old) (state S.Store conn.new) (Leaves (AddsAttachment (attachment_row volume node.now cap.now readonly)) (state S.Store conn.old)) }
 {
     let mut tx = conn.transaction();
@@ -86,6 +91,7 @@ pub fn detach<S: Alter>(conn: &mut Connection<S>, volume: u64, node: &str) -> Re
     ensures idle { conn.new.in_transaction ≡ false }
     ensures ok { HasCleanDisk (state S.Store conn.new) → OnOk result (Changes (Drops 3 seen_attachment (is_place volume node.now)) (state S.Store conn.old) (state S.Store conn.new)) }
     ensures err { HasCleanDisk (state S.Store conn.new) → OnErr result (IsUndone (state S.Store conn.old) (state S.Store conn.new)) }
+    ensures failed { HasCleanDisk (state S.Store conn.new) → FailsOver schema (RefusesDetaching volume node.now) (state S.Store conn.old) (state S.Store conn.new) result }
     ensures survives { Survives (state S.Store conn.old) (state S.Store conn.new) (Leaves (Drops 3 seen_attachment (is_place volume node.now)) (state S.Store conn.old)) }
 {
     let mut tx = conn.transaction();
@@ -100,6 +106,7 @@ pub fn detach_all<S: Alter>(conn: &mut Connection<S>, volume: u64) -> Result<(),
     ensures idle { conn.new.in_transaction ≡ false }
     ensures ok { HasCleanDisk (state S.Store conn.new) → OnOk result (Changes (Drops 3 seen_attachment (is_of volume)) (state S.Store conn.old) (state S.Store conn.new)) }
     ensures err { HasCleanDisk (state S.Store conn.new) → OnErr result (IsUndone (state S.Store conn.old) (state S.Store conn.new)) }
+    ensures failed { HasCleanDisk (state S.Store conn.new) → FailsOver schema (RefusesDetachingAll volume) (state S.Store conn.old) (state S.Store conn.new) result }
     ensures survives { Survives (state S.Store conn.old) (state S.Store conn.new) (Leaves (Drops 3 seen_attachment (is_of volume)) (state S.Store conn.old)) }
 {
     let mut tx = conn.transaction();

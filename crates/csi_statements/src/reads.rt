@@ -8,9 +8,11 @@ ghost use Rattle.std.specs.Prelude.{◌≡◌, ℕ, ◌<◌, ◌^◌, [], ◌∷
 ghost use Rattle.sqlite.specs.declared.types.Value.TheVariants.{Text};
 ghost use Rattle.sqlite.specs.Held.{state};
 ghost use Rattle.sqlite.specs.State.{HasCleanDisk, Survives};
+ghost use Rattle.csi_statements.specs.Failing.{FailsOver, HasNoNext, NothingRefuses};
 ghost use Rattle.csi_statements.specs.Rows.{IsUndone, Reads, meta_row, number_value, seen_meta};
 ghost use Rattle.csi_statements.specs.Shown.{IsFoundBy, IsPage, IsPageNodes, IsShownOf, last_number};
 ghost use Rattle.csi_statements.specs.Statements.{attached_query, named_query, nodes_query, sizes_query, volume_query};
+ghost use Rattle.csi_statements.specs.Tables.{schema};
 
 use crate::statements::attachments::{select_attached, select_nodes, select_places};
 use crate::statements::meta::select_next;
@@ -26,6 +28,7 @@ pub fn next_number<S: Alter>(conn: &mut Connection<S>) -> Result<Row, Error>
     ensures idle { conn.new.in_transaction ≡ false }
     ensures ok { HasCleanDisk (state S.Store conn.new) → IfOk result (λ row. Reads (λ db. (next : ℕ) → map seen_meta (db.trees 0) ≡ meta_row next ∷ [] → row ≡ number_value next ∷ []) (state S.Store conn.old)) }
     ensures undone { HasCleanDisk (state S.Store conn.new) → IsUndone (state S.Store conn.old) (state S.Store conn.new) }
+    ensures failed { HasCleanDisk (state S.Store conn.new) → FailsOver schema HasNoNext (state S.Store conn.old) (state S.Store conn.new) result }
     ensures survives { Survives (state S.Store conn.old) (state S.Store conn.new) (λ _. ⊥) }
 {
     let mut tx = conn.transaction();
@@ -41,6 +44,7 @@ pub fn by_number<S: Alter>(conn: &mut Connection<S>, volume: u64) -> Result<Opti
     ensures idle { conn.new.in_transaction ≡ false }
     ensures ok { HasCleanDisk (state S.Store conn.new) → IfOk result (λ found. Reads (λ db. IsFoundBy volume_query (db.trees 1) (number_value volume ∷ []) found) (state S.Store conn.old)) }
     ensures undone { HasCleanDisk (state S.Store conn.new) → IsUndone (state S.Store conn.old) (state S.Store conn.new) }
+    ensures failed { HasCleanDisk (state S.Store conn.new) → FailsOver schema NothingRefuses (state S.Store conn.old) (state S.Store conn.new) result }
     ensures survives { Survives (state S.Store conn.old) (state S.Store conn.new) (λ _. ⊥) }
 {
     let mut tx = conn.transaction();
@@ -55,6 +59,7 @@ pub fn by_name<S: Alter>(conn: &mut Connection<S>, name: &str) -> Result<Option<
     ensures idle { conn.new.in_transaction ≡ false }
     ensures ok { HasCleanDisk (state S.Store conn.new) → IfOk result (λ found. Reads (λ db. IsFoundBy named_query (db.trees 1) (Text name.now ∷ []) found) (state S.Store conn.old)) }
     ensures undone { HasCleanDisk (state S.Store conn.new) → IsUndone (state S.Store conn.old) (state S.Store conn.new) }
+    ensures failed { HasCleanDisk (state S.Store conn.new) → FailsOver schema NothingRefuses (state S.Store conn.old) (state S.Store conn.new) result }
     ensures survives { Survives (state S.Store conn.old) (state S.Store conn.new) (λ _. ⊥) }
 {
     let mut tx = conn.transaction();
@@ -71,6 +76,7 @@ pub fn attachments<S: Alter>(conn: &mut Connection<S>, volume: u64) -> Result<Ve
     ensures idle { conn.new.in_transaction ≡ false }
     ensures ok { HasCleanDisk (state S.Store conn.new) → IfOk result (λ rows. Reads (λ db. IsShownOf nodes_query (db.trees 3) (number_value volume ∷ []) rows.items) (state S.Store conn.old)) }
     ensures undone { HasCleanDisk (state S.Store conn.new) → IsUndone (state S.Store conn.old) (state S.Store conn.new) }
+    ensures failed { HasCleanDisk (state S.Store conn.new) → FailsOver schema NothingRefuses (state S.Store conn.old) (state S.Store conn.new) result }
     ensures survives { Survives (state S.Store conn.old) (state S.Store conn.new) (λ _. ⊥) }
 {
     let mut tx = conn.transaction();
@@ -85,6 +91,7 @@ pub fn attached_at<S: Alter>(conn: &mut Connection<S>, node: &str) -> Result<Vec
     ensures idle { conn.new.in_transaction ≡ false }
     ensures ok { HasCleanDisk (state S.Store conn.new) → IfOk result (λ rows. Reads (λ db. IsShownOf attached_query (db.trees 3) (Text node.now ∷ []) rows.items) (state S.Store conn.old)) }
     ensures undone { HasCleanDisk (state S.Store conn.new) → IsUndone (state S.Store conn.old) (state S.Store conn.new) }
+    ensures failed { HasCleanDisk (state S.Store conn.new) → FailsOver schema NothingRefuses (state S.Store conn.old) (state S.Store conn.new) result }
     ensures survives { Survives (state S.Store conn.old) (state S.Store conn.new) (λ _. ⊥) }
 {
     let mut tx = conn.transaction();
@@ -99,6 +106,7 @@ pub fn sizes_in<S: Alter>(conn: &mut Connection<S>, pool: &str) -> Result<Vec<Ro
     ensures idle { conn.new.in_transaction ≡ false }
     ensures ok { HasCleanDisk (state S.Store conn.new) → IfOk result (λ rows. Reads (λ db. IsShownOf sizes_query (db.trees 1) (Text pool.now ∷ []) rows.items) (state S.Store conn.old)) }
     ensures undone { HasCleanDisk (state S.Store conn.new) → IsUndone (state S.Store conn.old) (state S.Store conn.new) }
+    ensures failed { HasCleanDisk (state S.Store conn.new) → FailsOver schema NothingRefuses (state S.Store conn.old) (state S.Store conn.new) result }
     ensures survives { Survives (state S.Store conn.old) (state S.Store conn.new) (λ _. ⊥) }
 {
     let mut tx = conn.transaction();
@@ -114,6 +122,7 @@ pub fn page<S: Alter>(conn: &mut Connection<S>, after: u64, count: u32) -> Resul
     ensures idle { conn.new.in_transaction ≡ false }
     ensures ok { HasCleanDisk (state S.Store conn.new) → IfOk result (λ rows. Reads (λ db. IsPage after count db rows.items) (state S.Store conn.old)) }
     ensures undone { HasCleanDisk (state S.Store conn.new) → IsUndone (state S.Store conn.old) (state S.Store conn.new) }
+    ensures failed { HasCleanDisk (state S.Store conn.new) → FailsOver schema NothingRefuses (state S.Store conn.old) (state S.Store conn.new) result }
     ensures survives { Survives (state S.Store conn.old) (state S.Store conn.new) (λ _. ⊥) }
 {
     let mut tx = conn.transaction();
@@ -155,6 +164,7 @@ pub fn page_nodes<S: Alter>(
     ensures idle { conn.new.in_transaction ≡ false }
     ensures ok { HasCleanDisk (state S.Store conn.new) → IfOk result (λ page. Reads (λ db. IsPageNodes after count db page.numbers.items page.places.items) (state S.Store conn.old)) }
     ensures undone { HasCleanDisk (state S.Store conn.new) → IsUndone (state S.Store conn.old) (state S.Store conn.new) }
+    ensures failed { HasCleanDisk (state S.Store conn.new) → FailsOver schema NothingRefuses (state S.Store conn.old) (state S.Store conn.new) result }
     ensures survives { Survives (state S.Store conn.old) (state S.Store conn.new) (λ _. ⊥) }
 {
     let mut tx = conn.transaction();

@@ -5,6 +5,7 @@ mod KeepLemmas
 mod NewLemmas
 mod PageLemmas
 mod PlaceLemmas
+mod RefusalLemmas
 mod RowLemmas
 mod ShownLemmas
 mod SortedLemmas

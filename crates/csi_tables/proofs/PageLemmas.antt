@@ -23,7 +23,7 @@ use Rattle.csi_statements.specs.Rows.{number_value, seen_volume, seen_attachment
 use Rattle.csi_statements.specs.Shown.{IsShownOf, IsBeginningOf, last_number}
 use Rattle.csi_statements.specs.Statements.{page_numbers_query, places_query}
 use Rattle.csi_tables.specs.Holding.{IsRows, IsStored, IsPlaced, volume_entry, attachment_entry}
-use Rattle.csi_tables.specs.Places.{place_row, nodes_at, IsRisen, AreRising}
+use Rattle.csi_tables.specs.Places.{place_row, nodes_at, IsRisen, AreRising, AreTexts}
 use Rattle.csi_tables.proofs.ShownLemmas.{and_true, is_above, to_numeric, all-take, take-map, volumes_up, places_up, by_rising, passed}
 use Rattle.csi_tables.proofs.SortedLemmas.{shown_by}
 
@@ -197,4 +197,21 @@ module _ (s : State) (db : Trees) (p : IsRows s db) where
           map-map (nodes_at ps) (λ e. e.0) es ∙ map_on (λ e. nodes_at ps e.0) (λ e. published s e.1.number) es each ∙ sym (map-map (λ v. published s v.number) (λ e. e.1) es)
               ∙ ap (map (λ v. published s v.number)) (sym (take-map (λ e. e.1) count all)),
         ),
+      )
+
+  texts_of : (stays : Place × Attachment → Bool) (es : List (Place × Attachment)) → AllByRecursion IsPlaced es → AreTexts (map (λ e. e.0) (filter stays es))
+  texts_of stays [] all = tt
+  texts_of stays (e ∷ es) all = elim (stays e) as (λ b. AreTexts (map (λ e. e.0) (cond b (e ∷ filter stays es) (filter stays es)))) [ true ↦ (all.0.text, texts_of stays es all.1) | false ↦ texts_of stays es all.1 ]
+
+  -- the same rows, which are read
+  pub page_nodes_readable : (after count : ℕ) (numbers places : List Row) → IsBeginningOf page_numbers_query (db 1) (number_value after ∷ number_value count ∷ []) count numbers
+      → IsShownOf places_query (db 3) (number_value after ∷ number_value (last_number after numbers) ∷ []) places
+      → (ns : List ℕ) × AreRising ns × (numbers ≡ map (λ n. number_value n ∷ []) ns) × ((ps : List Place) × IsRisen ps × (places ≡ map place_row ps) × AreTexts ps)
+  unfolding behind
+  page_nodes_readable after count numbers places h k =
+      let last = last_number after numbers in (
+        map (λ e. e.0) (behind after count),
+        numbers_rise after count,
+        numbers_shown after count numbers h,
+        (map (λ e. e.0) (filter (stays after last) (entries s.attachments)), places_rise after last, places_shown after last places k, texts_of (stays after last) (entries s.attachments) p.storable.attachments),
       )

@@ -30,7 +30,9 @@ use Rattle.csi_statements.specs.Deletes.{is_same}
 use Rattle.csi_statements.specs.Rows.{number_value, seen_volume, seen_attachment}
 use Rattle.csi_statements.specs.Shown.{IsShownOf, IsFoundBy, IsBeginningOf}
 use Rattle.csi_statements.specs.Statements.{attached_query, named_query, nodes_query, page_query, sizes_query, volume_query}
-use Rattle.csi_tables.specs.Holding.{IsRows, IsStored, IsPlaced, volume_entry, attachment_entry, node_entry}
+use Rattle.csi_tables.specs.Encoding.{AreKnown}
+use Rattle.csi_tables.specs.Holding.{IsRows, IsStored, IsPlaced, IsReadable, IsReadablePlace, volume_entry, attachment_entry, node_entry}
+use Rattle.csi_tables.specs.Refusing.{HasKnownModes}
 use Rattle.csi_tables.proofs.EntryLemmas.{rises}
 use Rattle.csi_tables.proofs.SortedLemmas.{shown_by}
 use Rattle.csi_tables.proofs.TestLemmas.{same_numbers, same_texts}
@@ -148,6 +150,16 @@ first_numbered n (e ∷ es) =
       | false ↦ first_numbered n es
     ] ∙ ap (λ b. cond b (Some e.1) (fin.find nat_cmp n es)) (sym (nats_tie n e.0))
 
+-- ---- what is read again
+
+readable : (es : List (ℕ × Volume)) → AllByRecursion IsStored es → AllByRecursion (λ e. AreKnown e.1.caps) es → AllByRecursion IsReadable es
+readable [] stored known = tt
+readable (e ∷ es) stored known = (record { stored = stored.0; caps = known.0 }, readable es stored.1 known.1)
+
+readable_places : (es : List (Place × Attachment)) → AllByRecursion IsPlaced es → AllByRecursion (λ e. AreKnown (e.1.cap ∷ [])) es → AllByRecursion IsReadablePlace es
+readable_places [] placed known = tt
+readable_places (e ∷ es) placed known = (record { placed = placed.0; cap = known.0 }, readable_places es placed.1 known.1)
+
 -- ---- the rows of a State
 
 abbrev volume_output : Row → Output
@@ -243,3 +255,44 @@ module _ (s : State) (db : Trees) (p : IsRows s db) where
       (λ r. refl) (λ r. and_true (is_same (column r 2) (Text node))) (λ e. bytes_eq e.0.1 node) (λ e. texts_tie e.0.1 node) es (db 3) shown p.attachments
       (ascending_weaker _ _ (λ a b h. ap (λ o. ordering_then o Equal) (lower a.0.0 b.0.0 h)) _ (at_node node es places_up)) h
       ∙ sym (map-map (λ n. number_value n ∷ []) (λ e. e.0.0) (filter (λ e. bytes_eq e.0.1 node) es))
+
+  -- ---- the same rows, which are read again where the modes are known
+
+  module _ (known : HasKnownModes s) where
+    volumes_readable : AllByRecursion IsReadable (entries s.volumes)
+    volumes_readable = readable (entries s.volumes) p.storable.volumes known.volumes
+
+    pub number_readable : (n : ℕ) (found : Option Row) → IsFoundBy volume_query (db 1) (number_value n ∷ []) found → (o : Option (ℕ × Volume)) × IfSome o IsReadable × (found ≡ option_map volume_entry o)
+    number_readable n found h =
+        let es = filter (λ (e : ℕ × Volume). e.0 == n) (entries s.volumes) in (
+          slice_get es 0,
+          first_so IsReadable es (all-filter IsReadable (λ e. e.0 == n) (entries s.volumes) volumes_readable),
+          first_row volume_entry h.0 es found (numbered_rows n h.0 h.1) h.2,
+        )
+
+    pub name_readable : (name : List ℕ) (found : Option Row) → IsFoundBy named_query (db 1) (Text name ∷ []) found → (o : Option (ℕ × Volume)) × IfSome o IsReadable × (found ≡ option_map volume_entry o)
+    name_readable name found h =
+        let es = filter (λ (e : ℕ × Volume). bytes_eq e.1.name name) (entries s.volumes) in (
+          slice_get es 0,
+          first_so IsReadable es (all-filter IsReadable (λ e. bytes_eq e.1.name name) (entries s.volumes) volumes_readable),
+          first_row volume_entry h.0 es found (named_rows name h.0 h.1) h.2,
+        )
+
+    pub page_readable : (after count : ℕ) (shown : List Row) → IsBeginningOf page_query (db 1) (number_value after ∷ number_value count ∷ []) count shown
+        → (es : List (ℕ × Volume)) × AllByRecursion IsReadable es × (shown ≡ map volume_entry es)
+    unfolding page_rows
+    page_readable after count shown h =
+        let es = filter (λ (e : ℕ × Volume). nat_lt after e.0) (entries s.volumes) in (
+          take count es,
+          all-take IsReadable count es (all-filter IsReadable (λ e. nat_lt after e.0) (entries s.volumes) volumes_readable),
+          (page_rows after count shown h).2,
+        )
+
+    pub nodes_readable : (number : ℕ) (shown : List Row) → IsShownOf nodes_query (db 3) (number_value number ∷ []) shown → (es : List (Place × Attachment)) × AllByRecursion IsReadablePlace es × (shown ≡ map node_entry es)
+    unfolding node_rows
+    nodes_readable number shown h =
+        let es = entries s.attachments in (
+          filter (λ e. e.0.0 == number) es,
+          all-filter IsReadablePlace (λ e. e.0.0 == number) es (readable_places es p.storable.attachments known.attachments),
+          (node_rows number shown h).2,
+        )

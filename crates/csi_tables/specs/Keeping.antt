@@ -2,13 +2,15 @@
 use Rattle.std.specs.Prelude.{◌≡◌, ℕ, ◌≤◌, Bool, false, Result}
 use Rattle.sqlite.specs.Held.{Held, state}
 use Rattle.sqlite.specs.Store.{Ghosts}
-use Rattle.csi_keeper.specs.Keeper.{Applies}
+use Rattle.csi_keeper.specs.Keeper.{Applies, IsQuiet, Tells}
 use Rattle.csi_keeper.specs.Memory.{first_state}
 use Rattle.csi_keeper.specs.State.{State}
 use Rattle.csi_keeper.specs.declared.change.Change.{Change}
 use Rattle.csi_keeper.specs.declared.change.StoreFault.{StoreFault}
+use Rattle.csi_keeper.specs.declared.change.StoreFault.TheVariants.{Refused}
 use Rattle.csi_layout.specs.Tables.{no_schema}
 use Rattle.csi_tables.specs.Holding.{Store, conn_doubt, store_holds, store_doubt, store_survivors, store_tied}
+use Rattle.csi_tables.specs.Refusing.{RefusesChange, StoreRefuses}
 use Rattle.csi_tables.specs.declared.tables.Tables.{Tables}
 
 module _ {S : Type 0} (g : Ghosts S) where
@@ -29,6 +31,21 @@ module _ {S : Type 0} (g : Ghosts S) where
   abbrev pub TablesApplies : {X : Type 0} → Tables S g → Tables S g → Change → Result X StoreFault → Type 0
   TablesApplies old new change result =
       Applies (λ t. store_holds g (store_of t)) (λ t. store_doubt g (store_of t)) (λ t. store_survivors g (store_of t)) (λ t. store_tied g (store_of t)) is_down old new change result
+
+  -- what a read of a keeper does, at this one
+  abbrev pub TablesTells : Tables S g → Tables S g → (State → Type 0) → Type 0
+  TablesTells old new P = Tells (λ t. store_holds g (store_of t)) (λ t. store_doubt g (store_of t)) old new P
+
+  abbrev pub TablesIsQuiet : Tables S g → Tables S g → Type 0
+  TablesIsQuiet old new = IsQuiet (λ t. store_holds g (store_of t)) (λ t. store_doubt g (store_of t)) (λ t. store_survivors g (store_of t)) (λ t. store_tied g (store_of t)) is_down old new
+
+  -- a call that is refused has its cause, which is not want of memory
+  abbrev pub TablesRefuses : {X : Type 0} → Tables S g → Tables S g → Type 0 → Result X StoreFault → Type 0
+  TablesRefuses old new Why result = StoreRefuses g (store_of old) (store_of new) Refused Why result
+
+  -- what a change is refused for
+  abbrev pub refuses_change : Tables S g → Change → Type 0
+  refuses_change t change = RefusesChange change t.totals (state g t.conn)
 
   -- A keeper over tables that were made on a connection. Its State is the first one if the database had no table.
   pub record IsNewOver (conn : Held S) (t : Tables S g) : Type 0 where

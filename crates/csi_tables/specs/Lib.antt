@@ -3,3 +3,4 @@ pub mod Encoding
 pub mod Holding
 pub mod Keeping
 pub mod Places
+pub mod Refusing

@@ -1,5 +1,6 @@
 -- Places of attachments, as a listing of published nodes reads them.
-use Rattle.std.specs.Prelude.{ℕ, ◌<◌, ◌≤◌, ◌==◌, List, [], ◌∷◌, filter, map}
+use Rattle.std.specs.Prelude.{ℕ, ◌<◌, ◌≤◌, ◌==◌, List, [], ◌∷◌, filter, map, IsUtf8}
+use Rattle.std.specs.List.{AllByRecursion}
 use Rattle.sqlite.specs.Order.{Row}
 use Rattle.sqlite.specs.Tree.{IsAscending}
 use Rattle.sqlite.specs.declared.types.Value.TheVariants.{Text}
@@ -14,6 +15,10 @@ place_row p = number_value p.0 ∷ Text p.1 ∷ []
 -- the places rise by their numbers
 abbrev pub IsRisen : List Place → Type 0
 IsRisen ps = IsAscending (λ a b. a.0 ≤ b.0) ps
+
+-- the nodes are UTF-8
+abbrev pub AreTexts : List Place → Type 0
+AreTexts ps = AllByRecursion (λ p. IsUtf8 p.1) ps
 
 abbrev pub AreRising : List ℕ → Type 0
 AreRising ns = IsAscending (λ a b. a < b) ns

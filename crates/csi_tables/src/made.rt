@@ -4,13 +4,16 @@
 //! change is made and committed; after a fault the State stays, and a stop may leave the change made.
 //! The totals are moved only once the change is committed, and that takes no memory.
 
-ghost use Rattle.std.specs.Prelude.{◌≡◌, ◌<◌, ◌^◌, [], ◌∷◌, List, ℕ, false, IsUtf8, OnErr, OnOk};
+ghost use Rattle.std.specs.Prelude.{◌≡◌, ◌<◌, ◌^◌, [], ◌∷◌, List, ℕ, false, IsErrOf, IsUtf8, OnErr, OnOk};
+ghost use Rattle.sqlite.specs.Held.{state};
 ghost use Rattle.csi_keeper.specs.State.{State, IsBounded, changed};
 ghost use Rattle.csi_keeper.specs.Totals.{HasRoom, IsReserved, total_of};
 ghost use Rattle.csi_keeper.specs.declared.change.Change.{Change as Changing};
 ghost use Rattle.csi_keeper.specs.declared.change.Change.TheVariants.{AddVolume, RemoveVolume, Attach, Detach, DetachAll};
 ghost use Rattle.csi_tables.specs.Encoding.{FitCaps};
 ghost use Rattle.csi_tables.specs.Holding.{IsStorable, ConnMakes, ConnFails, StoreMakes, StoreFails};
+ghost use Rattle.csi_tables.specs.Refusing.{ConnRefuses, StoreRefuses, RefusesAdding, RefusesAttaching, RefusesChange, RefusesDetach, RefusesDetachAll, RefusesRemoving};
+ghost use Rattle.csi_tables.specs.declared.fault.Fault.TheVariants.{Refused};
 
 use crate::encoding::{read_back, write_caps, write_params};
 use crate::fault::Fault;
@@ -31,6 +34,7 @@ fn reserve(alloc: Global, totals: &mut Totals, pool: &Text, bytes: u64) -> Resul
     ensures room { OnOk result (HasRoom (total_of totals.old pool.now) bytes) }
     ensures reserved { OnOk result (IsReserved totals.new pool.now) }
     ensures same { (q : List ℕ) → total_of totals.new q ≡ total_of totals.old q }
+    ensures refused { IsErrOf result Refused → ¬ HasRoom (total_of totals.old pool.now) bytes }
 {
     if !totals.has_room(pool, bytes) {
         return Err(Fault::Refused);
@@ -51,6 +55,7 @@ pub(crate) fn make_volume<S: Alter>(
     ensures idle { conn.new.in_transaction ≡ false }
     ensures made { OnOk result (StoreMakes S.Store (conn.old, totals.old) (conn.new, totals.new) (AddVolume volume.now)) }
     ensures failed { OnErr result (StoreFails S.Store (conn.old, totals.old) (conn.new, totals.new) (AddVolume volume.now)) }
+    ensures refused { StoreRefuses S.Store (conn.old, totals.old) (conn.new, totals.new) Refused (RefusesAdding volume.now totals.old (state S.Store conn.old)) result }
 {
     read_back();
     let caps = write_caps(alloc, volume.caps.as_slice())?;
@@ -76,6 +81,7 @@ fn make_nothing<S: Alter>(conn: &mut Connection<S>) -> Result<(), Fault>
     ensures idle { conn.new.in_transaction ≡ false }
     ensures made { OnOk result ((change : Changing) → ((s : State) → IsStorable s → changed s change ≡ s) → ConnMakes S.Store conn.old conn.new change) }
     ensures failed { OnErr result ((change : Changing) → ConnFails S.Store conn.old conn.new change) }
+    ensures refused { ConnRefuses S.Store conn.old conn.new ⊥ result }
 {
     read_back();
     reads::next_number(conn)?;
@@ -94,6 +100,7 @@ pub(crate) fn make_attachment<S: Alter>(
     ensures made { OnOk result (ConnMakes S.Store conn.old conn.new (Attach number attachment.now)) }
     ensures stored { OnOk result ((number < 2 ^ 63) × IsUtf8 attachment.now.node × FitCaps (attachment.now.cap ∷ [])) }
     ensures failed { OnErr result (ConnFails S.Store conn.old conn.new (Attach number attachment.now)) }
+    ensures refused { ConnRefuses S.Store conn.old conn.new (RefusesAttaching number attachment.now (state S.Store conn.old)) result }
 {
     read_back();
     if number >= NUMBERS {
@@ -120,6 +127,7 @@ pub(crate) fn unmake_attachment<S: Alter>(
     ensures idle { conn.new.in_transaction ≡ false }
     ensures made { OnOk result (ConnMakes S.Store conn.old conn.new (Detach number node.now)) }
     ensures failed { OnErr result (ConnFails S.Store conn.old conn.new (Detach number node.now)) }
+    ensures refused { ConnRefuses S.Store conn.old conn.new (RefusesDetach number node.now (state S.Store conn.old)) result }
 {
     read_back();
     if number >= NUMBERS {
@@ -138,6 +146,7 @@ pub(crate) fn unmake_attachments<S: Alter>(
     ensures idle { conn.new.in_transaction ≡ false }
     ensures made { OnOk result (ConnMakes S.Store conn.old conn.new (DetachAll number)) }
     ensures failed { OnErr result (ConnFails S.Store conn.old conn.new (DetachAll number)) }
+    ensures refused { ConnRefuses S.Store conn.old conn.new (RefusesDetachAll number (state S.Store conn.old)) result }
 {
     read_back();
     if number >= NUMBERS {
@@ -159,6 +168,7 @@ pub(crate) fn unmake_volume<S: Alter>(
     ensures idle { conn.new.in_transaction ≡ false }
     ensures made { OnOk result (StoreMakes S.Store (conn.old, totals.old) (conn.new, totals.new) (RemoveVolume number)) }
     ensures failed { OnErr result (StoreFails S.Store (conn.old, totals.old) (conn.new, totals.new) (RemoveVolume number)) }
+    ensures refused { StoreRefuses S.Store (conn.old, totals.old) (conn.new, totals.new) Refused (RefusesRemoving number (state S.Store conn.old)) result }
 {
     read_back();
     if number >= NUMBERS {
@@ -185,6 +195,7 @@ pub(crate) fn make<S: Alter>(
     ensures idle { conn.new.in_transaction ≡ false }
     ensures made { OnOk result (StoreMakes S.Store (conn.old, totals.old) (conn.new, totals.new) change.now) }
     ensures failed { OnErr result (StoreFails S.Store (conn.old, totals.old) (conn.new, totals.new) change.now) }
+    ensures refused { StoreRefuses S.Store (conn.old, totals.old) (conn.new, totals.new) Refused (RefusesChange change.now totals.old (state S.Store conn.old)) result }
 {
     match change {
         Change::AddVolume(volume) => make_volume(alloc, conn, totals, volume),

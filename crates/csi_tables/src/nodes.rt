@@ -1,8 +1,9 @@
 //! The nodes of the volumes of a page, of one list of places.
 
-ghost use Rattle.std.specs.Prelude.{◌≡◌, ◌==◌, ◌<◌, ◌≤◌, ℕ, List, IfOk, length, drop, filter, map, nat_lt};
+ghost use Rattle.std.specs.Prelude.{◌≡◌, ◌≢◌, ◌==◌, ◌<◌, ◌≤◌, ℕ, List, IfOk, IsErrOf, length, drop, filter, map, nat_lt};
 ghost use Rattle.csi_keeper.specs.State.{Place};
-ghost use Rattle.csi_tables.specs.Places.{place_row, nodes_at, IsRisen, AreRising};
+ghost use Rattle.csi_tables.specs.Places.{place_row, nodes_at, IsRisen, AreRising, AreTexts};
+ghost use Rattle.csi_tables.specs.declared.fault.Fault.TheVariants.{Refused};
 
 use crate::fault::Fault;
 use crate::rows::{number_in, text_in};
@@ -15,6 +16,7 @@ fn nodes_of(alloc: Global, places: &[Row], number: u64) -> Result<(Items<Text>, 
     ensures nodes { IfOk result (λ found. (ps : List Place) → IsRisen ps → places.now ≡ map place_row ps → found.0 ≡ nodes_at ps number) }
     ensures passed { IfOk result (λ found. (ps : List Place) → IsRisen ps → places.now ≡ map place_row ps → drop found.1 ps ≡ filter (λ p. nat_lt number p.0) ps) }
     ensures within { IfOk result (λ found. found.1 ≤ length places.now) }
+    ensures refused { IsErrOf result Refused → (ps : List Place) → AreTexts ps → places.now ≢ map place_row ps }
 {
     let mut nodes = Items::new(alloc);
     for (passed, row) in places.iter().enumerate() {
@@ -36,7 +38,8 @@ pub(crate) fn nodes_of_each(
     numbers: &[u64],
     places: &[Row],
 ) -> Result<Items<Items<Text>>, Fault>
-    ensures { IfOk result (λ all. (ps : List Place) → IsRisen ps → AreRising numbers.now → places.now ≡ map place_row ps → all ≡ map (nodes_at ps) numbers.now) }
+    ensures nodes { IfOk result (λ all. (ps : List Place) → IsRisen ps → AreRising numbers.now → places.now ≡ map place_row ps → all ≡ map (nodes_at ps) numbers.now) }
+    ensures refused { IsErrOf result Refused → (ps : List Place) → IsRisen ps → AreRising numbers.now → AreTexts ps → places.now ≢ map place_row ps }
 {
     let mut all = Items::new(alloc);
     let mut rest = places;

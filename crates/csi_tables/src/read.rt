@@ -10,6 +10,7 @@ ghost use Rattle.sqlite.specs.Held.{state};
 ghost use Rattle.sqlite.specs.State.{HasCleanDisk, Survives};
 ghost use Rattle.csi_statements.specs.Rows.{IsUndone};
 ghost use Rattle.csi_tables.specs.Holding.{ConnTells};
+ghost use Rattle.csi_tables.specs.Refusing.{ConnRefuses};
 
 use crate::fault::Fault;
 use crate::nodes::nodes_of_each;
@@ -25,6 +26,7 @@ pub(crate) fn next_number<S: Alter>(conn: &mut Connection<S>) -> Result<u64, Fau
     requires idle { conn.old.in_transaction ≡ false }
     ensures idle { conn.new.in_transaction ≡ false }
     ensures value { IfOk result (λ n. ConnTells S.Store conn.old conn.new (λ s. n ≡ s.next)) }
+    ensures refused { ConnRefuses S.Store conn.old conn.new ⊥ result }
     ensures undone { HasCleanDisk (state S.Store conn.new) → IsUndone (state S.Store conn.old) (state S.Store conn.new) }
     ensures survives { Survives (state S.Store conn.old) (state S.Store conn.new) (λ _. ⊥) }
 {
@@ -42,6 +44,7 @@ pub(crate) fn by_number<S: Alter>(
     requires number { number < 2 ^ 63 }
     ensures idle { conn.new.in_transaction ≡ false }
     ensures value { IfOk result (λ v. ConnTells S.Store conn.old conn.new (λ s. v ≡ get s.volumes number)) }
+    ensures refused { ConnRefuses S.Store conn.old conn.new ⊥ result }
     ensures undone { HasCleanDisk (state S.Store conn.new) → IsUndone (state S.Store conn.old) (state S.Store conn.new) }
     ensures survives { Survives (state S.Store conn.old) (state S.Store conn.new) (λ _. ⊥) }
 {
@@ -58,6 +61,7 @@ pub(crate) fn by_name<S: Alter>(
     requires idle { conn.old.in_transaction ≡ false }
     ensures idle { conn.new.in_transaction ≡ false }
     ensures value { IfOk result (λ v. ConnTells S.Store conn.old conn.new (λ s. v ≡ named s name.now)) }
+    ensures refused { ConnRefuses S.Store conn.old conn.new ⊥ result }
     ensures undone { HasCleanDisk (state S.Store conn.new) → IsUndone (state S.Store conn.old) (state S.Store conn.new) }
     ensures survives { Survives (state S.Store conn.old) (state S.Store conn.new) (λ _. ⊥) }
 {
@@ -75,6 +79,7 @@ pub(crate) fn attachments<S: Alter>(
     requires number { number < 2 ^ 63 }
     ensures idle { conn.new.in_transaction ≡ false }
     ensures value { IfOk result (λ xs. ConnTells S.Store conn.old conn.new (λ s. xs ≡ attached s number)) }
+    ensures refused { ConnRefuses S.Store conn.old conn.new ⊥ result }
     ensures undone { HasCleanDisk (state S.Store conn.new) → IsUndone (state S.Store conn.old) (state S.Store conn.new) }
     ensures survives { Survives (state S.Store conn.old) (state S.Store conn.new) (λ _. ⊥) }
 {
@@ -91,6 +96,7 @@ pub(crate) fn attached_at<S: Alter>(
     requires idle { conn.old.in_transaction ≡ false }
     ensures idle { conn.new.in_transaction ≡ false }
     ensures value { IfOk result (λ xs. ConnTells S.Store conn.old conn.new (λ s. xs ≡ attached_at s node.now)) }
+    ensures refused { ConnRefuses S.Store conn.old conn.new ⊥ result }
     ensures undone { HasCleanDisk (state S.Store conn.new) → IsUndone (state S.Store conn.old) (state S.Store conn.new) }
     ensures survives { Survives (state S.Store conn.old) (state S.Store conn.new) (λ _. ⊥) }
 {
@@ -107,6 +113,7 @@ pub(crate) fn sizes_in<S: Alter>(
     requires idle { conn.old.in_transaction ≡ false }
     ensures idle { conn.new.in_transaction ≡ false }
     ensures value { IfOk result (λ xs. ConnTells S.Store conn.old conn.new (λ s. xs ≡ sizes s pool.now)) }
+    ensures refused { ConnRefuses S.Store conn.old conn.new ⊥ result }
     ensures undone { HasCleanDisk (state S.Store conn.new) → IsUndone (state S.Store conn.old) (state S.Store conn.new) }
     ensures survives { Survives (state S.Store conn.old) (state S.Store conn.new) (λ _. ⊥) }
 {
@@ -125,6 +132,7 @@ pub(crate) fn page<S: Alter>(
     requires after { after < 2 ^ 63 }
     ensures idle { conn.new.in_transaction ≡ false }
     ensures value { IfOk result (λ xs. ConnTells S.Store conn.old conn.new (λ s. xs ≡ page s after count)) }
+    ensures refused { ConnRefuses S.Store conn.old conn.new ⊥ result }
     ensures undone { HasCleanDisk (state S.Store conn.new) → IsUndone (state S.Store conn.old) (state S.Store conn.new) }
     ensures survives { Survives (state S.Store conn.old) (state S.Store conn.new) (λ _. ⊥) }
 {
@@ -143,6 +151,7 @@ pub(crate) fn published_nodes<S: Alter>(
     requires after { after < 2 ^ 63 }
     ensures idle { conn.new.in_transaction ≡ false }
     ensures value { IfOk result (λ xs. ConnTells S.Store conn.old conn.new (λ s. xs ≡ published_of_page s after count)) }
+    ensures refused { ConnRefuses S.Store conn.old conn.new ⊥ result }
     ensures undone { HasCleanDisk (state S.Store conn.new) → IsUndone (state S.Store conn.old) (state S.Store conn.new) }
     ensures survives { Survives (state S.Store conn.old) (state S.Store conn.new) (λ _. ⊥) }
 {

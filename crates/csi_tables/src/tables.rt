@@ -1,8 +1,9 @@
 //! The keeper over the tables.
 
 ghost use Rattle.std.specs.Prelude.{◌≡◌, ◌↔◌, true, false, Err, IfOk, IsTrue, OnErr};
+ghost use Rattle.std.specs.FinMap.{get};
 ghost use Rattle.csi_keeper.specs.Keeper.{count_after};
-ghost use Rattle.csi_keeper.specs.State.{IsBounded};
+ghost use Rattle.csi_keeper.specs.State.{IsBounded, attached, attached_at, named, page, published_of_page, sizes};
 ghost use Rattle.csi_keeper.specs.declared.change.StoreFault.TheVariants.{Down};
 
 use crate::made::{NUMBERS, make};
@@ -59,7 +60,7 @@ impl<S: Alter> Tables<S> {
 
 impl<S: Alter> Keeper for Tables<S> {
     ghost use Rattle.csi_tables.specs.Holding.{store_holds, store_doubt, store_survivors, store_tied};
-    ghost use Rattle.csi_tables.specs.Keeping.{TablesApplies};
+    ghost use Rattle.csi_tables.specs.Keeping.{TablesApplies, TablesIsQuiet, TablesRefuses, TablesTells, refuses_change};
 
     ghost holds = { λ t s. store_holds S.Store (t.conn, t.totals) s };
 
@@ -77,19 +78,37 @@ impl<S: Alter> Keeper for Tables<S> {
         self.turns.refusals
     }
 
-    fn next_number(&mut self) -> Result<u64, StoreFault> {
+    fn next_number(&mut self) -> Result<u64, StoreFault>
+        ensures value { IfOk result (λ n. TablesTells S.Store self.old self.new (λ s. n ≡ s.next)) }
+        ensures quiet { TablesIsQuiet S.Store self.old self.new }
+        ensures count { self.new.turns.refusals ≡ count_after self.old.turns.refusals result }
+        ensures down { (result ≡ Err Down) ↔ IsTrue self.old.turns.is_down }
+        ensures refused { TablesRefuses S.Store self.old self.new ⊥ result }
+    {
         self.turns.begin()?;
         let answer = read::next_number(&mut self.conn);
         self.turns.end(answer)
     }
 
-    fn by_name(&mut self, alloc: Global, name: &str) -> Result<Option<Volume>, StoreFault> {
+    fn by_name(&mut self, alloc: Global, name: &str) -> Result<Option<Volume>, StoreFault>
+        ensures value { IfOk result (λ v. TablesTells S.Store self.old self.new (λ s. v ≡ named s name.now)) }
+        ensures quiet { TablesIsQuiet S.Store self.old self.new }
+        ensures count { self.new.turns.refusals ≡ count_after self.old.turns.refusals result }
+        ensures down { (result ≡ Err Down) ↔ IsTrue self.old.turns.is_down }
+        ensures refused { TablesRefuses S.Store self.old self.new ⊥ result }
+    {
         self.turns.begin()?;
         let answer = read::by_name(alloc, &mut self.conn, name);
         self.turns.end(answer)
     }
 
-    fn by_number(&mut self, alloc: Global, number: u64) -> Result<Option<Volume>, StoreFault> {
+    fn by_number(&mut self, alloc: Global, number: u64) -> Result<Option<Volume>, StoreFault>
+        ensures value { IfOk result (λ v. TablesTells S.Store self.old self.new (λ s. v ≡ get s.volumes number)) }
+        ensures quiet { TablesIsQuiet S.Store self.old self.new }
+        ensures count { self.new.turns.refusals ≡ count_after self.old.turns.refusals result }
+        ensures down { (result ≡ Err Down) ↔ IsTrue self.old.turns.is_down }
+        ensures refused { TablesRefuses S.Store self.old self.new ⊥ result }
+    {
         self.turns.begin()?;
         if number >= NUMBERS {
             return Ok(None);
@@ -98,7 +117,13 @@ impl<S: Alter> Keeper for Tables<S> {
         self.turns.end(answer)
     }
 
-    fn attachments(&mut self, alloc: Global, number: u64) -> Result<Items<Attachment>, StoreFault> {
+    fn attachments(&mut self, alloc: Global, number: u64) -> Result<Items<Attachment>, StoreFault>
+        ensures value { IfOk result (λ xs. TablesTells S.Store self.old self.new (λ s. xs ≡ attached s number)) }
+        ensures quiet { TablesIsQuiet S.Store self.old self.new }
+        ensures count { self.new.turns.refusals ≡ count_after self.old.turns.refusals result }
+        ensures down { (result ≡ Err Down) ↔ IsTrue self.old.turns.is_down }
+        ensures refused { TablesRefuses S.Store self.old self.new ⊥ result }
+    {
         self.turns.begin()?;
         if number >= NUMBERS {
             return Ok(Items::new(alloc));
@@ -107,13 +132,25 @@ impl<S: Alter> Keeper for Tables<S> {
         self.turns.end(answer)
     }
 
-    fn attached_at(&mut self, alloc: Global, node: &str) -> Result<Items<u64>, StoreFault> {
+    fn attached_at(&mut self, alloc: Global, node: &str) -> Result<Items<u64>, StoreFault>
+        ensures value { IfOk result (λ xs. TablesTells S.Store self.old self.new (λ s. xs ≡ attached_at s node.now)) }
+        ensures quiet { TablesIsQuiet S.Store self.old self.new }
+        ensures count { self.new.turns.refusals ≡ count_after self.old.turns.refusals result }
+        ensures down { (result ≡ Err Down) ↔ IsTrue self.old.turns.is_down }
+        ensures refused { TablesRefuses S.Store self.old self.new ⊥ result }
+    {
         self.turns.begin()?;
         let answer = read::attached_at(alloc, &mut self.conn, node);
         self.turns.end(answer)
     }
 
-    fn sizes_in(&mut self, alloc: Global, pool: &str) -> Result<Items<u64>, StoreFault> {
+    fn sizes_in(&mut self, alloc: Global, pool: &str) -> Result<Items<u64>, StoreFault>
+        ensures value { IfOk result (λ xs. TablesTells S.Store self.old self.new (λ s. xs ≡ sizes s pool.now)) }
+        ensures quiet { TablesIsQuiet S.Store self.old self.new }
+        ensures count { self.new.turns.refusals ≡ count_after self.old.turns.refusals result }
+        ensures down { (result ≡ Err Down) ↔ IsTrue self.old.turns.is_down }
+        ensures refused { TablesRefuses S.Store self.old self.new ⊥ result }
+    {
         self.turns.begin()?;
         let answer = read::sizes_in(alloc, &mut self.conn, pool);
         self.turns.end(answer)
@@ -124,7 +161,13 @@ impl<S: Alter> Keeper for Tables<S> {
         Ok(self.totals.usage(pool))
     }
 
-    fn page(&mut self, alloc: Global, after: u64, count: u32) -> Result<Items<Volume>, StoreFault> {
+    fn page(&mut self, alloc: Global, after: u64, count: u32) -> Result<Items<Volume>, StoreFault>
+        ensures value { IfOk result (λ xs. TablesTells S.Store self.old self.new (λ s. xs ≡ page s after count)) }
+        ensures quiet { TablesIsQuiet S.Store self.old self.new }
+        ensures count { self.new.turns.refusals ≡ count_after self.old.turns.refusals result }
+        ensures down { (result ≡ Err Down) ↔ IsTrue self.old.turns.is_down }
+        ensures refused { TablesRefuses S.Store self.old self.new ⊥ result }
+    {
         self.turns.begin()?;
         if after >= NUMBERS {
             return Ok(Items::new(alloc));
@@ -138,7 +181,13 @@ impl<S: Alter> Keeper for Tables<S> {
         alloc: Global,
         after: u64,
         count: u32,
-    ) -> Result<Items<Items<Text>>, StoreFault> {
+    ) -> Result<Items<Items<Text>>, StoreFault>
+        ensures value { IfOk result (λ xs. TablesTells S.Store self.old self.new (λ s. xs ≡ published_of_page s after count)) }
+        ensures quiet { TablesIsQuiet S.Store self.old self.new }
+        ensures count { self.new.turns.refusals ≡ count_after self.old.turns.refusals result }
+        ensures down { (result ≡ Err Down) ↔ IsTrue self.old.turns.is_down }
+        ensures refused { TablesRefuses S.Store self.old self.new ⊥ result }
+    {
         self.turns.begin()?;
         if after >= NUMBERS {
             return Ok(Items::new(alloc));
@@ -153,6 +202,7 @@ impl<S: Alter> Keeper for Tables<S> {
         ensures count { self.new.turns.refusals ≡ count_after self.old.turns.refusals result }
         ensures down { (result ≡ Err Down) ↔ IsTrue self.old.turns.is_down }
         ensures stops { OnErr result (IsTrue self.new.turns.is_down) }
+        ensures refused { TablesRefuses S.Store self.old self.new (refuses_change S.Store self.old change.now) result }
     {
         if let Err(fault) = self.turns.begin() {
             return Err(fault);

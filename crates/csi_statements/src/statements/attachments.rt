@@ -4,6 +4,7 @@ ghost use Rattle.std.specs.Prelude.{◌≡◌, ◌<◌, ◌^◌, [], ◌∷◌};
 ghost use Rattle.sqlite.specs.declared.types.Value.TheVariants.{Text};
 ghost use Rattle.csi_layout.specs.Transactions.{KeepsCommitted, LeavesNothingNew, RunsFrom};
 ghost use Rattle.csi_statements.specs.Deletes.{Drops, is_of, is_place};
+ghost use Rattle.csi_statements.specs.Failing.{FailsFrom, NothingRefuses, RefusesAttachment, RefusesDetaching, RefusesDetachingAll};
 ghost use Rattle.csi_statements.specs.Rows.{AddsAttachment, Looks, attachment_row, number_value, seen_attachment};
 ghost use Rattle.csi_statements.specs.Shown.{IsShownOf};
 ghost use Rattle.csi_statements.specs.Statements.{attached_query, nodes_query, places_query};
@@ -24,6 +25,7 @@ pub(crate) fn insert_attachment<S: Alter>(
     requires { volume < 2 ^ 63 }
     ensures same_reference { tx.new.conn.ghost_name ≡ tx.old.conn.ghost_name }
     ensures ok { RunsFrom S.Store tx.old.conn.now tx.new.conn.now schema (AddsAttachment (attachment_row volume node.now cap.now readonly)) result }
+    ensures failed { FailsFrom S.Store tx.old.conn.now tx.new.conn.now schema (RefusesAttachment (attachment_row volume node.now cap.now readonly)) result }
     ensures kept { KeepsCommitted S.Store tx.old.conn.now tx.new.conn.now }
     ensures survives { LeavesNothingNew S.Store tx.old.conn.now tx.new.conn.now }
 {
@@ -47,6 +49,7 @@ pub(crate) fn delete_attachment<S: Alter>(
     requires { volume < 2 ^ 63 }
     ensures same_reference { tx.new.conn.ghost_name ≡ tx.old.conn.ghost_name }
     ensures ok { RunsFrom S.Store tx.old.conn.now tx.new.conn.now schema (Drops 3 seen_attachment (is_place volume node.now)) result }
+    ensures failed { FailsFrom S.Store tx.old.conn.now tx.new.conn.now schema (RefusesDetaching volume node.now) result }
     ensures kept { KeepsCommitted S.Store tx.old.conn.now tx.new.conn.now }
     ensures survives { LeavesNothingNew S.Store tx.old.conn.now tx.new.conn.now }
 {
@@ -64,6 +67,7 @@ pub(crate) fn delete_attachments<S: Alter>(
     requires { volume < 2 ^ 63 }
     ensures same_reference { tx.new.conn.ghost_name ≡ tx.old.conn.ghost_name }
     ensures ok { RunsFrom S.Store tx.old.conn.now tx.new.conn.now schema (Drops 3 seen_attachment (is_of volume)) result }
+    ensures failed { FailsFrom S.Store tx.old.conn.now tx.new.conn.now schema (RefusesDetachingAll volume) result }
     ensures kept { KeepsCommitted S.Store tx.old.conn.now tx.new.conn.now }
     ensures survives { LeavesNothingNew S.Store tx.old.conn.now tx.new.conn.now }
 {
@@ -81,6 +85,7 @@ pub(crate) fn select_nodes<S: Alter>(
     requires { volume < 2 ^ 63 }
     ensures same_reference { tx.new.conn.ghost_name ≡ tx.old.conn.ghost_name }
     ensures ok { Looks S.Store tx.old.conn.now tx.new.conn.now (λ rows db. IsShownOf nodes_query (db.trees 3) (number_value volume ∷ []) rows.items) result }
+    ensures failed { FailsFrom S.Store tx.old.conn.now tx.new.conn.now schema NothingRefuses result }
     ensures kept { KeepsCommitted S.Store tx.old.conn.now tx.new.conn.now }
     ensures survives { LeavesNothingNew S.Store tx.old.conn.now tx.new.conn.now }
 {
@@ -97,6 +102,7 @@ pub(crate) fn select_attached<S: Alter>(
 ) -> Result<Vec<Row>, Error>
     ensures same_reference { tx.new.conn.ghost_name ≡ tx.old.conn.ghost_name }
     ensures ok { Looks S.Store tx.old.conn.now tx.new.conn.now (λ rows db. IsShownOf attached_query (db.trees 3) (Text node.now ∷ []) rows.items) result }
+    ensures failed { FailsFrom S.Store tx.old.conn.now tx.new.conn.now schema NothingRefuses result }
     ensures kept { KeepsCommitted S.Store tx.old.conn.now tx.new.conn.now }
     ensures survives { LeavesNothingNew S.Store tx.old.conn.now tx.new.conn.now }
 {
@@ -116,6 +122,7 @@ pub(crate) fn select_places<S: Alter>(
     requires last { last < 2 ^ 63 }
     ensures same_reference { tx.new.conn.ghost_name ≡ tx.old.conn.ghost_name }
     ensures ok { Looks S.Store tx.old.conn.now tx.new.conn.now (λ rows db. IsShownOf places_query (db.trees 3) (number_value after ∷ number_value last ∷ []) rows.items) result }
+    ensures failed { FailsFrom S.Store tx.old.conn.now tx.new.conn.now schema NothingRefuses result }
     ensures kept { KeepsCommitted S.Store tx.old.conn.now tx.new.conn.now }
     ensures survives { LeavesNothingNew S.Store tx.old.conn.now tx.new.conn.now }
 {

@@ -2,6 +2,7 @@
 
 ghost use Rattle.std.specs.Prelude.{◌≡◌, ℕ, ◌<◌, ◌^◌, [], ◌∷◌, map};
 ghost use Rattle.csi_layout.specs.Transactions.{KeepsCommitted, LeavesNothingNew, RunsFrom};
+ghost use Rattle.csi_statements.specs.Failing.{FailsFrom, HasNoNext, RefusesNext};
 ghost use Rattle.csi_statements.specs.Rows.{Looks, SetsNext, meta_row, number_value, seen_meta};
 ghost use Rattle.csi_statements.specs.Tables.{schema};
 
@@ -13,6 +14,7 @@ pub(crate) fn set_next<S: Alter>(tx: &mut Transaction<'_, S>, next: u64) -> Resu
     requires { next < 2 ^ 63 }
     ensures same_reference { tx.new.conn.ghost_name ≡ tx.old.conn.ghost_name }
     ensures ok { RunsFrom S.Store tx.old.conn.now tx.new.conn.now schema (SetsNext next) result }
+    ensures failed { FailsFrom S.Store tx.old.conn.now tx.new.conn.now schema (RefusesNext next) result }
     ensures kept { KeepsCommitted S.Store tx.old.conn.now tx.new.conn.now }
     ensures survives { LeavesNothingNew S.Store tx.old.conn.now tx.new.conn.now }
 {
@@ -23,6 +25,7 @@ pub(crate) fn set_next<S: Alter>(tx: &mut Transaction<'_, S>, next: u64) -> Resu
 pub(crate) fn select_next<S: Alter>(tx: &mut Transaction<'_, S>) -> Result<Row, Error>
     ensures same_reference { tx.new.conn.ghost_name ≡ tx.old.conn.ghost_name }
     ensures ok { Looks S.Store tx.old.conn.now tx.new.conn.now (λ row db. (next : ℕ) → map seen_meta (db.trees 0) ≡ meta_row next ∷ [] → row ≡ number_value next ∷ []) result }
+    ensures failed { FailsFrom S.Store tx.old.conn.now tx.new.conn.now schema HasNoNext result }
     ensures kept { KeepsCommitted S.Store tx.old.conn.now tx.new.conn.now }
     ensures survives { LeavesNothingNew S.Store tx.old.conn.now tx.new.conn.now }
 {

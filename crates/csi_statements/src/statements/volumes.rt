@@ -4,6 +4,7 @@ ghost use Rattle.std.specs.Prelude.{◌≡◌, ◌<◌, ◌^◌, [], ◌∷◌};
 ghost use Rattle.sqlite.specs.declared.types.Value.TheVariants.{Text};
 ghost use Rattle.csi_layout.specs.Transactions.{KeepsCommitted, LeavesNothingNew, RunsFrom};
 ghost use Rattle.csi_statements.specs.Deletes.{Drops, is_numbered};
+ghost use Rattle.csi_statements.specs.Failing.{FailsFrom, NothingRefuses, RefusesRemoval, RefusesVolume};
 ghost use Rattle.csi_statements.specs.Rows.{AddsVolume, Looks, number_value, seen_volume, volume_row};
 ghost use Rattle.csi_statements.specs.Shown.{IsBeginningOf, IsPage, IsShownOf};
 ghost use Rattle.csi_statements.specs.Statements.{named_query, page_numbers_query, sizes_query, volume_query};
@@ -27,6 +28,7 @@ pub(crate) fn insert_volume<S: Alter>(
     requires bytes { bytes < 2 ^ 63 }
     ensures same_reference { tx.new.conn.ghost_name ≡ tx.old.conn.ghost_name }
     ensures ok { RunsFrom S.Store tx.old.conn.now tx.new.conn.now schema (AddsVolume (volume_row volume name.now bytes pool.now caps.now params.now)) result }
+    ensures failed { FailsFrom S.Store tx.old.conn.now tx.new.conn.now schema (RefusesVolume (volume_row volume name.now bytes pool.now caps.now params.now)) result }
     ensures kept { KeepsCommitted S.Store tx.old.conn.now tx.new.conn.now }
     ensures survives { LeavesNothingNew S.Store tx.old.conn.now tx.new.conn.now }
 {
@@ -51,6 +53,7 @@ pub(crate) fn delete_volume<S: Alter>(
     requires { volume < 2 ^ 63 }
     ensures same_reference { tx.new.conn.ghost_name ≡ tx.old.conn.ghost_name }
     ensures ok { RunsFrom S.Store tx.old.conn.now tx.new.conn.now schema (Drops 1 seen_volume (is_numbered volume)) result }
+    ensures failed { FailsFrom S.Store tx.old.conn.now tx.new.conn.now schema (RefusesRemoval volume) result }
     ensures kept { KeepsCommitted S.Store tx.old.conn.now tx.new.conn.now }
     ensures survives { LeavesNothingNew S.Store tx.old.conn.now tx.new.conn.now }
 {
@@ -65,6 +68,7 @@ pub(crate) fn select_volume<S: Alter>(
     requires { volume < 2 ^ 63 }
     ensures same_reference { tx.new.conn.ghost_name ≡ tx.old.conn.ghost_name }
     ensures ok { Looks S.Store tx.old.conn.now tx.new.conn.now (λ rows db. IsShownOf volume_query (db.trees 1) (number_value volume ∷ []) rows.items) result }
+    ensures failed { FailsFrom S.Store tx.old.conn.now tx.new.conn.now schema NothingRefuses result }
     ensures kept { KeepsCommitted S.Store tx.old.conn.now tx.new.conn.now }
     ensures survives { LeavesNothingNew S.Store tx.old.conn.now tx.new.conn.now }
 {
@@ -81,6 +85,7 @@ pub(crate) fn select_named<S: Alter>(
 ) -> Result<Vec<Row>, Error>
     ensures same_reference { tx.new.conn.ghost_name ≡ tx.old.conn.ghost_name }
     ensures ok { Looks S.Store tx.old.conn.now tx.new.conn.now (λ rows db. IsShownOf named_query (db.trees 1) (Text name.now ∷ []) rows.items) result }
+    ensures failed { FailsFrom S.Store tx.old.conn.now tx.new.conn.now schema NothingRefuses result }
     ensures kept { KeepsCommitted S.Store tx.old.conn.now tx.new.conn.now }
     ensures survives { LeavesNothingNew S.Store tx.old.conn.now tx.new.conn.now }
 {
@@ -97,6 +102,7 @@ pub(crate) fn select_sizes<S: Alter>(
 ) -> Result<Vec<Row>, Error>
     ensures same_reference { tx.new.conn.ghost_name ≡ tx.old.conn.ghost_name }
     ensures ok { Looks S.Store tx.old.conn.now tx.new.conn.now (λ rows db. IsShownOf sizes_query (db.trees 1) (Text pool.now ∷ []) rows.items) result }
+    ensures failed { FailsFrom S.Store tx.old.conn.now tx.new.conn.now schema NothingRefuses result }
     ensures kept { KeepsCommitted S.Store tx.old.conn.now tx.new.conn.now }
     ensures survives { LeavesNothingNew S.Store tx.old.conn.now tx.new.conn.now }
 {
@@ -115,6 +121,7 @@ pub(crate) fn select_page<S: Alter>(
     requires { after < 2 ^ 63 }
     ensures same_reference { tx.new.conn.ghost_name ≡ tx.old.conn.ghost_name }
     ensures ok { Looks S.Store tx.old.conn.now tx.new.conn.now (λ rows db. IsPage after count db rows.items) result }
+    ensures failed { FailsFrom S.Store tx.old.conn.now tx.new.conn.now schema NothingRefuses result }
     ensures kept { KeepsCommitted S.Store tx.old.conn.now tx.new.conn.now }
     ensures survives { LeavesNothingNew S.Store tx.old.conn.now tx.new.conn.now }
 {
@@ -133,6 +140,7 @@ pub(crate) fn select_page_numbers<S: Alter>(
     requires { after < 2 ^ 63 }
     ensures same_reference { tx.new.conn.ghost_name ≡ tx.old.conn.ghost_name }
     ensures ok { Looks S.Store tx.old.conn.now tx.new.conn.now (λ rows db. IsBeginningOf page_numbers_query (db.trees 1) (number_value after ∷ number_value count ∷ []) count rows.items) result }
+    ensures failed { FailsFrom S.Store tx.old.conn.now tx.new.conn.now schema NothingRefuses result }
     ensures kept { KeepsCommitted S.Store tx.old.conn.now tx.new.conn.now }
     ensures survives { LeavesNothingNew S.Store tx.old.conn.now tx.new.conn.now }
 {

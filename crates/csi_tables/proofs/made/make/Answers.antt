@@ -2,6 +2,9 @@ use Rattle.std.proofs.Common.{refl, sym, subst, OnOk, OnErr}
 use Rattle.csi_keeper.specs.declared.change.Change.{Change}
 use Rattle.csi_keeper.specs.declared.change.Change.TheVariants.{Attach, Detach, DetachAll}
 use Rattle.csi_tables.specs.Holding.{StoreMakes, StoreFails}
+use Rattle.sqlite.specs.Held.{state}
+use Rattle.csi_tables.specs.Refusing.{RefusesChange, StoreRefuses}
+use Rattle.csi_tables.specs.declared.fault.Fault.TheVariants.{Refused}
 use Rattle.csi_tables.proofs.KeepLemmas.{store_makes, store_fails, on_ok_so, on_ok_both, on_err_so}
 use Rattle.csi_tables.proofs.RowLemmas.{storable_attached, storable_detached, storable_detached_all}
 use Rattle.csi_tables.proofs.made.make.Goals as goal
@@ -41,3 +44,23 @@ returns-in-DetachAll-clause-failed g c =
     let change = DetachAll c.in-DetachAll.number in
     subst (λ (x : Change). OnErr c.unmake_attachments.result (StoreFails g.S.Store (c.args.conn.now, c.args.totals.now) (c.unmake_attachments.new.conn, c.args.totals.now) x)) (sym c.in-DetachAll.is)
     (on_err_so (λ failed. store_fails g.S.Store change (c.args.conn.now, c.args.totals.now) (c.unmake_attachments.new.conn, c.args.totals.now) (λ q. refl) failed) c.unmake_attachments.result c.unmake_attachments.ensures.failed)
+
+pub returns-in-AddVolume-clause-refused : goal.returns-in-AddVolume-clause-refused
+returns-in-AddVolume-clause-refused g c =
+    subst (λ (x : Change). StoreRefuses g.S.Store (c.args.conn.now, c.args.totals.now) (c.make_volume.new.conn, c.make_volume.new.totals) Refused (RefusesChange x c.args.totals.now (state g.S.Store c.args.conn.now)) c.make_volume.result) (sym c.in-AddVolume.is) c.make_volume.ensures.refused
+
+pub returns-in-RemoveVolume-clause-refused : goal.returns-in-RemoveVolume-clause-refused
+returns-in-RemoveVolume-clause-refused g c =
+    subst (λ (x : Change). StoreRefuses g.S.Store (c.args.conn.now, c.args.totals.now) (c.unmake_volume.new.conn, c.unmake_volume.new.totals) Refused (RefusesChange x c.args.totals.now (state g.S.Store c.args.conn.now)) c.unmake_volume.result) (sym c.in-RemoveVolume.is) c.unmake_volume.ensures.refused
+
+pub returns-in-Attach-clause-refused : goal.returns-in-Attach-clause-refused
+returns-in-Attach-clause-refused g c =
+    subst (λ (x : Change). StoreRefuses g.S.Store (c.args.conn.now, c.args.totals.now) (c.make_attachment.new.conn, c.args.totals.now) Refused (RefusesChange x c.args.totals.now (state g.S.Store c.args.conn.now)) c.make_attachment.result) (sym c.in-Attach.is) (λ clean is s held known. c.make_attachment.ensures.refused clean is s held.0 known)
+
+pub returns-in-Detach-clause-refused : goal.returns-in-Detach-clause-refused
+returns-in-Detach-clause-refused g c =
+    subst (λ (x : Change). StoreRefuses g.S.Store (c.args.conn.now, c.args.totals.now) (c.unmake_attachment.new.conn, c.args.totals.now) Refused (RefusesChange x c.args.totals.now (state g.S.Store c.args.conn.now)) c.unmake_attachment.result) (sym c.in-Detach.is) (λ clean is s held known. c.unmake_attachment.ensures.refused clean is s held.0 known)
+
+pub returns-in-DetachAll-clause-refused : goal.returns-in-DetachAll-clause-refused
+returns-in-DetachAll-clause-refused g c =
+    subst (λ (x : Change). StoreRefuses g.S.Store (c.args.conn.now, c.args.totals.now) (c.unmake_attachments.new.conn, c.args.totals.now) Refused (RefusesChange x c.args.totals.now (state g.S.Store c.args.conn.now)) c.unmake_attachments.result) (sym c.in-DetachAll.is) (λ clean is s held known. c.unmake_attachments.ensures.refused clean is s held.0 known)

@@ -1,12 +1,16 @@
-use Rattle.std.proofs.Common.{◌≡◌, ◌∙◌, ap, subst, arith, ◌+◌, List}
+use Rattle.std.proofs.Common.{inr, ◌≡◌, ◌∙◌, ap, subst, arith, ◌+◌, List}
 use Rattle.csi_keeper.specs.declared.capability.CapKey.{CapKey}
 use Rattle.csi_keeper.specs.declared.change.Change.TheVariants.{AddVolume}
 use Rattle.csi_keeper.specs.facts.Totals.{totals_added}
+use Rattle.sqlite.specs.Held.{state}
+use Rattle.csi_statements.specs.Failing.{RefusesNumbered}
 use Rattle.csi_statements.specs.Rows.{AddsNumbered, volume_row}
 use Rattle.csi_tables.specs.Encoding.{caps_bytes, params_bytes, FitCaps}
+use Rattle.csi_tables.specs.Refusing.{RefusesAdding}
 use Rattle.csi_tables.proofs.KeepLemmas.{makes, fails, store_makes, store_fails, on_err}
 use Rattle.csi_tables.proofs.RowLemmas.{rows_added, storable_added}
 use Rattle.csi_tables.proofs.TotalsLemmas.{counted_after}
+use Rattle.csi_tables.proofs.RefusalLemmas.{call_refused, told_as}
 use Rattle.csi_tables.proofs.made.make_volume.Goals as goal
 
 pub returns-in_err-add_volume-clause-failed : goal.returns-in_err-add_volume-clause-failed
@@ -34,3 +38,12 @@ returns-clause-made g c =
     (λ s old new has p allowed h. rows_added s v old new has p (omega (arith, c.requires.bounded.0)) c.as_str.ensures.utf8 c.as_str-2.ensures.utf8 fit c.in_ok-params.ensures.fits allowed h) c.args.conn.now c.add_volume.new.conn
     (rw (c.as_str.ensures.bytes, c.as_str-2.ensures.bytes, caps, params) at c.add_volume.ensures.survives) g.met.S.Store.settled
     (rw (c.as_str.ensures.bytes, c.as_str-2.ensures.bytes, caps, params) at c.in_ok-add_volume.ensures.ok))
+
+pub returns-in_err-add_volume-clause-refused : goal.returns-in_err-add_volume-clause-refused
+returns-in_err-add_volume-clause-refused g c clean is s held known =
+    let v = c.args.volume.now in
+    let caps : c.deref.result.now ≡ caps_bytes v.caps = c.deref.ensures.value ∙ c.in_ok-caps.ensures.bytes ∙ ap caps_bytes c.as_slice.ensures in
+    let params : c.deref-2.result.now ≡ params_bytes v.params = c.deref-2.ensures.value ∙ c.in_ok-params.ensures.bytes in
+    call_refused g.S.Store c.args.conn.now c.add_volume.new.conn (RefusesNumbered (volume_row v.number v.name v.bytes v.pool (caps_bytes v.caps) (params_bytes v.params)) (v.number + 1)) (RefusesAdding v c.args.totals.now (state g.S.Store c.args.conn.now))
+    c.in_err-add_volume.field-0.0 s (λ shows why. inr (c.in_err-add_volume.field-0.0, why)) (told_as c.from_residual-in_err-add_volume.result c.in_err-add_volume.field-0.0 c.from_residual-in_err-add_volume.ensures.1 is)
+    ((rw (c.as_str.ensures.bytes, c.as_str-2.ensures.bytes, caps, params) at c.in_err-add_volume.ensures.failed) clean) held.0

@@ -1,11 +1,17 @@
-use Rattle.std.proofs.Common.{◌∙◌, sym, subst, arith, refl}
+use Rattle.std.proofs.Common.{◌∙◌, [], ◌∷◌, sym, subst, arith, refl}
 use Rattle.csi_keeper.specs.Totals.{AreTotals}
 use Rattle.csi_keeper.specs.declared.change.Change.TheVariants.{RemoveVolume}
 use Rattle.csi_keeper.specs.facts.Totals.{totals_removed}
 use Rattle.csi_statements.specs.Deletes.{Drops, is_numbered}
-use Rattle.csi_statements.specs.Rows.{seen_volume}
+use Rattle.sqlite.specs.Held.{state}
+use Rattle.sqlite.specs.State.{HasCleanDisk}
+use Rattle.csi_statements.specs.Failing.{RefusesRemoval}
+use Rattle.csi_statements.specs.Rows.{number_value, seen_volume}
+use Rattle.csi_statements.specs.Texts.{remove_text}
+use Rattle.csi_tables.specs.Refusing.{RefusesRemoving}
 use Rattle.csi_tables.proofs.KeepLemmas.{is_quiet, makes, fails, makes_after, fails_after, fails_quiet, store_makes, store_fails, on_err, on_ok_so, on_err_so}
 use Rattle.csi_tables.proofs.RowLemmas.{nothing_removed, none_removed, rows_removed, storable_removed}
+use Rattle.csi_tables.proofs.RefusalLemmas.{refused_after, refuses_same, told_as}
 use Rattle.csi_tables.proofs.made.unmake_volume.Goals as goal
 
 pub returns-then-number-ge-NUMBERS-clause-made : goal.returns-then-number-ge-NUMBERS-clause-made
@@ -54,3 +60,13 @@ returns-clause-made g c =
     (makes_after g.S.Store (RemoveVolume n) c.args.conn.now c.by_number.new.conn c.remove_volume.new.conn (is_quiet g.S.Store c.args.conn.now c.by_number.new.conn c.by_number.ensures.undone c.by_number.ensures.survives)
     (makes g.S.Store c.read_back.ensures (RemoveVolume n) (Drops 1 seen_volume (is_numbered n)) (λ old new h. h.schema) (λ s old new has p allowed h. rows_removed s n old new has p h)
     c.by_number.new.conn c.remove_volume.new.conn c.remove_volume.ensures.survives g.met.S.Store.settled (λ clean. c.in_ok-remove_volume.ensures.ok clean)))
+
+pub returns-in_err-remove_volume-clause-refused : goal.returns-in_err-remove_volume-clause-refused
+returns-in_err-remove_volume-clause-refused g c clean is s held known =
+    let n = c.args.number in
+    let old = state g.S.Store c.args.conn.now in
+    let mid = state g.S.Store c.by_number.new.conn in
+    let e = c.in_err-remove_volume.field-0.0 in
+    let before : HasCleanDisk mid = omega (arith, c.remove_volume.ensures.survives.clean) in
+    refused_after g.S.Store c.args.conn.now c.by_number.new.conn c.remove_volume.new.conn (RefusesRemoving n old) (RefusesRemoval n) e s (c.by_number.ensures.undone before) c.by_number.ensures.survives before c.remove_volume.ensures.survives.counts
+    (λ now limit why. (e, refuses_same remove_text (number_value n ∷ []) old mid e now limit why)) (told_as c.from_residual-in_err-remove_volume.result e c.from_residual-in_err-remove_volume.ensures.1 is) (c.in_err-remove_volume.ensures.failed clean) held.0

@@ -1,7 +1,10 @@
-use Rattle.std.proofs.Common.{◌≡◌, ◌∙◌, sym, ap, subst, arith, ◌<◌, ◌≤◌, List, [], ◌∷◌, ◌++◌, take, length}
+use Rattle.std.proofs.Common.{◌≡◌, ◌∙◌, sym, ap, subst, arith, ◌<◌, ◌≤◌, List, [], ◌∷◌, ◌++◌, take, length, IsUtf8}
 use Rattle.std.specs.List.{AllByRecursion}
 use Rattle.csi_keeper.specs.State.{Place}
-use Rattle.csi_tables.specs.Places.{nodes_at}
+use Rattle.sqlite.specs.Order.{Row, column}
+use Rattle.csi_tables.specs.Places.{nodes_at, place_row}
+use Rattle.csi_tables.specs.declared.fault.Fault.TheVariants.{Refused}
+use Rattle.csi_tables.proofs.CellLemmas.{entry_at, handed_on}
 use Rattle.csi_tables.proofs.PlaceLemmas.{place_at, one_more_place, number_at, text_at, nodes_more, nodes_same, all_more, split_nodes, split_rest, stopped, none_left, as_many, below_whole}
 use Rattle.csi_tables.proofs.nodes.nodes_of.Goals as goal
 use Rattle.csi_tables.proofs.nodes.nodes_of.Goals.{then-at-number-2+in_ok-text_in+in_ok-push, else-at-number-2}
@@ -45,3 +48,13 @@ pub returns-clause-passed : goal.returns-clause-passed
 returns-clause-passed c ps up are =
     let many = as_many c.args.places.now ps are in
     split_rest c.args.number ps (length c.args.places.now) (below_whole c.args.number ps c.loop-passed.passed (length c.args.places.now) (omega arith) many (c.loop-passed.invariant ps are).1) (none_left c.args.number ps (length c.args.places.now) many)
+
+pub returns-in_err-at-clause-refused : goal.returns-in_err-at-clause-refused
+returns-in_err-at-clause-refused c is ps all are =
+    let e = entry_at place_row (λ (p : Place). IsUtf8 p.1) c.args.places.now ps c.loop-passed.passed c.index-places-passed.result (omega arith) all are in
+    c.number_in.ensures.refused (handed_on c.from_residual.result c.number_in.result c.in_err-at.field-0.0 Refused c.from_residual.ensures.1 is c.in_err-at.was) e.0.0 (ap (λ (r : Row). column r 0) (c.index-places-passed.is ∙ e.2))
+
+pub returns-in_err-text_in-clause-refused : goal.returns-in_err-text_in-clause-refused
+returns-in_err-text_in-clause-refused c is ps all are =
+    let e = entry_at place_row (λ (p : Place). IsUtf8 p.1) c.args.places.now ps c.loop-passed.passed c.index-places-passed.result (omega arith) all are in
+    c.text_in.ensures.refused (handed_on c.from_residual-in_err-text_in.result c.text_in.result c.in_err-text_in.field-0.0 Refused c.from_residual-in_err-text_in.ensures.1 is c.in_err-text_in.was) e.0.1 e.1 (ap (λ (r : Row). column r 1) (c.index-places-passed.is ∙ e.2))

@@ -1,7 +1,9 @@
-use Rattle.std.proofs.Common.{◌∙◌, ap, arith, ◌<◌, ◌≤◌, drop, map, length, get_or, nat_lt, filter}
-use Rattle.sqlite_trees.proofs.ListLemmas.{ascending-filter}
+use Rattle.std.proofs.Common.{◌∙◌, ap, arith, ◌<◌, ◌≤◌, drop, map, length, get_or, nat_lt, filter, IsUtf8}
+use Rattle.sqlite_trees.proofs.ListLemmas.{all-filter, ascending-filter}
 use Rattle.csi_keeper.specs.State.{Place}
 use Rattle.csi_tables.specs.Places.{place_row}
+use Rattle.csi_tables.specs.declared.fault.Fault.TheVariants.{Refused}
+use Rattle.csi_tables.proofs.CellLemmas.{handed_on}
 use Rattle.csi_tables.proofs.PlaceLemmas.{drop_row, each_more, later_same}
 use Rattle.csi_tables.proofs.nodes.nodes_of_each.Goals as goal
 
@@ -21,5 +23,11 @@ loop-number-preserved c ps up rising are =
         ascending-filter (λ a b. a.0 ≤ b.0) (λ p. nat_lt n p.0) qs it.1.1,
         c.split_at.ensures.back ∙ ap (drop c.in_ok-nodes.passed) it.1.2 ∙ drop_row place_row c.in_ok-nodes.passed qs ∙ ap (map place_row) behind,
         later.1,
+        λ texts. all-filter (λ (p : Place). IsUtf8 p.1) (λ p. nat_lt n p.0) qs (it.1.4 texts),
       ),
     )
+
+pub returns-in_err-nodes-clause-refused : goal.returns-in_err-nodes-clause-refused
+returns-in_err-nodes-clause-refused c is ps up rising texts are =
+    let it = (c.loop-number.invariant ps up rising are).1 in
+    c.nodes_of.ensures.refused (handed_on c.from_residual.result c.nodes_of.result c.in_err-nodes.field-0.0 Refused c.from_residual.ensures.1 is c.in_err-nodes.was) it.0 (it.4 texts) it.2

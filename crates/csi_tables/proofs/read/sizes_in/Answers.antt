@@ -10,3 +10,9 @@ returns-clause-value g c = if_ok (λ xs read clean s held.
     let told = c.in_ok-rows.ensures.ok clean in
     let shows = held told.was_open in
     read (sizes s c.args.pool.now) (c.deref.ensures.value ∙ sizes_rows s (state g.S.Store c.args.conn.now).now.trees shows.rows c.args.pool.now c.in_ok-rows.rows.items (told.what shows.schema))) c.numbers_from.result c.numbers_from.ensures.ok
+
+pub returns-clause-refused : goal.returns-clause-refused
+returns-clause-refused g c clean is s held known =
+    let told = c.in_ok-rows.ensures.ok clean in
+    let shows = held told.was_open in
+    absurd (c.numbers_from.ensures.refused is (sizes s c.args.pool.now) (c.deref.ensures.value ∙ sizes_rows s (state g.S.Store c.args.conn.now).now.trees shows.rows c.args.pool.now c.in_ok-rows.rows.items (told.what shows.schema)))

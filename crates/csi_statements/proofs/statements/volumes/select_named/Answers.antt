@@ -1,7 +1,8 @@
 use Rattle.std.proofs.Common.{refl}
 use Rattle.csi_statements.specs.Statements.{named_query}
 use Rattle.csi_statements.proofs.ReadLemmas.{read_all, all_keeps, selects}
-use Rattle.csi_statements.proofs.TextLemmas.{named_text, named_select}
+use Rattle.csi_statements.proofs.TextLemmas.{named_text, named_select, named_sure}
+use Rattle.csi_statements.proofs.FailLemmas.{all_told}
 use Rattle.csi_statements.proofs.statements.volumes.select_named.Goals as goal
 
 pub returns-clause-ok : goal.returns-clause-ok
@@ -10,3 +11,7 @@ returns-clause-ok g c clean inside =
 
 pub returns-clause-kept : goal.returns-clause-kept
 returns-clause-kept g c clean inside = all_keeps (λ v. v.items) _ _ _ _ c.query_all.result inside (c.query_all.ensures.ok clean) (c.query_all.ensures.err clean)
+
+pub returns-clause-failed : goal.returns-clause-failed
+returns-clause-failed g c clean inside = all_told named_text _ _ _ c.query_all.result (named_sure c.args.name.now) inside (rw c.as_bytes.ensures.value at (c.query_all.ensures.err clean))
+

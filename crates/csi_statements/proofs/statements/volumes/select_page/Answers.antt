@@ -1,7 +1,8 @@
 use Rattle.std.proofs.Common.{refl}
 use Rattle.csi_statements.specs.Statements.{page_query}
 use Rattle.csi_statements.proofs.ReadLemmas.{read_all, all_keeps, selects_first}
-use Rattle.csi_statements.proofs.TextLemmas.{page_text, page_select}
+use Rattle.csi_statements.proofs.TextLemmas.{page_text, page_select, page_sure}
+use Rattle.csi_statements.proofs.FailLemmas.{all_told}
 use Rattle.csi_statements.proofs.statements.volumes.select_page.Goals as goal
 
 pub returns-clause-ok : goal.returns-clause-ok
@@ -11,3 +12,7 @@ returns-clause-ok g c clean inside =
 
 pub returns-clause-kept : goal.returns-clause-kept
 returns-clause-kept g c clean inside = all_keeps (λ v. v.items) _ _ _ _ c.query_all.result inside (c.query_all.ensures.ok clean) (c.query_all.ensures.err clean)
+
+pub returns-clause-failed : goal.returns-clause-failed
+returns-clause-failed g c clean inside = all_told page_text _ _ _ c.query_all.result (page_sure c.args.after c.args.count) inside (rw (c.integer.ensures, c.integer-2.ensures, c.from.ensures) at (c.query_all.ensures.err clean))
+

@@ -2,6 +2,7 @@ use Rattle.std.proofs.Common.{◌∙◌, refl, Err}
 use Rattle.csi_tables.specs.declared.tables.Tables.{Tables}
 use Rattle.csi_tables.proofs.KeepLemmas.{on_ok_so}
 use Rattle.csi_tables.proofs.TablesLemmas.{keeps_applied, stays_down}
+use Rattle.csi_tables.proofs.RefusalLemmas.{told_refused}
 use Rattle.csi_tables.proofs.tables.TablesKeeper.apply.Goals as goal
 
 pub returns-in-Err-clause-applies : goal.returns-in-Err-clause-applies
@@ -12,3 +13,6 @@ pub returns-clause-applies : goal.returns-clause-applies
 returns-clause-applies g c =
     keeps_applied g.S.Store (λ (t : Tables g.row.S.Denot g.S.Store). (t.conn, t.totals)) (λ (t : Tables g.row.S.Denot g.S.Store). t.turns.is_down) _ _ c.args.change.now c.make-answer.result c.end_change.result c.end_change.ensures.told
     c.make-answer.ensures.made c.make-answer.ensures.failed (on_ok_so (λ stays. stays ∙ c.begin.ensures.stays) c.end_change.result c.end_change.ensures.stays)
+
+pub returns-clause-refused : goal.returns-clause-refused
+returns-clause-refused g c clean is = c.make-answer.ensures.refused clean (told_refused c.make-answer.result c.end_change.result c.end_change.ensures.told is)

@@ -2,6 +2,7 @@ use Rattle.std.proofs.Common.{◌∙◌, refl}
 use Rattle.csi_tables.specs.declared.tables.Tables.{Tables}
 use Rattle.csi_tables.proofs.KeepLemmas.{is_quiet}
 use Rattle.csi_tables.proofs.TablesLemmas.{keeps_quiet, no_nodes}
+use Rattle.csi_tables.proofs.RefusalLemmas.{told_refused}
 use Rattle.csi_tables.proofs.tables.TablesKeeper.published_nodes.Goals as goal
 
 pub returns-then-after-ge-NUMBERS-clause-value : goal.returns-then-after-ge-NUMBERS-clause-value
@@ -11,3 +12,6 @@ pub returns-clause-quiet : goal.returns-clause-quiet
 returns-clause-quiet g c =
     keeps_quiet g.S.Store (λ (t : Tables g.row.S.Denot g.S.Store). (t.conn, t.totals)) (λ (t : Tables g.row.S.Denot g.S.Store). t.turns.is_down) _ _ refl (c.end.ensures.stays ∙ c.begin.ensures.stays)
     (is_quiet g.S.Store c.args.self.now.conn c.published_nodes-answer.new.conn c.published_nodes-answer.ensures.undone c.published_nodes-answer.ensures.survives)
+
+pub returns-clause-refused : goal.returns-clause-refused
+returns-clause-refused g c clean is s held known = c.published_nodes-answer.ensures.refused clean (told_refused c.published_nodes-answer.result c.end.result c.end.ensures.told is) s held.0 known

@@ -1,0 +1,104 @@
+-- Why a call over the tables was refused.
+use Rattle.std.proofs.Common.{◌≡◌, ◌∙◌, inl, inr, refl, sym, ap, subst, arith, ℕ, ◌≤◌, ◌==◌, pos, Bool, true, false, List, [], ◌∷◌, map, filter, take, slice_get, Option, option_map, IfSome, IsTrue, IsSome, Result, Ok, Err, bytes_eq, nat_lt}
+use Rattle.std.specs.FinMap.{entries}
+use Rattle.std.specs.List.{AllByRecursion}
+use Rattle.std.specs.Result.{IsErrAnd}
+use Rattle.sqlite.specs.Effect.{Database}
+use Rattle.sqlite.specs.Held.{Held, state}
+use Rattle.sqlite.specs.Order.{Row}
+use Rattle.sqlite.specs.State as sql
+use Rattle.sqlite.specs.State.{Survives, HasCleanDisk}
+use Rattle.sqlite.specs.Store.{Ghosts}
+use Rattle.sqlite.specs.declared.error.Error.{Error}
+use Rattle.csi_keeper.specs.State.{State}
+use Rattle.csi_keeper.specs.declared.change.StoreFault.{StoreFault}
+use Rattle.csi_keeper.specs.declared.change.StoreFault.TheVariants as store
+use Rattle.csi_layout.specs.Failing as fails
+use Rattle.csi_layout.specs.Failing.{SqlRefuses}
+use Rattle.csi_layout.specs.Tables.{schema}
+use Rattle.csi_statements.specs.Failing.{FailsFor, FailsOver, HasNoNext, Unrefused}
+use Rattle.csi_statements.specs.Rows.{IsUndone, meta_row, seen_meta}
+use Rattle.csi_tables.specs.Answers.{answered, of_database}
+use Rattle.csi_tables.specs.Holding.{Shows, conn_holds, conn_doubt}
+use Rattle.csi_tables.specs.Refusing.{IsRefusal, by_disk, as_shut, at_limit, as_refused}
+use Rattle.csi_tables.specs.declared.fault.Fault.{Fault}
+use Rattle.csi_tables.specs.declared.fault.Fault.TheVariants.{NoMemory, Refused}
+use Rattle.csi_tables.proofs.CellLemmas.{handed_on}
+
+-- a `?` on an error of the database
+pub told_as : {X : Type 0} (r : Result X Fault) (e : Error) → IsErrAnd r (λ y. y ≡ of_database e) → r ≡ Err Refused → of_database e ≡ Refused
+told_as r e and is = let same : ◌≡◌ {A = Result ℕ Fault} (Err (of_database e)) (Err Refused) = handed_on r (Err (of_database e)) (of_database e) Refused and is refl in cc
+
+refusal : (R : Error → Type 0) (Why : Type 0) (old new : sql.State) (e : Error) → (R e → Why) → of_database e ≡ Refused → FailsFor R old new e → IsRefusal Why old new
+refusal R Why old new e f told (fails.for_memory is) = absurd (let no : NoMemory ≡ Refused = sym (ap of_database is) ∙ told in cc)
+refusal R Why old new e f told (fails.by_disk is more) = by_disk more
+refusal R Why old new e f told (fails.as_shut is shut) = as_shut shut
+refusal R Why old new e f told (fails.at_limit is some) = at_limit some
+refusal R Why old new e f told (fails.as_refused why) = as_refused (f why)
+
+-- one cause for another
+pub refused_so : (P Q : Type 0) (old new : sql.State) → (P → Q) → IsRefusal P old new → IsRefusal Q old new
+refused_so P Q old new f (by_disk more) = by_disk more
+refused_so P Q old new f (as_shut shut) = as_shut shut
+refused_so P Q old new f (at_limit some) = at_limit some
+refused_so P Q old new f (as_refused why) = as_refused (f why)
+
+open_or_shut : (b : Bool) → (P : Type 0) → (b ≡ true → P) → (b ≡ false → P) → P
+open_or_shut true P f h = f refl
+open_or_shut false P f h = h refl
+
+module _ {S : Type 0} (g : Ghosts S) (old new : Held S) where
+  -- a statement or a transaction over a State failed
+  pub call_refused : (R : sql.State → Error → Type 0) (Why : Type 0) (e : Error) (s : State) → (Shows (state g old) s → R (state g old) e → Why) → of_database e ≡ Refused
+      → (old.schema ≡ schema → FailsFor (R (state g old)) (state g old) (state g new) e) → conn_holds g old s → IsRefusal Why (state g old) (state g new)
+  call_refused R Why e s f told failed held =
+      open_or_shut (state g old).is_open (IsRefusal Why (state g old) (state g new))
+      (λ is_open. let shows = held is_open in refusal (R (state g old)) Why (state g old) (state g new) e (f shows) told (failed shows.schema))
+      (λ shut. as_shut shut)
+
+  pub read_refused : (e : Error) (s : State) → of_database e ≡ Refused → (old.schema ≡ schema → FailsFor Unrefused (state g old) (state g new) e) → conn_holds g old s → IsRefusal ⊥ (state g old) (state g new)
+  read_refused e s told failed held = call_refused (λ _. Unrefused) ⊥ e s (λ _ none. none) told failed held
+
+  -- meta has a row
+  pub next_refused : (e : Error) (s : State) → of_database e ≡ Refused → (old.schema ≡ schema → FailsFor (HasNoNext (state g old)) (state g old) (state g new) e) → conn_holds g old s → IsRefusal ⊥ (state g old) (state g new)
+  next_refused e s told failed held = call_refused HasNoNext ⊥ e s (λ shows none. let is : [] ≡ meta_row s.next ∷ [] = sym (ap (map seen_meta) none.1) ∙ shows.rows.meta in absurd cc) told failed held
+
+-- ---- a change behind a read
+
+-- what is refused turns on the database and the limit alone
+pub refuses_same : (text : List ℕ) (params : Row) (a b : sql.State) (e : Error) → b.now ≡ a.now → b.step_limit ≡ a.step_limit → SqlRefuses text params b e → SqlRefuses text params a e
+refuses_same text params a b e now limit why =
+    subst (λ (l : Option ℕ). SqlRefuses text params (record a { step_limit = l }) e) limit (subst (λ (db : Database). SqlRefuses text params (record a { now = db; step_limit = b.step_limit }) e) now why)
+
+module _ {S : Type 0} (g : Ghosts S) (a b d : Held S) (Why : Type 0) where
+  -- the cause behind a read is one before it
+  before_read : Survives (state g a) (state g b) (λ _. ⊥) → IsTrue (state g b).is_open → IsRefusal Why (state g b) (state g d) → IsRefusal Why (state g a) (state g d)
+  before_read left is_open (by_disk more) = by_disk (omega (arith, left.counts, more))
+  before_read left is_open (as_shut shut) = absurd (let no : true ≡ false = sym is_open ∙ shut in cc)
+  before_read left is_open (at_limit some) = at_limit (subst IsSome left.limit some)
+  before_read left is_open (as_refused why) = as_refused why
+
+  pub refused_after : (R : sql.State → Error → Type 0) (e : Error) (s : State) → IsUndone (state g a) (state g b) → Survives (state g a) (state g b) (λ _. ⊥) → HasCleanDisk (state g b) → (state g b).faults ≤ (state g d).faults
+      → ((state g b).now ≡ (state g a).now → (state g b).step_limit ≡ (state g a).step_limit → R (state g b) e → Why) → of_database e ≡ Refused
+      → (b.schema ≡ schema → FailsFor (R (state g b)) (state g b) (state g d) e) → conn_holds g a s → IsRefusal Why (state g a) (state g d)
+  refused_after R e s undone left clean up f told failed held =
+      open_or_shut (state g a).is_open (IsRefusal Why (state g a) (state g d))
+      (λ was_open. elim (left.closes clean was_open) [
+        | inl is_open ↦
+            let shows = held was_open in
+            let same : (state g b).now ≡ (state g a).now = undone.now is_open ∙ sym shows.settled in
+            let has : b.schema ≡ schema = ap (λ (db : Database). db.schema) same ∙ shows.schema in
+            before_read left is_open (refusal (R (state g b)) Why (state g b) (state g d) e (f same left.limit) told (failed has))
+        | inr more ↦ by_disk (omega (arith, more, up))
+      ])
+      (λ shut. as_shut shut)
+
+-- ---- how it is told
+
+pub told_refused : {X : Type 0} (answer : Result X Fault) (r : Result X StoreFault) → r ≡ answered answer → r ≡ Err store.Refused → answer ≡ Err Refused
+told_refused {X} answer r told is = go answer (sym told ∙ is)
+  where
+    go : (a : Result X Fault) → answered a ≡ Err store.Refused → a ≡ Err Refused
+    go (Ok x) is = absurd cc
+    go (Err NoMemory) is = absurd cc
+    go (Err Refused) is = refl

@@ -1,0 +1,78 @@
+-- Why a call over the tables is refused: want of memory is no reason.
+use Rattle.std.specs.Prelude.{◌≡◌, ◌⊎◌, ℕ, ◌≤◌, ◌^◌, ◌+◌, false, [], ◌∷◌, List, IsErrOf, IsSome, Result}
+use Rattle.std.specs.FinMap.{entries}
+use Rattle.std.specs.List.{AllByRecursion}
+use Rattle.sqlite.specs.Held.{Held, state}
+use Rattle.sqlite.specs.State as sql
+use Rattle.sqlite.specs.Store.{Ghosts}
+use Rattle.sqlite.specs.declared.error.Error.{Error}
+use Rattle.sqlite_disk.specs.Disk.{MoreFaults}
+use Rattle.csi_keeper.specs.State.{State}
+use Rattle.csi_keeper.specs.Totals.{HasRoom, total_of}
+use Rattle.csi_keeper.specs.declared.change.Change.{Change}
+use Rattle.csi_keeper.specs.declared.change.Change.TheVariants.{AddVolume, RemoveVolume, Attach, Detach, DetachAll}
+use Rattle.csi_keeper.specs.declared.totals.Totals.{Totals}
+use Rattle.csi_keeper.specs.declared.volume.Attachment.{Attachment}
+use Rattle.csi_keeper.specs.declared.volume.Volume.{Volume}
+use Rattle.csi_statements.specs.Failing.{RefusesAttachment, RefusesDetaching, RefusesDetachingAll, RefusesNumbered, RefusesRemoval}
+use Rattle.csi_statements.specs.Rows.{attachment_row, volume_row}
+use Rattle.csi_tables.specs.Encoding.{caps_bytes, params_bytes, AreKnown}
+use Rattle.csi_tables.specs.Holding.{Store, conn_doubt, conn_holds, store_doubt, store_holds}
+use Rattle.csi_tables.specs.declared.fault.Fault.{Fault}
+use Rattle.csi_tables.specs.declared.fault.Fault.TheVariants.{Refused}
+
+-- the cause of a refusal
+pub data IsRefusal (Why : Type 0) (old new : sql.State) : Type 0 where
+  -- the disk failed once more
+  by_disk : MoreFaults old.faults new.faults → IsRefusal Why old new
+  -- a fault had shut the connection
+  as_shut : old.is_open ≡ false → IsRefusal Why old new
+  -- the connection has a limit on the steps of a statement
+  at_limit : IsSome old.step_limit → IsRefusal Why old new
+  -- what is asked for is refused
+  as_refused : Why → IsRefusal Why old new
+
+-- each capability has a known mode, so that its row is read again
+pub record HasKnownModes (s : State) : Type 0 where
+  pub volumes : AllByRecursion (λ e. AreKnown e.1.caps) (entries s.volumes)
+  pub attachments : AllByRecursion (λ e. AreKnown (e.1.cap ∷ [])) (entries s.attachments)
+
+-- ---- why a change is refused: SQL's rules refuse it, or a row is too big to be stored
+
+-- or the totals have no room
+abbrev pub RefusesAdding : Volume → Totals → sql.State → Type 0
+RefusesAdding v totals s =
+    (¬ HasRoom (total_of totals v.pool) v.bytes)
+    ⊎ ((e : Error) × RefusesNumbered (volume_row v.number v.name v.bytes v.pool (caps_bytes v.caps) (params_bytes v.params)) (v.number + 1) s e)
+
+abbrev pub RefusesRemoving : ℕ → sql.State → Type 0
+RefusesRemoving n s = (e : Error) × RefusesRemoval n s e
+
+-- or no row has such a number
+abbrev pub RefusesAttaching : ℕ → Attachment → sql.State → Type 0
+RefusesAttaching n a s = (2 ^ 63 ≤ n) ⊎ ((e : Error) × RefusesAttachment (attachment_row n a.node (caps_bytes (a.cap ∷ [])) a.readonly) s e)
+
+abbrev pub RefusesDetach : ℕ → List ℕ → sql.State → Type 0
+RefusesDetach n node s = (e : Error) × RefusesDetaching n node s e
+
+abbrev pub RefusesDetachAll : ℕ → sql.State → Type 0
+RefusesDetachAll n s = (e : Error) × RefusesDetachingAll n s e
+
+abbrev pub RefusesChange : Change → Totals → sql.State → Type 0
+RefusesChange (AddVolume v) totals s = RefusesAdding v totals s
+RefusesChange (RemoveVolume n) totals s = RefusesRemoving n s
+RefusesChange (Attach n a) totals s = RefusesAttaching n a s
+RefusesChange (Detach n node) totals s = RefusesDetach n node s
+RefusesChange (DetachAll n) totals s = RefusesDetachAll n s
+
+-- ---- a call that was refused
+
+module _ {S : Type 0} (g : Ghosts S) (old new : Held S) where
+  -- over a connection that has a State whose rows are read again
+  abbrev pub ConnRefuses : {X : Type 0} → Type 0 → Result X Fault → Type 0
+  ConnRefuses Why r = conn_doubt g new ≡ 0 → IsErrOf r Refused → (s : State) → conn_holds g old s → HasKnownModes s → IsRefusal Why (state g old) (state g new)
+
+module _ {S : Type 0} (g : Ghosts S) (old new : Store S) where
+  -- and beside it the totals
+  abbrev pub StoreRefuses : {X E : Type 0} → E → Type 0 → Result X E → Type 0
+  StoreRefuses refused Why r = store_doubt g new ≡ 0 → IsErrOf r refused → (s : State) → store_holds g old s → HasKnownModes s → IsRefusal Why (state g old.0) (state g new.0)
