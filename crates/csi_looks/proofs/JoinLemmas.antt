@@ -11,16 +11,16 @@ use Rattle.sqlite.specs.Term.{Term, col, op2, holds}
 use Rattle.sqlite.specs.Tree.{Trees}
 use Rattle.sqlite.specs.Listing.{understood}
 use Rattle.sqlite_sql.specs.declared.ops.BinaryOp.TheVariants.{Compare}
-use Rattle.sqlite_sql.specs.declared.ops.CompareOp.TheVariants.{Eq, Gt}
+use Rattle.sqlite_sql.specs.declared.ops.CompareOp.TheVariants.{Eq}
 use Rattle.sqlite_tied.specs.Compute.{everything}
 use Rattle.csi_layout.specs.Tables.{schema}
 use Rattle.csi_statements.specs.Deletes.{is_same}
-use Rattle.csi_statements.specs.Statements.{plain_query}
-use Rattle.csi_looks.specs.Looks.{owns, with_owner, owners, are_pair, pair_row, pairs}
+use Rattle.csi_statements.specs.Statements.{plain_query, rising}
+use Rattle.csi_looks.specs.Looks.{owns, with_owner, owners}
 use Rattle.csi_looks.proofs.TableLemmas.{IsSelect, answer_of}
 
 abbrev pub owners_text : List ℕ
-owners_text = codes "SELECT a.number, a.node, a.cap, a.readonly, v.caps FROM attachments AS a LEFT JOIN volumes AS v ON v.number = a.number"
+owners_text = codes "SELECT a.number, a.node, a.cap, a.readonly, v.caps FROM attachments AS a LEFT JOIN volumes AS v ON v.number = a.number ORDER BY a.number"
 
 abbrev owner_on : List Term
 owner_on = op2 (Compare Eq Binary) (col 2 0) (col 1 1) ∷ []
@@ -29,25 +29,12 @@ abbrev owners_query : Query
 owners_query = record plain_query {
   from = inner 3 (left 1 owner_on end);
   project = col 1 1 ∷ col 1 2 ∷ col 1 3 ∷ col 1 4 ∷ col 2 5 ∷ [];
-}
-
-abbrev pub pairs_text : List ℕ
-pairs_text = codes "SELECT a.cap, a.readonly, b.cap, b.readonly, a.number, a.node, b.node FROM attachments AS a JOIN attachments AS b ON b.number = a.number AND b.node > a.node"
-
-abbrev pairs_query : Query
-pairs_query = record plain_query {
-  from = inner 3 (inner 3 end);
-  filter = op2 (Compare Eq Binary) (col 2 1) (col 1 1) ∷ op2 (Compare Gt Binary) (col 2 2) (col 1 2) ∷ [];
-  project = col 1 3 ∷ col 1 4 ∷ col 2 3 ∷ col 2 4 ∷ col 1 1 ∷ col 1 2 ∷ col 2 2 ∷ [];
+  order = (col 1 1, rising) ∷ [];
 }
 
 pub owners_select : IsSelect owners_text owners_query
 unfolding understood everything
 owners_select = record { names = codes "number" ∷ codes "node" ∷ codes "cap" ∷ codes "readonly" ∷ codes "caps" ∷ []; is = refl; plain = (refl, refl); unlisted = refl }
-
-pub pairs_select : IsSelect pairs_text pairs_query
-unfolding understood everything
-pairs_select = record { names = codes "cap" ∷ codes "readonly" ∷ codes "cap" ∷ codes "readonly" ∷ codes "number" ∷ codes "node" ∷ codes "node" ∷ []; is = refl; plain = (refl, refl); unlisted = refl }
 
 map-append : {A B : Type 0} (f : A → B) (xs ys : List A) → map f (xs ++ ys) ≡ map f xs ++ map f ys
 map-append f [] ys = refl
@@ -84,35 +71,3 @@ shows_owners db rows a =
 
 pub owner_rows : (old new : State) (rows : List Row) → old.now.schema ≡ schema → Shown owners_text [] old new rows → IsPermutation (owners (old.now.trees 3) (old.now.trees 1)) rows
 owner_rows old new rows has h = shows_owners (overlay old.now.trees []) rows (answer_of owners_text _ owners_select old new rows has h)
-
--- ---- pairs of attachments
-
-abbrev found_pair : Row → Row → Bool
-found_pair a b = list_all (holds ([] ∷ a ∷ b ∷ [])) pairs_query.filter
-
-one_pair : (a : Row) (bs : List Row) → map (λ (o : Output). o.1) (map (output pairs_query) (flat_map (λ b. cond (found_pair a b) (([] ∷ a ∷ b ∷ []) ∷ []) []) bs)) ≡ map (pair_row a) (filter (are_pair a) bs)
-one_pair a [] = refl
-one_pair a (b ∷ bs) =
-    ap (map (λ (o : Output). o.1)) (map-append (output pairs_query) (cond (found_pair a b) (([] ∷ a ∷ b ∷ []) ∷ []) []) _) ∙ map-append (λ (o : Output). o.1) _ _
-    ∙ ap₂ (λ x y. x ++ y) (ap (λ t. map (λ (o : Output). o.1) (map (output pairs_query) (cond t (([] ∷ a ∷ b ∷ []) ∷ []) []))) (tests a b)) (one_pair a bs) ∙ go (are_pair a b)
-  where
-    tests : (a b : Row) → found_pair a b ≡ are_pair a b
-    tests a b = ap (λ t. is_same (column b 1) (column a 1) && t) (and_true _)
-
-    go : (t : Bool) → map (λ (o : Output). o.1) (map (output pairs_query) (cond t (([] ∷ a ∷ b ∷ []) ∷ []) [])) ++ map (pair_row a) (filter (are_pair a) bs) ≡ map (pair_row a) (cond t (b ∷ filter (are_pair a) bs) (filter (are_pair a) bs))
-    go true = refl
-    go false = refl
-
-all_pairs : (xs bs : List Row) → map (λ (o : Output). o.1) (map (output pairs_query) (flat_map (λ a. flat_map (λ b. cond (found_pair a b) (([] ∷ a ∷ b ∷ []) ∷ []) []) bs) xs)) ≡ flat_map (λ a. map (pair_row a) (filter (are_pair a) bs)) xs
-all_pairs [] bs = refl
-all_pairs (a ∷ xs) bs =
-    ap (map (λ (o : Output). o.1)) (map-append (output pairs_query) (flat_map (λ b. cond (found_pair a b) (([] ∷ a ∷ b ∷ []) ∷ []) []) bs) _) ∙ map-append (λ (o : Output). o.1) _ _
-    ∙ ap₂ (λ x y. x ++ y) (one_pair a bs) (all_pairs xs bs)
-
-shows_pairs : (db : Trees) (rows : List Row) → IsAnswer pairs_query db [] rows → IsPermutation (pairs (db 3)) rows
-shows_pairs db rows a =
-    subst (λ xs. IsPermutation xs rows) (ap (map (λ (o : Output). o.1)) (a.distinct ∙ ap (map (output pairs_query)) a.grouped) ∙ all_pairs (db 3) (db 3))
-    (subst (IsPermutation (map (λ (o : Output). o.1) a.kept)) (sym a.shown) (IsPermutation-map (λ (o : Output). o.1) _ _ a.same))
-
-pub pair_rows : (old new : State) (rows : List Row) → old.now.schema ≡ schema → Shown pairs_text [] old new rows → IsPermutation (pairs (old.now.trees 3)) rows
-pair_rows old new rows has h = shows_pairs (overlay old.now.trees []) rows (answer_of pairs_text _ pairs_select old new rows has h)

@@ -18,7 +18,7 @@ use Rattle.sqlite.proofs.Callers.{IsPlain, command_of, reads_as}
 use Rattle.sqlite_tied.specs.Compute.{everything}
 use Rattle.sqlite_trees.proofs.ListLemmas.{all-permutation}
 use Rattle.sqlite_value.specs.declared.keys.Key.{Key}
-use Rattle.csi_layout.specs.Rows.{seen_meta, seen_volume}
+use Rattle.csi_layout.specs.Rows.{seen_attachment, seen_meta, seen_volume}
 use Rattle.csi_layout.specs.Tables.{schema}
 use Rattle.csi_statements.specs.Statements.{plain_query, rising}
 use Rattle.csi_looks.specs.Looks.{IsInOrder, first_cmp, keyed_attachment}
@@ -58,6 +58,13 @@ attachments_text = codes "SELECT rowid, number, node, cap, readonly FROM attachm
 pub attachments_select : IsSelect attachments_text (ordered_query 3 (col 1 0) (col 1 1 ∷ col 1 2 ∷ col 1 3 ∷ col 1 4 ∷ []))
 unfolding understood everything
 attachments_select = record { names = codes "rowid" ∷ codes "number" ∷ codes "node" ∷ codes "cap" ∷ codes "readonly" ∷ []; is = refl; plain = (refl, refl); unlisted = refl }
+
+abbrev pub places_text : List ℕ
+places_text = codes "SELECT number, node, cap, readonly FROM attachments ORDER BY number"
+
+pub places_select : IsSelect places_text (ordered_query 3 (col 1 1) (col 1 2 ∷ col 1 3 ∷ col 1 4 ∷ []))
+unfolding understood everything
+places_select = record { names = codes "number" ∷ codes "node" ∷ codes "cap" ∷ codes "readonly" ∷ []; is = refl; plain = (refl, refl); unlisted = refl }
 
 -- ---- each row once
 
@@ -138,3 +145,6 @@ volume_rows old new rows has h = shows_in_order 1 (col 1 0) (col 1 2 ∷ col 1 3
 
 pub attachment_rows : (old new : State) (rows : List Row) → old.now.schema ≡ schema → Shown attachments_text [] old new rows → IsInOrder (map keyed_attachment (old.now.trees 3)) rows
 attachment_rows old new rows has h = shows_in_order 3 (col 1 0) (col 1 1 ∷ col 1 2 ∷ col 1 3 ∷ col 1 4 ∷ []) (overlay old.now.trees []) rows (answer_of attachments_text _ attachments_select old new rows has h)
+
+pub place_rows : (old new : State) (rows : List Row) → old.now.schema ≡ schema → Shown places_text [] old new rows → IsInOrder (map seen_attachment (old.now.trees 3)) rows
+place_rows old new rows has h = shows_in_order 3 (col 1 1) (col 1 2 ∷ col 1 3 ∷ col 1 4 ∷ []) (overlay old.now.trees []) rows (answer_of places_text _ places_select old new rows has h)
