@@ -1,9 +1,9 @@
 -- What a look over two tables shows.
-use Rattle.std.proofs.Common.{◌≡◌, ◌∙◌, refl, sym, ap, ap₂, subst, codes, ℕ, List, [], ◌∷◌, ◌++◌, map, filter, flat_map, Bool, true, false, cond, ◌&&◌, IsPermutation}
-use Rattle.std.specs.List.{list_all}
+use Rattle.std.proofs.Common.{◌≡◌, ◌∙◌, refl, sym, ap, ap₂, subst, codes, ℕ, List, [], ◌∷◌, ◌++◌, map, filter, flat_map, Bool, true, false, ◌&&◌, IsPermutation}
+use Rattle.std.specs.List.{AllByRecursion, list_all}
 use Rattle.std.proofs.lemmas.List.Sorted.{IsPermutation-map}
 use Rattle.sqlite.specs.Collation.TheVariants.{Binary}
-use Rattle.sqlite.specs.Order.{Row, column}
+use Rattle.sqlite.specs.Order.{Row}
 use Rattle.sqlite.specs.Program.{overlay}
 use Rattle.sqlite.specs.Query.{Query, Output, output, inner, left, end, IsAnswer, or_nulls}
 use Rattle.sqlite.specs.State.{State, Shown}
@@ -14,10 +14,9 @@ use Rattle.sqlite_sql.specs.declared.ops.BinaryOp.TheVariants.{Compare}
 use Rattle.sqlite_sql.specs.declared.ops.CompareOp.TheVariants.{Eq}
 use Rattle.sqlite_tied.specs.Compute.{everything}
 use Rattle.csi_layout.specs.Tables.{schema}
-use Rattle.csi_statements.specs.Deletes.{is_same}
 use Rattle.csi_statements.specs.Statements.{plain_query, rising}
-use Rattle.csi_looks.specs.Looks.{owns, with_owner, owners}
-use Rattle.csi_looks.proofs.TableLemmas.{IsSelect, answer_of}
+use Rattle.csi_looks.specs.Looks.{IsInOrder, owns, with_owner, owners}
+use Rattle.csi_looks.proofs.TableLemmas.{IsKeyed, IsSelect, answer_of, sorted_by_first}
 
 abbrev pub owners_text : List ℕ
 owners_text = codes "SELECT a.number, a.node, a.cap, a.readonly, v.caps FROM attachments AS a LEFT JOIN volumes AS v ON v.number = a.number ORDER BY a.number"
@@ -64,10 +63,16 @@ all_owners (r ∷ rs) vs =
     ∙ map-append (λ (o : Output). o.1) _ _
     ∙ ap₂ (λ a b. a ++ b) (one_owner r (owned_by r vs) ∙ ap (λ xs. map (with_owner r) (or_nulls xs)) (filter_by _ _ (λ v. and_true (owns r v)) vs)) (all_owners rs vs)
 
-shows_owners : (db : Trees) (rows : List Row) → IsAnswer owners_query db [] rows → IsPermutation (owners (db 3) (db 1)) rows
-shows_owners db rows a =
-    subst (λ xs. IsPermutation xs rows) (ap (map (λ (o : Output). o.1)) (a.distinct ∙ ap (map (output owners_query)) a.grouped) ∙ all_owners (db 3) (db 1))
-    (subst (IsPermutation (map (λ (o : Output). o.1) a.kept)) (sym a.shown) (IsPermutation-map (λ (o : Output). o.1) _ _ a.same))
+keyed_owners : (found : List (List Row)) → AllByRecursion IsKeyed (map (output owners_query) found)
+keyed_owners [] = tt
+keyed_owners (x ∷ found) = (refl, keyed_owners found)
 
-pub owner_rows : (old new : State) (rows : List Row) → old.now.schema ≡ schema → Shown owners_text [] old new rows → IsPermutation (owners (old.now.trees 3) (old.now.trees 1)) rows
+shows_owners : (db : Trees) (rows : List Row) → IsAnswer owners_query db [] rows → IsInOrder (owners (db 3) (db 1)) rows
+shows_owners db rows a = record {
+  same = subst (λ xs. IsPermutation xs rows) (ap (map (λ (o : Output). o.1)) (a.distinct ∙ ap (map (output owners_query)) a.grouped) ∙ all_owners (db 3) (db 1))
+      (subst (IsPermutation (map (λ (o : Output). o.1) a.kept)) (sym a.shown) (IsPermutation-map (λ (o : Output). o.1) _ _ a.same));
+  sorted = sorted_by_first owners_query (col 1 1) refl a.kept a.ordered (subst (AllByRecursion IsKeyed) (sym (a.distinct ∙ ap (map (output owners_query)) a.grouped)) (keyed_owners _)) a.same a.sorted rows a.shown;
+}
+
+pub owner_rows : (old new : State) (rows : List Row) → old.now.schema ≡ schema → Shown owners_text [] old new rows → IsInOrder (owners (old.now.trees 3) (old.now.trees 1)) rows
 owner_rows old new rows has h = shows_owners (overlay old.now.trees []) rows (answer_of owners_text _ owners_select old new rows has h)

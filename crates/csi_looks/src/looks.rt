@@ -92,7 +92,7 @@ pub fn look_over_owners<S: Alter, F: Fold>(
     requires idle { conn.old.in_transaction ≡ false }
     requires ours { HasCleanDisk (state S.Store conn.old) → conn.old.schema ≡ our_schema }
     ensures idle { conn.new.in_transaction ≡ false }
-    ensures ok { HasCleanDisk (state S.Store conn.new) → OnOk result (HasFolded F.folds fold.old fold.new (IsPermutation (owners ((state S.Store conn.old).now.trees 3) ((state S.Store conn.old).now.trees 1)))) }
+    ensures ok { HasCleanDisk (state S.Store conn.new) → OnOk result (HasFolded F.folds fold.old fold.new (IsInOrder (owners ((state S.Store conn.old).now.trees 3) ((state S.Store conn.old).now.trees 1)))) }
     ensures same { HasCleanDisk (state S.Store conn.new) → OnOk result (IsUnchanged (state S.Store conn.old) (state S.Store conn.new)) }
     ensures kept { HasCleanDisk (state S.Store conn.new) → KeepsCommit (state S.Store conn.old) (state S.Store conn.new) }
     ensures survives { Survives (state S.Store conn.old) (state S.Store conn.new) (λ _. ⊥) }
