@@ -4,7 +4,7 @@ use Rattle.std.specs.Cmp.{int_cmp_total}
 use Rattle.std.specs.Cmp.Lexicographic.{nat_list_cmp_total}
 use Rattle.std.specs.FinMap.{int_cmp-IsAntisymmetric}
 use Rattle.std.specs.Option.{is_some, option_and_then}
-use Rattle.std.specs.Ordering.{int_cmp, is_gt, is_ne}
+use Rattle.std.specs.Ordering.{int_cmp, is_ne}
 use Rattle.std.proofs.lemmas.Cmp.{tied_itself}
 use Rattle.std.proofs.lemmas.Slice.Eq.{bytes_eq-Decides}
 use Rattle.std.proofs.lemmas.Str.{IsUtf8-from_is_utf8}
@@ -16,13 +16,11 @@ use Rattle.sqlite.specs.declared.types.Value.TheVariants.{Null, Int, Real, Text,
 use Rattle.sqlite_schema.specs.Rules.{differ, equal}
 use Rattle.sqlite_value.specs.declared.keys.Collation.TheVariants.{Binary}
 use Rattle.sqlite_value.proofs.OrderLemmas.{value_cmp-Int, value_cmp-Text}
-use Rattle.csi_keeper.specs.Texts.{text_cmp}
 use Rattle.csi_keeper.specs.declared.capability.CapKey.{CapKey}
 use Rattle.csi_keeper.specs.facts.Finite.{tied}
 use Rattle.csi_statements.specs.Cells.{as_blob, as_flag}
 use Rattle.csi_statements.specs.Deletes.{is_same}
 use Rattle.csi_statements.specs.Rows.{bool_value, number_value}
-use Rattle.csi_looks.specs.Looks.{is_above}
 use Rattle.csi_tables.specs.Encoding.{caps_bytes}
 use Rattle.csi_rules.specs.Coding.{key_in, message_in, each_key, only}
 use Rattle.csi_rules.specs.Kinds.{is_integer, is_text}
@@ -77,10 +75,6 @@ equal_numbers n = number_itself n
 pub equal_texts : (t : List ℕ) → equal Binary (Text t) (Text t) ≡ true
 unfolding binary
 equal_texts t = truth_test (is_eq (value_cmp (Text t) (Text t))) ∙ ap is_eq (value_cmp-Text t t ∙ tied_itself nat_list_cmp_total t)
-
-pub above_text : (s t : List ℕ) → is_above (Text s) (Text t) ≡ is_gt (text_cmp s t)
-unfolding binary
-above_text s t = truth_test (is_gt (value_cmp (Text s) (Text t))) ∙ ap is_gt (value_cmp-Text s t)
 
 pub text_cell : (v : Value) → is_text v ≡ true → (t : List ℕ) × (v ≡ Text t) × IsUtf8 t
 text_cell Null kind = absurd (cc)

@@ -1,13 +1,12 @@
 -- Rows of attachments that pass every rule are the attachments of a State.
-use Rattle.std.proofs.Common.{◌≡◌, ◌∙◌, inl, inr, refl, sym, ap, subst, ℕ, ◌≤◌, true, false, ◌&&◌, List, [], ◌∷◌, map, filter, length, drop, bytes_eq, Option, Some, IfSome, unwrap_or, IsPermutation, Ordering, Less, Equal, Greater}
+use Rattle.std.proofs.Common.{◌≡◌, ◌∙◌, inl, inr, refl, sym, ap, subst, ℕ, ◌≤◌, true, false, ◌&&◌, List, [], ◌∷◌, map, filter, length, drop, bytes_eq, Option, Some, IfSome, unwrap_or, IsPermutation, Less}
 use Rattle.std.specs.FinMap.{FinMap, entries, from_entries, get}
 use Rattle.std.specs.List.{AllByRecursion, list_all}
-use Rattle.std.specs.Ordering.{nat_cmp, ordering_reverse}
+use Rattle.std.specs.Ordering.{nat_cmp}
 use Rattle.std.proofs.lemmas.Bool.{and_parts}
-use Rattle.std.proofs.lemmas.Cmp.{nat_list_cmp_total}
 use Rattle.std.proofs.lemmas.List.Sorted.{IsPermutation-map, IsPermutation-sym, IsPermutation-trans}
 use Rattle.sqlite.specs.Order.{Row, column, value_cmp}
-use Rattle.sqlite.specs.Tree.{Trees, IsAscending}
+use Rattle.sqlite.specs.Tree.{Trees}
 use Rattle.sqlite.specs.View.{is_int}
 use Rattle.sqlite.specs.declared.types.Value.{Value}
 use Rattle.sqlite.specs.declared.types.Value.TheVariants.{Text}
@@ -24,41 +23,35 @@ use Rattle.csi_keeper.specs.Capability.{is_supported_key}
 use Rattle.csi_keeper.specs.Coexistence.{coexist}
 use Rattle.csi_keeper.specs.Invariant.{IsAttached, IsVolume}
 use Rattle.csi_keeper.specs.State.{Place, State, place_cmp}
-use Rattle.csi_keeper.specs.Texts.{text_cmp, Text as Bytes}
+use Rattle.csi_keeper.specs.Texts.{Text as Bytes}
 use Rattle.csi_keeper.specs.declared.capability.CapKey.{CapKey}
 use Rattle.csi_keeper.specs.declared.capability.Kind.TheVariants.{Block}
 use Rattle.csi_keeper.specs.declared.volume.Attachment.{Attachment}
 use Rattle.csi_keeper.specs.declared.volume.Volume.{Volume}
 use Rattle.csi_keeper.specs.facts.Coexistence.{coexist_turned}
-use Rattle.csi_keeper.specs.facts.Orders.{place_exact, place_total, text_exact}
+use Rattle.csi_keeper.specs.facts.Orders.{place_exact, place_total}
 use Rattle.csi_layout.specs.Tables.{schema}
 use Rattle.csi_statements.specs.Cells.{as_flag, as_number, as_text}
 use Rattle.csi_statements.specs.Rows.{number_value, seen_attachment, seen_volume}
-use Rattle.csi_looks.specs.Looks.{IsInOrder, keyed_attachment, owners, pairs}
-use Rattle.csi_looks.specs.facts.Joins.{each_pair}
+use Rattle.csi_looks.specs.Looks.{IsInOrder, keyed_attachment, owners}
 use Rattle.csi_looks.specs.facts.Keyed.{keyed_attachments}
 use Rattle.csi_tables.specs.Encoding.{FitCaps}
 use Rattle.csi_tables.specs.Holding.{attachment_entry, volume_entry, IsPlaced, IsStored}
 use Rattle.csi_rules.specs.Agreement.{AttachmentAgrees, OwnerAgrees, PairAgrees}
+use Rattle.csi_rules.specs.Apart.{are_apart, NoneApart}
 use Rattle.csi_rules.specs.Attachments.{has_flag, is_at_node, is_node}
 use Rattle.csi_rules.specs.Coded.{has_cap, key_at}
-use Rattle.csi_rules.specs.Joins.{is_beside, is_owned}
+use Rattle.csi_rules.specs.Joins.{is_owned}
 use Rattle.csi_rules.specs.Kinds.{has_attachment_kinds, is_blob, is_integer, is_text}
 use Rattle.csi_rules.specs.Values.{is_some_and}
 use Rattle.csi_adoption.specs.FoundAttachments.{AttachmentsAreFound, FoundAttachments, StandsAmong}
 use Rattle.csi_adoption.specs.Passing.{AttachmentsAreKnown, AttachmentsPass}
 use Rattle.csi_adoption.proofs.AttachmentCellLemmas.{flag_cell, key_cell, text_cell}
 use Rattle.csi_adoption.proofs.AttachmentMapLemmas.{AreApart, got_has, has_permuted, made_of, shown_by}
-use Rattle.csi_adoption.proofs.AttachmentRowLemmas.{are_paired, beside_is, counted, not_twice, numbered}
+use Rattle.csi_adoption.proofs.PlaceLemmas.{ascending_has, not_not, one_way}
+use Rattle.csi_adoption.proofs.AttachmentRowLemmas.{counted, not_twice, numbered}
 
 -- ---- lists
-
-ascending_has : {X : Type 0} (R S : X → X → Type 0) (xs : List X) → ((a b : X) → Has xs a → Has xs b → R a b → S a b) → IsAscending R xs → IsAscending S xs
-ascending_has R S [] more up = tt
-ascending_has R S (x ∷ xs) more up = (
-  all_from (S x) xs (λ y has. more x y (inl refl) (inr has) (all_has (R x) xs y up.0 has)),
-  ascending_has R S xs (λ a b left right. more a b (inr left) (inr right)) up.1,
-)
 
 mapped_alike : {A B : Type 0} (f g : A → B) (xs : List A) → ((x : A) → Has xs x → f x ≡ g x) → map f xs ≡ map g xs
 mapped_alike f g [] same = refl
@@ -90,13 +83,13 @@ record Says (config : Config) (volumes : FinMap nat_cmp Volume) (x : Row) (e : P
   supported : is_supported_key e.1.cap ≡ true
 
 module _ (attachment_agrees : (config : Config) (rowid : Value) (e : Place × Attachment) → AttachmentAgrees config rowid e) (owner_agrees : (e : Place × Attachment) (own : List CapKey) → OwnerAgrees e own)
-    (pair_agrees : (a b : Attachment) → PairAgrees a b)
-    (config : Config) (next : ℕ) (db : Trees) (volumes : FinMap nat_cmp Volume) (rows owned paired : List Row)
+    (pair_agrees : (e f : Place × Attachment) → PairAgrees e f)
+    (config : Config) (next : ℕ) (db : Trees) (volumes : FinMap nat_cmp Volume) (rows owned places : List Row)
     (sound : IsSound schema db) (order : IsInOrder (map keyed_attachment (db 3)) rows) (pass : AttachmentsPass config rows) (known : AttachmentsAreKnown rows)
     (standing : IsPermutation (map volume_entry (entries volumes)) (map seen_volume (db 1))) (stored : AllByRecursion IsStored (entries volumes))
     (each : (n : ℕ) (v : Volume) → get volumes n ≡ Some v → IsVolume config next n v)
     (owned_are : IsPermutation (owners (db 3) (db 1)) owned) (owned_pass : list_all is_owned owned ≡ true)
-    (paired_are : IsPermutation (pairs (db 3)) paired) (paired_pass : list_all is_beside paired ≡ true) where
+    (places_are : IsPermutation (map seen_attachment (db 3)) places) (none : NoneApart places) where
   -- ---- each row
 
   row_shown : (r : Row) → Has (db 3) r → Has rows (keyed_attachment r)
@@ -195,18 +188,24 @@ module _ (attachment_agrees : (config : Config) (rowid : Value) (e : Place × At
   supported : AllByRecursion (λ e. is_supported_key e.1.cap ≡ true) (entries found)
   supported = each_found _ (λ x has. (says x has).supported)
 
-  -- where the second is at the later node
-  beside_later : (e f : Place × Attachment) → Has (entries found) e → Has (entries found) f → f.0.0 ≡ e.0.0 → text_cmp f.0.1 e.0.1 ≡ Greater → coexist e.1 f.1 ≡ true
-  beside_later e f left right same later =
-      let a = row_of e left in
-      let b = row_of f right in
+  -- as one of the rows by their numbers
+  place_shown : (e : Place × Attachment) → Has (entries found) e → Has places (attachment_entry e)
+  place_shown e has =
+      let r = row_of e has in
+      subst (Has places) (sym r.2) (has_permuted places (map seen_attachment (db 3)) (seen_attachment r.0) (IsPermutation-sym _ _ places_are) (mapped_has seen_attachment (db 3) r.0 r.1))
+
+  beside_told : (e f : Place × Attachment) → Has (entries found) e → Has (entries found) f → e.0.0 ≡ f.0.0 → are_apart (attachment_entry e) (attachment_entry f) ≡ false → coexist e.1 f.1 ≡ true
+  beside_told e f left right same far =
       let good = λ (g : Place × Attachment) (has : Has (entries found) g). all_has (λ e. is_supported_key e.1.cap ≡ true) (entries found) g supported has in
       let small = λ (g : Place × Attachment) (has : Has (entries found) g). all_has IsPlaced (entries found) g placed has in
-      sym (beside_is pair_agrees a.0 b.0 e f (sym a.2) (sym b.2) (small e left) (good e left) (small f right) (good f right))
-      ∙ each_pair is_beside (db 3) paired paired_are paired_pass a.0 b.0 a.1 b.1 (are_paired a.0 b.0 e f (sym a.2) (sym b.2) same later)
+      not_not (coexist e.1 f.1) (sym ((pair_agrees e f).beside same (small e left).cap (good e left) (small f right).cap (good f right)) ∙ far)
 
   beside_found : (n : ℕ) (d e : Bytes) (a b : Attachment) → get found (n, d) ≡ Some a → get found (n, e) ≡ Some b → (d ≡ e → ⊥) → coexist a b ≡ true
-  beside_found n d e a b one other far = go (text_cmp e d) refl
+  beside_found n d e a b one other far =
+      elim (one_way (λ x y. are_apart x y ≡ false) places (attachment_entry ((n, d), a)) (attachment_entry ((n, e), b)) none (place_shown ((n, d), a) left) (place_shown ((n, e), b) right) (λ same. far (ap text_of same))) [
+        | inl first ↦ beside_told ((n, d), a) ((n, e), b) left right refl first
+        | inr second ↦ coexist_turned a b ∙ beside_told ((n, e), b) ((n, d), a) right left refl second
+      ]
     where
       left : Has (entries found) ((n, d), a)
       left = got_has place_total place_exact found (n, d) a one
@@ -214,10 +213,8 @@ module _ (attachment_agrees : (config : Config) (rowid : Value) (e : Place × At
       right : Has (entries found) ((n, e), b)
       right = got_has place_total place_exact found (n, e) b other
 
-      go : (o : Ordering) → text_cmp e d ≡ o → coexist a b ≡ true
-      go Less is = coexist_turned a b ∙ beside_later ((n, e), b) ((n, d), a) right left refl (nat_list_cmp_total.antisymm d e ∙ ap ordering_reverse is)
-      go Equal is = absurd (far (sym (text_exact e d is)))
-      go Greater is = beside_later ((n, d), a) ((n, e), b) left right refl is
+      text_of : Row → Bytes
+      text_of r = unwrap_or (as_text (column r 1)) []
 
   -- ---- at each node
 
@@ -237,10 +234,10 @@ module _ (attachment_agrees : (config : Config) (rowid : Value) (e : Place × At
 
 -- the same, over the rows that two looks show
 pub attachments_found : ((config : Config) (rowid : Value) (e : Place × Attachment) → AttachmentAgrees config rowid e) → ((e : Place × Attachment) (own : List CapKey) → OwnerAgrees e own)
-    → ((a b : Attachment) → PairAgrees a b) → AttachmentsAreFound
-attachments_found attachment_agrees owner_agrees pair_agrees config next db volumes standing rows owned paired sound shown are stored each order pass known owned_are owned_pass paired_are paired_pass =
-    found_attachments attachment_agrees owner_agrees pair_agrees config next db volumes rows owned paired sound order pass known
-    (subst (λ xs. IsPermutation xs (map seen_volume (db 1))) (sym are) (IsPermutation-sym _ _ shown.same)) stored each owned_are owned_pass paired_are paired_pass
+    → ((e f : Place × Attachment) → PairAgrees e f) → AttachmentsAreFound
+attachments_found attachment_agrees owner_agrees pair_agrees config next db volumes standing rows owned places sound shown are stored each order pass known owned_are owned_pass places_are none =
+    found_attachments attachment_agrees owner_agrees pair_agrees config next db volumes rows owned places sound order pass known
+    (subst (λ xs. IsPermutation xs (map seen_volume (db 1))) (sym are) (IsPermutation-sym _ _ shown.same)) stored each owned_are owned_pass places_are none
 
 -- with a State that has these volumes it is attached
 pub is_attached : (config : Config) (s : State) (n : ℕ) (node : Bytes) (a : Attachment) → StandsAmong config s.volumes n node a → IsAttached config s n node a

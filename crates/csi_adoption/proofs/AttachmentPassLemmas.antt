@@ -1,9 +1,9 @@
 -- The rows of a State's attachments pass every rule.
-use Rattle.std.proofs.Common.{◌≡◌, ◌∙◌, inl, inr, refl, sym, ap, ap₂, subst, ℕ, ◌≤◌, Bool, true, false, true≢false, List, [], ◌∷◌, map, filter, sum_by, Some, IsPermutation}
+use Rattle.std.proofs.Common.{◌≡◌, ◌∙◌, inl, inr, refl, sym, ap, ap₂, subst, ℕ, ◌≤◌, ◌==◌, not, eq-eqb, eqb-true, Less, Bool, true, false, true≢false, List, [], ◌∷◌, map, filter, sum_by, Some, IsPermutation}
 use Rattle.std.specs.Cmp.{nat_cmp_total}
-use Rattle.std.specs.FinMap.{entries, get, nat_cmp-IsAntisymmetric}
+use Rattle.std.specs.FinMap.{entries, entries_sorted, get, nat_cmp-IsAntisymmetric}
 use Rattle.std.specs.List.{AllByRecursion, list_all}
-use Rattle.std.proofs.lemmas.List.Sorted.{IsPermutation-sym}
+use Rattle.std.proofs.lemmas.List.Sorted.{IsPermutation-sym, IsPermutation-trans}
 use Rattle.sqlite.specs.Order.{Row, column}
 use Rattle.sqlite.specs.Query.{or_nulls}
 use Rattle.sqlite.specs.Tree.{Trees}
@@ -11,12 +11,14 @@ use Rattle.sqlite.specs.declared.types.Value.{Value}
 use Rattle.sqlite_rules.specs.Lists.{Has}
 use Rattle.sqlite_rules.proofs.ListLemmas.{all_has, has_filtered, has_kept, some_has, test_from, test_has}
 use Rattle.sqlite_rules.proofs.ProbeLemmas.{has_mapped}
+use Rattle.sqlite_trees.proofs.ListLemmas.{ascending-map}
+use Rattle.std.proofs.lemmas.Cmp.{tied_itself}
 use Rattle.csi_config.specs.Values as listing
 use Rattle.csi_config.specs.declared.config.Config.{Config}
 use Rattle.csi_keeper.specs.Capability.{has_key, is_key, is_supported_key}
 use Rattle.csi_keeper.specs.Invariant.{IsAttached, IsInvariant}
 use Rattle.csi_keeper.specs.Order.{key_exact, keys_tie}
-use Rattle.csi_keeper.specs.State.{Place, State}
+use Rattle.csi_keeper.specs.State.{Place, State, place_cmp}
 use Rattle.csi_keeper.specs.declared.capability.CapKey.{CapKey}
 use Rattle.csi_keeper.specs.declared.volume.Attachment.{Attachment}
 use Rattle.csi_keeper.specs.declared.volume.Volume.{Volume}
@@ -25,19 +27,21 @@ use Rattle.csi_keeper.specs.facts.Orders.{place_exact, place_total}
 use Rattle.csi_statements.specs.Deletes.{is_same}
 use Rattle.csi_statements.specs.Rows.{seen_attachment, seen_volume}
 use Rattle.csi_looks.specs.Folds.{added_by}
-use Rattle.csi_looks.specs.Looks.{IsInOrder, keyed_attachment, owners, owns, pairs, with_owner}
+use Rattle.csi_looks.specs.Looks.{IsInOrder, keyed_attachment, owners, owns, with_owner}
 use Rattle.csi_looks.specs.declared.sums.Weight.TheVariants.{One}
-use Rattle.csi_looks.specs.facts.Joins.{some_pair, some_unowned}
+use Rattle.csi_looks.specs.facts.Joins.{some_unowned}
 use Rattle.csi_tables.specs.Holding.{attachment_entry, volume_entry, IsPlaced, IsRows, IsStored}
 use Rattle.csi_rules.specs.Agreement.{keyed_entry, AttachmentAgrees, OwnerAgrees, PairAgrees}
+use Rattle.csi_rules.specs.Apart.{are_apart, NoneApart}
 use Rattle.csi_rules.specs.Attachments.{has_flag, is_at_node}
 use Rattle.csi_rules.specs.Coded.{has_cap}
-use Rattle.csi_rules.specs.Joins.{is_beside, is_owned}
+use Rattle.csi_rules.specs.Joins.{is_owned}
 use Rattle.csi_rules.specs.Kinds.{has_attachment_kinds}
 use Rattle.csi_adoption.specs.Passing.{AttachmentsPass}
 use Rattle.csi_adoption.proofs.AttachmentCellLemmas.{number_itself, same_number}
 use Rattle.csi_adoption.proofs.AttachmentMapLemmas.{got_has, has_got, has_permuted, shown_by}
-use Rattle.csi_adoption.proofs.AttachmentRowLemmas.{beside_is, counted, of_pair, owned_is}
+use Rattle.csi_adoption.proofs.PlaceLemmas.{apart_permuted, ascending_has, keys_rise, less_equal}
+use Rattle.csi_adoption.proofs.AttachmentRowLemmas.{counted, owned_is}
 
 -- each of a list of the configuration
 all_of_listed : {X : Type 0} (P : X → Type 0) (xs : List X) → ((x : X) → listing.Has xs x → P x) → AllByRecursion P xs
@@ -143,12 +147,23 @@ module _ (config : Config) (s : State) (db : Trees) (rows_are : IsRows s db) (go
 
   -- ---- any two of one volume
 
-  pub pairs_pass : ((a b : Attachment) → PairAgrees a b) → (paired : List Row) → IsPermutation (pairs (db 3)) paired → list_all is_beside paired ≡ true
-  pairs_pass agrees paired same = all_or_not is_beside paired (λ fails.
-      let p = some_pair is_beside (db 3) paired same fails in
-      let e = entry_of p.0 p.2 in
-      let f = entry_of p.1 p.3 in
-      let two = of_pair p.0 p.1 e.0 f.0 e.2 f.2 p.4 in
-      let other : get s.attachments (e.0.0.0, f.0.0.1) ≡ Some f.0.1 = ap (λ n. get s.attachments (n, f.0.0.1)) two.0 ∙ got f.0 f.1 in
-      let beside = good.beside e.0.0.0 e.0.0.1 f.0.0.1 e.0.1 f.0.1 (got e.0 e.1) other two.1 in
-      true≢false (sym (beside_is agrees p.0 p.1 e.0 f.0 e.2 f.2 (placed e.0 e.1) (supported e.0 e.1) (placed f.0 f.1) (supported f.0 f.1) ∙ beside) ∙ p.5))
+  apart_entries : ((e f : Place × Attachment) → PairAgrees e f) → (e f : Place × Attachment) → Has (entries s.attachments) e → Has (entries s.attachments) f → (e.0 ≡ f.0 → ⊥) → are_apart (attachment_entry e) (attachment_entry f) ≡ false
+  apart_entries agrees e f left right far = go (e.0.0 == f.0.0) refl
+    where
+      go : (b : Bool) → (e.0.0 == f.0.0) ≡ b → are_apart (attachment_entry e) (attachment_entry f) ≡ false
+      go true is =
+          let same : e.0.0 ≡ f.0.0 = eqb-true _ _ is in
+          let other : get s.attachments (e.0.0, f.0.1) ≡ Some f.1 = ap (λ n. get s.attachments (n, f.0.1)) same ∙ got f right in
+          (agrees e f).beside same (placed e left).cap (supported e left) (placed f right).cap (supported f right)
+          ∙ ap not (good.beside e.0.0 e.0.1 f.0.1 e.1 f.1 (got e left) other (λ node. far (λ i. (same i, node i))))
+      go false is = (agrees e f).other (λ same. true≢false (sym (eq-eqb _ _ same) ∙ is))
+
+  pub places_pass : ((e f : Place × Attachment) → PairAgrees e f) → (places : List Row) → IsPermutation (map seen_attachment (db 3)) places → NoneApart places
+  places_pass agrees places same =
+      apart_permuted (map attachment_entry (entries s.attachments)) places (IsPermutation-trans _ _ _ rows_are.attachments same)
+      (ascending-map (λ x y. are_apart x y ≡ false) attachment_entry (entries s.attachments)
+      (ascending_has (λ e f. place_cmp e.0 f.0 ≡ Less) (λ e f. are_apart (attachment_entry e) (attachment_entry f) ≡ false) (entries s.attachments)
+      (λ e f left right less. apart_entries agrees e f left right (λ same. not_less e f less same)) (keys_rise place_cmp (entries s.attachments) (entries_sorted s.attachments))))
+    where
+      not_less : (e f : Place × Attachment) → place_cmp e.0 f.0 ≡ Less → e.0 ≡ f.0 → ⊥
+      not_less e f less same = less_equal (sym less ∙ ap (place_cmp e.0) (sym same) ∙ tied_itself place_total e.0)

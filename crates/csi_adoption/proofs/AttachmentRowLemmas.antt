@@ -1,13 +1,12 @@
 -- Rows of attachments with the rows of volumes, and with one another.
-use Rattle.std.proofs.Common.{◌≡◌, ◌∙◌, inl, inr, refl, sym, ap, ap₂, ℕ, ◌+◌, cond, Bool, true, false, true≢false, ◌&&◌, not, arith, List, [], ◌∷◌, map, filter, length, sum_by, bytes_eq, Some, Less, Greater, is_eq, IsPermutation}
-use Rattle.std.specs.Cmp.Lexicographic.{nat_list_cmp_total, slice_cmp, texts_ties}
+use Rattle.std.proofs.Common.{◌≡◌, ◌∙◌, inl, inr, refl, sym, ap, ap₂, ℕ, ◌+◌, cond, Bool, true, false, true≢false, ◌&&◌, not, arith, List, [], ◌∷◌, map, filter, length, sum_by, bytes_eq, Some, Less, is_eq, IsPermutation}
+use Rattle.std.specs.Cmp.Lexicographic.{slice_cmp, texts_ties}
 use Rattle.std.specs.Cmp.{nat_cmp_total}
 use Rattle.std.specs.FinMap.{FinMap, entries, get, nat_cmp-IsAntisymmetric}
 use Rattle.std.specs.List.{AllByRecursion, list_all}
 use Rattle.std.specs.Option.{option_and_then}
-use Rattle.std.specs.Ordering.{is_gt, nat_cmp}
-use Rattle.std.proofs.lemmas.Bool.{and_from, and_parts, not-true}
-use Rattle.std.proofs.lemmas.Cmp.{tied_itself}
+use Rattle.std.specs.Ordering.{nat_cmp}
+use Rattle.std.proofs.lemmas.Bool.{and_from, not-true}
 use Rattle.std.proofs.lemmas.List.Sorted.{sum_by-IsPermutation}
 use Rattle.std.proofs.lemmas.List.Sums.{sum_by-cons}
 use Rattle.sqlite.specs.Order.{Row, column, value_cmp}
@@ -26,30 +25,29 @@ use Rattle.sqlite_schema.specs.declared.schema.Index.{Index}
 use Rattle.sqlite_value.specs.Keys.{first_key, plain}
 use Rattle.sqlite_value.specs.declared.keys.Collation.TheVariants.{Binary}
 use Rattle.csi_keeper.specs.Capability.{has_key, is_supported_key}
-use Rattle.csi_keeper.specs.Coexistence.{coexist}
 use Rattle.csi_keeper.specs.Invariant.{AreKeys}
 use Rattle.csi_keeper.specs.State.{Place}
-use Rattle.csi_keeper.specs.Texts.{text_cmp, Text as Bytes}
+use Rattle.csi_keeper.specs.Texts.{Text as Bytes}
 use Rattle.csi_keeper.specs.declared.capability.CapKey.{CapKey}
 use Rattle.csi_keeper.specs.declared.capability.Kind.TheVariants.{Block}
 use Rattle.csi_keeper.specs.declared.volume.Attachment.{Attachment}
 use Rattle.csi_keeper.specs.declared.volume.Volume.{Volume}
 use Rattle.csi_layout.specs.Tables.{attachments, schema}
-use Rattle.csi_statements.specs.Cells.{as_blob, as_flag}
+use Rattle.csi_statements.specs.Cells.{as_blob}
 use Rattle.csi_statements.specs.Deletes.{is_same}
 use Rattle.csi_statements.specs.Rows.{number_value, seen_attachment, seen_volume}
 use Rattle.csi_looks.specs.Folds.{added_by}
-use Rattle.csi_looks.specs.Looks.{are_pair, is_above, keyed_attachment, owners, pair_row, with_owner}
+use Rattle.csi_looks.specs.Looks.{keyed_attachment, owners, with_owner}
 use Rattle.csi_looks.specs.declared.sums.Weight.TheVariants.{One}
 use Rattle.csi_looks.specs.facts.Joins.{each_owned}
 use Rattle.csi_tables.specs.Encoding.{caps_bytes, FitCaps}
-use Rattle.csi_tables.specs.Holding.{attachment_entry, volume_entry, IsPlaced, IsStored}
-use Rattle.csi_rules.specs.Agreement.{owned_entry, pair_entry, OwnerAgrees, PairAgrees}
+use Rattle.csi_tables.specs.Holding.{attachment_entry, volume_entry, IsStored}
+use Rattle.csi_rules.specs.Agreement.{owned_entry, OwnerAgrees}
 use Rattle.csi_rules.specs.Coding.{key_in, keys_in}
-use Rattle.csi_rules.specs.Joins.{attached_with, is_beside, is_owned}
+use Rattle.csi_rules.specs.Joins.{is_owned}
 use Rattle.csi_rules.specs.Kinds.{is_integer}
 use Rattle.csi_rules.specs.Values.{are_some_and}
-use Rattle.csi_adoption.proofs.AttachmentCellLemmas.{above_text, are_different, equal_numbers, equal_texts, is_number, number_itself, same_number}
+use Rattle.csi_adoption.proofs.AttachmentCellLemmas.{are_different, equal_numbers, equal_texts, is_number}
 use Rattle.csi_adoption.proofs.AttachmentMapLemmas.{has_got, shown_by}
 
 -- ---- an attachment with its volume
@@ -129,37 +127,6 @@ module _ (db : Trees) (sound : IsSound schema db) where
       let clash : clashes plain (1 ∷ 2 ∷ []) (db 3) b ≡ true =
       some_from (λ o. agree plain (1 ∷ 2 ∷ []) o (1 ∷ 2 ∷ []) b && differ (rowid o) (rowid b)) (db 3) a left (and_from _ _ same (are_different (rowid a) (rowid b) first second less)) in
       true≢false (sym clash ∙ no_clash b right)
-
--- ---- two attachments of one volume
-
--- the rule of two attachments goes by four cells
-says_beside : Value → Value → Value → Value → Bool
-says_beside cap readonly other likewise =
-    are_some_and coexist (attached_with (option_and_then key_in (as_blob cap)) (as_flag readonly)) (attached_with (option_and_then key_in (as_blob other)) (as_flag likewise))
-
-beside_cells : (a b : Row) (e f : Place × Attachment) → seen_attachment a ≡ attachment_entry e → seen_attachment b ≡ attachment_entry f → is_beside (pair_row a b) ≡ is_beside (pair_entry e.1 f.1)
-unfolding says_beside
-beside_cells a b e f p q = λ i. says_beside (column (p i) 2) (column (p i) 3) (column (q i) 2) (column (q i) 3)
-
-pub beside_is : ((a b : Attachment) → PairAgrees a b) → (a b : Row) (e f : Place × Attachment) → seen_attachment a ≡ attachment_entry e → seen_attachment b ≡ attachment_entry f
-    → IsPlaced e → is_supported_key e.1.cap ≡ true → IsPlaced f → is_supported_key f.1.cap ≡ true → is_beside (pair_row a b) ≡ coexist e.1 f.1
-beside_is agrees a b e f p q placed good other fine = beside_cells a b e f p q ∙ (agrees e.1 f.1).beside placed.cap good other.cap fine
-
-module _ (a b : Row) (e f : Place × Attachment) (p : seen_attachment a ≡ attachment_entry e) (q : seen_attachment b ≡ attachment_entry f) where
-  pair_cells : are_pair a b ≡ (is_same (number_value f.0.0) (number_value e.0.0) && is_above (Text f.0.1) (Text e.0.1))
-  pair_cells = λ i. is_same (column (q i) 0) (column (p i) 0) && is_above (column (q i) 1) (column (p i) 1)
-
-  -- they are a pair, where the second node is the later
-  pub are_paired : f.0.0 ≡ e.0.0 → text_cmp f.0.1 e.0.1 ≡ Greater → are_pair a b ≡ true
-  are_paired same later = pair_cells ∙ and_from _ _ (ap (λ n. is_same (number_value n) (number_value e.0.0)) same ∙ number_itself e.0.0) (above_text f.0.1 e.0.1 ∙ ap is_gt later)
-
-  -- a pair is of one volume, at two nodes
-  pub of_pair : are_pair a b ≡ true → (e.0.0 ≡ f.0.0) × (e.0.1 ≡ f.0.1 → ⊥)
-  of_pair is =
-      let both = and_parts _ _ (sym pair_cells ∙ is) in (
-        same_number f.0.0 e.0.0 both.0,
-        λ same. true≢false (sym (sym (above_text f.0.1 e.0.1) ∙ both.1) ∙ ap is_gt (ap (text_cmp f.0.1) same ∙ tied_itself nat_list_cmp_total f.0.1)),
-      )
 
 -- ---- how many stand at a node
 

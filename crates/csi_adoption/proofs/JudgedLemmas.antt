@@ -5,9 +5,10 @@ use Rattle.sqlite.specs.Order.{Row}
 use Rattle.sqlite.specs.Tree.{Trees}
 use Rattle.sqlite.specs.declared.error.Error.{Error}
 use Rattle.csi_config.specs.declared.config.Config.{Config}
-use Rattle.csi_layout.specs.Rows.{seen_meta}
-use Rattle.csi_looks.specs.Looks.{owners, pairs}
-use Rattle.csi_rules.specs.Joins.{is_beside, is_owned}
+use Rattle.csi_layout.specs.Rows.{seen_attachment, seen_meta}
+use Rattle.csi_looks.specs.Looks.{owners}
+use Rattle.csi_rules.specs.Apart.{apart_named}
+use Rattle.csi_rules.specs.Joins.{is_owned}
 use Rattle.csi_rules.specs.declared.named.RowName.{RowName}
 use Rattle.csi_adoption.specs.Judging.{owner_fault as unowned_fault, all_faults, count_faults, failure_of, first_named, is_failure, meta_judged, table_faults, told_attachments, told_volumes, volumes_unless, with_rows, AreJudged, ArePassed, AttachmentsFound, JudgesRows, TablesAreSeen, VolumesFound}
 use Rattle.csi_adoption.specs.declared.adopting.TablesSeen.{TablesSeen}
@@ -38,45 +39,45 @@ module _ (config : Config) (db : Trees) (next : ℕ) (rows : List Row) (same : I
   abbrev AreOwned : List Row → Type 0
   AreOwned owned = IsPermutation (owners (db 3) (db 1)) owned
 
-  abbrev ArePaired : List Row → Type 0
-  ArePaired paired = IsPermutation (pairs (db 3)) paired
+  abbrev ArePlaces : List Row → Type 0
+  ArePlaces places = IsPermutation (map seen_attachment (db 3)) places
 
-  judged : (owned paired : List Row) → AreOwned owned → ArePaired paired → (unowned apart : Option RowName) → unowned ≡ first_named 0 1 is_owned owned → apart ≡ first_named 4 5 is_beside paired
+  judged : (owned places : List Row) → AreOwned owned → ArePlaces places → (unowned apart : Option RowName) → unowned ≡ first_named 0 1 is_owned owned → apart ≡ apart_named places
       → (fault : Option AdoptFault) → all_faults config next v a unowned apart ≡ fault → AreJudged config db fault
-  judged owned paired one two unowned apart first second fault e = record {
+  judged owned places one two unowned apart first second fault e = record {
     next = next;
     meta_rows = rows;
     volume_rows = seen.volume_rows;
     attachment_rows = seen.attachment_rows;
     owner_rows = owned;
-    pair_rows = paired;
-    seen = record { meta = same; volumes = seen.volumes; attachments = seen.attachments; owned = one; paired = two };
+    place_rows = places;
+    seen = record { meta = same; volumes = seen.volumes; attachments = seen.attachments; owned = one; places = two };
     meta_is = meta_is;
-    fault_is = ap₂ (λ u w. all_faults config next u w (first_named 0 1 is_owned owned) (first_named 4 5 is_beside paired)) (sym seen.sees.found) (sym seen.placed.found)
+    fault_is = ap₂ (λ u w. all_faults config next u w (first_named 0 1 is_owned owned) (apart_named places)) (sym seen.sees.found) (sym seen.placed.found)
         ∙ ap₂ (λ u w. all_faults config next v a u w) (sym first) (sym second) ∙ e;
   }
 
   pub table_fault : (e : AdoptFault) → table_faults config next v a ≡ Some e → AreJudged config db (Some e)
   table_fault e is =
-      judged (owners (db 3) (db 1)) (pairs (db 3)) (IsPermutation-refl _) (IsPermutation-refl _) (first_named 0 1 is_owned (owners (db 3) (db 1))) (first_named 4 5 is_beside (pairs (db 3))) refl refl (Some e)
+      judged (owners (db 3) (db 1)) (map seen_attachment (db 3)) (IsPermutation-refl _) (IsPermutation-refl _) (first_named 0 1 is_owned (owners (db 3) (db 1))) (apart_named (map seen_attachment (db 3))) refl refl (Some e)
       (fault_here (table_faults config next v a) _ e is)
 
   module _ (owned : List Row) (one : AreOwned owned) (unowned : Option RowName) (first : unowned ≡ first_named 0 1 is_owned owned) (fine : table_faults config next v a ≡ None) where
     pub owner_fault : (e : AdoptFault) → unowned_fault unowned ≡ Some e → AreJudged config db (Some e)
     owner_fault e is =
-        judged owned (pairs (db 3)) one (IsPermutation-refl _) unowned (first_named 4 5 is_beside (pairs (db 3))) first refl (Some e)
+        judged owned (map seen_attachment (db 3)) one (IsPermutation-refl _) unowned (apart_named (map seen_attachment (db 3))) first refl (Some e)
         (fault_later (table_faults config next v a) _ fine ∙ fault_here (unowned_fault unowned) _ e is)
 
-    module _ (paired : List Row) (two : ArePaired paired) (apart : Option RowName) (second : apart ≡ first_named 4 5 is_beside paired) (at_home : unowned_fault unowned ≡ None) where
+    module _ (places : List Row) (two : ArePlaces places) (apart : Option RowName) (second : apart ≡ apart_named places) (at_home : unowned_fault unowned ≡ None) where
       pub counts_fault : (e : AdoptFault) → count_faults config apart a v ≡ Some e → AreJudged config db (Some e)
       counts_fault e is =
-          judged owned paired one two unowned apart first second (Some e)
+          judged owned places one two unowned apart first second (Some e)
           (fault_later (table_faults config next v a) _ fine ∙ fault_later (unowned_fault unowned) _ at_home ∙ fault_here (count_faults config apart a v) _ e is)
 
       pub none_broken : count_faults config apart a v ≡ None → ArePassed config db tables.volumes
       unfolding judged
       none_broken is = record {
-        judged = judged owned paired one two unowned apart first second None
+        judged = judged owned places one two unowned apart first second None
             (fault_later (table_faults config next v a) _ fine ∙ fault_later (unowned_fault unowned) _ at_home ∙ fault_later (count_faults config apart a v) _ is);
         volumes = seen.sees;
         attachments = tables.attachments;

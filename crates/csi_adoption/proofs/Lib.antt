@@ -13,6 +13,7 @@ mod JudgingLemmas
 mod LookLemmas
 mod MetaLemmas
 mod PassedLemmas
+mod PlaceLemmas
 mod SeeingLemmas
 mod StateFoundLemmas
 mod SumLemmas

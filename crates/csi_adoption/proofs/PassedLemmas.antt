@@ -8,19 +8,21 @@ use Rattle.csi_config.specs.declared.nodes.Node.{Node}
 use Rattle.csi_config.specs.declared.pools.Pool.{Pool}
 use Rattle.csi_looks.specs.Folds.{added_by, sum_after}
 use Rattle.csi_looks.specs.declared.sums.Weight.TheVariants.{Number, One}
-use Rattle.csi_rules.specs.Joins.{is_beside, is_owned}
+use Rattle.csi_rules.specs.Apart.{apart_named, NoneApart}
+use Rattle.csi_rules.specs.Joins.{is_owned}
 use Rattle.csi_rules.specs.declared.named.RowName.{RowName}
+use Rattle.csi_rules.specs.facts.Aparts.{none_unnamed, unnamed_none}
 use Rattle.csi_adoption.specs.Judging.{all_faults, code_faults, count_faults, first_named, in_attachments, in_volumes, kinds_faults, next_fault, number_faults, owner_fault, size_faults, table_faults, AttachmentsFound, VolumesFound}
 use Rattle.csi_adoption.specs.Passing.{AttachmentsPass, VolumesPass}
 use Rattle.csi_adoption.proofs.JudgingLemmas.{all_unnamed, few_rows, is_next, rows_few, no_full_node, no_full_pool, no_next_fault, none_both, none_first, none_named, roomy_nodes, roomy_pools, unmapped}
 use Rattle.csi_adoption.proofs.SumLemmas.{room_kept, room_told}
 
 -- what every rule of the rows behind meta asks
-pub record RowsPass (config : Config) (number : ℕ) (volume_rows attachment_rows owner_rows pair_rows : List Row) : Type 0 where
+pub record RowsPass (config : Config) (number : ℕ) (volume_rows attachment_rows owner_rows place_rows : List Row) : Type 0 where
   pub volumes : VolumesPass config number volume_rows
   pub attachments : AttachmentsPass config attachment_rows
   pub owned : list_all is_owned owner_rows ≡ true
-  pub paired : list_all is_beside pair_rows ≡ true
+  pub beside : NoneApart place_rows
 
 -- sums that a u64 tells, where no pool and no node can have 2^64 - 1
 pub record IsSmall (config : Config) : Type 0 where
@@ -51,7 +53,7 @@ mapped f o e = ap (option_map f) e
 named : {B : Type 0} (f : RowName → B) (number text : ℕ) (test : Row → Bool) (rows : List Row) → list_all test rows ≡ true → option_map f (first_named number text test rows) ≡ None
 named f number text test rows all = ap (option_map f) (all_unnamed number text test rows all)
 
-module _ (config : Config) (small : IsSmall config) (volumes attachments owned paired : List Row) where
+module _ (config : Config) (small : IsSmall config) (volumes attachments owned places : List Row) where
   module _ (next : ℕ) where
     abbrev in_v : VolumesFound
     in_v = in_volumes config next volumes
@@ -60,13 +62,13 @@ module _ (config : Config) (small : IsSmall config) (volumes attachments owned p
     in_a = in_attachments config attachments
 
     abbrev Faultless : Type 0
-    Faultless = all_faults config next in_v in_a (first_named 0 1 is_owned owned) (first_named 4 5 is_beside paired) ≡ None
+    Faultless = all_faults config next in_v in_a (first_named 0 1 is_owned owned) (apart_named places) ≡ None
 
-    pub rows_pass : Faultless → (1 ≤ next) × RowsPass config next volumes attachments owned paired
+    pub rows_pass : Faultless → (1 ≤ next) × RowsPass config next volumes attachments owned places
     rows_pass e =
         let a = none_first (table_faults config next in_v in_a) _ e in
         let b = none_first (owner_fault (first_named 0 1 is_owned owned)) _ a.1 in
-        let counts = none_first (count_faults config (first_named 4 5 is_beside paired) in_a in_v) [] b.1 in
+        let counts = none_first (count_faults config (apart_named places) in_a in_v) [] b.1 in
         let kinds = none_first (kinds_faults in_v in_a) _ a.0 in
         let numbers = none_first (number_faults next in_v) _ kinds.1 in
         let sizes = none_first (size_faults config in_v) _ numbers.1 in
@@ -108,12 +110,12 @@ module _ (config : Config) (small : IsSmall config) (volumes attachments owned p
               counts = told_nodes attachments config.nodes small.nodes (no_full_node (λ m. sum_after 2 m.id One 0 attachments) config.nodes (unmapped _ _ p2.0));
             };
             owned = none_named 0 1 _ owned (unmapped _ _ b.0);
-            paired = none_named 4 5 _ paired (unmapped _ _ p1.0);
+            beside = unnamed_none places (unmapped _ _ p1.0);
           },
         )
 
   -- and back: by what the rows meet
-  pub rows_faultless : (n : ℕ) → 1 ≤ n → RowsPass config n volumes attachments owned paired → Faultless n
+  pub rows_faultless : (n : ℕ) → 1 ≤ n → RowsPass config n volumes attachments owned places → Faultless n
   rows_faultless n some pass =
       let v = pass.volumes in
       let a = pass.attachments in
@@ -123,5 +125,5 @@ module _ (config : Config) (small : IsSmall config) (volumes attachments owned p
       (none_both _ _ (none_both _ _ (named _ 0 1 _ volumes v.pools) (none_both _ _ (named _ 0 1 _ volumes v.sizes) (none_both _ _ (mapped _ _ (roomy_pools (λ p. sum_after 3 p.name (Number 2) 0 volumes) config.pools (kept_pools volumes config.pools v.rooms))) refl)))
       (none_both _ _ (none_both _ _ (named _ 0 1 _ volumes v.caps) (none_both _ _ (named _ 0 1 _ volumes v.params) (none_both _ _ (named _ 1 2 _ attachments a.caps) (none_both _ _ (named _ 1 2 _ attachments a.flags) (none_both _ _ (named _ 1 2 _ attachments a.nodes) refl))))) refl))))
       (none_both _ _ (named _ 0 1 _ owned pass.owned)
-      (none_both _ _ (none_both _ _ (named _ 4 5 _ paired pass.paired) (none_both _ _ (mapped _ _ (roomy_nodes (λ m. sum_after 2 m.id One 0 attachments) config.nodes (kept_nodes attachments config.nodes a.counts)))
+      (none_both _ _ (none_both _ _ (mapped _ _ (none_unnamed places pass.beside)) (none_both _ _ (mapped _ _ (roomy_nodes (λ m. sum_after 2 m.id One 0 attachments) config.nodes (kept_nodes attachments config.nodes a.counts)))
       (none_both _ _ (rows_few (length volumes) v.few) refl))) refl))

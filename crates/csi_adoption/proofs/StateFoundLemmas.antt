@@ -27,11 +27,12 @@ use Rattle.csi_looks.specs.Folds.{as_integer, sum_after}
 use Rattle.csi_looks.specs.Looks.{IsInOrder}
 use Rattle.csi_looks.specs.declared.sums.Weight.TheVariants.{Number, One}
 use Rattle.csi_rules.specs.Coded.{has_cap, has_caps, has_params}
-use Rattle.csi_rules.specs.Joins.{is_beside, is_owned}
+use Rattle.csi_rules.specs.Apart.{apart_named}
+use Rattle.csi_rules.specs.Joins.{is_owned}
 use Rattle.csi_tables.specs.Holding.{IsRows}
 use Rattle.csi_adoption.specs.Adopting.{FoundState}
 use Rattle.csi_adoption.specs.Found.{sizes_of, told_total, FoundVolumes}
-use Rattle.csi_adoption.specs.FoundAttachments.{AttachmentsAreFound, AttachmentsDoPass, OwnersDoPass, PairsDoPass}
+use Rattle.csi_adoption.specs.FoundAttachments.{AttachmentsAreFound, AttachmentsDoPass, OwnersDoPass, PlacesDoPass}
 use Rattle.csi_adoption.specs.Judging.{all_faults, first_named, in_attachments, in_volumes, integers_judged, meta_judged, row_judged, total_in, valid_next, with_rows, AreJudged, ArePassed, AttachmentsFound, IsMetaFault, VolumesFound}
 use Rattle.csi_adoption.specs.Passing.{VolumesAreKnown, VolumesPass}
 use Rattle.csi_adoption.specs.declared.fault.AdoptFault.{AdoptFault}
@@ -139,20 +140,20 @@ module _ (config : Config) (small : IsSmall config) (bounded : (p : Pool) → Ha
   pub found_state : ArePassed config db seen → FoundState config db seen
   found_state passed =
       let j = passed.judged in
-      let pass = rows_pass config small j.volume_rows j.attachment_rows j.owner_rows j.pair_rows j.next j.fault_is in
+      let pass = rows_pass config small j.volume_rows j.attachment_rows j.owner_rows j.place_rows j.next j.fault_is in
       let n = j.next in
       let row = one_row (db 0) j.meta_rows n (sym (length_permutation _ _ j.seen.meta)) j.seen.meta pass.0 j.meta_is in
       let low : n ≤ MAX_NUMBER = row.1 in
-      let it : RowsPass config n j.volume_rows j.attachment_rows j.owner_rows j.pair_rows = pass.1 in
+      let it : RowsPass config n j.volume_rows j.attachment_rows j.owner_rows j.place_rows = pass.1 in
       let fv = volumes_found config n db j.volume_rows low sound j.seen.volumes it.volumes (record {
         rising = passed.volumes.rising;
         caps = passed.volumes.caps (ap (λ (f : VolumesFound). f.caps) passed.volumes.found ∙ all_unnamed 0 1 has_caps j.volume_rows it.volumes.caps);
         params = passed.volumes.params (ap (λ (f : VolumesFound). f.params) passed.volumes.found ∙ all_unnamed 0 1 has_params j.volume_rows it.volumes.params);
       }) in
-      let fa = attachments_found config n db fv.volumes j.volume_rows j.attachment_rows j.owner_rows j.pair_rows sound j.seen.volumes fv.listed fv.stored fv.each j.seen.attachments it.attachments (record {
+      let fa = attachments_found config n db fv.volumes j.volume_rows j.attachment_rows j.owner_rows j.place_rows sound j.seen.volumes fv.listed fv.stored fv.each j.seen.attachments it.attachments (record {
         rising = passed.placed.rising;
         caps = passed.placed.cap (ap (λ (f : AttachmentsFound). f.cap) passed.placed.found ∙ all_unnamed 1 2 has_cap j.attachment_rows it.attachments.caps);
-      }) j.seen.owned it.owned j.seen.paired it.paired in
+      }) j.seen.owned it.owned j.seen.places it.beside in
       let s : State = record { next = n; volumes = fv.volumes; attachments = fa.attachments } in
       record {
         state = s;
@@ -180,7 +181,7 @@ module _ (config : Config) (small : IsSmall config) (bounded : (p : Pool) → Ha
 
 -- ---- a State that meets every rule is not refused
 
-module _ (config : Config) (small : IsSmall config) (volumes_pass : VolumesDoPass) (meta_pass : MetaDoesPass) (attachments_pass : AttachmentsDoPass) (owners_pass : OwnersDoPass) (pairs_pass : PairsDoPass)
+module _ (config : Config) (small : IsSmall config) (volumes_pass : VolumesDoPass) (meta_pass : MetaDoesPass) (attachments_pass : AttachmentsDoPass) (owners_pass : OwnersDoPass) (places_pass : PlacesDoPass)
     (db : Trees) (s : State) (rows : IsRows s db) (invariant : IsInvariant config s) where
   judged_next : (meta_rows : List Row) → IsPermutation (map seen_meta (db 0)) meta_rows → meta_judged (with_rows meta.None meta_rows) ≡ Ok s.next
   judged_next meta_rows same = ap (λ (u : List Row). meta_judged (with_rows meta.None u)) (meta_pass config s db rows invariant meta_rows same) ∙ ap Ok (is_valid s.next invariant.next.1)
@@ -191,13 +192,13 @@ module _ (config : Config) (small : IsSmall config) (volumes_pass : VolumesDoPas
   pub no_fault : (fault : AdoptFault) → AreJudged config db (Some fault) → ⊥
   no_fault fault j =
       let next : j.next ≡ s.next = ok_is j.next s.next (sym j.meta_is ∙ judged_next j.meta_rows j.seen.meta) in
-      let none = rows_faultless config small j.volume_rows j.attachment_rows j.owner_rows j.pair_rows s.next invariant.next.0 (record {
+      let none = rows_faultless config small j.volume_rows j.attachment_rows j.owner_rows j.place_rows s.next invariant.next.0 (record {
         volumes = volumes_pass config s db j.volume_rows rows invariant j.seen.volumes;
         attachments = attachments_pass config s db j.attachment_rows rows invariant j.seen.attachments;
         owned = owners_pass config s db j.owner_rows rows invariant j.seen.owned;
-        paired = pairs_pass config s db j.pair_rows rows invariant j.seen.paired;
+        beside = places_pass config s db j.place_rows rows invariant j.seen.places;
       }) in
-      some_none fault (sym j.fault_is ∙ ap (λ z. all_faults config z (in_volumes config z j.volume_rows) (in_attachments config j.attachment_rows) (first_named 0 1 is_owned j.owner_rows) (first_named 4 5 is_beside j.pair_rows)) next ∙ none)
+      some_none fault (sym j.fault_is ∙ ap (λ z. all_faults config z (in_volumes config z j.volume_rows) (in_attachments config j.attachment_rows) (first_named 0 1 is_owned j.owner_rows) (apart_named j.place_rows)) next ∙ none)
     where
       some_none : (e : AdoptFault) → Path (Option AdoptFault) (Some e) None → ⊥
       some_none e h = absurd (cc)

@@ -19,8 +19,9 @@ use Rattle.csi_keeper.specs.declared.volume.Attachment.{Attachment}
 use Rattle.csi_keeper.specs.declared.volume.Volume.{Volume}
 use Rattle.csi_layout.specs.Rows.{seen_attachment, seen_volume}
 use Rattle.csi_layout.specs.Tables.{schema}
-use Rattle.csi_looks.specs.Looks.{IsInOrder, keyed_attachment, owners, pairs}
-use Rattle.csi_rules.specs.Joins.{is_beside, is_owned}
+use Rattle.csi_looks.specs.Looks.{IsInOrder, keyed_attachment, owners}
+use Rattle.csi_rules.specs.Apart.{NoneApart}
+use Rattle.csi_rules.specs.Joins.{is_owned}
 use Rattle.csi_statements.specs.Rows.{AreKeyed}
 use Rattle.csi_tables.specs.Holding.{attachment_entry, volume_entry, IsPlaced, IsRows, IsStored}
 use Rattle.csi_adoption.specs.Passing.{AttachmentsAreKnown, AttachmentsPass}
@@ -50,13 +51,13 @@ pub record FoundAttachments (config : Config) (volumes : FinMap nat_cmp Volume) 
 -- tables that pass every rule have attachments, where the rows of volumes stand for these volumes
 abbrev pub AttachmentsAreFound : Type 0
 AttachmentsAreFound =
-    (config : Config) (next : ℕ) (db : Trees) (volumes : FinMap nat_cmp Volume) (standing rows owned paired : List Row)
+    (config : Config) (next : ℕ) (db : Trees) (volumes : FinMap nat_cmp Volume) (standing rows owned places : List Row)
     → IsSound schema db
     → IsInOrder (map seen_volume (db 1)) standing → map volume_entry (entries volumes) ≡ standing → AllByRecursion IsStored (entries volumes)
     → ((n : ℕ) (v : Volume) → get volumes n ≡ Some v → IsVolume config next n v)
     → IsInOrder (map keyed_attachment (db 3)) rows → AttachmentsPass config rows → AttachmentsAreKnown rows
     → IsPermutation (owners (db 3) (db 1)) owned → list_all is_owned owned ≡ true
-    → IsPermutation (pairs (db 3)) paired → list_all is_beside paired ≡ true
+    → IsPermutation (map seen_attachment (db 3)) places → NoneApart places
     → FoundAttachments config volumes db
 
 -- the rows of a State's attachments pass every rule of theirs
@@ -69,6 +70,6 @@ AttachmentsDoPass =
 abbrev pub OwnersDoPass : Type 0
 OwnersDoPass = (config : Config) (s : State) (db : Trees) (owned : List Row) → IsRows s db → IsInvariant config s → IsPermutation (owners (db 3) (db 1)) owned → list_all is_owned owned ≡ true
 
--- and any two of one volume
-abbrev pub PairsDoPass : Type 0
-PairsDoPass = (config : Config) (s : State) (db : Trees) (paired : List Row) → IsRows s db → IsInvariant config s → IsPermutation (pairs (db 3)) paired → list_all is_beside paired ≡ true
+-- and no two of one volume are apart
+abbrev pub PlacesDoPass : Type 0
+PlacesDoPass = (config : Config) (s : State) (db : Trees) (places : List Row) → IsRows s db → IsInvariant config s → IsPermutation (map seen_attachment (db 3)) places → NoneApart places

@@ -23,9 +23,10 @@ use Rattle.csi_looks.specs.Looks.{IsInOrder, keyed_attachment}
 use Rattle.csi_looks.specs.declared.sums.TextSum.{TextSum}
 use Rattle.csi_looks.specs.declared.sums.Weight.TheVariants.{Number, One}
 use Rattle.csi_tables.specs.Encoding.{FitCaps, FitParams}
+use Rattle.csi_rules.specs.Apart.{apart_named}
 use Rattle.csi_rules.specs.Attachments.{has_flag, is_at_node}
 use Rattle.csi_rules.specs.Coded.{has_cap, has_caps, has_params, key_at, keys_at, params_at}
-use Rattle.csi_rules.specs.Joins.{is_beside, is_owned}
+use Rattle.csi_rules.specs.Joins.{is_owned}
 use Rattle.csi_rules.specs.Kinds.{has_attachment_kinds, has_volume_kinds}
 use Rattle.csi_rules.specs.Named.{named_out}
 use Rattle.csi_rules.specs.Volumes.{is_in_pools, is_named, is_numbered, is_sized}
@@ -295,10 +296,10 @@ pub record AreJudged (config : Config) (db : Trees) (fault : Option AdoptFault) 
   pub volume_rows : List Row
   pub attachment_rows : List Row
   pub owner_rows : List Row
-  pub pair_rows : List Row
-  pub seen : Seen db meta_rows volume_rows attachment_rows owner_rows pair_rows
+  pub place_rows : List Row
+  pub seen : Seen db meta_rows volume_rows attachment_rows owner_rows place_rows
   pub meta_is : meta_judged (with_rows meta.None meta_rows) ≡ Ok next
-  pub fault_is : all_faults config next (in_volumes config next volume_rows) (in_attachments config attachment_rows) (first_named 0 1 is_owned owner_rows) (first_named 4 5 is_beside pair_rows) ≡ fault
+  pub fault_is : all_faults config next (in_volumes config next volume_rows) (in_attachments config attachment_rows) (first_named 0 1 is_owned owner_rows) (apart_named place_rows) ≡ fault
 
 -- the fault is that of a database: it has other tables, or its rows break this rule first
 abbrev pub IsFaultOf : Config → Database → AdoptFault → Type 0

@@ -5,14 +5,15 @@ use Rattle.sqlite.specs.Order.{Row}
 use Rattle.sqlite.specs.Tree.{Trees}
 use Rattle.csi_types.specs.declared.limits.TheConstants.{MAX_NUMBER, MAX_VOLUMES}
 use Rattle.csi_config.specs.declared.config.Config.{Config}
-use Rattle.csi_layout.specs.Rows.{meta_row, seen_meta, seen_volume}
+use Rattle.csi_layout.specs.Rows.{meta_row, seen_attachment, seen_meta, seen_volume}
 use Rattle.csi_looks.specs.Folds.{IsRising, added_by}
-use Rattle.csi_looks.specs.Looks.{IsInOrder, keyed_attachment, owners, pairs}
+use Rattle.csi_looks.specs.Looks.{IsInOrder, keyed_attachment, owners}
 use Rattle.csi_looks.specs.declared.sums.Weight.TheVariants.{Number, One}
 use Rattle.csi_tables.specs.Encoding.{FitCaps, FitParams}
+use Rattle.csi_rules.specs.Apart.{NoneApart}
 use Rattle.csi_rules.specs.Attachments.{has_flag, is_at_node}
 use Rattle.csi_rules.specs.Coded.{has_cap, has_caps, has_params, key_at, keys_at, params_at}
-use Rattle.csi_rules.specs.Joins.{is_beside, is_owned}
+use Rattle.csi_rules.specs.Joins.{is_owned}
 use Rattle.csi_rules.specs.Kinds.{has_attachment_kinds, has_volume_kinds}
 use Rattle.csi_rules.specs.Volumes.{is_in_pools, is_named, is_numbered, is_sized}
 
@@ -50,18 +51,18 @@ pub record AttachmentsAreKnown (rows : List Row) : Type 0 where
   pub caps : AllByRecursion (λ r. IfSome (key_at 3 r) (λ key. FitCaps (key ∷ []))) rows
 
 -- what five looks over the tables show
-pub record Seen (db : Trees) (meta_rows volume_rows attachment_rows owner_rows pair_rows : List Row) : Type 0 where
+pub record Seen (db : Trees) (meta_rows volume_rows attachment_rows owner_rows place_rows : List Row) : Type 0 where
   pub meta : IsPermutation (map seen_meta (db 0)) meta_rows
   pub volumes : IsInOrder (map seen_volume (db 1)) volume_rows
   pub attachments : IsInOrder (map keyed_attachment (db 3)) attachment_rows
   pub owned : IsPermutation (owners (db 3) (db 1)) owner_rows
-  pub paired : IsPermutation (pairs (db 3)) pair_rows
+  pub places : IsPermutation (map seen_attachment (db 3)) place_rows
 
 -- the rows meet every rule
-pub record Pass (config : Config) (number : ℕ) (meta_rows volume_rows attachment_rows owner_rows pair_rows : List Row) : Type 0 where
+pub record Pass (config : Config) (number : ℕ) (meta_rows volume_rows attachment_rows owner_rows place_rows : List Row) : Type 0 where
   pub meta : meta_rows ≡ meta_row number ∷ []
   pub next : (1 ≤ number) × (number ≤ MAX_NUMBER)
   pub volumes : VolumesPass config number volume_rows
   pub attachments : AttachmentsPass config attachment_rows
   pub owned : list_all is_owned owner_rows ≡ true
-  pub paired : list_all is_beside pair_rows ≡ true
+  pub beside : NoneApart place_rows

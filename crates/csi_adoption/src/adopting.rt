@@ -15,9 +15,9 @@ ghost use Rattle.csi_adoption.specs.Adopting.{FoundState, IsAdopted, IsFound, Is
 ghost use Rattle.csi_adoption.specs.Looking.{Looks};
 ghost use Rattle.csi_adoption.specs.Judging.{is_failure, AreJudged, ArePassed, IsFaultOf, IsMetaFault, JudgesBehind, JudgesJoined, JudgesRows, JudgesSeen, SeesNext, Says, TablesAreSeen, Tells, code_faults, count_fault, count_faults, kinds_faults, table_faults, told_attachments, told_volumes};
 
-use crate::attachment_laws::{attachments_found, attachments_pass, owners_pass, pairs_pass};
+use crate::attachment_laws::{attachments_found, attachments_pass, owners_pass, places_pass};
 use crate::attachments::{
-    AttachmentsSeen, check_attachment, check_nodes, see_attachments, see_owners, see_pairs,
+    AttachmentsSeen, check_attachment, check_nodes, see_apart, see_attachments, see_owners,
 };
 use crate::fault::{AdoptFault, Foreign};
 use crate::laws::{meta_pass, totals_found, volumes_found, volumes_pass};
@@ -149,8 +149,7 @@ fn see_tables<S: Alter>(
 }
 
 // Judges attachments beside their volumes and beside one another, once each table is judged by itself: each
-// is known to be at a node of the configuration then, so those of a volume are few, and its capabilities
-// are read few times.
+// is known to be at a node of the configuration then, so those of a volume are few.
 fn judge_joined<S: Alter>(
     alloc: Global,
     conn: &mut Connection<S>,
@@ -164,7 +163,7 @@ fn judge_joined<S: Alter>(
 {
     let unowned = see_owners(alloc, conn)?;
     check_attachment(alloc, &unowned, AttachmentRule::Owner)?;
-    let apart = see_pairs(alloc, conn)?;
+    let apart = see_apart(alloc, conn)?;
     check_counts(alloc, config, &apart, &tables.attachments, &tables.volumes)?;
     Ok(())
 }
@@ -247,7 +246,7 @@ fn rows_tell(config: &Config)
     meta_pass();
     attachments_pass();
     owners_pass();
-    pairs_pass();
+    places_pass();
     pool_bytes_whole(config);
     node_volumes_few(config);
     first(config);

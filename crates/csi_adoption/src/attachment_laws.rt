@@ -1,6 +1,6 @@
 //! Laws of the attachments: tables that pass have them, and the rows of a State's attachments pass.
 
-ghost use Rattle.csi_adoption.specs.FoundAttachments.{AttachmentsAreFound, AttachmentsDoPass, OwnersDoPass, PairsDoPass};
+ghost use Rattle.csi_adoption.specs.FoundAttachments.{AttachmentsAreFound, AttachmentsDoPass, OwnersDoPass, PlacesDoPass};
 
 use csi_rules::laws::{attachments, owners, pairs};
 
@@ -27,9 +27,9 @@ pub fn owners_pass()
     owners();
 }
 
-/// Any two of a State's attachments of one volume pass.
-pub fn pairs_pass()
-    ensures { PairsDoPass }
+/// No two of a State's attachments of one volume are apart.
+pub fn places_pass()
+    ensures { PlacesDoPass }
 {
     pairs();
 }

@@ -5,9 +5,11 @@ ghost use Rattle.std.specs.List.{AllZip};
 ghost use Rattle.sqlite.specs.Held.{state};
 ghost use Rattle.sqlite.specs.State.{HasCleanDisk};
 ghost use Rattle.csi_layout.specs.Tables.{schema as our_schema};
-ghost use Rattle.csi_looks.specs.Looks.{IsInOrder, keyed_attachment, owners, pairs};
+ghost use Rattle.csi_layout.specs.Rows.{seen_attachment};
+ghost use Rattle.csi_looks.specs.Looks.{IsInOrder, keyed_attachment, owners};
 ghost use Rattle.csi_looks.specs.declared.sums.Weight.TheVariants.{One as Ones};
-ghost use Rattle.csi_rules.specs.Joins.{is_beside, is_owned};
+ghost use Rattle.csi_rules.specs.Apart.{apart_named};
+ghost use Rattle.csi_rules.specs.Joins.{is_owned};
 ghost use Rattle.csi_adoption.specs.Judging.{Says, SeesAttachments, attachment_fault, first_named, full_node, node_fault, sums_of};
 ghost use Rattle.csi_adoption.specs.Looking.{IsBegun, Looks, SeenBy};
 
@@ -15,11 +17,11 @@ use crate::fault::AdoptFault;
 use crate::sums::node_sums;
 use csi_config::{Config, Node};
 use csi_looks::{
-    Both, Each, Rising, TextSum, look_over_attachments, look_over_owners, look_over_pairs,
+    Both, Each, Rising, TextSum, look_over_attachments, look_over_owners, look_over_places,
 };
 use csi_rules::{
-    AttachmentRule, BrokenRule, FirstBroken, HasAttachmentKinds, HasCap, HasFlag, IsAtNode,
-    IsBeside, IsOwned, RowName, Sure,
+    AttachmentRule, BrokenRule, FirstApart, FirstBroken, FirstUnowned, HasAttachmentKinds, HasCap,
+    HasFlag, IsAtNode, RowName, Sure,
 };
 use csi_types::{Text, copy_text};
 use sqlite::{Alter, Connection, Error, ErrorCode};
@@ -168,23 +170,31 @@ pub(crate) fn see_owners<S: Alter>(
     ensures looks { Looks S.Store conn.old conn.new result }
     ensures seen { SeenBy S.Store conn.old conn.new result (λ db rows. IsPermutation (owners (db 3) (db 1)) rows) (λ rows found. found ≡ first_named 0 1 is_owned rows) }
 {
-    let mut fold = unbroken(alloc, IsOwned { alloc }, 0, 1);
+    let mut fold = FirstUnowned {
+        alloc,
+        last: None,
+        found: None,
+    };
     look_over_owners(conn, &mut fold)?;
     Ok(fold.found)
 }
 
 /// The first attachment that cannot stand beside another of its volume.
-pub(crate) fn see_pairs<S: Alter>(
+pub(crate) fn see_apart<S: Alter>(
     alloc: Global,
     conn: &mut Connection<S>,
 ) -> Result<Option<RowName>, Error>
     requires idle { conn.old.in_transaction ≡ false }
     requires ours { HasCleanDisk (state S.Store conn.old) → conn.old.schema ≡ our_schema }
     ensures looks { Looks S.Store conn.old conn.new result }
-    ensures seen { SeenBy S.Store conn.old conn.new result (λ db rows. IsPermutation (pairs (db 3)) rows) (λ rows found. found ≡ first_named 4 5 is_beside rows) }
+    ensures seen { SeenBy S.Store conn.old conn.new result (λ db rows. IsPermutation (map seen_attachment (db 3)) rows) (λ rows found. found ≡ apart_named rows) }
 {
-    let mut fold = unbroken(alloc, IsBeside { alloc }, 4, 5);
-    look_over_pairs(conn, &mut fold)?;
+    let mut fold = FirstApart {
+        alloc,
+        last: None,
+        found: None,
+    };
+    look_over_places(conn, &mut fold)?;
     Ok(fold.found)
 }
 

@@ -1,9 +1,9 @@
 -- What a look over two tables shows.
 use Rattle.std.proofs.Common.{◌≡◌, ◌∙◌, refl, sym, ap, ap₂, subst, codes, ℕ, List, [], ◌∷◌, ◌++◌, map, filter, flat_map, Bool, true, false, cond, ◌&&◌, IsPermutation, inl, inr, true≢false, arith}
-use Rattle.std.specs.List.{list_all}
+use Rattle.std.specs.List.{AllByRecursion, list_all}
 use Rattle.std.proofs.lemmas.List.Sorted.{IsPermutation-map}
 use Rattle.sqlite.specs.Collation.TheVariants.{Binary}
-use Rattle.sqlite.specs.Order.{Row, column}
+use Rattle.sqlite.specs.Order.{Row}
 use Rattle.sqlite.specs.Program.{overlay}
 use Rattle.sqlite.specs.Query.{Query, Output, output, inner, left, end, IsAnswer, or_nulls}
 use Rattle.sqlite.specs.State.{State, Shown}
@@ -11,17 +11,16 @@ use Rattle.sqlite.specs.Term.{Term, col, op2, holds}
 use Rattle.sqlite.specs.Tree.{Trees}
 use Rattle.sqlite.specs.Listing.{understood}
 use Rattle.sqlite_sql.specs.declared.ops.BinaryOp.TheVariants.{Compare}
-use Rattle.sqlite_sql.specs.declared.ops.CompareOp.TheVariants.{Eq, Gt}
+use Rattle.sqlite_sql.specs.declared.ops.CompareOp.TheVariants.{Eq}
 use Rattle.sqlite_tied.specs.Compute.{everything}
 use Rattle.csi_layout.specs.Tables.{schema}
 use Rattle.csi_layout.specs.facts.Failing.{IsSure}
-use Rattle.csi_statements.specs.Deletes.{is_same}
-use Rattle.csi_statements.specs.Statements.{plain_query}
-use Rattle.csi_looks.specs.Looks.{owns, with_owner, owners, are_pair, pair_row, pairs}
-use Rattle.csi_looks.proofs.TableLemmas.{IsSelect, answer_of}
+use Rattle.csi_statements.specs.Statements.{plain_query, rising}
+use Rattle.csi_looks.specs.Looks.{IsInOrder, owns, with_owner, owners}
+use Rattle.csi_looks.proofs.TableLemmas.{IsKeyed, IsSelect, answer_of, sorted_by_first}
 
 abbrev pub owners_text : List ℕ
-owners_text = codes "SELECT a.number, a.node, a.cap, a.readonly, v.caps FROM attachments AS a LEFT JOIN volumes AS v ON v.number = a.number"
+owners_text = codes "SELECT a.number, a.node, a.cap, a.readonly, v.caps FROM attachments AS a LEFT JOIN volumes AS v ON v.number = a.number ORDER BY a.number"
 
 abbrev owner_on : List Term
 owner_on = op2 (Compare Eq Binary) (col 2 0) (col 1 1) ∷ []
@@ -30,16 +29,7 @@ abbrev owners_query : Query
 owners_query = record plain_query {
   from = inner 3 (left 1 owner_on end);
   project = col 1 1 ∷ col 1 2 ∷ col 1 3 ∷ col 1 4 ∷ col 2 5 ∷ [];
-}
-
-abbrev pub pairs_text : List ℕ
-pairs_text = codes "SELECT a.cap, a.readonly, b.cap, b.readonly, a.number, a.node, b.node FROM attachments AS a JOIN attachments AS b ON b.number = a.number AND b.node > a.node"
-
-abbrev pairs_query : Query
-pairs_query = record plain_query {
-  from = inner 3 (inner 3 end);
-  filter = op2 (Compare Eq Binary) (col 2 1) (col 1 1) ∷ op2 (Compare Gt Binary) (col 2 2) (col 1 2) ∷ [];
-  project = col 1 3 ∷ col 1 4 ∷ col 2 3 ∷ col 2 4 ∷ col 1 1 ∷ col 1 2 ∷ col 2 2 ∷ [];
+  order = (col 1 1, rising) ∷ [];
 }
 
 pub owners_select : IsSelect owners_text owners_query
@@ -54,22 +44,6 @@ owners_sure = record {
   is = owners_select.is;
   plain = owners_select.plain;
   unlisted = owners_select.unlisted;
-  alone = (omega arith, refl, refl);
-  unrefused = λ limit db e h. elim h [ inl typed ↦ absurd (true≢false typed.1) | inr (inl (is, inl none)) ↦ absurd none | inr (inl (is, inr over)) ↦ absurd over.4.4 | inr (inr limited) ↦ limited ];
-}
-
-pub pairs_select : IsSelect pairs_text pairs_query
-unfolding understood everything
-pairs_select = record { names = codes "cap" ∷ codes "readonly" ∷ codes "cap" ∷ codes "readonly" ∷ codes "number" ∷ codes "node" ∷ codes "node" ∷ []; is = refl; plain = (refl, refl); unlisted = refl }
-
-pub pairs_sure : IsSure schema pairs_text []
-unfolding understood everything
-pairs_sure = record {
-  query = _;
-  names = pairs_select.names;
-  is = pairs_select.is;
-  plain = pairs_select.plain;
-  unlisted = pairs_select.unlisted;
   alone = (omega arith, refl, refl);
   unrefused = λ limit db e h. elim h [ inl typed ↦ absurd (true≢false typed.1) | inr (inl (is, inl none)) ↦ absurd none | inr (inl (is, inr over)) ↦ absurd over.4.4 | inr (inr limited) ↦ limited ];
 }
@@ -102,42 +76,16 @@ all_owners (r ∷ rs) vs =
     ∙ map-append (λ (o : Output). o.1) _ _
     ∙ ap₂ (λ a b. a ++ b) (one_owner r (owned_by r vs) ∙ ap (λ xs. map (with_owner r) (or_nulls xs)) (filter_by _ _ (λ v. and_true (owns r v)) vs)) (all_owners rs vs)
 
-shows_owners : (db : Trees) (rows : List Row) → IsAnswer owners_query db [] rows → IsPermutation (owners (db 3) (db 1)) rows
-shows_owners db rows a =
-    subst (λ xs. IsPermutation xs rows) (ap (map (λ (o : Output). o.1)) (a.distinct ∙ ap (map (output owners_query)) a.grouped) ∙ all_owners (db 3) (db 1))
-    (subst (IsPermutation (map (λ (o : Output). o.1) a.kept)) (sym a.shown) (IsPermutation-map (λ (o : Output). o.1) _ _ a.same))
+keyed_owners : (found : List (List Row)) → AllByRecursion IsKeyed (map (output owners_query) found)
+keyed_owners [] = tt
+keyed_owners (x ∷ found) = (refl, keyed_owners found)
 
-pub owner_rows : (old new : State) (rows : List Row) → old.now.schema ≡ schema → Shown owners_text [] old new rows → IsPermutation (owners (old.now.trees 3) (old.now.trees 1)) rows
+shows_owners : (db : Trees) (rows : List Row) → IsAnswer owners_query db [] rows → IsInOrder (owners (db 3) (db 1)) rows
+shows_owners db rows a = record {
+  same = subst (λ xs. IsPermutation xs rows) (ap (map (λ (o : Output). o.1)) (a.distinct ∙ ap (map (output owners_query)) a.grouped) ∙ all_owners (db 3) (db 1))
+      (subst (IsPermutation (map (λ (o : Output). o.1) a.kept)) (sym a.shown) (IsPermutation-map (λ (o : Output). o.1) _ _ a.same));
+  sorted = sorted_by_first owners_query (col 1 1) refl a.kept a.ordered (subst (AllByRecursion IsKeyed) (sym (a.distinct ∙ ap (map (output owners_query)) a.grouped)) (keyed_owners _)) a.same a.sorted rows a.shown;
+}
+
+pub owner_rows : (old new : State) (rows : List Row) → old.now.schema ≡ schema → Shown owners_text [] old new rows → IsInOrder (owners (old.now.trees 3) (old.now.trees 1)) rows
 owner_rows old new rows has h = shows_owners (overlay old.now.trees []) rows (answer_of owners_text _ owners_select old new rows has h)
-
--- ---- pairs of attachments
-
-abbrev found_pair : Row → Row → Bool
-found_pair a b = list_all (holds ([] ∷ a ∷ b ∷ [])) pairs_query.filter
-
-one_pair : (a : Row) (bs : List Row) → map (λ (o : Output). o.1) (map (output pairs_query) (flat_map (λ b. cond (found_pair a b) (([] ∷ a ∷ b ∷ []) ∷ []) []) bs)) ≡ map (pair_row a) (filter (are_pair a) bs)
-one_pair a [] = refl
-one_pair a (b ∷ bs) =
-    ap (map (λ (o : Output). o.1)) (map-append (output pairs_query) (cond (found_pair a b) (([] ∷ a ∷ b ∷ []) ∷ []) []) _) ∙ map-append (λ (o : Output). o.1) _ _
-    ∙ ap₂ (λ x y. x ++ y) (ap (λ t. map (λ (o : Output). o.1) (map (output pairs_query) (cond t (([] ∷ a ∷ b ∷ []) ∷ []) []))) (tests a b)) (one_pair a bs) ∙ go (are_pair a b)
-  where
-    tests : (a b : Row) → found_pair a b ≡ are_pair a b
-    tests a b = ap (λ t. is_same (column b 1) (column a 1) && t) (and_true _)
-
-    go : (t : Bool) → map (λ (o : Output). o.1) (map (output pairs_query) (cond t (([] ∷ a ∷ b ∷ []) ∷ []) [])) ++ map (pair_row a) (filter (are_pair a) bs) ≡ map (pair_row a) (cond t (b ∷ filter (are_pair a) bs) (filter (are_pair a) bs))
-    go true = refl
-    go false = refl
-
-all_pairs : (xs bs : List Row) → map (λ (o : Output). o.1) (map (output pairs_query) (flat_map (λ a. flat_map (λ b. cond (found_pair a b) (([] ∷ a ∷ b ∷ []) ∷ []) []) bs) xs)) ≡ flat_map (λ a. map (pair_row a) (filter (are_pair a) bs)) xs
-all_pairs [] bs = refl
-all_pairs (a ∷ xs) bs =
-    ap (map (λ (o : Output). o.1)) (map-append (output pairs_query) (flat_map (λ b. cond (found_pair a b) (([] ∷ a ∷ b ∷ []) ∷ []) []) bs) _) ∙ map-append (λ (o : Output). o.1) _ _
-    ∙ ap₂ (λ x y. x ++ y) (one_pair a bs) (all_pairs xs bs)
-
-shows_pairs : (db : Trees) (rows : List Row) → IsAnswer pairs_query db [] rows → IsPermutation (pairs (db 3)) rows
-shows_pairs db rows a =
-    subst (λ xs. IsPermutation xs rows) (ap (map (λ (o : Output). o.1)) (a.distinct ∙ ap (map (output pairs_query)) a.grouped) ∙ all_pairs (db 3) (db 3))
-    (subst (IsPermutation (map (λ (o : Output). o.1) a.kept)) (sym a.shown) (IsPermutation-map (λ (o : Output). o.1) _ _ a.same))
-
-pub pair_rows : (old new : State) (rows : List Row) → old.now.schema ≡ schema → Shown pairs_text [] old new rows → IsPermutation (pairs (old.now.trees 3)) rows
-pair_rows old new rows has h = shows_pairs (overlay old.now.trees []) rows (answer_of pairs_text _ pairs_select old new rows has h)

@@ -18,7 +18,7 @@ use Rattle.sqlite.proofs.Callers.{IsPlain, command_of, reads_as}
 use Rattle.sqlite_tied.specs.Compute.{everything}
 use Rattle.sqlite_trees.proofs.ListLemmas.{all-permutation}
 use Rattle.sqlite_value.specs.declared.keys.Key.{Key}
-use Rattle.csi_layout.specs.Rows.{seen_meta, seen_volume}
+use Rattle.csi_layout.specs.Rows.{seen_attachment, seen_meta, seen_volume}
 use Rattle.csi_layout.specs.Tables.{schema}
 use Rattle.csi_layout.specs.facts.Failing.{IsSure}
 use Rattle.csi_statements.specs.Statements.{plain_query, rising}
@@ -96,6 +96,25 @@ attachments_sure = record {
   unrefused = λ limit db e h. elim h [ inl typed ↦ absurd (true≢false typed.1) | inr (inl (is, inl none)) ↦ absurd none | inr (inl (is, inr over)) ↦ absurd over.4 | inr (inr limited) ↦ limited ];
 }
 
+abbrev pub places_text : List ℕ
+places_text = codes "SELECT number, node, cap, readonly FROM attachments ORDER BY number"
+
+pub places_select : IsSelect places_text (ordered_query 3 (col 1 1) (col 1 2 ∷ col 1 3 ∷ col 1 4 ∷ []))
+unfolding understood everything
+places_select = record { names = codes "number" ∷ codes "node" ∷ codes "cap" ∷ codes "readonly" ∷ []; is = refl; plain = (refl, refl); unlisted = refl }
+
+pub places_sure : IsSure schema places_text []
+unfolding understood everything
+places_sure = record {
+  query = _;
+  names = places_select.names;
+  is = places_select.is;
+  plain = places_select.plain;
+  unlisted = places_select.unlisted;
+  alone = (omega arith, refl, refl);
+  unrefused = λ limit db e h. elim h [ inl typed ↦ absurd (true≢false typed.1) | inr (inl (is, inl none)) ↦ absurd none | inr (inl (is, inr over)) ↦ absurd over.4 | inr (inr limited) ↦ limited ];
+}
+
 -- ---- each row once
 
 outputs : (q : Query) (rows : List Row) → map (output q) (flat_map (λ r. ([] ∷ r ∷ []) ∷ []) rows) ≡ map (λ r. output q ([] ∷ r ∷ [])) rows
@@ -117,7 +136,7 @@ module _ (t : ℕ) (shown : List Term) (order : List (Term × Key)) (db : Trees)
 -- ---- in order
 
 -- a row is sorted by the first column that it shows
-abbrev IsKeyed : Output → Type 0
+abbrev pub IsKeyed : Output → Type 0
 IsKeyed o = o.0 ≡ column o.1 0 ∷ []
 
 keyed_at : (outs : List Output) (k : ℕ) (d : Output) → AllByRecursion IsKeyed outs → IsKeyed d → IsKeyed (slice_index_or outs k d)
@@ -139,16 +158,22 @@ is_lt_then Less = refl
 is_lt_then Equal = refl
 is_lt_then Greater = refl
 
-same_test : (t : ℕ) (first : Term) (more : List Term) (a b : Output) → IsKeyed a → IsKeyed b → is_lt (output_cmp (ordered_query t first more) a b) ≡ is_lt (first_cmp a.1 b.1)
-same_test t first more a b p q = rw (p, q) (is_lt_then (value_cmp (column a.1 0) (column b.1 0)))
+-- a query whose rows are sorted by one term
+module _ (q : Query) (first : Term) (is : q.order ≡ (first, rising) ∷ []) where
+  same_test : (a b : Output) → IsKeyed a → IsKeyed b → is_lt (output_cmp q a b) ≡ is_lt (first_cmp a.1 b.1)
+  same_test a b x y = rw (is, x, y) (is_lt_then (value_cmp (column a.1 0) (column b.1 0)))
 
-sorted_shown : (t : ℕ) (first : Term) (more : List Term) (outs : List Output) → AllByRecursion IsKeyed outs → IsSorted (output_cmp (ordered_query t first more)) outs → IsSorted first_cmp (map (λ (o : Output). o.1) outs)
-sorted_shown t first more outs all sorted k d from below =
-    let e : Output = (column d 0 ∷ [], d) in
-    let x = slice_index_or outs (k + 1) e in
-    let y = slice_index_or outs k e in
-    let was = sorted k e from (omega (arith, below, as_many outs)) in
-    rw (shown_at outs (k + 1) e, shown_at outs k e) (sym (same_test t first more x y (keyed_at outs (k + 1) e all refl) (keyed_at outs k e all refl)) ∙ was)
+  sorted_shown : (outs : List Output) → AllByRecursion IsKeyed outs → IsSorted (output_cmp q) outs → IsSorted first_cmp (map (λ (o : Output). o.1) outs)
+  sorted_shown outs all sorted k d from below =
+      let e : Output = (column d 0 ∷ [], d) in
+      let x = slice_index_or outs (k + 1) e in
+      let y = slice_index_or outs k e in
+      let was = sorted k e from (omega (arith, below, as_many outs)) in
+      rw (shown_at outs (k + 1) e, shown_at outs k e) (sym (same_test x y (keyed_at outs (k + 1) e all refl) (keyed_at outs k e all refl)) ∙ was)
+
+  -- what it shows is sorted, where each row shows the term first
+  pub sorted_by_first : (kept ordered : List Output) → AllByRecursion IsKeyed kept → IsPermutation kept ordered → IsSorted (output_cmp q) ordered → (shown : List Row) → shown ≡ map (λ (o : Output). o.1) ordered → IsSorted first_cmp shown
+  sorted_by_first kept ordered all same sorted shown e = subst (IsSorted first_cmp) (sym e) (sorted_shown ordered (all-permutation IsKeyed kept ordered same all) sorted)
 
 all_keyed : (t : ℕ) (first : Term) (more : List Term) (rows : List Row) → AllByRecursion IsKeyed (map (λ r. output (ordered_query t first more) ([] ∷ r ∷ [])) rows)
 all_keyed t first more [] = tt
@@ -158,8 +183,8 @@ shows_in_order : (t : ℕ) (first : Term) (more : List Term) (db : Trees) (rows 
     → IsInOrder (map (λ r. (output (ordered_query t first more) ([] ∷ r ∷ [])).1) (db t)) rows
 shows_in_order t first more db rows a = record {
   same = shows_each t (first ∷ more) ((first, rising) ∷ []) db rows a;
-  sorted = subst (IsSorted first_cmp) (sym a.shown) (sorted_shown t first more a.ordered
-      (all-permutation IsKeyed _ a.ordered a.same (subst (AllByRecursion IsKeyed) (sym (kept_is t (first ∷ more) ((first, rising) ∷ []) db rows a)) (all_keyed t first more (db t)))) a.sorted);
+  sorted = sorted_by_first (ordered_query t first more) first refl a.kept a.ordered
+      (subst (AllByRecursion IsKeyed) (sym (kept_is t (first ∷ more) ((first, rising) ∷ []) db rows a)) (all_keyed t first more (db t))) a.same a.sorted rows a.shown;
 }
 
 -- ---- the looks
@@ -175,3 +200,6 @@ volume_rows old new rows has h = shows_in_order 1 (col 1 0) (col 1 2 ∷ col 1 3
 
 pub attachment_rows : (old new : State) (rows : List Row) → old.now.schema ≡ schema → Shown attachments_text [] old new rows → IsInOrder (map keyed_attachment (old.now.trees 3)) rows
 attachment_rows old new rows has h = shows_in_order 3 (col 1 0) (col 1 1 ∷ col 1 2 ∷ col 1 3 ∷ col 1 4 ∷ []) (overlay old.now.trees []) rows (answer_of attachments_text _ attachments_select old new rows has h)
+
+pub place_rows : (old new : State) (rows : List Row) → old.now.schema ≡ schema → Shown places_text [] old new rows → IsInOrder (map seen_attachment (old.now.trees 3)) rows
+place_rows old new rows has h = shows_in_order 3 (col 1 1) (col 1 2 ∷ col 1 3 ∷ col 1 4 ∷ []) (overlay old.now.trees []) rows (answer_of places_text _ places_select old new rows has h)

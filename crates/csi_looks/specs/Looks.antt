@@ -1,14 +1,9 @@
 -- What the looks show of the tables: meta is tree 0, volumes tree 1, attachments tree 3.
-use Rattle.std.specs.Prelude.{Bool, ◌&&◌, [], ◌∷◌, List, map, filter, flat_map, IsPermutation, IsSorted}
+use Rattle.std.specs.Prelude.{Bool, [], ◌∷◌, List, map, filter, flat_map, IsPermutation, IsSorted}
 use Rattle.std.specs.declared.cmp.Ordering.{Ordering}
 use Rattle.std.specs.Ordering.{on}
-use Rattle.sqlite.specs.Collation.TheVariants.{Binary}
-use Rattle.sqlite.specs.declared.types.Value.{Value}
 use Rattle.sqlite.specs.Order.{Row, column, value_cmp}
-use Rattle.sqlite.specs.Ops.{binary, is_true}
 use Rattle.sqlite.specs.Query.{or_nulls}
-use Rattle.sqlite_sql.specs.declared.ops.BinaryOp.TheVariants.{Compare}
-use Rattle.sqlite_sql.specs.declared.ops.CompareOp.TheVariants.{Gt}
 use Rattle.csi_layout.specs.Rows.{seen_attachment}
 use Rattle.csi_statements.specs.Deletes.{is_same}
 
@@ -42,20 +37,3 @@ with_owner attachment volume = column attachment 1 ∷ column attachment 2 ∷ c
 -- each attachment with each volume that is its own, or with NULL where there is none
 abbrev pub owners : List Row → List Row → List Row
 owners attachments volumes = flat_map (λ r. map (with_owner r) (or_nulls (filter (owns r) volumes))) attachments
-
--- ---- pairs of attachments
-
-abbrev pub is_above : Value → Value → Bool
-is_above a b = is_true (binary (Compare Gt Binary) a b)
-
--- two attachments of one volume, the second at the later node
-abbrev pub are_pair : Row → Row → Bool
-are_pair a b = is_same (column b 1) (column a 1) && is_above (column b 2) (column a 2)
-
--- cap and readonly of the first, and of the second; and the number and both nodes
-abbrev pub pair_row : Row → Row → Row
-pair_row a b = column a 3 ∷ column a 4 ∷ column b 3 ∷ column b 4 ∷ column a 1 ∷ column a 2 ∷ column b 2 ∷ []
-
--- each two attachments of one volume, once
-abbrev pub pairs : List Row → List Row
-pairs attachments = flat_map (λ a. map (pair_row a) (filter (are_pair a) attachments)) attachments

@@ -24,7 +24,7 @@ pub use each::Each;
 pub use fold::{Fold, each_row};
 pub use folds::{Both, RowTest};
 pub use looks::{
-    look_over_attachments, look_over_meta, look_over_owners, look_over_pairs, look_over_volumes,
+    look_over_attachments, look_over_meta, look_over_owners, look_over_places, look_over_volumes,
 };
 pub use rising::Rising;
 pub use sums::{TextSum, Weight};

@@ -3,10 +3,10 @@
 ghost use Rattle.std.specs.Prelude.{◌≡◌, IfErr, IsPermutation, OnOk, false, map};
 ghost use Rattle.sqlite.specs.Held.{state};
 ghost use Rattle.sqlite.specs.State.{HasCleanDisk, IsUnchanged, KeepsCommit, Survives};
-ghost use Rattle.csi_layout.specs.Rows.{seen_meta, seen_volume};
+ghost use Rattle.csi_layout.specs.Rows.{seen_attachment, seen_meta, seen_volume};
 ghost use Rattle.csi_layout.specs.Tables.{schema as our_schema};
 ghost use Rattle.csi_looks.specs.Failing.{FailsFor, HasTooMany};
-ghost use Rattle.csi_looks.specs.Looks.{HasFolded, IsInOrder, keyed_attachment, owners, pairs};
+ghost use Rattle.csi_looks.specs.Looks.{HasFolded, IsInOrder, keyed_attachment, owners};
 
 use crate::fold::{Fold, each_row};
 use sqlite::{Alter, Connection, Error};
@@ -83,8 +83,8 @@ pub fn look_over_attachments<S: Alter, F: Fold>(
     )
 }
 
-/// Folds each attachment with the caps of its volume: number, node, cap and readonly, and the
-/// volume's caps. They are NULL where no volume has the number.
+/// Folds each attachment with the caps of its volume, in the order of the numbers: number, node, cap
+/// and readonly, and the volume's caps. They are NULL where no volume has the number.
 ///
 /// # Errors
 ///
@@ -96,7 +96,7 @@ pub fn look_over_owners<S: Alter, F: Fold>(
     requires idle { conn.old.in_transaction ≡ false }
     requires ours { HasCleanDisk (state S.Store conn.old) → conn.old.schema ≡ our_schema }
     ensures idle { conn.new.in_transaction ≡ false }
-    ensures ok { HasCleanDisk (state S.Store conn.new) → OnOk result (HasFolded F.folds fold.old fold.new (IsPermutation (owners ((state S.Store conn.old).now.trees 3) ((state S.Store conn.old).now.trees 1)))) }
+    ensures ok { HasCleanDisk (state S.Store conn.new) → OnOk result (HasFolded F.folds fold.old fold.new (IsInOrder (owners ((state S.Store conn.old).now.trees 3) ((state S.Store conn.old).now.trees 1)))) }
     ensures failed { HasCleanDisk (state S.Store conn.new) → IfErr result (FailsFor (HasTooMany S.Store conn.old) (state S.Store conn.old) (state S.Store conn.new)) }
     ensures same { HasCleanDisk (state S.Store conn.new) → OnOk result (IsUnchanged (state S.Store conn.old) (state S.Store conn.new)) }
     ensures kept { HasCleanDisk (state S.Store conn.new) → KeepsCommit (state S.Store conn.old) (state S.Store conn.new) }
@@ -104,25 +104,25 @@ pub fn look_over_owners<S: Alter, F: Fold>(
 {
     each_row(
         conn,
-        "SELECT a.number, a.node, a.cap, a.readonly, v.caps FROM attachments AS a LEFT JOIN volumes AS v ON v.number = a.number",
+        "SELECT a.number, a.node, a.cap, a.readonly, v.caps FROM attachments AS a LEFT JOIN volumes AS v ON v.number = a.number ORDER BY a.number",
         fold,
     )
 }
 
-/// Folds each two attachments of one volume, once: cap and readonly of the one at the earlier
-/// node, and then of the other; and behind them the number and the two nodes, in the same order.
+/// Folds each attachment in the order of the numbers, so that those of one volume come one after the
+/// other: number, node, cap and readonly.
 ///
 /// # Errors
 ///
 /// Where the rows cannot be read, and what the fold answers.
-pub fn look_over_pairs<S: Alter, F: Fold>(
+pub fn look_over_places<S: Alter, F: Fold>(
     conn: &mut Connection<S>,
     fold: &mut F,
 ) -> Result<(), Error>
     requires idle { conn.old.in_transaction ≡ false }
     requires ours { HasCleanDisk (state S.Store conn.old) → conn.old.schema ≡ our_schema }
     ensures idle { conn.new.in_transaction ≡ false }
-    ensures ok { HasCleanDisk (state S.Store conn.new) → OnOk result (HasFolded F.folds fold.old fold.new (IsPermutation (pairs ((state S.Store conn.old).now.trees 3)))) }
+    ensures ok { HasCleanDisk (state S.Store conn.new) → OnOk result (HasFolded F.folds fold.old fold.new (IsInOrder (map seen_attachment ((state S.Store conn.old).now.trees 3)))) }
     ensures failed { HasCleanDisk (state S.Store conn.new) → IfErr result (FailsFor (HasTooMany S.Store conn.old) (state S.Store conn.old) (state S.Store conn.new)) }
     ensures same { HasCleanDisk (state S.Store conn.new) → OnOk result (IsUnchanged (state S.Store conn.old) (state S.Store conn.new)) }
     ensures kept { HasCleanDisk (state S.Store conn.new) → KeepsCommit (state S.Store conn.old) (state S.Store conn.new) }
@@ -130,7 +130,7 @@ pub fn look_over_pairs<S: Alter, F: Fold>(
 {
     each_row(
         conn,
-        "SELECT a.cap, a.readonly, b.cap, b.readonly, a.number, a.node, b.node FROM attachments AS a JOIN attachments AS b ON b.number = a.number AND b.node > a.node",
+        "SELECT number, node, cap, readonly FROM attachments ORDER BY number",
         fold,
     )
 }

@@ -1,9 +1,10 @@
 -- A row that stands for a value passes a rule exactly where the value does.
-use Rattle.std.proofs.Common.{◌≡◌, ◌∙◌, refl, sym, ap, ℕ, ◌≤◌, ◌<◌, nat_le, nat_lt, List, [], ◌∷◌, find, Bool, true, false, cond, ◌&&◌, ◌||◌, Option, Some, None, IsSome, IsUtf8, arith}
+use Rattle.std.proofs.Common.{◌≡◌, ◌∙◌, refl, sym, ap, ap₂, ℕ, pos, not, ◌≤◌, ◌<◌, nat_le, nat_lt, List, [], ◌∷◌, find, Bool, true, false, cond, ◌&&◌, ◌||◌, Option, Some, None, IsSome, IsUtf8, arith}
 use Rattle.std.specs.Bool.{Decides}
 use Rattle.std.specs.List.{list_any}
 use Rattle.std.specs.Option.{is_none, is_some}
-use Rattle.std.proofs.lemmas.Bool.Decides.{nat_tests}
+use Rattle.std.specs.Ordering.{int_eq}
+use Rattle.std.proofs.lemmas.Bool.Decides.{Decides-int_eq, nat_tests}
 use Rattle.std.proofs.lemmas.Str.{is_utf8-from_IsUtf8}
 use Rattle.sqlite.specs.declared.types.Value.{Value}
 use Rattle.csi_types.specs.Maps.{same_text}
@@ -11,7 +12,6 @@ use Rattle.csi_types.specs.Names.{refused_name}
 use Rattle.csi_types.specs.declared.reason.Reason.{Reason}
 use Rattle.csi_config.specs.declared.config.Config.{Config}
 use Rattle.csi_keeper.specs.Capability.{has_key, is_supported_key}
-use Rattle.csi_keeper.specs.Coexistence.{coexist}
 use Rattle.csi_keeper.specs.State.{Place}
 use Rattle.csi_keeper.specs.declared.capability.CapKey.{CapKey}
 use Rattle.csi_keeper.specs.declared.volume.Attachment.{Attachment}
@@ -20,10 +20,12 @@ use Rattle.csi_statements.specs.Cells.{as_flag}
 use Rattle.csi_statements.specs.Rows.{bool_value}
 use Rattle.csi_looks.specs.Looks.{with_owner}
 use Rattle.csi_tables.specs.Encoding.{caps_bytes, FitCaps, ReadsBack}
+use Rattle.csi_tables.specs.Holding.{attachment_entry}
 use Rattle.csi_rules.specs.Agreement.{AttachmentAgrees, OwnerAgrees, PairAgrees, VolumeAgrees}
+use Rattle.csi_rules.specs.Apart.{are_beside}
 use Rattle.csi_rules.specs.Coded.{key_at}
 use Rattle.csi_rules.specs.Coding.{key_in, keys_in}
-use Rattle.csi_rules.specs.Joins.{attached, attached_with}
+use Rattle.csi_rules.specs.Joins.{attached, attached_at, attached_with}
 use Rattle.csi_rules.specs.Values.{are_some_and, is_some_and}
 use Rattle.csi_rules.specs.Volumes.{is_name}
 use Rattle.csi_rules.proofs.CodingLemmas.{cap_pass, caps_pass, each_back, key_in-caps_bytes, keys_in-caps_bytes, params_pass}
@@ -97,8 +99,17 @@ flag_back false = refl
 one_attached : ReadsBack → (k : CapKey) (r : Bool) → FitCaps (k ∷ []) → is_supported_key k ≡ true → attached_with (key_in (caps_bytes (k ∷ []))) (as_flag (bool_value r)) ≡ Some (attached k r)
 one_attached back k r fit good = ap (λ o. attached_with o (as_flag (bool_value r))) (key_in-caps_bytes back k fit good) ∙ ap (attached_with (Some k)) (flag_back r)
 
-pub pair_agrees : ReadsBack → (a b : Attachment) → PairAgrees a b
-pair_agrees back a b = record {
-  beside = λ fit good other fine. ap (λ o. are_some_and coexist o (attached_with (key_in (caps_bytes (b.cap ∷ []))) (as_flag (bool_value b.readonly)))) (one_attached back a.cap a.readonly fit good)
-      ∙ ap (λ o. are_some_and coexist (Some (attached a.cap a.readonly)) o) (one_attached back b.cap b.readonly other fine);
+not_equal : (m n : ℕ) → (m ≡ n → ⊥) → int_eq (pos m) (pos n) ≡ false
+not_equal m n far = go (int_eq (pos m) (pos n)) refl
+  where
+    go : (b : Bool) → int_eq (pos m) (pos n) ≡ b → int_eq (pos m) (pos n) ≡ false
+    go true is = absurd (far (let same : pos m ≡ pos n = (Decides-int_eq (pos m) (pos n)).0 is in cc))
+    go false is = is
+
+pub pair_agrees : ReadsBack → (e f : Place × Attachment) → PairAgrees e f
+pair_agrees back e f = record {
+  beside = λ same fit good other fine.
+      ap (λ b. b && not (are_beside (attached_at 2 3 (attachment_entry e)) (attached_at 2 3 (attachment_entry f)))) ((Decides-int_eq (pos e.0.0) (pos f.0.0)).1 (ap pos same))
+      ∙ ap₂ (λ x y. not (are_beside x y)) (one_attached back e.1.cap e.1.readonly fit good) (one_attached back f.1.cap f.1.readonly other fine);
+  other = λ far. ap (λ b. b && not (are_beside (attached_at 2 3 (attachment_entry e)) (attached_at 2 3 (attachment_entry f)))) (not_equal e.0.0 f.0.0 far);
 }

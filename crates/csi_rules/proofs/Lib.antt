@@ -1,4 +1,5 @@
 mod AgreementLemmas
+mod ApartLemmas
 mod CodingLemmas
 mod NamedLemmas
 mod OrderLemmas

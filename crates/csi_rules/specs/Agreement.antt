@@ -1,5 +1,5 @@
 -- A row that stands for a volume or for an attachment passes a rule exactly where the State may have it.
-use Rattle.std.specs.Prelude.{◌≡◌, ℕ, ◌≤◌, ◌<◌, true, false, List, [], ◌∷◌, ◌++◌, None, Some, IsSome, IsUtf8}
+use Rattle.std.specs.Prelude.{◌≡◌, ℕ, ◌≤◌, ◌<◌, true, false, not, List, [], ◌∷◌, ◌++◌, None, Some, IsSome, IsUtf8}
 use Rattle.std.specs.Bool.{Decides}
 use Rattle.sqlite.specs.Order.{Row}
 use Rattle.sqlite.specs.declared.types.Value.{Value}
@@ -17,13 +17,13 @@ use Rattle.csi_keeper.specs.State.{Place}
 use Rattle.csi_keeper.specs.declared.capability.CapKey.{CapKey}
 use Rattle.csi_keeper.specs.declared.volume.Attachment.{Attachment}
 use Rattle.csi_keeper.specs.declared.volume.Volume.{Volume}
-use Rattle.csi_statements.specs.Rows.{bool_value}
 use Rattle.csi_looks.specs.Looks.{with_owner}
 use Rattle.csi_tables.specs.Encoding.{caps_bytes, FitCaps, FitParams}
 use Rattle.csi_tables.specs.Holding.{attachment_entry, volume_entry}
+use Rattle.csi_rules.specs.Apart.{are_apart}
 use Rattle.csi_rules.specs.Attachments.{has_flag, is_at_node}
 use Rattle.csi_rules.specs.Coded.{has_cap, has_caps, has_params}
-use Rattle.csi_rules.specs.Joins.{is_beside, is_owned}
+use Rattle.csi_rules.specs.Joins.{is_owned}
 use Rattle.csi_rules.specs.Kinds.{has_attachment_kinds, has_volume_kinds}
 use Rattle.csi_rules.specs.Volumes.{is_in_pools, is_named, is_numbered, is_sized}
 
@@ -57,10 +57,10 @@ pub record OwnerAgrees (e : Place × Attachment) («keys» : List CapKey) : Type
   pub owned : FitCaps (e.1.cap ∷ []) → is_supported_key e.1.cap ≡ true → FitCaps «keys» → AreKeys «keys» → is_owned (owned_entry e «keys») ≡ has_key «keys» (Some e.1.cap)
   pub unowned : (row : Row) → is_owned (with_owner row []) ≡ false
 
--- cap and readonly of two attachments
-abbrev pub pair_entry : Attachment → Attachment → Row
-pair_entry a b = Blob (caps_bytes (a.cap ∷ [])) ∷ bool_value a.readonly ∷ Blob (caps_bytes (b.cap ∷ [])) ∷ bool_value b.readonly ∷ []
-
--- two attachments, both of which have a capability that passes
-pub record PairAgrees (a b : Attachment) : Type 0 where
-  pub beside : FitCaps (a.cap ∷ []) → is_supported_key a.cap ≡ true → FitCaps (b.cap ∷ []) → is_supported_key b.cap ≡ true → is_beside (pair_entry a b) ≡ coexist a b
+-- the rows of two attachments, both of which have a capability that passes
+pub record PairAgrees (e f : Place × Attachment) : Type 0 where
+  -- of one volume
+  pub beside : e.0.0 ≡ f.0.0 → FitCaps (e.1.cap ∷ []) → is_supported_key e.1.cap ≡ true → FitCaps (f.1.cap ∷ []) → is_supported_key f.1.cap ≡ true
+      → are_apart (attachment_entry e) (attachment_entry f) ≡ not (coexist e.1 f.1)
+  -- and of two
+  pub other : (e.0.0 ≡ f.0.0 → ⊥) → are_apart (attachment_entry e) (attachment_entry f) ≡ false

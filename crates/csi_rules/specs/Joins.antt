@@ -1,8 +1,7 @@
--- The rules of an attachment with the caps of its volume, and of two attachments of one volume.
+-- The rule of an attachment with the caps of its volume, and the attachment that a row says.
 use Rattle.std.specs.Prelude.{ℕ, Bool, [], Option, None, Some}
 use Rattle.sqlite.specs.Order.{Row, column}
 use Rattle.csi_keeper.specs.Capability.{has_key}
-use Rattle.csi_keeper.specs.Coexistence.{coexist}
 use Rattle.csi_keeper.specs.declared.capability.CapKey.{CapKey}
 use Rattle.csi_keeper.specs.declared.volume.Attachment.{Attachment}
 use Rattle.csi_statements.specs.Cells.{as_flag}
@@ -25,7 +24,3 @@ attached_with None readonly = None
 -- the attachment whose cap and readonly stand in two cells
 abbrev pub attached_at : ℕ → ℕ → Row → Option Attachment
 attached_at cap readonly row = attached_with (key_at cap row) (as_flag (column row readonly))
-
--- cap and readonly of the one, and of the other: they can stand at two nodes
-abbrev pub is_beside : Row → Bool
-is_beside row = are_some_and coexist (attached_at 0 1 row) (attached_at 2 3 row)

@@ -1,8 +1,10 @@
 pub mod Agreement
+pub mod Apart
 pub mod Attachments
 pub mod Coded
 pub mod Coding
 pub mod Joins
+pub mod Known
 pub mod Kinds
 pub mod Named
 pub mod Values

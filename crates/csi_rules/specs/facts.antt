@@ -1,1 +1,2 @@
+pub mod Aparts
 pub mod Starts

@@ -43,9 +43,9 @@ pub fn owners()
     read_back();
 }
 
-/// The rule of two attachments of one volume is that they can stand at two nodes.
+/// Two attachments are apart exactly where they are of one volume and cannot stand at two nodes.
 pub fn pairs()
-    ensures { (a b : Attachment) → PairAgrees a b }
+    ensures { (e f : Place × Attachment) → PairAgrees e f }
 {
     read_back();
 }

@@ -6,6 +6,7 @@ ghost use Rattle.std.specs.Str.{is_utf8};
 ghost use Rattle.sqlite.specs.Order.{column};
 ghost use Rattle.csi_statements.specs.Cells.{as_text};
 ghost use Rattle.csi_looks.specs.Failing.{FailsForMemory};
+ghost use Rattle.csi_rules.specs.Named.{name_of};
 ghost use Rattle.csi_rules.specs.Values.{if_passes};
 ghost use Rattle.csi_rules.specs.facts.Starts.{still_found};
 
@@ -38,6 +39,21 @@ fn words_at(alloc: Global, row: &Row, at: usize) -> Result<Option<Text>, AllocEr
     }
 }
 
+/// The name of a row, by the integer and the text in two columns.
+pub(crate) fn name_at(
+    alloc: Global,
+    row: &Row,
+    number: usize,
+    text: usize,
+) -> Result<RowName, AllocError>
+    ensures { IfOk result (λ name. name ≡ name_of number text row.now) }
+{
+    Ok(RowName {
+        number: integer_at(row, number),
+        text: words_at(alloc, row, text)?,
+    })
+}
+
 /// The first row that breaks a rule.
 #[derive(Drop)]
 pub struct FirstBroken<T> {
@@ -65,10 +81,7 @@ impl<T: RowTrial> FirstBroken<T> {
         if self.test.try_test(row)? {
             return Ok(None);
         }
-        Ok(Some(RowName {
-            number: integer_at(row, self.number),
-            text: words_at(self.alloc, row, self.text)?,
-        }))
+        Ok(Some(name_at(self.alloc, row, self.number, self.text)?))
     }
 }
 

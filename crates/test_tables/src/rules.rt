@@ -5,9 +5,9 @@ use crate::looks::Look;
 use csi_config::Config;
 use csi_looks::RowTest;
 use csi_rules::{
-    AttachmentRule, BrokenRule, FirstBroken, HasAttachmentKinds, HasCap, HasCaps, HasFlag,
-    HasParams, HasVolumeKinds, IsAtNode, IsBeside, IsInPools, IsNamed, IsNumbered, IsOwned,
-    IsSized, RowName, RowTrial, Sure, VolumeRule,
+    AttachmentRule, BrokenRule, FirstApart, FirstBroken, FirstUnowned, HasAttachmentKinds, HasCap,
+    HasCaps, HasFlag, HasParams, HasVolumeKinds, IsAtNode, IsInPools, IsNamed, IsNumbered, IsSized,
+    RowName, RowTrial, Sure, VolumeRule,
 };
 use sqlite::{Connection, MemStore};
 use std::alloc::Global;
@@ -31,12 +31,22 @@ fn ask(alloc: Global, conn: &mut Connection<MemStore>, rule: &str) -> Result<Str
         Look::Volumes => ask_volumes(alloc, conn, &words),
         Look::Attachments => ask_attachments(alloc, conn, rule),
         Look::Owners => {
-            let found = first_broken(alloc, conn, look, IsOwned { alloc })?;
-            attachment_text(alloc, found, AttachmentRule::Owner)
+            let mut fold = FirstUnowned {
+                alloc,
+                last: None,
+                found: None,
+            };
+            look.over(conn, &mut fold)?;
+            attachment_text(alloc, fold.found, AttachmentRule::Owner)
         }
-        Look::Pairs => {
-            let found = first_broken(alloc, conn, look, IsBeside { alloc })?;
-            attachment_text(alloc, found, AttachmentRule::Beside)
+        Look::Places => {
+            let mut fold = FirstApart {
+                alloc,
+                last: None,
+                found: None,
+            };
+            look.over(conn, &mut fold)?;
+            attachment_text(alloc, fold.found, AttachmentRule::Beside)
         }
     }
 }
@@ -111,9 +121,8 @@ fn first_broken<T: RowTrial + Drop>(
     test: T,
 ) -> Result<Option<RowName>, RowFault> {
     let (number, text) = match look {
-        Look::Meta | Look::Volumes | Look::Owners => (0, 1),
         Look::Attachments => (1, 2),
-        Look::Pairs => (4, 5),
+        _ => (0, 1),
     };
     let mut fold = FirstBroken {
         alloc,

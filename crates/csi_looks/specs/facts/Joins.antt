@@ -1,14 +1,14 @@
--- A test of each row that a look over two tables shows is a test of each attachment with its volume, or of each pair.
+-- A test of each row that a look over two tables shows is a test of each attachment with its volume.
 use Rattle.std.proofs.Common.{◌≡◌, inl, inr, ◌∙◌, refl, sym, ap, subst, List, [], ◌∷◌, map, filter, flat_map, Bool, true, false, true≢false, IsPermutation}
 use Rattle.std.specs.List.{list_all}
 use Rattle.std.proofs.lemmas.List.Sorted.{IsPermutation-sym}
 use Rattle.sqlite.specs.Order.{Row}
 use Rattle.sqlite.specs.Query.{or_nulls}
 use Rattle.sqlite_rules.specs.Lists.{Has}
-use Rattle.sqlite_rules.proofs.ListLemmas.{all_from, all_has, test_has, fails_has, has_filtered, has_kept, has_either, has_left, has_right}
+use Rattle.sqlite_rules.proofs.ListLemmas.{all_from, all_has, test_has, fails_has, has_filtered, has_either, has_left, has_right}
 use Rattle.sqlite_rules.proofs.ProbeLemmas.{has_mapped, mapped_has}
 use Rattle.sqlite_trees.proofs.ListLemmas.{all-permutation}
-use Rattle.csi_looks.specs.Looks.{owns, with_owner, owners, are_pair, pair_row, pairs}
+use Rattle.csi_looks.specs.Looks.{owns, with_owner, owners}
 
 has_permuted : {X : Type 0} (xs ys : List X) (x : X) → IsPermutation xs ys → Has ys x → Has xs x
 has_permuted xs ys x same = all_has (Has xs) ys x (all-permutation (Has xs) xs ys same (all_from (Has xs) xs (λ e h. h)))
@@ -47,20 +47,3 @@ some_unowned test attachments volumes rows same fails =
     let r = flat_has (λ r. map (with_owner r) (or_nulls (filter (owns r) volumes))) attachments y.0 (has_permuted _ rows y.0 same y.1) in
     let v = has_mapped (with_owner r.0) (or_nulls (filter (owns r.0) volumes)) y.0 r.2 in
     (r.0, r.1, (v.0, v.1, ap test (sym v.2) ∙ y.2))
-
--- where all pass, each two attachments of one volume pass
-pub each_pair : (test : Row → Bool) (attachments rows : List Row) → IsPermutation (pairs attachments) rows → list_all test rows ≡ true
-    → (a b : Row) → Has attachments a → Has attachments b → are_pair a b ≡ true → test (pair_row a b) ≡ true
-each_pair test attachments rows same all a b left right is =
-    test_has test rows (pair_row a b) all (has_permuted rows _ (pair_row a b) (IsPermutation-sym _ _ same)
-    (has_flat (λ a. map (pair_row a) (filter (are_pair a) attachments)) attachments a (pair_row a b) left (mapped_has (pair_row a) (filter (are_pair a) attachments) b (has_kept (are_pair a) attachments b right is))))
-
--- where one does not pass, some two attachments of one volume do not
-pub some_pair : (test : Row → Bool) (attachments rows : List Row) → IsPermutation (pairs attachments) rows → list_all test rows ≡ false
-    → (a : Row) × (b : Row) × Has attachments a × Has attachments b × (are_pair a b ≡ true) × (test (pair_row a b) ≡ false)
-some_pair test attachments rows same fails =
-    let y = fails_has test rows fails in
-    let a = flat_has (λ a. map (pair_row a) (filter (are_pair a) attachments)) attachments y.0 (has_permuted _ rows y.0 same y.1) in
-    let b = has_mapped (pair_row a.0) (filter (are_pair a.0) attachments) y.0 a.2 in
-    let f = has_filtered (are_pair a.0) attachments b.0 b.1 in
-    (a.0, b.0, a.1, f.0, f.1, ap test (sym b.2) ∙ y.2)

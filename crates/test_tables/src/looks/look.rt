@@ -3,7 +3,7 @@
 use crate::database::refused;
 use csi_layout::is_our_schema;
 use csi_looks::{
-    Fold, look_over_attachments, look_over_meta, look_over_owners, look_over_pairs,
+    Fold, look_over_attachments, look_over_meta, look_over_owners, look_over_places,
     look_over_volumes,
 };
 use sqlite::{Connection, MemStore};
@@ -16,7 +16,7 @@ pub(crate) enum Look {
     Volumes,
     Attachments,
     Owners,
-    Pairs,
+    Places,
 }
 
 impl Look {
@@ -27,7 +27,7 @@ impl Look {
             "volumes" => Ok(Look::Volumes),
             "attachments" => Ok(Look::Attachments),
             "owners" => Ok(Look::Owners),
-            "pairs" => Ok(Look::Pairs),
+            "places" => Ok(Look::Places),
             _ => Err(RowFault::NotRow),
         }
     }
@@ -49,7 +49,7 @@ impl Look {
             Look::Volumes => look_over_volumes(conn, fold),
             Look::Attachments => look_over_attachments(conn, fold),
             Look::Owners => look_over_owners(conn, fold),
-            Look::Pairs => look_over_pairs(conn, fold),
+            Look::Places => look_over_places(conn, fold),
         };
         looked.map_err(refused)
     }

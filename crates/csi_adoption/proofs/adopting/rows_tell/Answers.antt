@@ -10,12 +10,12 @@ returns-clause-found c = λ db seen sound.
 pub returns-clause-no_meta_fault : goal.returns-clause-no_meta_fault
 returns-clause-no_meta_fault c = λ db s rows invariant.
     no_meta_fault c.args.config.now (is_small c.args.config.now c.pool_bytes_whole.ensures.each c.node_volumes_few.ensures.few)
-    c.volumes_pass.ensures c.meta_pass.ensures c.attachments_pass.ensures c.owners_pass.ensures c.pairs_pass.ensures db s rows invariant
+    c.volumes_pass.ensures c.meta_pass.ensures c.attachments_pass.ensures c.owners_pass.ensures c.places_pass.ensures db s rows invariant
 
 pub returns-clause-no_fault : goal.returns-clause-no_fault
 returns-clause-no_fault c = λ db s rows invariant.
     no_fault c.args.config.now (is_small c.args.config.now c.pool_bytes_whole.ensures.each c.node_volumes_few.ensures.few)
-    c.volumes_pass.ensures c.meta_pass.ensures c.attachments_pass.ensures c.owners_pass.ensures c.pairs_pass.ensures db s rows invariant
+    c.volumes_pass.ensures c.meta_pass.ensures c.attachments_pass.ensures c.owners_pass.ensures c.places_pass.ensures db s rows invariant
 
 pub returns-clause-new : goal.returns-clause-new
 returns-clause-new c = c.first.ensures 1 (omega arith) (omega arith)

@@ -1,9 +1,0 @@
-use Rattle.csi_rules.specs.Joins.{is_beside}
-use Rattle.csi_adoption.proofs.SeeingLemmas.{named}
-use Rattle.csi_adoption.proofs.attachments.see_pairs.Goals as goal
-
-pub returns-clause-seen : goal.returns-clause-seen
-returns-clause-seen g c clean =
-    let seen = rw c.in_ok-look_over_pairs.was at (c.look_over_pairs.ensures.ok clean) in
-    let first = c.unbroken-fold.ensures in
-    (seen.0, seen.1, named 4 5 _ _ is_beside _ _ seen.0 first.number first.text first.none seen.2.3)
