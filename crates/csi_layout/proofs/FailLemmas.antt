@@ -1,5 +1,5 @@
 -- Why a statement that makes the tables failed.
-use Rattle.std.proofs.Common.{◌≡◌, ◌∙◌, refl, sym, subst, arith, ℕ, ◌≤◌, List, [], length, false, Option, Ok, Err, Result, IfErr, IsErrAnd, IsTrue}
+use Rattle.std.proofs.Common.{◌≡◌, refl, sym, subst, arith, ℕ, ◌≤◌, List, [], Option, Ok, Err, Result, IfErr, IsErrAnd, IsTrue}
 use Rattle.sqlite.specs.Listing.{understood}
 use Rattle.sqlite.specs.Schema.{Schema}
 use Rattle.sqlite.specs.State.{State, ExecutesInside}

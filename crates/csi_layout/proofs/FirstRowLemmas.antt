@@ -1,5 +1,5 @@
 -- What the INSERT of the first row makes of meta.
-use Rattle.std.proofs.Common.{◌≡◌, ◌∙◌, refl, ap, ℕ, pos, List, [], ◌∷◌, map, codes, arith, Ok, Err, Result, OnOk}
+use Rattle.std.proofs.Common.{◌≡◌, ◌∙◌, refl, ap, ℕ, pos, List, [], ◌∷◌, map, arith, Ok, Err, Result, OnOk}
 use Rattle.sqlite.specs.Command.TheVariants.{Insert}
 use Rattle.sqlite.specs.Edit.{edit_of, put_all}
 use Rattle.sqlite.specs.Listing.{understood}
