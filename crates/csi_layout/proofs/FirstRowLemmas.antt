@@ -1,5 +1,5 @@
 -- What the INSERT of the first row makes of meta.
-use Rattle.std.proofs.Common.{◌≡◌, ◌∙◌, refl, ap, ℕ, pos, List, [], ◌∷◌, map, codes, arith, Ok, Err, Result, OnOk}
+use Rattle.std.proofs.Common.{◌≡◌, ◌∙◌, refl, ap, ℕ, pos, List, [], ◌∷◌, map, arith, Ok, Err, Result, OnOk}
 use Rattle.sqlite.specs.Command.TheVariants.{Insert}
 use Rattle.sqlite.specs.Edit.{edit_of, put_all}
 use Rattle.sqlite.specs.Listing.{understood}
@@ -13,13 +13,10 @@ use Rattle.sqlite.specs.declared.types.Value.TheVariants.{Null}
 use Rattle.sqlite_tied.specs.Compute.{everything}
 use Rattle.csi_layout.specs.Making.{AddsFirst}
 use Rattle.csi_layout.specs.Rows.{number_value, seen_meta}
-use Rattle.csi_layout.specs.Tables.{schema, meta}
+use Rattle.csi_layout.specs.Tables.{schema, meta, first_text}
 use Rattle.csi_layout.specs.Transactions.{StepsFrom}
 use Rattle.csi_layout.specs.facts.Steps.{cast_null, cast_int}
 use Rattle.csi_layout.specs.facts.Writes.{IsCommand, inserted}
-
-abbrev first_text : List ℕ
-first_text = codes "INSERT INTO meta (k, format_no, next_number) VALUES (1, 1, 1)"
 
 abbrev one : Term
 one = lit (number_value 1)

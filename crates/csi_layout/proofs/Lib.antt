@@ -1,5 +1,6 @@
 mod TablesLemmas
 mod CreateLemmas
+mod FailLemmas
 mod FirstRowLemmas
 mod KeyCheckLemmas
 mod OursLemmas

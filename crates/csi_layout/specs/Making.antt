@@ -1,11 +1,14 @@
 -- How the tables come to be: three CREATEs, and the first row of meta.
-use Rattle.std.specs.Prelude.{◌≡◌, [], ◌∷◌, map}
+use Rattle.std.specs.Prelude.{◌≡◌, ◌⊎◌, [], ◌∷◌, map}
 use Rattle.sqlite.specs.Change.{created, next_tree, KeepsRows}
 use Rattle.sqlite.specs.Effect.{Database, IsDatabase}
 use Rattle.sqlite.specs.Schema.{Schema}
+use Rattle.sqlite.specs.State.{State}
 use Rattle.sqlite.specs.Table.{Table}
+use Rattle.sqlite.specs.declared.error.Error.{Error}
+use Rattle.csi_layout.specs.Failing.{SqlRefuses}
 use Rattle.csi_layout.specs.Rows.{seen_meta, meta_row}
-use Rattle.csi_layout.specs.Tables.{schema}
+use Rattle.csi_layout.specs.Tables.{schema, one_schema, two_schema, meta_text, volumes_text, attachments_text, first_text}
 
 -- an empty table is made
 pub record Creates (before : Schema) (table : Table) (old new : Database) : Type 0 where
@@ -28,3 +31,11 @@ pub record MakesTables (old new : Database) : Type 0 where
   pub meta : map seen_meta (new.trees 0) ≡ meta_row 1 ∷ []
   pub volumes : new.trees 1 ≡ []
   pub attachments : new.trees 3 ≡ []
+
+-- a statement of those that make the tables is refused, behind those before it
+abbrev pub RefusesTables : State → Error → Type 0
+RefusesTables s e =
+    SqlRefuses meta_text [] s e
+    ⊎ (((db : Database) × (db.schema ≡ one_schema) × SqlRefuses volumes_text [] (record s { now = db }) e)
+    ⊎ (((db : Database) × (db.schema ≡ two_schema) × SqlRefuses attachments_text [] (record s { now = db }) e)
+    ⊎ ((db : Database) × (db.schema ≡ schema) × SqlRefuses first_text [] (record s { now = db }) e)))

@@ -1,10 +1,11 @@
 //! The tables of a new store.
 
-ghost use Rattle.std.specs.Prelude.{◌≡◌, false, OnErr, OnOk};
+ghost use Rattle.std.specs.Prelude.{◌≡◌, [], false, OnErr, OnOk};
 ghost use Rattle.sqlite.specs.Held.{state};
 ghost use Rattle.sqlite.specs.State.{HasCleanDisk, Survives};
-ghost use Rattle.csi_layout.specs.Making.{AddsFirst, Creates, MakesTables};
-ghost use Rattle.csi_layout.specs.Tables.{attachments, meta, no_schema, one_schema, schema, two_schema, volumes};
+ghost use Rattle.csi_layout.specs.Failing.{FailsFrom, FailsOver, SqlRefuses};
+ghost use Rattle.csi_layout.specs.Making.{AddsFirst, Creates, MakesTables, RefusesTables};
+ghost use Rattle.csi_layout.specs.Tables.{attachments, attachments_text, first_text, meta, meta_text, no_schema, one_schema, schema, two_schema, volumes, volumes_text};
 ghost use Rattle.csi_layout.specs.Transactions.{ChangesFrom, IsUndone, KeepsCommitted, LeavesFrom, LeavesNothingNew, RunsFrom};
 
 use sqlite::{Alter, Connection, Error, Transaction};
@@ -12,6 +13,7 @@ use sqlite::{Alter, Connection, Error, Transaction};
 fn create_meta<S: Alter>(tx: &mut Transaction<'_, S>) -> Result<usize, Error>
     ensures same_reference { tx.new.conn.ghost_name ≡ tx.old.conn.ghost_name }
     ensures ok { RunsFrom S.Store tx.old.conn.now tx.new.conn.now no_schema (Creates no_schema meta) result }
+    ensures failed { FailsFrom S.Store tx.old.conn.now tx.new.conn.now no_schema (SqlRefuses meta_text []) result }
     ensures kept { KeepsCommitted S.Store tx.old.conn.now tx.new.conn.now }
     ensures survives { LeavesNothingNew S.Store tx.old.conn.now tx.new.conn.now }
 {
@@ -24,6 +26,7 @@ fn create_meta<S: Alter>(tx: &mut Transaction<'_, S>) -> Result<usize, Error>
 fn create_volumes<S: Alter>(tx: &mut Transaction<'_, S>) -> Result<usize, Error>
     ensures same_reference { tx.new.conn.ghost_name ≡ tx.old.conn.ghost_name }
     ensures ok { RunsFrom S.Store tx.old.conn.now tx.new.conn.now one_schema (Creates one_schema volumes) result }
+    ensures failed { FailsFrom S.Store tx.old.conn.now tx.new.conn.now one_schema (SqlRefuses volumes_text []) result }
     ensures kept { KeepsCommitted S.Store tx.old.conn.now tx.new.conn.now }
     ensures survives { LeavesNothingNew S.Store tx.old.conn.now tx.new.conn.now }
 {
@@ -36,6 +39,7 @@ fn create_volumes<S: Alter>(tx: &mut Transaction<'_, S>) -> Result<usize, Error>
 fn create_attachments<S: Alter>(tx: &mut Transaction<'_, S>) -> Result<usize, Error>
     ensures same_reference { tx.new.conn.ghost_name ≡ tx.old.conn.ghost_name }
     ensures ok { RunsFrom S.Store tx.old.conn.now tx.new.conn.now two_schema (Creates two_schema attachments) result }
+    ensures failed { FailsFrom S.Store tx.old.conn.now tx.new.conn.now two_schema (SqlRefuses attachments_text []) result }
     ensures kept { KeepsCommitted S.Store tx.old.conn.now tx.new.conn.now }
     ensures survives { LeavesNothingNew S.Store tx.old.conn.now tx.new.conn.now }
 {
@@ -49,6 +53,7 @@ fn create_attachments<S: Alter>(tx: &mut Transaction<'_, S>) -> Result<usize, Er
 fn insert_first<S: Alter>(tx: &mut Transaction<'_, S>) -> Result<usize, Error>
     ensures same_reference { tx.new.conn.ghost_name ≡ tx.old.conn.ghost_name }
     ensures ok { RunsFrom S.Store tx.old.conn.now tx.new.conn.now schema AddsFirst result }
+    ensures failed { FailsFrom S.Store tx.old.conn.now tx.new.conn.now schema (SqlRefuses first_text []) result }
     ensures kept { KeepsCommitted S.Store tx.old.conn.now tx.new.conn.now }
     ensures survives { LeavesNothingNew S.Store tx.old.conn.now tx.new.conn.now }
 {
@@ -61,6 +66,7 @@ fn insert_first<S: Alter>(tx: &mut Transaction<'_, S>) -> Result<usize, Error>
 fn create_tables<S: Alter>(tx: &mut Transaction<'_, S>) -> Result<(), Error>
     ensures same_reference { tx.new.conn.ghost_name ≡ tx.old.conn.ghost_name }
     ensures ok { RunsFrom S.Store tx.old.conn.now tx.new.conn.now no_schema MakesTables result }
+    ensures failed { FailsFrom S.Store tx.old.conn.now tx.new.conn.now no_schema RefusesTables result }
     ensures kept { KeepsCommitted S.Store tx.old.conn.now tx.new.conn.now }
     ensures survives { LeavesNothingNew S.Store tx.old.conn.now tx.new.conn.now }
 {
@@ -81,6 +87,7 @@ pub fn make_tables<S: Alter>(conn: &mut Connection<S>) -> Result<(), Error>
     ensures idle { conn.new.in_transaction ≡ false }
     ensures ok { HasCleanDisk (state S.Store conn.new) → OnOk result (ChangesFrom no_schema MakesTables (state S.Store conn.old) (state S.Store conn.new)) }
     ensures err { HasCleanDisk (state S.Store conn.new) → OnErr result (IsUndone (state S.Store conn.old) (state S.Store conn.new)) }
+    ensures failed { HasCleanDisk (state S.Store conn.new) → FailsOver no_schema RefusesTables (state S.Store conn.old) (state S.Store conn.new) result }
     ensures survives { Survives (state S.Store conn.old) (state S.Store conn.new) (LeavesFrom no_schema MakesTables (state S.Store conn.old)) }
 {
     let mut tx = conn.transaction();

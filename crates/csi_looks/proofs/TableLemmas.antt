@@ -1,5 +1,5 @@
 -- What a look over one table shows: each row once, and in order where it is asked.
-use Rattle.std.proofs.Common.{◌≡◌, ◌∙◌, refl, sym, ap, subst, zero, suc, ℕ, ◌+◌, false, List, [], ◌∷◌, map, flat_map, length, slice_index_or, codes, arith, IsPermutation, IsSorted, inl, inr, true, true≢false}
+use Rattle.std.proofs.Common.{◌≡◌, ◌∙◌, refl, sym, ap, subst, zero, suc, ℕ, ◌+◌, false, List, [], ◌∷◌, map, flat_map, length, slice_index_or, codes, arith, IsPermutation, IsSorted, inl, inr, true≢false}
 use Rattle.std.specs.declared.cmp.Ordering.{Ordering}
 use Rattle.std.specs.declared.cmp.Ordering.TheVariants.{Less, Equal, Greater}
 use Rattle.std.specs.Ordering.{is_lt, ordering_then}

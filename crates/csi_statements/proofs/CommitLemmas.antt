@@ -34,8 +34,8 @@ next_fails g old mid last new row next r e one_leaves one two_leaves failed is u
     let step = one (omega (arith, two_leaves.clean, undone.clean)) in
     let told : FailsFor (RefusesNext next mid) mid last e = (rw is at failed) (omega (arith, undone.clean)) step.shown.mode ((step.effect has).schema ∙ has) in
     later_fails g schema old (RefusesNext next mid) (RefusesNumbered row next (state g old)) (AddsVolume row) mid new e one_leaves step
-        (λ why. inr (mid.now, step.effect, subst (λ limit. RefusesNext next (record (state g old) { now = mid.now; step_limit = limit }) e) one_leaves.limit why))
-        (fails_before (RefusesNext next mid) mid last new e undone.counts told)
+    (λ why. inr (mid.now, step.effect, subst (λ limit. RefusesNext next (record (state g old) { now = mid.now; step_limit = limit }) e) one_leaves.limit why))
+    (fails_before (RefusesNext next mid) mid last new e undone.counts told)
 
 -- an error that is handed on
 pub handed : {X E : Type 0} (r : Result X E) (e : E) (P : E → Type 0) → IsErrAnd r (λ x. x ≡ e) → P e → IfErr r P

@@ -12,7 +12,7 @@ use Rattle.sqlite.proofs.Callers.{IsPlain, reads_as}
 use Rattle.csi_layout.specs.facts.Failing.{IsAloneWrite, IsSure, fails_weaker, query_fails, sure_fails, write_fails}
 use Rattle.csi_layout.specs.Failing.{SqlRefuses, as_refused}
 use Rattle.csi_statements.specs.Failing.{FailsFor, FailsOver, HasNoNext, NothingRefuses, Unrefused}
-use Rattle.csi_statements.specs.Statements.{number_query, plain_query}
+use Rattle.csi_statements.specs.Statements.{number_query}
 use Rattle.csi_statements.specs.Tables.{schema}
 use Rattle.csi_statements.proofs.SelectLemmas.{shows_one}
 use Rattle.csi_statements.proofs.TextLemmas.{number_text, number_select, number_sure}

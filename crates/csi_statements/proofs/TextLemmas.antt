@@ -1,5 +1,5 @@
 -- The texts of the statements, and what each computes to under the schema.
-use Rattle.std.proofs.Common.{◌≡◌, inl, inr, refl, true, false, true≢false, [], ◌∷◌, arith, codes, length, List, ℕ}
+use Rattle.std.proofs.Common.{◌≡◌, inl, inr, refl, false, true≢false, [], ◌∷◌, arith, codes, length, List, ℕ}
 use Rattle.sqlite.specs.Order.{Row}
 use Rattle.sqlite.specs.Command.TheVariants.{Insert, Select, Update, Delete}
 use Rattle.sqlite.specs.Listing.{understood, reads_listing}

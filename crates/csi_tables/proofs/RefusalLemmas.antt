@@ -1,7 +1,5 @@
 -- Why a call over the tables was refused.
-use Rattle.std.proofs.Common.{◌≡◌, ◌∙◌, inl, inr, refl, sym, ap, subst, arith, ℕ, ◌≤◌, ◌==◌, pos, Bool, true, false, List, [], ◌∷◌, map, filter, take, slice_get, Option, option_map, IfSome, IsTrue, IsSome, Result, Ok, Err, bytes_eq, nat_lt}
-use Rattle.std.specs.FinMap.{entries}
-use Rattle.std.specs.List.{AllByRecursion}
+use Rattle.std.proofs.Common.{◌≡◌, ◌∙◌, inl, inr, refl, sym, ap, subst, arith, ℕ, ◌≤◌, Bool, true, false, List, [], ◌∷◌, map, Option, IsTrue, IsSome, Result, Ok, Err}
 use Rattle.std.specs.Result.{IsErrAnd}
 use Rattle.sqlite.specs.Effect.{Database}
 use Rattle.sqlite.specs.Held.{Held, state}
@@ -16,10 +14,10 @@ use Rattle.csi_keeper.specs.declared.change.StoreFault.TheVariants as store
 use Rattle.csi_layout.specs.Failing as fails
 use Rattle.csi_layout.specs.Failing.{SqlRefuses}
 use Rattle.csi_layout.specs.Tables.{schema}
-use Rattle.csi_statements.specs.Failing.{FailsFor, FailsOver, HasNoNext, Unrefused}
+use Rattle.csi_statements.specs.Failing.{FailsFor, HasNoNext, Unrefused}
 use Rattle.csi_statements.specs.Rows.{IsUndone, meta_row, seen_meta}
 use Rattle.csi_tables.specs.Answers.{answered, of_database}
-use Rattle.csi_tables.specs.Holding.{Shows, conn_holds, conn_doubt}
+use Rattle.csi_tables.specs.Holding.{Shows, conn_holds}
 use Rattle.csi_tables.specs.Refusing.{IsRefusal, by_disk, as_shut, at_limit, as_refused}
 use Rattle.csi_tables.specs.declared.fault.Fault.{Fault}
 use Rattle.csi_tables.specs.declared.fault.Fault.TheVariants.{NoMemory, Refused}

@@ -3,7 +3,8 @@
 ghost use Rattle.std.specs.Prelude.{◌≡◌, false, IfErr, IfOk, IsTrue};
 ghost use Rattle.sqlite.specs.Held.{state};
 ghost use Rattle.sqlite.specs.State.{HasCleanDisk, Survives};
-ghost use Rattle.csi_layout.specs.Making.{MakesTables};
+ghost use Rattle.csi_layout.specs.Failing.{FailsFor};
+ghost use Rattle.csi_layout.specs.Making.{MakesTables, RefusesTables};
 ghost use Rattle.csi_layout.specs.Tables.{no_schema};
 ghost use Rattle.csi_layout.specs.Transactions.{LeavesFrom};
 ghost use Rattle.csi_statements.specs.Rows.{IsUndone};
@@ -44,6 +45,7 @@ impl<S: Alter> Tables<S> {
         ensures made { IfOk result (λ tables. IsNewOver S.Store conn tables) }
         ensures was_open { IfOk result (λ tables. store_doubt S.Store (store_of S.Store tables) ≡ 0 → IsTrue (state S.Store conn).is_open) }
         ensures undone { IfErr result (λ fault. HasCleanDisk (state S.Store fault.conn) → IsUndone (state S.Store conn) (state S.Store fault.conn)) }
+        ensures failed { IfErr result (λ fault. HasCleanDisk (state S.Store fault.conn) → conn.schema ≡ no_schema → FailsFor (RefusesTables (state S.Store conn)) (state S.Store conn) (state S.Store fault.conn) fault.error) }
         ensures survives { IfErr result (λ fault. Survives (state S.Store conn) (state S.Store fault.conn) (LeavesFrom no_schema MakesTables (state S.Store conn))) }
         ensures idle { IfErr result (λ fault. fault.conn.in_transaction ≡ false) }
     {

@@ -1,5 +1,5 @@
 -- What the connection's clauses say of an error, in the words of `Failing`.
-use Rattle.std.proofs.Common.{◌≡◌, ◌⊎◌, ◌∙◌, inl, inr, refl, sym, ap, subst, subst₂, ℕ, ◌≤◌, List, length, Bool, true, false, true≢false, [], append-nil, IsTrue, IsSome, Option, Some, None, Ok, Err, Result, arith}
+use Rattle.std.proofs.Common.{◌≡◌, ◌∙◌, inl, inr, refl, sym, ap, subst, subst₂, ℕ, ◌≤◌, List, length, true, false, true≢false, [], append-nil, IsTrue, IsSome, Option, Ok, Err, Result, arith}
 use Rattle.sqlite.specs.Calls.{IsWrite}
 use Rattle.sqlite.specs.Clock.{timed}
 use Rattle.sqlite.specs.Command.{Command}
@@ -11,7 +11,7 @@ use Rattle.sqlite.specs.Listing.{understood, reads_listing, IsSourceOf}
 use Rattle.sqlite.specs.Order.{Row}
 use Rattle.sqlite.specs.Query.{Query}
 use Rattle.sqlite.specs.Schema.{Schema}
-use Rattle.sqlite.specs.State.{State, HasCleanDisk, ExecutesIn, ExecutesInside, EndsScope, Fails, FailsToQuery, FailsToShow, HasCause, IsMisplaced, IsNoStatement, IsNotRun, IsStatement, RunsAlone, RunsCommand, Survives, shows_rows, store_error}
+use Rattle.sqlite.specs.State.{State, HasCleanDisk, ExecutesIn, ExecutesInside, EndsScope, Fails, FailsToQuery, FailsToShow, HasCause, IsMisplaced, IsNoStatement, IsNotRun, RunsAlone, RunsCommand, Survives, shows_rows, store_error}
 use Rattle.sqlite.specs.Steps.{FailsToCommit}
 use Rattle.sqlite.specs.Store.{Ghosts}
 use Rattle.sqlite.specs.Tree.{Trees}

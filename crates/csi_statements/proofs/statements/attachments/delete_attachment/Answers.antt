@@ -9,4 +9,3 @@ returns-clause-ok g c clean inside =
 
 pub returns-clause-failed : goal.returns-clause-failed
 returns-clause-failed g c clean inside = write_told detach_text _ _ _ c.execute.result detach_alone (rw (c.integer.ensures, c.as_bytes.ensures.value) at (c.execute.ensures.runs clean inside))
-

@@ -8,4 +8,3 @@ returns-clause-ok g c clean inside = detach_all_step _ _ c.args.volume c.execute
 
 pub returns-clause-failed : goal.returns-clause-failed
 returns-clause-failed g c clean inside = write_told detach_all_text _ _ _ c.execute.result detach_all_alone (rw c.integer.ensures at (c.execute.ensures.runs clean inside))
-

@@ -10,4 +10,3 @@ returns-clause-ok g c clean inside =
 
 pub returns-clause-failed : goal.returns-clause-failed
 returns-clause-failed g c clean inside = write_told attach_text _ _ _ c.execute.result attach_alone (rw (c.integer.ensures, c.as_bytes.ensures.value, c.flag.ensures) at (c.execute.ensures.runs clean inside))
-

@@ -15,4 +15,3 @@ returns-clause-kept g c clean inside = all_keeps (λ v. v.items) _ _ _ _ c.query
 
 pub returns-clause-failed : goal.returns-clause-failed
 returns-clause-failed g c clean inside = all_told places_text _ _ _ c.query_all.result (places_sure c.args.after c.args.last) inside (rw (c.integer.ensures, c.integer-2.ensures) at (c.query_all.ensures.err clean))
-

@@ -10,4 +10,3 @@ returns-clause-kept g c clean inside = row_keeps _ _ _ _ c.query_row.result insi
 
 pub returns-clause-failed : goal.returns-clause-failed
 returns-clause-failed g c clean inside = number_told _ _ c.query_row.result inside (c.query_row.ensures.row clean)
-

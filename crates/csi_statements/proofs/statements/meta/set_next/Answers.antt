@@ -8,4 +8,3 @@ returns-clause-ok g c clean inside = next_step _ _ c.args.next c.execute.result 
 
 pub returns-clause-failed : goal.returns-clause-failed
 returns-clause-failed g c clean inside = write_told next_text _ _ _ c.execute.result next_alone (rw c.integer.ensures at (c.execute.ensures.runs clean inside))
-

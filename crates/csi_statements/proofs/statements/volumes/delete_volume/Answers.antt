@@ -8,4 +8,3 @@ returns-clause-ok g c clean inside = remove_step _ _ c.args.volume c.execute.res
 
 pub returns-clause-failed : goal.returns-clause-failed
 returns-clause-failed g c clean inside = write_told remove_text _ _ _ c.execute.result remove_alone (rw c.integer.ensures at (c.execute.ensures.runs clean inside))
-

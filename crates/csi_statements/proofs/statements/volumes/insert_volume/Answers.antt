@@ -10,4 +10,3 @@ returns-clause-ok g c clean inside =
 
 pub returns-clause-failed : goal.returns-clause-failed
 returns-clause-failed g c clean inside = write_told add_text _ _ _ c.execute.result add_alone (rw (c.integer.ensures, c.as_bytes.ensures.value, c.integer-2.ensures, c.as_bytes-2.ensures.value) at (c.execute.ensures.runs clean inside))
-

@@ -14,4 +14,3 @@ returns-clause-kept g c clean inside = all_keeps (λ v. v.items) _ _ _ _ c.query
 
 pub returns-clause-failed : goal.returns-clause-failed
 returns-clause-failed g c clean inside = all_told sizes_text _ _ _ c.query_all.result (sizes_sure c.args.pool.now) inside (rw c.as_bytes.ensures.value at (c.query_all.ensures.err clean))
-
