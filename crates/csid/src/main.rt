@@ -3,9 +3,13 @@
 
 mod command;
 mod config;
+mod content;
+mod group;
+mod peer;
 mod run;
 mod say;
 mod socket;
+mod standing;
 mod tables;
 
 use command_line::take_closed;
