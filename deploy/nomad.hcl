@@ -24,7 +24,8 @@ job "pools-controller" {
         image      = "registry.example.org/csid:1"
         entrypoint = ["tini", "--"]
         command    = "sh"
-        args       = ["-c", "rm -f /alloc/csid.sock && exec csid serve --socket /alloc/csid.sock --tables /tables/volumes.db --config /local/config.toml"]
+        # Where NEW says so, and where no file is, one is made. Else csid says that there is none, and ends.
+        args       = ["-c", "test x$NEW != xyes || test -e /tables/volumes.db || csid pipe --tables /tables/volumes.db --config /local/config.toml </dev/null; rm -f /alloc/csid.sock && exec csid serve --socket /alloc/csid.sock --tables /tables/volumes.db --existing --config /local/config.toml --idle 60"]
 
         readonly_rootfs = true
         cap_drop        = ["all"]
@@ -32,6 +33,12 @@ job "pools-controller" {
       }
 
       user = "root"
+
+      # The first start makes the file of volumes. Take this away behind it, and never put it back where volumes stand: over a new file csid
+      # would give their numbers again.
+      env {
+        NEW = "yes"
+      }
 
       resources {
         cpu        = 200

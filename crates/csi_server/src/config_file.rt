@@ -58,7 +58,7 @@ pub enum Key {
 
 impl Key {
     // How it is written.
-    fn text(self) -> &'static str {
+    pub(crate) fn text(self) -> &'static str {
         match self {
             Key::Name => "name",
             Key::VendorVersion => "vendor_version",

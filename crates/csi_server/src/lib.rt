@@ -13,6 +13,7 @@ mod message;
 mod refused;
 mod running;
 mod service;
+mod unknown;
 mod volumes;
 mod writing;
 
@@ -22,4 +23,5 @@ pub use identity::serve_identity;
 pub use refused::Refusal;
 pub use running::run_service;
 pub use service::{Answer, Service, begin_body};
+pub use unknown::{UnknownKey, unknown_keys};
 pub use volumes::serve;

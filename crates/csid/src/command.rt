@@ -1,6 +1,6 @@
 //! The command line.
 
-use clap::{Arg, ArgMatches, Command, Error, value_parser};
+use clap::{Arg, ArgAction, ArgMatches, Command, Error, value_parser};
 use command_line::is_decimal;
 use std::alloc::Global;
 
@@ -13,18 +13,30 @@ pub(crate) enum Task<'a> {
         config: Option<&'a str>,
         /// The file of the tables; without it the volumes are in memory.
         tables: Option<&'a str>,
+        /// The tables have to stand.
+        is_existing: bool,
     },
     /// Connections to a socket, one after the other.
-    Serve {
-        /// Where the socket is made.
-        socket: &'a str,
-        /// The file of the tables.
-        tables: &'a str,
-        /// The file of the configuration; without it the sample configuration.
-        config: Option<&'a str>,
-        /// How many connections are served.
-        connections: u32,
-    },
+    Serve(Serving<'a>),
+}
+
+/// How connections are served.
+#[derive(Clone, Copy, Debug, PartialEq, Eq)]
+pub(crate) struct Serving<'a> {
+    /// Where the socket is made.
+    pub(crate) socket: &'a str,
+    /// The file of the tables.
+    pub(crate) tables: &'a str,
+    /// The tables have to stand.
+    pub(crate) is_existing: bool,
+    /// The file of the configuration; without it the sample configuration.
+    pub(crate) config: Option<&'a str>,
+    /// The group that may connect too; without it the owner alone.
+    pub(crate) group: Option<&'a str>,
+    /// The seconds for which a connection may send nothing; without it there is no end to them.
+    pub(crate) idle: Option<u32>,
+    /// How many connections are served.
+    pub(crate) connections: u32,
 }
 
 fn config<'a>(alloc: Global) -> Arg<'a> {
@@ -41,12 +53,35 @@ fn tables<'a>(alloc: Global) -> Arg<'a> {
         .help("The volumes, an SQLite database; it is made where there is none")
 }
 
+fn existing<'a>(alloc: Global) -> Result<Arg<'a>, Error> {
+    let existing = Arg::new(alloc, "existing")
+        .long("existing")
+        .action(ArgAction::SetTrue)
+        .help("Refuses a file of volumes that is missing or has no tables, and makes none");
+    Ok(existing.requires_arg("tables")?)
+}
+
 fn socket<'a>(alloc: Global) -> Arg<'a> {
     Arg::new(alloc, "socket")
         .long("socket")
         .value_name("PATH")
         .help("The Unix socket to listen on, as /run/csid.sock; no file may stand there")
         .required(true)
+}
+
+fn group<'a>(alloc: Global) -> Arg<'a> {
+    Arg::new(alloc, "group")
+        .long("group")
+        .value_name("NAME")
+        .help("The group that may connect too, by its name or number; without it the owner alone")
+}
+
+fn idle<'a>(alloc: Global) -> Arg<'a> {
+    Arg::new(alloc, "idle")
+        .long("idle")
+        .value_name("SECONDS")
+        .help("Closes a connection that sends nothing for so long, 1 to 86400; without it none is")
+        .value_parser(value_parser!(u32).range(1..=86_400))
 }
 
 fn connections<'a>(alloc: Global) -> Arg<'a> {
@@ -58,21 +93,30 @@ fn connections<'a>(alloc: Global) -> Arg<'a> {
         .default_value("1000000")
 }
 
+// What `serve` is told of its peers.
+fn with_peers<'a>(alloc: Global, serve: Command<'a>) -> Result<Command<'a>, Error> {
+    let serve = serve.arg(group(alloc))?;
+    let serve = serve.arg(idle(alloc))?;
+    Ok(serve.arg(connections(alloc))?)
+}
+
 fn serve<'a>(alloc: Global) -> Result<Command<'a>, Error> {
     let serve = Command::new(alloc, "serve").about(
         "Answers the calls of connections to a Unix socket, one connection after the other",
     );
     let serve = serve.arg(socket(alloc))?;
     let serve = serve.arg(tables(alloc).required(true))?;
+    let serve = serve.arg(existing(alloc)?)?;
     let serve = serve.arg(config(alloc))?;
-    Ok(serve.arg(connections(alloc))?)
+    with_peers(alloc, serve)
 }
 
 fn pipe<'a>(alloc: Global) -> Result<Command<'a>, Error> {
     let pipe = Command::new(alloc, "pipe").about(
         "Answers the calls of standard input on standard output, as no command does; without --tables the volumes are forgotten at the end",
     );
-    Ok(pipe.arg(config(alloc))?.arg(tables(alloc))?)
+    let pipe = pipe.arg(config(alloc))?.arg(tables(alloc))?;
+    Ok(pipe.arg(existing(alloc)?)?)
 }
 
 fn with_subcommand<'a>(
@@ -95,33 +139,51 @@ pub(crate) fn command<'a>(alloc: Global) -> Result<Command<'a>, Error> {
     with_subcommand(command, serve(alloc))
 }
 
-/// The number of connections that is given otherwise than in decimal digits alone: `clap` takes a sign.
-pub(crate) fn odd_number<'a>(matches: &ArgMatches<'a>) -> Option<&'a str> {
+/// The options that are numbers, each as it is shown.
+const NUMBERS: [(&str, &str); 2] = [
+    ("connections", "--connections <N>"),
+    ("idle", "--idle <SECONDS>"),
+];
+
+/// An option whose number is given otherwise than in decimal digits alone, as it is shown, and that number: `clap` takes a sign.
+pub(crate) fn odd_number<'a>(matches: &ArgMatches<'a>) -> Option<(&'static str, &'a str)> {
     let (_, words) = matches.subcommand()?;
-    let number = words.get_str("connections")?;
-    if is_decimal(number) {
-        None
-    } else {
-        Some(number)
+    for (name, shown) in NUMBERS {
+        if let Some(number) = words.get_str(name) {
+            if !is_decimal(number) {
+                return Some((shown, number));
+            }
+        }
+    }
+    None
+}
+
+// What the words behind `serve` ask for.
+fn asked_of_serve<'a>(words: &ArgMatches<'a>) -> Serving<'a> {
+    Serving {
+        socket: words.get_str("socket").unwrap_or(""),
+        tables: words.get_str("tables").unwrap_or(""),
+        is_existing: words.get_flag("existing"),
+        config: words.get_str("config"),
+        group: words.get_str("group"),
+        idle: words.get_one::<u32>("idle"),
+        connections: words.get_one::<u32>("connections").unwrap_or(1),
     }
 }
 
 /// What the words that [`command`] takes ask for.
 pub(crate) fn asked<'a>(matches: &ArgMatches<'a>) -> Task<'a> {
     match matches.subcommand() {
-        Some(("serve", words)) => Task::Serve {
-            socket: words.get_str("socket").unwrap_or(""),
-            tables: words.get_str("tables").unwrap_or(""),
-            config: words.get_str("config"),
-            connections: words.get_one::<u32>("connections").unwrap_or(1),
-        },
+        Some(("serve", words)) => Task::Serve(asked_of_serve(words)),
         Some((_, words)) => Task::Pipe {
             config: words.get_str("config"),
             tables: words.get_str("tables"),
+            is_existing: words.get_flag("existing"),
         },
         None => Task::Pipe {
             config: None,
             tables: None,
+            is_existing: false,
         },
     }
 }

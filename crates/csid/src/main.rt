@@ -3,10 +3,14 @@
 
 mod command;
 mod config;
+mod content;
+mod group;
 pub mod laws;
+mod peer;
 mod run;
 mod say;
 mod socket;
+mod standing;
 mod tables;
 
 use command_line::take_closed;

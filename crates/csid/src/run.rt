@@ -1,31 +1,42 @@
 //! What the program does, and the status that it ends with.
 
-use crate::command::{Task, asked, command, odd_number};
+ghost use Rattle.std.specs.Prelude.{IfErr};
+ghost use Rattle.csid.specs.Statuses.{IsOrNoMemory};
+
+use crate::command::{Serving, Task, asked, command, odd_number};
 use crate::config::configuration;
 use crate::say::{DONE, INPUT_OUTPUT, Peer, USAGE, no_memory, report, say};
 use crate::socket::{listen, serve_all};
-use crate::tables::{close, no_path, open};
+use crate::tables::{Blank, check_standing, close, no_path, open, survey};
 use clap::ArgMatches;
 use clap::error::ErrorKind as WordsKind;
 use command_line::refusal_line;
 use csi_config::Config;
 use csi_machine::{Keeper, MemKeeper};
 use csi_server::serve;
+use std::alloc::AllocError;
 use std::env;
 use std::io::{self, ErrorKind};
 
 // The number that the first volume gets.
 const FIRST_NUMBER: u64 = 1;
 
-// Says why words are refused.
-fn refuse_words(rt: &HostRuntime, error: &clap::Error) -> u8 {
-    match refusal_line(rt.alloc(), error) {
+// Says a line of words that are refused.
+fn say_refusal(rt: &HostRuntime, line: Result<String, AllocError>) -> u8
+    ensures { IsOrNoMemory 2 result }
+{
+    match line {
         Ok(line) => {
             say(rt, line.as_str());
             USAGE
         }
         Err(_) => no_memory(rt),
     }
+}
+
+// Says why words are refused.
+fn refuse_words(rt: &HostRuntime, error: &clap::Error) -> u8 {
+    say_refusal(rt, refusal_line(rt.alloc(), error))
 }
 
 // Prints help or the version, or says why the words are refused.
@@ -60,8 +71,8 @@ fn pipe_over_memory(rt: &HostRuntime, config: &Config) -> u8 {
 }
 
 // Answers the calls of standard input, and keeps the volumes in a file.
-fn pipe_over_tables(rt: &HostRuntime, config: &Config, path: &str) -> u8 {
-    let mut tables = match open(rt, path, config) {
+fn pipe_over_tables(rt: &HostRuntime, config: &Config, path: &str, blank: Blank) -> u8 {
+    let mut tables = match open(rt, path, config, blank) {
         Ok(tables) => tables,
         Err(status) => return status,
     };
@@ -72,64 +83,82 @@ fn pipe_over_tables(rt: &HostRuntime, config: &Config, path: &str) -> u8 {
     }
 }
 
-fn pipe(rt: &HostRuntime, config: Option<&str>, tables: Option<&str>) -> u8 {
-    let config = match configuration(rt, config) {
+fn pipe(rt: &HostRuntime, config: Option<&str>, tables: Option<&str>, is_existing: bool) -> u8 {
+    let config = match configuration(rt, config, false) {
         Ok(config) => config,
         Err(status) => return status,
     };
     match tables {
-        Some(path) => pipe_over_tables(rt, &config, path),
+        Some(path) => pipe_over_tables(
+            rt,
+            &config,
+            path,
+            Blank::refused_if(is_existing, Blank::Make),
+        ),
         None => pipe_over_memory(rt, &config),
     }
 }
 
+// Looks whether the tables have a path, and whether they stand, if they have to.
+fn check_tables(rt: &HostRuntime, serving: &Serving<'_>) -> Result<(), u8>
+    ensures { IfErr result (λ status. IsOrNoMemory 4 status) }
+{
+    if serving.tables.is_empty() {
+        return Err(no_path(rt));
+    }
+    if serving.is_existing {
+        check_standing(rt, serving.tables)
+    } else {
+        Ok(())
+    }
+}
+
+// A socket, and then what the tables have is said. The socket is made first, so that the file of a server that
+// runs is left alone.
+fn listen_over(rt: &HostRuntime, config: &Config, serving: &Serving<'_>) -> u8 {
+    let listener = match listen(rt, serving.socket, serving.group) {
+        Ok(listener) => listener,
+        Err(status) => return status,
+    };
+    let blank = Blank::refused_if(serving.is_existing, Blank::MakeAndSay);
+    survey(rt, serving.tables, config, blank);
+    serve_all(rt, config, serving, &listener)
+}
+
 // Answers the calls of connections, and keeps the volumes in a file.
-fn listening(
-    rt: &HostRuntime,
-    socket: &str,
-    tables: &str,
-    config: Option<&str>,
-    connections: u32,
-) -> u8 {
-    let config = match configuration(rt, config) {
+fn listening(rt: &HostRuntime, serving: &Serving<'_>) -> u8 {
+    let config = match configuration(rt, serving.config, true) {
         Ok(config) => config,
         Err(status) => return status,
     };
-    if tables.is_empty() {
-        return no_path(rt);
-    }
-    match listen(rt, socket) {
-        Ok(listener) => serve_all(rt, &config, tables, socket, &listener, connections),
+    match check_tables(rt, serving) {
+        Ok(()) => listen_over(rt, &config, serving),
         Err(status) => status,
     }
 }
 
-// Says that the number of connections is no number in decimal digits.
-fn refuse_number(rt: &HostRuntime, number: &str) -> u8 {
-    match format!(in rt.alloc();
-        "invalid value '{number}' for '--connections <N>': not decimal digits alone"
-    ) {
-        Ok(line) => {
-            say(rt, line.as_str());
-            USAGE
-        }
-        Err(_) => no_memory(rt),
-    }
+// Says that the number of an option is no number in decimal digits.
+fn refuse_number(rt: &HostRuntime, option: &str, number: &str) -> u8
+    ensures { IsOrNoMemory 2 result }
+{
+    let line = format!(in rt.alloc();
+        "invalid value '{number}' for '{option}': not decimal digits alone"
+    );
+    say_refusal(rt, line)
 }
 
 // Does what the words ask.
 fn obey(rt: &HostRuntime, words: &ArgMatches<'_>) -> u8 {
-    if let Some(number) = odd_number(words) {
-        return refuse_number(rt, number);
+    if let Some((option, number)) = odd_number(words) {
+        return refuse_number(rt, option, number);
     }
     match asked(words) {
-        Task::Pipe { config, tables } => pipe(rt, config, tables),
-        Task::Serve {
-            socket,
-            tables,
+        Task::Pipe {
             config,
-            connections,
-        } => listening(rt, socket, tables, config, connections),
+            tables,
+            is_existing,
+        } => pipe(rt, config, tables, is_existing),
+        Task::Serve(serving) => listening(rt, &serving),
     }
 }
 

@@ -1,11 +1,12 @@
 //! What is said on standard error, and the statuses that the program ends with.
 
 ghost use Rattle.std.specs.Prelude.{◌≡◌};
-ghost use Rattle.csid.specs.Statuses.{status_of};
+ghost use Rattle.csid.specs.Statuses.{IsOrNoMemory, status_of};
 
 use command_line::line;
 use csi_server::RunEnd;
 use frames_core::FrameFault;
+use std::fmt::Display;
 use std::io::Write;
 
 /// All went well.
@@ -40,12 +41,33 @@ pub(crate) fn say(rt: &HostRuntime, text: &str) {
     };
 }
 
+/// Says what there is to say of a file, behind its path.
+pub(crate) fn say_of<T: Display>(rt: &HostRuntime, path: &str, what: &T) {
+    match format!(in rt.alloc(); "{path}: {what}") {
+        Ok(text) => say(rt, text.as_str()),
+        Err(_) => say(rt, "out of memory"),
+    }
+}
+
 /// Says that there is no memory.
 pub(crate) fn no_memory(rt: &HostRuntime) -> u8
     ensures { result ≡ 6 }
 {
     say(rt, "out of memory");
     NO_MEMORY
+}
+
+/// Says what is wrong with a file, behind its path, and gives the exit status for it.
+pub(crate) fn refuse<T: Display>(rt: &HostRuntime, path: &str, why: &T, status: u8) -> u8
+    ensures { IsOrNoMemory status result }
+{
+    match format!(in rt.alloc(); "{path}: {why}") {
+        Ok(line) => {
+            say(rt, line.as_str());
+            status
+        }
+        Err(_) => no_memory(rt),
+    }
 }
 
 /// Where calls come from and replies go to.

@@ -1,51 +1,136 @@
 //! `csid serve`: connections to a Unix socket.
 
-use crate::say::{DONE, Peer, SOCKET, no_memory, report, say};
-use crate::tables::{close, open};
+ghost use Rattle.std.specs.Prelude.{◌≡◌, ◌⊎◌, IfErr};
+ghost use Rattle.csid.specs.Statuses.{IsOrNoMemory};
+
+use crate::command::Serving;
+use crate::group::group_number;
+use crate::peer::{Patient, has_gone, limit};
+use crate::say::{DONE, Peer, SOCKET, no_memory, refuse, report, say, say_of};
+use crate::tables::{Blank, Store, close, open};
 use csi_config::Config;
 use csi_machine::Keeper;
-use csi_server::serve;
+use csi_server::{RunEnd, serve};
+use csi_tables::Tables;
+use std::fs::{self, Permissions};
 use std::io::{self, ErrorKind};
+use std::os::unix::fs::{PermissionsExt, chown};
 use std::os::unix::net::{UnixListener, UnixStream};
 
+// Who may connect: the owner, or the owner and a group.
+const OWNER: u32 = 0o600;
+
+const OWNER_AND_GROUP: u32 = 0o660;
+
 // Says why the socket failed.
-fn refuse(rt: &HostRuntime, path: &str, error: &io::Error) -> u8 {
-    let line = match error.kind() {
-        ErrorKind::OutOfMemory => return no_memory(rt),
-        ErrorKind::AddrInUse => format!(in rt.alloc(); "{path}: a file stands there already"),
-        _ => format!(in rt.alloc(); "{path}: {error}"),
-    };
-    match line {
-        Ok(text) => say(rt, text.as_str()),
-        Err(_) => return no_memory(rt),
+fn refuse_socket(rt: &HostRuntime, path: &str, error: &io::Error) -> u8
+    ensures { IsOrNoMemory 7 result }
+{
+    match error.kind() {
+        ErrorKind::OutOfMemory => no_memory(rt),
+        ErrorKind::AddrInUse => refuse(rt, path, &"a file stands there already", SOCKET),
+        _ => refuse(rt, path, error, SOCKET),
     }
-    SOCKET
 }
 
-/// A socket at the path; else the status to end with.
-pub(crate) fn listen(rt: &HostRuntime, path: &str) -> Result<UnixListener, u8> {
+// Gives the socket's file its mode, whatever the process's mask is. The group gets its rights last.
+fn restrict(rt: &HostRuntime, path: &str, group: Option<u32>) -> io::Result<()> {
+    fs::set_permissions(rt, path, Permissions::from_mode(OWNER))?;
+    if group.is_none() {
+        return Ok(());
+    }
+    chown(rt, path, None, group)?;
+    fs::set_permissions(rt, path, Permissions::from_mode(OWNER_AND_GROUP))
+}
+
+// A socket at the path, for its owner and a group. Where its mode cannot be set, it is taken away again.
+fn bind(rt: &HostRuntime, path: &str, group: Option<u32>) -> io::Result<UnixListener> {
+    let listener = UnixListener::bind(rt, path)?;
+    match restrict(rt, path, group) {
+        Ok(()) => Ok(listener),
+        Err(error) => {
+            let _ = fs::remove_file(rt, path);
+            Err(error)
+        }
+    }
+}
+
+/// A socket at the path, to which the owner may connect, and this group; else the status to end with.
+pub(crate) fn listen(rt: &HostRuntime, path: &str, group: Option<&str>) -> Result<UnixListener, u8>
+    ensures { IfErr result (λ status. IsOrNoMemory 7 status) }
+{
     if path.is_empty() {
         // The system would choose an address of its own.
         say(rt, "the socket's path is empty");
         return Err(SOCKET);
     }
-    UnixListener::bind(rt, path).map_err(|error| refuse(rt, path, &error))
+    let group = match group {
+        Some(name) => Some(group_number(rt, name)?),
+        None => None,
+    };
+    match bind(rt, path, group) {
+        Ok(listener) => Ok(listener),
+        Err(error) => Err(refuse_socket(rt, path, &error)),
+    }
+}
+
+// Says how a connection ended.
+fn tell_end(rt: &HostRuntime, is_idle: bool, end: RunEnd) {
+    match end {
+        RunEnd::ReadFailed if is_idle => say(rt, "a connection that sent nothing was closed"),
+        _ => {
+            report(rt, Peer::Connection, end);
+        }
+    }
 }
 
 // Answers the calls of one connection over a keeper.
 fn serve_one<K: Keeper>(rt: &HostRuntime, config: &Config, keeper: &mut K, stream: &UnixStream) {
-    let mut reader = stream;
+    let mut reader = Patient::new(stream);
     let mut writer = stream;
     let end = serve(rt.alloc(), config, keeper, &mut reader, &mut writer);
-    report(rt, Peer::Connection, end);
+    tell_end(rt, reader.is_idle, end);
+}
+
+// Says what the database refused.
+fn tell_refusals(rt: &HostRuntime, path: &str, tables: &Tables<Store>) {
+    if tables.is_down() {
+        let what =
+            "a change was refused, by the database or for memory; from then on the connection was told that the store is down";
+        say_of(rt, path, &what);
+    } else if tables.refusals() > 0 {
+        say_of(rt, path, &"the database refused a read");
+    }
 }
 
 // Answers the calls of one connection over the tables, which are opened for it; where they cannot be,
 // the connection is closed unanswered. What went wrong is said, and the next connection opens them anew.
-fn serve_over_tables(rt: &HostRuntime, config: &Config, path: &str, stream: &UnixStream) {
-    if let Ok(mut tables) = open(rt, path, config) {
+fn serve_over_tables(
+    rt: &HostRuntime,
+    config: &Config,
+    path: &str,
+    blank: Blank,
+    stream: &UnixStream,
+) {
+    if let Ok(mut tables) = open(rt, path, config, blank) {
         serve_one(rt, config, &mut tables, stream);
+        tell_refusals(rt, path, &tables);
         let _ = close(rt, path, tables);
+    }
+}
+
+// Answers the calls of one connection, if somebody is there. Who has gone, as after a call that was given up
+// while another was answered, costs no opening of the tables.
+fn serve_peer(rt: &HostRuntime, config: &Config, serving: &Serving<'_>, stream: &UnixStream) {
+    if has_gone(stream) {
+        return;
+    }
+    match limit(stream, serving.idle) {
+        Ok(()) => {
+            let blank = Blank::refused_if(serving.is_existing, Blank::MakeAndSay);
+            serve_over_tables(rt, config, serving.tables, blank, stream);
+        }
+        Err(error) => say_of(rt, "a connection's time cannot be limited", &error),
     }
 }
 
@@ -53,15 +138,15 @@ fn serve_over_tables(rt: &HostRuntime, config: &Config, path: &str, stream: &Uni
 pub(crate) fn serve_all(
     rt: &HostRuntime,
     config: &Config,
-    tables: &str,
-    path: &str,
+    serving: &Serving<'_>,
     listener: &UnixListener,
-    connections: u32,
-) -> u8 {
-    for _ in 0..connections {
+) -> u8
+    ensures { (result ≡ 0) ⊎ IsOrNoMemory 7 result }
+{
+    for _ in 0..serving.connections {
         match listener.accept() {
-            Ok((stream, _)) => serve_over_tables(rt, config, tables, &stream),
-            Err(error) => return refuse(rt, path, &error),
+            Ok((stream, _)) => serve_peer(rt, config, serving, &stream),
+            Err(error) => return refuse_socket(rt, serving.socket, &error),
         }
     }
     DONE

@@ -1,0 +1,106 @@
+//! Keys of a configuration that are not known.
+
+use crate::config_file::{Key, Section};
+use std::alloc::{AllocError, Global};
+use std::fmt;
+use toml::{Table, Value};
+
+const TOP: &[Key] = &[
+    Key::Name,
+    Key::VendorVersion,
+    Key::DefaultBytes,
+    Key::GreatestBytes,
+    Key::Pool,
+    Key::Node,
+];
+
+const POOL: &[Key] = &[Key::Name, Key::Bytes, Key::Segments];
+
+const NODE: &[Key] = &[Key::Id, Key::MaxVolumes];
+
+/// A key that is not known, which reading a configuration passes over. Its `Display` says where it is.
+#[derive(Debug, PartialEq, Eq, Drop)]
+pub struct UnknownKey {
+    /// Where it is.
+    pub section: Section,
+    /// The key.
+    pub key: String,
+}
+
+impl fmt::Display for UnknownKey {
+    fn fmt<W: fmt::Write>(&self, f: &mut fmt::Formatter<W>) -> fmt::Result {
+        let section = self.section;
+        let key = self.key.as_str();
+        write!(f, "{section}the key '{key}' is not known")
+    }
+}
+
+// Adds the keys of a table that are none of these.
+fn add_unknown(
+    alloc: Global,
+    found: &mut Vec<UnknownKey>,
+    section: Section,
+    table: &Table,
+    known: &[Key],
+) -> Result<(), AllocError> {
+    for (key, _) in table {
+        if !known.iter().any(|one| one.text() == key.as_str()) {
+            let key = String::from_str(alloc, key.as_str())?;
+            found.push(UnknownKey { section, key })?;
+        }
+    }
+    Ok(())
+}
+
+// The elements of an array, where there is one.
+fn elements<'a>(top: &'a Table, key: Key) -> &'a [Value] {
+    match top.get(key.text()) {
+        Some(Value::Array(array)) => array.as_slice(),
+        _ => &[],
+    }
+}
+
+fn add_of_pools(
+    alloc: Global,
+    found: &mut Vec<UnknownKey>,
+    pools: &[Value],
+) -> Result<(), AllocError> {
+    for (index, value) in pools.iter().enumerate() {
+        if let Some(table) = value.as_table() {
+            let section = Section::Pool(index.saturating_add(1));
+            add_unknown(alloc, found, section, table, POOL)?;
+        }
+    }
+    Ok(())
+}
+
+fn add_of_nodes(
+    alloc: Global,
+    found: &mut Vec<UnknownKey>,
+    nodes: &[Value],
+) -> Result<(), AllocError> {
+    for (index, value) in nodes.iter().enumerate() {
+        if let Some(table) = value.as_table() {
+            let section = Section::Node(index.saturating_add(1));
+            add_unknown(alloc, found, section, table, NODE)?;
+        }
+    }
+    Ok(())
+}
+
+/// The keys of a configuration that are not known: those of the top, then those of the pools and of the nodes. A text that is no
+/// document has none.
+///
+/// # Errors
+///
+/// Where memory was refused.
+pub fn unknown_keys(alloc: Global, bytes: &[u8]) -> Result<Vec<UnknownKey>, AllocError> {
+    let mut found = Vec::new(alloc);
+    let Ok(top) = toml::table_from_slice(alloc, bytes) else {
+        return Ok(found);
+    };
+    add_unknown(alloc, &mut found, Section::Top, &top, TOP)?;
+    add_of_pools(alloc, &mut found, elements(&top, Key::Pool))?;
+    add_of_nodes(alloc, &mut found, elements(&top, Key::Node))?;
+    Ok(found)
+}
