@@ -39,7 +39,7 @@ pub(crate) fn make_private(rt: &HostRuntime, path: &str) {
     let made = OpenOptions::new()
         .read(true)
         .write(true)
-        .create(true)
+        .create_new(true)
         .mode(OWNER)
         .open(rt, path);
     if let Ok(file) = made {

@@ -3,7 +3,7 @@
 ghost use Rattle.std.specs.Prelude.{◌≡◌, ◌⊎◌, false, IfErr, IfOk, IsTrue};
 ghost use Rattle.csid.specs.Statuses.{IsOrNoMemory};
 
-use crate::content::read_content;
+use crate::content::{Content, read_content};
 use crate::say::{DONE, TABLES, no_memory, refuse, say, say_of};
 use crate::standing::{Fault, fault_of_standing, make_private};
 use csi_adoption::{AdoptError, AdoptFault, adopt};
@@ -180,9 +180,9 @@ pub(crate) fn close(rt: &HostRuntime, path: &str, tables: Tables<Store>) -> u8
     disconnect(rt, path, tables.into_connection())
 }
 
-// Says what the tables on a connection have.
-fn tell_content(rt: &HostRuntime, path: &str, conn: &mut Connection<Store>) {
-    match read_content(conn) {
+// Says what the tables in a file have.
+fn tell_content(rt: &HostRuntime, path: &str, content: Result<Content, Error>) {
+    match content {
         Ok(content) => say_of(rt, path, &content),
         Err(error) => {
             refuse_file(rt, path, &error);
@@ -190,11 +190,12 @@ fn tell_content(rt: &HostRuntime, path: &str, conn: &mut Connection<Store>) {
     }
 }
 
-/// Opens and judges the tables in a file once, and says what they have, or why they cannot be had.
+/// Opens and judges the tables in a file once, and says what they have, or why they cannot be had. The file is closed by then.
 pub(crate) fn survey(rt: &HostRuntime, path: &str, config: &Config, blank: Blank) {
     if let Ok(tables) = open(rt, path, config, blank) {
         let mut conn = tables.into_connection();
-        tell_content(rt, path, &mut conn);
+        let content = read_content(&mut conn);
         disconnect(rt, path, conn);
+        tell_content(rt, path, content);
     }
 }
