@@ -19,7 +19,8 @@ use std::alloc::Global;
 /// Its State is the one that the rows of the tables say. Each change is one transaction, so that a
 /// stop leaves it whole or not at all: after `Ok` a stop leaves the State, after a refusal what it
 /// could leave before, or the State with the change. After a change that was refused, also for memory,
-/// each further call is answered `Down`; a read that is refused stops nothing.
+/// each further call is answered `Down`; a read that is refused stops nothing. `Refused` has its cause,
+/// as a fault of the disk, and is never want of memory.
 ///
 /// All of that is promised while the database has returned what was written to it: while the store's
 /// `HasCleanDisk` holds as the call ends. A call is one transaction, a removal two; what a pool has used
