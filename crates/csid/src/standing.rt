@@ -31,9 +31,14 @@ pub(crate) enum Fault {
     Blank,
 }
 
+// Whether SQLite takes a path for the name of something else than a file, which the opening refuses.
+fn names_no_file(path: &str) -> bool {
+    path == ":memory:" || path.starts_with("file:")
+}
+
 /// Makes a file that is missing, for its owner alone, whatever the process's mask is. Where it cannot be made, the opening says why.
 pub(crate) fn make_private(rt: &HostRuntime, path: &str) {
-    if !matches!(fs::exists(rt, path), Ok(false)) {
+    if names_no_file(path) || !matches!(fs::exists(rt, path), Ok(false)) {
         return;
     }
     let made = OpenOptions::new()
