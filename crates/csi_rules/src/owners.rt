@@ -29,10 +29,16 @@ pub struct KnownCaps {
     pub caps: Option<Items<CapKey>>,
 }
 
-fn has_key(keys: &[CapKey], key: &CapKey) -> bool
-    ensures { result ≡ has_key keys.now (Some key.now) }
-{
-    keys.iter().any(|own| key == own)
+impl KnownCaps {
+    // Whether they have a key.
+    fn have(&self, key: &CapKey) -> bool
+        ensures { result ≡ is_some_and (λ caps. has_key caps (Some key.now)) self.now.caps }
+    {
+        match &self.caps {
+            Some(caps) => caps.iter().any(|own| key == own),
+            None => false,
+        }
+    }
 }
 
 /// The first attachment whose volume does not stand, or has not its capability (`look_over_owners`).
@@ -78,13 +84,8 @@ fn have_key(last: &Option<KnownCaps>, key: &CapKey) -> bool
     ensures { result ≡ is_some_and (λ caps. has_key caps (Some key.now)) (last_keys last.now) }
 {
     match last {
-        Some(
-            KnownCaps {
-                caps: Some(caps),
-                ..
-            },
-        ) => has_key(caps.as_slice(), key),
-        _ => false,
+        Some(known) => known.have(key),
+        None => false,
     }
 }
 
