@@ -78,9 +78,7 @@ func TestCallsOfVolumes(t *testing.T) {
 	for _, row := range rows {
 		front.wants(t, row.path, row.message, row.want)
 	}
-	if log := csid.current.log.String(); log != "" {
-		t.Errorf("csid said: %s", log)
-	}
+	csid.wantsStartAlone(t)
 }
 
 // One pool in which many volumes have room.
@@ -319,9 +317,7 @@ func TestCsidThatStandsStill(t *testing.T) {
 	if spent := time.Since(begin); spent < still || spent > still+soonBack {
 		t.Errorf("all callers were served after %v", spent)
 	}
-	if log := csid.current.log.String(); log != "" {
-		t.Errorf("csid said: %s", log)
-	}
+	csid.wantsStartAlone(t)
 }
 
 // A csid that was killed and started again between two calls costs none.
