@@ -305,8 +305,8 @@ func rounds(words []string) (int, error) {
 func main() {
 	log.SetFlags(0)
 	words := os.Args[1:]
-	if len(words) < 3 || (words[0] == "stop") != (len(words) == 4) && words[0] != "calls" {
-		log.Fatal("usage: bench calls CSID FRONT [ROUNDS]; bench stop CSID FRONT FILE; bench hasty CSID FRONT")
+	if len(words) < 3 || (words[0] == "stop" || words[0] == "quiet") != (len(words) == 4) && words[0] != "calls" {
+		log.Fatal("usage: bench calls CSID FRONT [ROUNDS]; bench stop CSID FRONT FILE; bench quiet CSID FRONT FILE; bench hasty CSID FRONT")
 	}
 	var err error
 	switch csid, front := words[1], words[2]; words[0] {
@@ -317,6 +317,8 @@ func main() {
 		}
 	case "stop":
 		err = behindFront(csid, front, words[3], stop)
+	case "quiet":
+		err = behindFront(csid, front, words[3], quiet)
 	case "hasty":
 		err = behindFront(csid, front, "", hasty)
 	default:

@@ -26,6 +26,7 @@ const (
 	hastyCallers  = 32
 	hastyDeadline = 12 * time.Millisecond
 	hastyTime     = 5 * time.Second
+	quietPeers    = 1000
 )
 
 // How long a stop may cost service beyond itself and one opening of the file, and how long it is waited for.
@@ -233,6 +234,62 @@ func comesBack(crowd *crowd, opened time.Duration) error {
 		stopCallers, first.Milliseconds(), all.Milliseconds(), float64(done-before)/behindStop.Seconds(), lost)
 	if all > allowed+opened {
 		return fmt.Errorf("service came back after %v, and not within %v and one opening of the file", all, allowed)
+	}
+	return nil
+}
+
+// crowdIn connects peers to csid that each send the same and then nothing more, and gives what closes them.
+func crowdIn(socket string, peers int, sent []byte) (end func(), err error) {
+	var conns []net.Conn
+	end = func() {
+		for _, conn := range conns {
+			conn.Close()
+		}
+	}
+	for number := 0; number < peers; number++ {
+		conn, err := net.Dial("unix", socket)
+		if err != nil {
+			return end, err
+		}
+		conns = append(conns, conn)
+		// csid may have closed it by then.
+		conn.Write(sent)
+	}
+	return end, nil
+}
+
+// quiet tells how long a call waits behind peers that stay and send nothing, or garbage: one over a connection of its own, and then the
+// front's first one.
+func quiet(_ *os.Process, csidSocket, socket string) error {
+	opened, err := opening(csidSocket)
+	if err != nil {
+		return err
+	}
+	for _, sent := range []string{"", "garbage"} {
+		end, err := crowdIn(csidSocket, quietPeers, []byte(sent))
+		defer end()
+		if err != nil {
+			return err
+		}
+	}
+	own, err := firstReply(csidSocket)
+	if err != nil {
+		return err
+	}
+	conn, err := newSidecar(socket)
+	if err != nil {
+		return err
+	}
+	defer conn.(sidecar).Close()
+	begin := time.Now()
+	if _, err := conn.call("/csi.v1.Identity/Probe", nil); err != nil {
+		return err
+	}
+	took := time.Since(begin)
+	fmt.Printf("a file opened in %d ms; behind %d silent and %d garbage peers a connection was answered after %d ms, and the front's after %d ms\n",
+		opened.Milliseconds(), quietPeers, quietPeers, own.Milliseconds(), took.Milliseconds())
+	if own > allowed+opened || took > allowed+opened {
+		return fmt.Errorf("a call behind quiet peers waited for longer than %v and one opening of the file", allowed)
 	}
 	return nil
 }

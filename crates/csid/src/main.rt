@@ -7,11 +7,13 @@ mod content;
 mod group;
 pub mod laws;
 mod peer;
+mod pending;
 mod run;
 mod say;
 mod socket;
 mod standing;
 mod tables;
+mod waiting;
 
 use command_line::take_closed;
 use std::process::ExitCode;

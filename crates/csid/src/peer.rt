@@ -11,12 +11,13 @@ pub(crate) fn has_gone(stream: &UnixStream) -> bool {
     writer.write(&[]).is_err()
 }
 
-/// Lets a connection wait for its peer for so many seconds and no longer.
+/// Has a connection wait for its peer, for so many seconds and no longer.
 ///
 /// # Errors
 ///
 /// Where the system refuses.
-pub(crate) fn limit(stream: &UnixStream, idle: Option<u32>) -> io::Result<()> {
+pub(crate) fn settle(stream: &UnixStream, idle: Option<u32>) -> io::Result<()> {
+    stream.set_nonblocking(false)?;
     let Some(seconds) = idle else {
         return Ok(());
     };
@@ -25,17 +26,19 @@ pub(crate) fn limit(stream: &UnixStream, idle: Option<u32>) -> io::Result<()> {
     stream.set_write_timeout(longest)
 }
 
-/// What a connection gives, and whether its last read waited for as long as it may.
+/// What a connection gives, behind the bytes that it has sent already, and whether its last read waited for as long as it may.
 #[derive(Drop)]
 pub(crate) struct Patient<'a> {
     stream: &'a UnixStream,
+    sent: &'a [u8],
     pub(crate) is_idle: bool,
 }
 
 impl<'a> Patient<'a> {
-    pub(crate) fn new(stream: &'a UnixStream) -> Patient<'a> {
+    pub(crate) fn new(stream: &'a UnixStream, sent: &'a [u8]) -> Patient<'a> {
         Patient {
             stream,
+            sent,
             is_idle: false,
         }
     }
@@ -43,6 +46,9 @@ impl<'a> Patient<'a> {
 
 impl Read for Patient<'_> {
     fn read(&mut self, buf: &mut [u8]) -> io::Result<usize> {
+        if !self.sent.is_empty() {
+            return self.sent.read(buf);
+        }
         let mut stream = self.stream;
         let answer = stream.read(buf);
         self.is_idle = matches!(&answer, Err(error) if error.kind() == ErrorKind::WouldBlock);

@@ -18,8 +18,8 @@ use std::alloc::AllocError;
 use std::env;
 use std::io::{self, ErrorKind};
 
-// The number that the first volume gets.
-const FIRST_NUMBER: u64 = 1;
+/// The number that the first volume gets.
+pub(crate) const FIRST_NUMBER: u64 = 1;
 
 // Says a line of words that are refused.
 fn say_refusal(rt: &HostRuntime, line: Result<String, AllocError>) -> u8

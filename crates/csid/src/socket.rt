@@ -5,17 +5,20 @@ ghost use Rattle.csid.specs.Statuses.{IsOrNoMemory};
 
 use crate::command::Serving;
 use crate::group::group_number;
-use crate::peer::{Patient, has_gone, limit};
+use crate::peer::{Patient, has_gone, settle};
+use crate::pending::{Pending, Start};
+use crate::run::FIRST_NUMBER;
 use crate::say::{DONE, Peer, SOCKET, no_memory, refuse, report, say, say_of};
 use crate::tables::{Blank, Store, close, open};
+use crate::waiting::Waiting;
 use csi_config::Config;
-use csi_machine::Keeper;
+use csi_machine::{Keeper, MemKeeper};
 use csi_server::{RunEnd, serve};
 use csi_tables::Tables;
 use std::fs::{self, Permissions};
 use std::io::{self, ErrorKind};
 use std::os::unix::fs::{PermissionsExt, chown};
-use std::os::unix::net::{UnixListener, UnixStream};
+use std::os::unix::net::UnixListener;
 
 // Who may connect: the owner, or the owner and a group.
 const OWNER: u32 = 0o600;
@@ -85,11 +88,21 @@ fn tell_end(rt: &HostRuntime, is_idle: bool, end: RunEnd) {
 }
 
 // Answers the calls of one connection over a keeper.
-fn serve_one<K: Keeper>(rt: &HostRuntime, config: &Config, keeper: &mut K, stream: &UnixStream) {
-    let mut reader = Patient::new(stream);
-    let mut writer = stream;
+fn serve_one<K: Keeper>(rt: &HostRuntime, config: &Config, keeper: &mut K, peer: &Pending) {
+    let mut reader = Patient::new(&peer.stream, peer.sent.as_slice());
+    let mut writer = &peer.stream;
     let end = serve(rt.alloc(), config, keeper, &mut reader, &mut writer);
     tell_end(rt, reader.is_idle, end);
+}
+
+// Refuses what a connection has sent, which begins no call: so no volume is asked for, and the tables are not opened.
+fn refuse_peer(rt: &HostRuntime, config: &Config, peer: &Pending) {
+    match MemKeeper::new(rt.alloc(), FIRST_NUMBER) {
+        Ok(mut keeper) => serve_one(rt, config, &mut keeper, peer),
+        Err(_) => {
+            no_memory(rt);
+        }
+    }
 }
 
 // Says what the database refused.
@@ -105,33 +118,43 @@ fn tell_refusals(rt: &HostRuntime, path: &str, tables: &Tables<Store>) {
 
 // Answers the calls of one connection over the tables, which are opened for it; where they cannot be,
 // the connection is closed unanswered. What went wrong is said, and the next connection opens them anew.
-fn serve_over_tables(
-    rt: &HostRuntime,
-    config: &Config,
-    path: &str,
-    blank: Blank,
-    stream: &UnixStream,
-) {
-    if let Ok(mut tables) = open(rt, path, config, blank) {
-        serve_one(rt, config, &mut tables, stream);
-        tell_refusals(rt, path, &tables);
-        let _ = close(rt, path, tables);
+fn serve_over_tables(rt: &HostRuntime, config: &Config, serving: &Serving<'_>, peer: &Pending) {
+    let blank = Blank::refused_if(serving.is_existing, Blank::MakeAndSay);
+    if let Ok(mut tables) = open(rt, serving.tables, config, blank) {
+        serve_one(rt, config, &mut tables, peer);
+        tell_refusals(rt, serving.tables, &tables);
+        let _ = close(rt, serving.tables, tables);
     }
 }
 
 // Answers the calls of one connection, if somebody is there. Who has gone, as after a call that was given up
 // while another was answered, costs no opening of the tables.
-fn serve_peer(rt: &HostRuntime, config: &Config, serving: &Serving<'_>, stream: &UnixStream) {
-    if has_gone(stream) {
+fn serve_peer(rt: &HostRuntime, config: &Config, serving: &Serving<'_>, peer: &Pending) {
+    if has_gone(&peer.stream) {
         return;
     }
-    match limit(stream, serving.idle) {
-        Ok(()) => {
-            let blank = Blank::refused_if(serving.is_existing, Blank::MakeAndSay);
-            serve_over_tables(rt, config, serving.tables, blank, stream);
-        }
+    match settle(&peer.stream, serving.idle) {
+        Ok(()) if peer.start == Start::NoCall => refuse_peer(rt, config, peer),
+        Ok(()) => serve_over_tables(rt, config, serving, peer),
         Err(error) => say_of(rt, "a connection's time cannot be limited", &error),
     }
+}
+
+// Answers the calls of connections as they come, until all are taken or the socket fails.
+fn serve_each(
+    rt: &HostRuntime,
+    config: &Config,
+    serving: &Serving<'_>,
+    listener: &UnixListener,
+) -> io::Result<()> {
+    let mut waiting = Waiting::new(rt, listener, serving.connections, serving.idle)?;
+    for _ in 0..serving.connections {
+        match waiting.next(rt)? {
+            Some(peer) => serve_peer(rt, config, serving, &peer),
+            None => return Ok(()),
+        }
+    }
+    Ok(())
 }
 
 /// Answers the calls of so many connections, one after the other, over the tables in a file.
@@ -143,11 +166,8 @@ pub(crate) fn serve_all(
 ) -> u8
     ensures { (result ≡ 0) ⊎ IsOrNoMemory 7 result }
 {
-    for _ in 0..serving.connections {
-        match listener.accept() {
-            Ok((stream, _)) => serve_peer(rt, config, serving, &stream),
-            Err(error) => return refuse_socket(rt, serving.socket, &error),
-        }
+    match serve_each(rt, config, serving, listener) {
+        Ok(()) => DONE,
+        Err(error) => refuse_socket(rt, serving.socket, &error),
     }
-    DONE
 }

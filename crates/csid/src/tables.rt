@@ -30,7 +30,8 @@ pub(crate) enum Blank {
 impl Blank {
     /// It is refused where tables have to stand; else this is done.
     pub(crate) fn refused_if(is_existing: bool, otherwise: Blank) -> Blank
-        ensures { IsTrue is_existing → result ≡ Blank.Refuse }
+        ensures standing { IsTrue is_existing → result ≡ Blank.Refuse }
+        ensures otherwise { is_existing ≡ false → result ≡ otherwise }
     {
         if is_existing {
             return Blank::Refuse;

@@ -1,0 +1,13 @@
+-- What the first bytes of a connection begin.
+use Rattle.std.specs.Prelude.{◌≡◌, ◌⊎◌, ◌≤◌, List, [], length, take, ℕ}
+use Rattle.frames_core.specs.declared.fault.FrameWhy.{FrameWhy}
+use Rattle.frames_core.specs.Envelope.{CallBytes, IsCall, frame}
+use Rattle.frames_core.specs.Stream.{FaultAt}
+
+-- a whole frame stands first
+abbrev pub BeginsCall : List ℕ → Type 0
+BeginsCall bytes = (call : CallBytes) × (size : ℕ) × IsCall call × (size ≤ length bytes) × (take size bytes ≡ frame call)
+
+-- as the whole of a stream, they are refused at their first frame, or are none
+abbrev pub BeginsNoCall : List ℕ → Type 0
+BeginsNoCall bytes = (bytes ≡ []) ⊎ ((why : FrameWhy) × (at : ℕ) × FaultAt bytes why at)

@@ -1,0 +1,110 @@
+//! A connection that has not sent a whole call yet.
+
+ghost use Rattle.std.specs.Prelude.{◌≡◌, ◌⊎◌, ◌≤◌, length};
+ghost use Rattle.csid.specs.Starting.{BeginsCall, BeginsNoCall};
+
+use frames_core::{FrameWhy, Taken, take_frame};
+use std::alloc::Global;
+use std::io::{self, ErrorKind, Read};
+use std::os::unix::net::UnixStream;
+use std::time::Instant;
+
+/// With so many bytes of a first frame a connection is served: the rest is under way. So what waits takes little memory.
+const ENOUGH: usize = 4096;
+
+/// What the first bytes of a connection begin.
+#[derive(Clone, Copy, Debug, PartialEq, Eq)]
+pub(crate) enum Start {
+    /// A call, whole or for the most part.
+    Call,
+    /// No call: the first frame is malformed whatever follows, or there is none.
+    NoCall,
+    /// It is not told yet.
+    Open,
+    /// It was not looked at yet.
+    New,
+}
+
+/// What a look at a connection gave.
+#[derive(Clone, Copy, Debug, PartialEq, Eq)]
+pub(crate) enum Heard {
+    /// Nothing has come.
+    Nothing,
+    /// Bytes, or the end of them.
+    Something,
+    /// It has failed, or there is no memory for it.
+    Lost,
+}
+
+/// A connection that waits, and what it has sent so far.
+#[derive(Drop)]
+pub(crate) struct Pending {
+    pub(crate) stream: UnixStream,
+    pub(crate) sent: Vec<u8>,
+    pub(crate) start: Start,
+    /// When a byte of it came last, or it itself.
+    pub(crate) since: Instant,
+}
+
+// What the bytes begin that a connection has sent, up to its end or so far.
+fn start_of(sent: &[u8], has_ended: bool) -> Start
+    ensures call { result ≡ Start.Call → BeginsCall sent.now ⊎ (4096 ≤ length sent.now) }
+    ensures no_call { result ≡ Start.NoCall → BeginsNoCall sent.now }
+{
+    match take_frame(sent) {
+        Taken::Frame(..) => Start::Call,
+        Taken::Fault(fault) if fault.why != FrameWhy::EndOfInput => Start::NoCall,
+        _ if has_ended => Start::NoCall,
+        _ if sent.len() >= ENOUGH => Start::Call,
+        _ => Start::Open,
+    }
+}
+
+// Whether a read that does not wait found nothing.
+fn is_nothing(error: &io::Error) -> bool {
+    matches!(error.kind(), ErrorKind::WouldBlock | ErrorKind::Interrupted)
+}
+
+impl Pending {
+    /// A connection that has sent nothing so far.
+    pub(crate) fn new(alloc: Global, stream: UnixStream, since: Instant) -> Pending {
+        Pending {
+            stream,
+            sent: Vec::new(alloc),
+            start: Start::New,
+            since,
+        }
+    }
+
+    /// Whether it is told what the connection begins.
+    pub(crate) fn is_told(&self) -> bool {
+        matches!(self.start, Start::Call | Start::NoCall)
+    }
+
+    // Takes a piece of what it sends, which is empty at the end.
+    fn take(&mut self, piece: &[u8], now: Instant) -> Heard {
+        if self.sent.extend_from_slice(piece).is_err() {
+            return Heard::Lost;
+        }
+        self.since = now;
+        self.start = start_of(self.sent.as_slice(), piece.is_empty());
+        Heard::Something
+    }
+
+    /// Takes what has come, a piece of it. Once it is told what the connection begins, the rest is left to those who serve it.
+    pub(crate) fn hear(&mut self, now: Instant) -> Heard {
+        if self.is_told() {
+            return Heard::Nothing;
+        }
+        let mut piece = [0; ENOUGH];
+        let mut stream = &self.stream;
+        match stream.read(&mut piece) {
+            Ok(count) => self.take(piece.split_at(count).0, now),
+            Err(error) if is_nothing(&error) => {
+                self.start = Start::Open;
+                Heard::Nothing
+            }
+            Err(_) => Heard::Lost,
+        }
+    }
+}
