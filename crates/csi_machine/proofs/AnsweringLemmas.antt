@@ -238,7 +238,7 @@ module _ {K : Type 0} {holds : K → State → Type 0} {doubt : K → ℕ} {refu
 pub keeps : (config : Config) (r : Request) → IsSound config (λ s. settled_plan config s r) → (s : State) → IsInvariant config s → IsInvariant config (step config s r).1
 keeps config r sound s inv = subst (IsInvariant config) (moved_is config s r) (sound.keeps s inv)
 
-validate_still : (s : State) (r : Validate) (o : Option ℕ) → (validate_number s r o).change ≡ None
+pub validate_still : (s : State) (r : Validate) (o : Option ℕ) → (validate_number s r o).change ≡ None
 validate_still s r None = refl
 validate_still s r (Some n) = by_volume (fin.get s.volumes n)
   where
@@ -246,11 +246,11 @@ validate_still s r (Some n) = by_volume (fin.get s.volumes n)
     by_volume None = refl
     by_volume (Some v) = elim (have_keys v.caps r.capabilities && ((fin.len r.parameters == 0) || same_map v.params r.parameters)) as (λ b. (cond b (confirm r) deny).change ≡ None) [ true ↦ refl | false ↦ refl ]
 
-list_still : (config : Config) (s : State) (most : ℕ) (o : Option ℕ) → (list_after config s most o).change ≡ None
+pub list_still : (config : Config) (s : State) (most : ℕ) (o : Option ℕ) → (list_after config s most o).change ≡ None
 list_still config s most None = refl
 list_still config s most (Some n) = refl
 
-capacity_still : (config : Config) (rs : List Room) (r : GetCapacity) → (capacity_of config rs r).change ≡ None
+pub capacity_still : (config : Config) (rs : List Room) (r : GetCapacity) → (capacity_of config rs r).change ≡ None
 capacity_still config rs r = elim (list_all is_supported r.capabilities) as (λ b. (cond b (tell_capacity (sum_by free (served rs r.topology)) (greatest_size config (served rs r.topology))) (tell_capacity 0 0)).change ≡ None) [ true ↦ refl | false ↦ refl ]
 
 -- the plan of each request is sound

@@ -7,6 +7,7 @@ pub mod Ids
 pub mod Info
 pub mod Offer
 pub mod Plan
+pub mod Retry
 pub mod Size
 pub mod Step
 pub mod Topology

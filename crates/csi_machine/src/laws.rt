@@ -13,7 +13,9 @@ ghost use Rattle.csi_machine.specs.Choice.{choice, rooms};
 ghost use Rattle.csi_machine.specs.Offer.{AsksFor, IsNew, term_of};
 ghost use Rattle.csi_machine.specs.calls.Capacity.{capacity, tell_capacity};
 ghost use Rattle.csi_machine.specs.calls.Create.{create, place_in};
+ghost use Rattle.csi_machine.specs.Retry.{Try, IsLife, AreTriesOf, all_tries, told_once, after_once};
 ghost use Rattle.csi_machine.specs.Step.{step};
+ghost use Rattle.csi_machine.specs.Verdicts.{Told};
 ghost use Rattle.csi_config.specs.declared.pools.Pool.{Pool};
 ghost use Rattle.csi_types.specs.declared.requests.CreateVolume.{CreateVolume};
 ghost use Rattle.csi_types.specs.declared.requests.GetCapacity.{GetCapacity};
@@ -68,6 +70,31 @@ pub fn walk(config: &Config)
 pub fn room(config: &Config)
     ensures chosen { (s : State) (g : GetCapacity) (available n : ℕ) → IsInvariant config.now s → capacity config.now s g ≡ tell_capacity available n → 0 < n → (pool : Pool) × Has config.now.pools pool × (choice (rooms config.now s) (term_of g.topology ∷ []) n ≡ Some pool) }
     ensures made { (s : State) (g : GetCapacity) (available n : ℕ) (r : CreateVolume) → IsInvariant config.now s → capacity config.now s g ≡ tell_capacity available n → 0 < n → AsksFor r g.topology n → IsNew config.now s r.name → (pool : Pool) × Has config.now.pools pool × (create config.now s r ≡ place_in r s.next n (Some pool)) }
+{
+    configured(config);
+}
+
+/// Each request is idempotent (CSI specification, 'Timeouts').
+///
+/// From a State of the invariant: a request that passes the checks of its arguments, taken again at
+/// once, is answered the same and leaves the same State.
+#[inline(always)]
+pub fn repeat(config: &Config)
+    ensures { (s : State) (r : Request) → IsInvariant config.now s → checked r ≡ None → step config.now (step config.now s r).1 r ≡ step config.now s r }
+{
+    configured(config);
+}
+
+/// Requests that are tried again until they are answered are each taken once (CSI specification,
+/// 'Timeouts').
+///
+/// From a State of the invariant a lone client tries requests that pass the checks of their
+/// arguments, one after the other, each over and over until it is answered. A try may be refused
+/// inside, an answer may be lost, and between any two tries a stop may end the session. The answers,
+/// and each State that may be left in the end, are those of the requests taken once each.
+#[inline(always)]
+pub fn retry(config: &Config)
+    ensures { (s t : State) (requests : List Request) (sessions : List (List Try)) (told : List Told) → IsInvariant config.now s → AllByRecursion (λ r. checked r ≡ None) requests → AreTriesOf requests (all_tries sessions) → IsLife config.now s sessions told t → (told ≡ told_once config.now s requests) × (t ≡ after_once config.now s requests) }
 {
     configured(config);
 }

@@ -1,0 +1,5 @@
+use Rattle.csi_machine.proofs.AgainLemmas.{step_again}
+use Rattle.csi_machine.proofs.laws.repeat.Goals as goal
+
+pub returns : goal.returns
+returns c s r inv passed = step_again c.args.config.now c.configured.ensures s r inv passed

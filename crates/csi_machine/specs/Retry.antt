@@ -1,0 +1,103 @@
+-- Requests that are tried again until they are answered, over stops between the tries (CSI specification, 'Timeouts').
+use Rattle.std.specs.Prelude.{◌≡◌, ◌⊎◌, List, [], ◌∷◌, ◌++◌}
+use Rattle.std.specs.List.{AllByRecursion, flat_map}
+use Rattle.csi_types.specs.declared.requests.Request.{Request}
+use Rattle.csi_config.specs.declared.config.Config.{Config}
+use Rattle.csi_keeper.specs.State.{State}
+use Rattle.csi_machine.specs.Step.{step}
+use Rattle.csi_machine.specs.Verdicts.{Told}
+
+-- how a try ends: marked, that is refused inside, for memory or by the store; or done, and the client is answered or is not
+pub data Ending : Type 0 where
+  Marked : Ending
+  Unanswered : Ending
+  Answered : Ending
+
+-- a try of a request, and how it ends
+pub record Try : Type 0 where
+  pub request : Request
+  pub end : Ending
+
+-- ---- the tries of a session
+
+abbrev pub moved_by : Config → State → Request → Ending → State
+moved_by config s r Marked = s
+moved_by config s r Unanswered = (step config s r).1
+moved_by config s r Answered = (step config s r).1
+
+-- the State after a try: a marked one keeps it
+abbrev pub after_try : Config → State → Try → State
+after_try config s t = moved_by config s t.request t.end
+
+-- the State after tries
+abbrev pub state_after : Config → State → List Try → State
+state_after config s [] = s
+state_after config s (t ∷ ts) = state_after config (after_try config s t) ts
+
+abbrev pub told_by : Config → State → Request → Ending → List Told
+told_by config s r Marked = []
+told_by config s r Unanswered = []
+told_by config s r Answered = (step config s r).0 ∷ []
+
+-- what the client is answered, in order
+abbrev pub told_of : Config → State → List Try → List Told
+told_of config s [] = []
+told_of config s (t ∷ ts) = told_by config s t.request t.end ++ told_of config (after_try config s t) ts
+
+-- What a stop may leave of a session in which a try was marked: what that try would have made, if no later try moved the State.
+pub record IsDue (config : Config) (s : State) (tries : List Try) (t : State) : Type 0 where
+  pub before : List Try
+  pub refused : Try
+  pub after : List Try
+  pub whole : tries ≡ before ++ refused ∷ after
+  pub is_marked : refused.end ≡ Marked
+  pub still : AllByRecursion (λ u. after_try config (state_after config s before) u ≡ state_after config s before) after
+  pub is : t ≡ (step config (state_after config s before) refused.request).1
+
+-- a session leaves the State after its tries, or what a marked try was about to make
+abbrev pub Leaves : Config → State → List Try → State → Type 0
+Leaves config s tries t = (t ≡ state_after config s tries) ⊎ IsDue config s tries t
+
+-- A life: sessions, each begun from what the one before it left; what the client was answered in all of them, and what the last one left.
+abbrev pub IsLife : Config → State → List (List Try) → List Told → State → Type 0
+IsLife config s [] told t = (told ≡ []) × (t ≡ s)
+IsLife config s (tries ∷ sessions) told t =
+    (u : State) × (rest : List Told) × Leaves config s tries u × (told ≡ told_of config s tries ++ rest) × IsLife config u sessions rest t
+
+-- ---- a lone client
+
+-- the tries of all sessions, in order
+abbrev pub all_tries : List (List Try) → List Try
+all_tries sessions = flat_map (λ tries. tries) sessions
+
+-- the try is of the first of these requests
+abbrev pub IsOfFirst : List Request → Try → Type 0
+IsOfFirst [] t = ⊥
+IsOfFirst (r ∷ rs) t = t.request ≡ r
+
+abbrev pub without_first : List Request → List Request
+without_first [] = []
+without_first (r ∷ rs) = rs
+
+-- the requests that are still to be answered
+abbrev pub still_open : List Request → Ending → List Request
+still_open rs Marked = rs
+still_open rs Unanswered = rs
+still_open rs Answered = without_first rs
+
+-- the tries are of each request in turn, over and over until it is answered
+abbrev pub AreTriesOf : List Request → List Try → Type 0
+AreTriesOf rs [] = rs ≡ []
+AreTriesOf rs (t ∷ ts) = IsOfFirst rs t × AreTriesOf (still_open rs t.end) ts
+
+-- ---- the requests taken once each
+
+-- what each is answered
+abbrev pub told_once : Config → State → List Request → List Told
+told_once config s [] = []
+told_once config s (r ∷ rs) = (step config s r).0 ∷ told_once config (step config s r).1 rs
+
+-- the State after them
+abbrev pub after_once : Config → State → List Request → State
+after_once config s [] = s
+after_once config s (r ∷ rs) = after_once config (step config s r).1 rs
