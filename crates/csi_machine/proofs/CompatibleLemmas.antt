@@ -31,7 +31,7 @@ use Rattle.csi_machine.specs.calls.Create.{made, is_compatible}
 use Rattle.csi_machine.proofs.CapabilityLemmas.{have_ordered}
 use Rattle.csi_machine.proofs.CheckedLemmas.{passed, not_off, key_by}
 use Rattle.csi_machine.proofs.CreateLemmas.{both_true, found, has_append, has_map, map_some, IsMade}
-use Rattle.csi_machine.proofs.ReachLemmas.{or_later, reachable}
+use Rattle.csi_machine.proofs.ReachLemmas.{AreServedAlike, or_later, reachable}
 
 -- Its size
 
@@ -100,13 +100,13 @@ serves_one rs ts n p e =
 
 -- All of it
 
-pub compatible : (config : Config) (s : State) (r : CreateVolume) (c : Change) (m : IsMade config s r c) → checked (request.Create r) ≡ None → is_compatible m.pool.segments (made r s.next m.bytes m.pool) r ≡ true
-compatible config s r c m pass =
+pub compatible : AreServedAlike → (config : Config) (s : State) (r : CreateVolume) (c : Change) (m : IsMade config s r c) → checked (request.Create r) ≡ None → is_compatible m.pool.segments (made r s.next m.bytes m.pool) r ≡ true
+compatible alike config s r c m pass =
     let off = passed (request.Create r) pass in
     let supported : list_any (λ c. not (is_supported c)) r.capabilities ≡ false = off.1.1.1.1.1.1.0 in
     let differ : list_any has_alike_keys (all_terms r.topology) ≡ false = off.1.1.1.1.1.1.1.1.1.1.1.0 in
     let prefers : list_any prefers_another (option_to_list r.topology) ≡ false = off.1.1.1.1.1.1.1.1.1.1.1.1.0 in
     let one = serves_one (rooms config s) (terms r.topology) m.bytes m.pool m.chosen in
     and_from _ _
-    (and_from _ _ (and_from _ _ (reachable m.pool.segments one.0 r.topology differ prefers one.1 one.2) (sized config.sizes r.range m.bytes m.sized)) (has_keys r.capabilities supported))
+    (and_from _ _ (and_from _ _ (reachable alike m.pool.segments one.0 r.topology differ prefers one.1 one.2) (sized config.sizes r.range m.bytes m.sized)) (has_keys r.capabilities supported))
     (same_map_equiv.refl r.parameters)

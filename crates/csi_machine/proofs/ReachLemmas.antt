@@ -1,20 +1,16 @@
 -- A pool that serves a term of a request serves a requisite one.
-use Rattle.std.proofs.Common.{◌≡◌, ◌∙◌, ◌⊎◌, inl, inr, ap, sym, subst, arith, refl, ℕ, List, [], ◌∷◌, ◌++◌, length, Bool, true, false, not, ◌&&◌, ◌||◌, ◌==◌, Option, Some, None, eqb-true}
-use Rattle.std.specs.FinMap.{entries}
-use Rattle.std.specs.List.{list_any, list_all}
+use Rattle.std.proofs.Common.{◌≡◌, ◌∙◌, ◌⊎◌, inl, inr, ap, sym, arith, refl, List, [], ◌∷◌, ◌++◌, length, Bool, true, false, not, ◌&&◌, ◌||◌, ◌==◌, Option, Some, None, eqb-true}
+use Rattle.std.specs.List.{list_any}
 use Rattle.std.specs.Option.{option_to_list}
-use Rattle.std.specs.Str.{str_to_ascii_lowercase}
-use Rattle.std.proofs.lemmas.Bool.{and_parts, and_from, or_parts}
+use Rattle.std.proofs.lemmas.Bool.{or_parts}
 use Rattle.csi_config.specs.Values.{Has}
 use Rattle.csi_types.specs.Checks.{prefers_another, terms as all_terms}
-use Rattle.csi_types.specs.Maps.{TextMap, same_text}
+use Rattle.csi_types.specs.Maps.{TextMap}
 use Rattle.csi_types.specs.Names.{is_empty}
-use Rattle.csi_types.specs.Topology.{alike, has_alike_keys, is_within, same_topology}
+use Rattle.csi_types.specs.Topology.{has_alike_keys, is_within, same_topology}
 use Rattle.csi_types.specs.declared.topology.Requirement.{Requirement}
 use Rattle.csi_machine.specs.Topology.{serves, or_empty, terms, is_reachable}
 use Rattle.csi_machine.proofs.CreateLemmas.{has_append}
-use Rattle.csi_machine.proofs.FoldingLemmas.{within_both}
-use Rattle.csi_machine.proofs.PublishLemmas.{is_same, same_is}
 
 -- Lists and tests
 
@@ -47,50 +43,15 @@ no_not : (b : Bool) → not b ≡ false → b ≡ true
 no_not true h = refl
 no_not false h = absurd (cc)
 
--- Segments
+-- Topologies
 
-abbrev Entry : Type 0
-Entry = List ℕ × List ℕ
+-- equal topologies are served by the same pools
+abbrev pub AreServedAlike : Type 0
+AreServedAlike = (segments t q : TextMap) → has_alike_keys t ≡ false → has_alike_keys q ≡ false → same_topology t q ≡ true → serves segments t ≡ serves segments q
 
-abbrev is_alike : Entry → Entry → Bool
-is_alike e f = alike e.0 f.0 && same_text e.1 f.1
-
-alike_then : (e f g : Entry) → is_alike e f ≡ true → is_alike f g ≡ true → is_alike e g ≡ true
-alike_then e f g h k =
-    let one = and_parts (alike e.0 f.0) (same_text e.1 f.1) h in
-    let two = and_parts (alike f.0 g.0) (same_text f.1 g.1) k in
-    let key : str_to_ascii_lowercase e.0 ≡ str_to_ascii_lowercase g.0 = same_is _ _ one.0 ∙ same_is _ _ two.0 in
-    let value : e.1 ≡ g.1 = same_is _ _ one.1 ∙ same_is _ _ two.1 in
-    and_from _ _ (is_same _ _ key) (is_same _ _ value)
-
-one_then : (e f : Entry) (gs : List Entry) → is_alike e f ≡ true → list_any (is_alike f) gs ≡ true → list_any (is_alike e) gs ≡ true
-one_then e f gs h k = let x = who_passes (is_alike f) gs k in one_passes (is_alike e) gs x.0 x.1 (alike_then e f x.0 h x.2)
-
-each_of : {A : Type 0} (p : A → Bool) (xs : List A) (x : A) → list_all p xs ≡ true → Has xs x → p x ≡ true
-each_of p [] x all h = absurd h
-each_of p (y ∷ ys) x all h =
-    let two = and_parts (p y) (list_all p ys) all in
-    elim h as (λ _. p x ≡ true) [ inl e ↦ ap p (sym e) ∙ two.0 | inr r ↦ each_of p ys x two.1 r ]
-
-all_then : (es fs gs : List Entry) → list_all (λ e. list_any (is_alike e) fs) es ≡ true → list_all (λ f. list_any (is_alike f) gs) fs ≡ true → list_all (λ e. list_any (is_alike e) gs) es ≡ true
-all_then [] fs gs h k = refl
-all_then (e ∷ es) fs gs h k =
-    let two = and_parts (list_any (is_alike e) fs) (list_all (λ e. list_any (is_alike e) fs) es) h in
-    let x = who_passes (is_alike e) fs two.0 in
-    and_from _ _ (one_then e x.0 gs x.2 (each_of (λ f. list_any (is_alike f) gs) fs x.0 k x.1)) (all_then es fs gs two.1 k)
-
-within_then : (m n o : TextMap) → is_within m n ≡ true → is_within n o ≡ true → is_within m o ≡ true
-within_then m n o h k = all_then (entries m) (entries n) (entries o) h k
-
--- equal topologies are served alike
-served_as : (segments t q : TextMap) → has_alike_keys t ≡ false → has_alike_keys q ≡ false → same_topology t q ≡ true → serves segments t ≡ true → serves segments q ≡ true
-served_as segments t q a b same h =
-    let two = and_parts (is_within t q) (is_within q t) (within_both t q a b ∙ same) in
-    go two.0 two.1 (is_within segments t) refl h
-  where
-    go : is_within t q ≡ true → is_within q t ≡ true → (d : Bool) → is_within segments t ≡ d → (d || is_within t segments) ≡ true → (is_within segments q || is_within q segments) ≡ true
-    go there back true e k = ap (λ b. b || is_within q segments) (within_then segments t q e there)
-    go there back false e k = or_later (is_within segments q) _ (within_then q t segments back k)
+pub served_alike : ((m n o : TextMap) → has_alike_keys m ≡ false → has_alike_keys n ≡ false → same_topology m n ≡ true → is_within o m ≡ is_within o n)
+    → ((m n o : TextMap) → has_alike_keys m ≡ false → has_alike_keys n ≡ false → same_topology m n ≡ true → is_within m o ≡ is_within n o) → AreServedAlike
+served_alike inner outer segments t q a b same = ap (λ b. b || is_within t segments) (inner t q segments a b same) ∙ ap (λ b. is_within segments q || b) (outer t q segments a b same)
 
 not_none : (q : TextMap) (qs : List TextMap) → is_empty (q ∷ qs) ≡ false
 not_none q qs = go (length (q ∷ qs) == 0) refl
@@ -100,10 +61,10 @@ not_none q qs = go (length (q ∷ qs) == 0) refl
     go true e = let none : length (q ∷ qs) ≡ 0 = eqb-true _ _ e in absurd (omega (arith, none))
 
 -- requisite topologies, and preferred ones
-reached : (segments t : TextMap) (qs ps : List TextMap) → list_any has_alike_keys (qs ++ ps) ≡ false → (not (is_empty qs) && list_any (λ p. not (list_any (same_topology p) qs)) ps) ≡ false
+reached : AreServedAlike → (segments t : TextMap) (qs ps : List TextMap) → list_any has_alike_keys (qs ++ ps) ≡ false → (not (is_empty qs) && list_any (λ p. not (list_any (same_topology p) qs)) ps) ≡ false
     → Has (ps ++ or_empty qs) t → serves segments t ≡ true → ((length qs == 0) || list_any (serves segments) qs) ≡ true
-reached segments t [] ps differ prefers h s = refl
-reached segments t (q ∷ qs) ps differ prefers h s = or_later (length (q ∷ qs) == 0) _ (elim (has_append ps (q ∷ qs) t h) as (λ _. list_any (serves segments) (q ∷ qs) ≡ true) [
+reached alike segments t [] ps differ prefers h s = refl
+reached alike segments t (q ∷ qs) ps differ prefers h s = or_later (length (q ∷ qs) == 0) _ (elim (has_append ps (q ∷ qs) t h) as (λ _. list_any (serves segments) (q ∷ qs) ≡ true) [
   | inl p ↦ preferred p
   | inr r ↦ one_passes (serves segments) (q ∷ qs) t r s
 ])
@@ -122,9 +83,9 @@ reached segments t (q ∷ qs) ps differ prefers h s = or_later (length (q ∷ qs
         let is : list_any (same_topology t) (q ∷ qs) ≡ true = no_not _ (none_passes (λ p. not (list_any (same_topology p) (q ∷ qs))) ps t none p) in
         let x = who_passes (same_topology t) (q ∷ qs) is in
         one_passes (serves segments) (q ∷ qs) x.0 x.1
-        (served_as segments t x.0 (none_passes has_alike_keys ((q ∷ qs) ++ ps) t differ (has_second (q ∷ qs) ps t p)) (none_passes has_alike_keys ((q ∷ qs) ++ ps) x.0 differ (has_first (q ∷ qs) ps x.0 x.1)) x.2 s)
+        (sym (alike segments t x.0 (none_passes has_alike_keys ((q ∷ qs) ++ ps) t differ (has_second (q ∷ qs) ps t p)) (none_passes has_alike_keys ((q ∷ qs) ++ ps) x.0 differ (has_first (q ∷ qs) ps x.0 x.1)) x.2) ∙ s)
 
-pub reachable : (segments t : TextMap) (o : Option Requirement) → list_any has_alike_keys (all_terms o) ≡ false → list_any prefers_another (option_to_list o) ≡ false → Has (terms o) t → serves segments t ≡ true
+pub reachable : AreServedAlike → (segments t : TextMap) (o : Option Requirement) → list_any has_alike_keys (all_terms o) ≡ false → list_any prefers_another (option_to_list o) ≡ false → Has (terms o) t → serves segments t ≡ true
     → is_reachable segments o ≡ true
-reachable segments t None differ prefers h s = refl
-reachable segments t (Some r) differ prefers h s = reached segments t r.requisite r.preferred differ (or_parts _ false prefers).0 h s
+reachable alike segments t None differ prefers h s = refl
+reachable alike segments t (Some r) differ prefers h s = reached alike segments t r.requisite r.preferred differ (or_parts _ false prefers).0 h s

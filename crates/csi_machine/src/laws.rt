@@ -24,6 +24,7 @@ ghost use Rattle.csi_types.specs.Checks.{checked};
 
 use crate::configured::configured;
 use csi_config::Config;
+use csi_types::laws::equal_topologies;
 
 /// An id names the volume that it was made of, and no other text names that volume.
 #[inline(always)]
@@ -83,6 +84,7 @@ pub fn repeat(config: &Config)
     ensures { (s : State) (r : Request) → IsInvariant config.now s → checked r ≡ None → step config.now (step config.now s r).1 r ≡ step config.now s r }
 {
     configured(config);
+    equal_topologies();
 }
 
 /// Requests that are tried again until they are answered are each taken once (CSI specification,
@@ -97,4 +99,5 @@ pub fn retry(config: &Config)
     ensures { (s t : State) (requests : List Request) (sessions : List (List Try)) (told : List Told) → IsInvariant config.now s → AllByRecursion (λ r. checked r ≡ None) requests → AreTriesOf requests (all_tries sessions) → IsLife config.now s sessions told t → (told ≡ told_once config.now s requests) × (t ≡ after_once config.now s requests) }
 {
     configured(config);
+    equal_topologies();
 }

@@ -199,3 +199,26 @@ within_both m n d d' =
     ap (λ b. b && is_within n m) (sym (all_folded (entries m) (entries n)))
     ∙ ap (λ b. list_all (λ e. list_any (same_entry e) (map fold_key (entries n))) (map fold_key (entries m)) && b) (sym (all_folded (entries n) (entries m)))
     ∙ lists_same (map fold_key (entries m)) (map fold_key (entries n)) (two_folded (entries m) ∙ d) (two_folded (entries n) ∙ d')
+
+-- what is within one is within another, where the one is within the other
+all_also : (xs es fs : List Entry) → list_all (λ x. list_any (same_entry x) es) xs ≡ true → list_all (λ e. list_any (same_entry e) fs) es ≡ true → list_all (λ x. list_any (same_entry x) fs) xs ≡ true
+all_also [] es fs h k = refl
+all_also (x ∷ xs) es fs h k =
+    ap (λ b. b && list_all (λ x. list_any (same_entry x) fs) xs) (has_also x es fs k (and_first _ _ h))
+    ∙ all_also xs es fs (and_second (list_any (same_entry x) es) _ h) k
+
+within_then : (m n o : TextMap) → is_within m n ≡ true → is_within n o ≡ true → is_within m o ≡ true
+within_then m n o h k =
+    sym (all_folded (entries m) (entries o))
+    ∙ all_also (map fold_key (entries m)) (map fold_key (entries n)) (map fold_key (entries o)) (all_folded (entries m) (entries n) ∙ h) (all_folded (entries n) (entries o) ∙ k)
+
+-- equal topologies have the same ones within them, and are within the same ones
+pub equal_inner : (m n o : TextMap) → has_alike_keys m ≡ false → has_alike_keys n ≡ false → same_topology m n ≡ true → is_within o m ≡ is_within o n
+equal_inner m n o d d' same =
+    let both = within_both m n d d' ∙ same in
+    both_ways _ _ (λ h. within_then o m n h (and_first _ _ both)) (λ h. within_then o n m h (and_second (is_within m n) _ both))
+
+pub equal_outer : (m n o : TextMap) → has_alike_keys m ≡ false → has_alike_keys n ≡ false → same_topology m n ≡ true → is_within m o ≡ is_within n o
+equal_outer m n o d d' same =
+    let both = within_both m n d d' ∙ same in
+    both_ways _ _ (λ h. within_then n m o (and_second (is_within m n) _ both) h) (λ h. within_then m n o (and_first _ _ both) h)

@@ -1,5 +1,6 @@
 use Rattle.csi_machine.proofs.AgainLemmas.{step_again}
+use Rattle.csi_machine.proofs.ReachLemmas.{served_alike}
 use Rattle.csi_machine.proofs.laws.repeat.Goals as goal
 
 pub returns : goal.returns
-returns c s r inv passed = step_again c.args.config.now c.configured.ensures s r inv passed
+returns c s r inv passed = step_again (served_alike c.equal_topologies.ensures.inner c.equal_topologies.ensures.outer) c.args.config.now c.configured.ensures s r inv passed
