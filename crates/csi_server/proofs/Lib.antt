@@ -8,3 +8,4 @@ mod Forms
 mod VolumeLemmas
 mod PendingLemmas
 mod KeptLemmas
+mod TriesLemmas

@@ -5,4 +5,5 @@ pub mod Live
 pub mod Requests
 pub mod Identity
 pub mod Volumes
+pub mod Tries
 pub mod ConfigFile

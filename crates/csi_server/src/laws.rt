@@ -1,17 +1,23 @@
 //! Laws of the definitions and of the machines that are served.
 
-ghost use Rattle.std.specs.Prelude.{◌≡◌, ◌⊎◌, ◌≤◌, ◌<◌, ◌^◌, ◌++◌, ℕ, List, length, decimal};
+ghost use Rattle.std.specs.Prelude.{◌≡◌, ◌⊎◌, ◌≤◌, ◌<◌, ◌^◌, ◌++◌, ℕ, List, None, Some, length, decimal, map};
 ghost use Rattle.std.specs.List.{AllByRecursion};
 ghost use Rattle.frames_core.specs.declared.fault.FrameFault.{FrameFault};
 ghost use Rattle.frames_core.specs.declared.limits.TheConstants.{MAX_MESSAGE_BYTES};
-ghost use Rattle.frames_core.specs.Envelope.{CallBytes, IsReply};
+ghost use Rattle.frames_core.specs.Envelope.{CallBytes, IsReply, ReplyBytes};
 ghost use Rattle.frames_core.specs.Texts.{fault_words};
 ghost use Rattle.csi_types.specs.declared.code.Code.TheVariants as Code;
 ghost use Rattle.csi_types.specs.Codes.{number_of};
+ghost use Rattle.csi_types.specs.declared.requests.Request.{Request};
 ghost use Rattle.csi_keeper.specs.Invariant.{IsInvariant};
 ghost use Rattle.csi_server.specs.Machine.{Unmarked, Event, Runs, AreReplies, refusal, state_after};
 ghost use Rattle.csi_server.specs.Identity.{identity};
+ghost use Rattle.csi_server.specs.Requests.{told};
+ghost use Rattle.csi_server.specs.Tries.{Exchange, asked, events_of, tries_of, heard_of, IsLeft, IsLifeOfCalls};
 ghost use Rattle.csi_server.specs.Volumes.{volumes, seen, IsPending};
+ghost use Rattle.csi_machine.specs.Retry.{Leaves, AreTriesOf, all_tries, told_of, told_once, after_once};
+ghost use Rattle.csi_machine.specs.Retry.{state_after as after_tries};
+ghost use Rattle.csi_machine.specs.Step.{step};
 ghost use Rattle.csi_config.specs.declared.config.Config.{Config as AnyConfig};
 ghost use Rattle.csi_keeper.specs.State.{State as MachineState};
 
@@ -19,7 +25,9 @@ use crate::service::Service;
 use csi_codec::laws::reading;
 use csi_config::Config;
 use csi_machine::Keeper;
-use csi_machine::laws::kept as kept_by_answers;
+use csi_machine::laws::{
+    kept as kept_by_answers, repeat as repeat_request, retry as retry_requests,
+};
 use frames_core::laws::decimal_is_text;
 
 /// After a run in which no call is marked, what a stop may leave is the state after the run.
@@ -78,3 +86,46 @@ pub fn pending<K: Keeper>(config: &Config)
         → ((t : MachineState) → K.survivors old t → t ≡ s)
         → (t : MachineState) → K.survivors new t → (t ≡ state_after (volumes config.now) s events) ⊎ IsPending config.now s events t }
 {}
+
+/// A call that asks for a request is answered as the machine answers the request. One that asks for none has the
+/// same reply from each State, under each configuration, and leaves each as it is.
+pub fn asking()
+    ensures answered { (config : AnyConfig) (s : MachineState) (call : CallBytes) (r : Request) → asked call ≡ Some r → (volumes config).respond s call ≡ (told (step config s r).0, (step config s r).1) }
+    ensures unasked { (call : CallBytes) → asked call ≡ None → (reply : ReplyBytes) × ((config : AnyConfig) (s : MachineState) → (volumes config).respond s call ≡ (reply, s)) }
+{}
+
+/// The calls of a session are tries of the requests that they ask for: the State after them and the replies that
+/// were heard are those of the tries, and so is what [`pending`] says that they leave. So over any keeper,
+/// after a run from a State that alone would have been left by a stop, a stop leaves what the tries leave.
+pub fn tries<K: Keeper>(config: &Config)
+    ensures after { (s : MachineState) (session : List Exchange) → state_after (volumes config.now) s (events_of session) ≡ after_tries config.now s (tries_of session) }
+    ensures heard { (s : MachineState) (session : List Exchange) → heard_of config.now s session ≡ map told (told_of config.now s (tries_of session)) }
+    ensures left { (s t : MachineState) (session : List Exchange) → IsLeft config.now s (events_of session) t → Leaves config.now s (tries_of session) t }
+    ensures stopped { (old new : K) (s : MachineState) (session : List Exchange) → Runs (volumes config.now) (seen K.holds K.doubt K.refused K.survivors K.tied K.is_down config.now old) (seen K.holds K.doubt K.refused K.survivors K.tied K.is_down config.now new) s (events_of session)
+        → ((t : MachineState) → K.survivors old t → t ≡ s)
+        → (t : MachineState) → K.survivors new t → Leaves config.now s (tries_of session) t }
+{}
+
+/// Requests that a lone client asks for over and over, each until it hears the reply, are each taken once (CSI
+/// specification, 'Timeouts').
+///
+/// From a State of the invariant: a call may be refused inside, a reply may be lost, and between any two calls a
+/// stop may end the session, which leaves what [`pending`] says. Calls that ask for nothing may come anywhere,
+/// from anyone. What the client hears of its requests, and each State that may be left in the end, are those of
+/// the requests taken once each.
+pub fn retry(config: &Config)
+    ensures { (s t : MachineState) (requests : List Request) (sessions : List (List Exchange)) (heard : List ReplyBytes) → IsInvariant config.now s
+        → AreTriesOf requests (all_tries (map tries_of sessions))
+        → IsLifeOfCalls config.now s sessions heard t
+        → (heard ≡ map told (told_once config.now s requests)) × (t ≡ after_once config.now s requests) }
+{
+    retry_requests(config);
+}
+
+/// Each call is idempotent (CSI specification, 'Timeouts'): from a State of the invariant the same call, made again
+/// at once, has the same reply and leaves the same State, also one that is not read or does not pass the checks.
+pub fn repeat(config: &Config)
+    ensures { (s : MachineState) (call : CallBytes) → IsInvariant config.now s → (volumes config.now).respond ((volumes config.now).respond s call).1 call ≡ (volumes config.now).respond s call }
+{
+    repeat_request(config);
+}

@@ -1,0 +1,299 @@
+-- Calls of the volume machine are tries of the requests that they ask for.
+use Rattle.std.proofs.Common.{◌≡◌, ◌≢◌, ◌∙◌, inl, inr, ap, sym, subst, refl, ℕ, Bool, true, false, List, [], ◌∷◌, ◌++◌, append_assoc, map, Option, Some, None, Result, Ok, Err}
+use Rattle.std.proofs.lemmas.List.{map-append}
+use Rattle.std.proofs.lemmas.List.Concat.{flat_map-append}
+use Rattle.std.specs.List.{AllByRecursion}
+use Rattle.frames_core.specs.Envelope.{CallBytes, ReplyBytes}
+use Rattle.csi_types.specs.declared.method.Method.{Method}
+use Rattle.csi_types.specs.declared.reason.Reason.{Reason}
+use Rattle.csi_types.specs.declared.reason.Reason.TheVariants as reason
+use Rattle.csi_types.specs.declared.requests.Request.{Request}
+use Rattle.csi_types.specs.Checks.{checked}
+use Rattle.csi_types.specs.Methods.{method_at}
+use Rattle.csi_codec.specs.Reading.{read_request}
+use Rattle.csi_config.specs.declared.config.Config.{Config}
+use Rattle.csi_keeper.specs.Invariant.{IsInvariant}
+use Rattle.csi_keeper.specs.State.{State}
+use Rattle.csi_machine.specs.Retry.{Try, Ending, Marked, Unanswered, Answered, after_try, told_by, told_of, IsDue, Leaves, IsLife, AreTriesOf, all_tries, told_once, after_once, still_open}
+use Rattle.csi_machine.specs.Retry.{state_after as after_tries}
+use Rattle.csi_machine.specs.Step.{step}
+use Rattle.csi_machine.specs.Verdicts.{Told}
+use Rattle.csi_server.specs.Machine.{Event, Mark, Unmarked, OutOfMemory, StoreRefused, StoreDown, marked, refused, state_after}
+use Rattle.csi_server.specs.Machine.{step as call_step}
+use Rattle.csi_server.specs.Requests.{after_check, after_path, after_read, malformed, told}
+use Rattle.csi_server.specs.Tries.{Exchange, asked, asked_in, asked_of, unless_refused, ending, events_of, heard_by, heard_of, tries_for, tries_in, tries_of, IsLeft, IsLifeOfCalls}
+use Rattle.csi_server.specs.Volumes.{volumes, IsPending}
+
+all_append : (P : Try → Type 0) (ts us : List Try) → AllByRecursion P ts → AllByRecursion P us → AllByRecursion P (ts ++ us)
+all_append P [] us h k = k
+all_append P (t ∷ ts) us h k = (h.0, all_append P ts us h.1 k)
+
+-- ---- what a call asks for
+
+-- the request passes the checks
+pub asked_passes : (call : CallBytes) (r : Request) → asked call ≡ Some r → checked r ≡ None
+asked_passes call r = by_path (method_at call.path)
+  where
+    by_check : (q : Request) (o : Option Reason) → checked q ≡ o → unless_refused q o ≡ Some r → checked r ≡ None
+    by_check q None passed e = let same : q ≡ r = cc in subst (λ (p : Request). checked p ≡ None) same passed
+    by_check q (Some why) passed e = absurd (cc)
+
+    by_read : (x : Result Request ℕ) → asked_in x ≡ Some r → checked r ≡ None
+    by_read (Ok q) e = by_check q (checked q) refl e
+    by_read (Err at) e = absurd (cc)
+
+    by_path : (p : Option Method) → asked_of p call.message ≡ Some r → checked r ≡ None
+    by_path None e = absurd (cc)
+    by_path (Some m) e = by_read (read_request m call.message) e
+
+-- what a call asks for whose request is read and passes the checks
+pub read_asks : (call : CallBytes) (m : Method) (r : Request) → method_at call.path ≡ Some m → read_request m call.message ≡ Ok r → checked r ≡ None → asked call ≡ Some r
+read_asks call m r path read passed =
+    ap (λ (p : Option Method). asked_of p call.message) path
+    ∙ (ap asked_in read ∙ ap (unless_refused r) passed)
+
+-- a call that asks for nothing is refused from each State alike
+pub unasked_stays : (call : CallBytes) → asked call ≡ None → (reply : ReplyBytes) × ((config : Config) (s : State) → (volumes config).respond s call ≡ (reply, s))
+unasked_stays call = by_path (method_at call.path)
+  where
+    by_check : (r : Request) (o : Option Reason) → unless_refused r o ≡ None → (reply : ReplyBytes) × ((config : Config) (s : State) → after_check (step config) s r o ≡ (reply, s))
+    by_check r None e = absurd (cc)
+    by_check r (Some why) e = (refused why, λ config s. refl)
+
+    by_read : (x : Result Request ℕ) → asked_in x ≡ None → (reply : ReplyBytes) × ((config : Config) (s : State) → after_read (step config) s x ≡ (reply, s))
+    by_read (Ok r) e = by_check r (checked r) e
+    by_read (Err at) e = (malformed at, λ config s. refl)
+
+    by_path : (p : Option Method) → asked_of p call.message ≡ None → (reply : ReplyBytes) × ((config : Config) (s : State) → after_path (step config) s p call.message ≡ (reply, s))
+    by_path None e = (refused reason.UnknownMethod, λ config s. refl)
+    by_path (Some m) e = by_read (read_request m call.message) e
+
+module _ (config : Config) where
+  abbrev answer_to : State → Request → ReplyBytes × State
+  answer_to s r = (told (step config s r).0, (step config s r).1)
+
+  -- a call that asks for a request is answered as the request is
+  pub asked_answers : (s : State) (call : CallBytes) (r : Request) → asked call ≡ Some r → (volumes config).respond s call ≡ answer_to s r
+  asked_answers s call r = by_path (method_at call.path)
+    where
+      by_check : (q : Request) (o : Option Reason) → unless_refused q o ≡ Some r → after_check (step config) s q o ≡ answer_to s r
+      by_check q None e = let same : q ≡ r = cc in ap (answer_to s) same
+      by_check q (Some why) e = absurd (cc)
+
+      by_read : (x : Result Request ℕ) → asked_in x ≡ Some r → after_read (step config) s x ≡ answer_to s r
+      by_read (Ok q) e = by_check q (checked q) e
+      by_read (Err at) e = absurd (cc)
+
+      by_path : (p : Option Method) → asked_of p call.message ≡ Some r → after_path (step config) s p call.message ≡ answer_to s r
+      by_path None e = absurd (cc)
+      by_path (Some m) e = by_read (read_request m call.message) e
+
+  -- ---- one call
+
+  -- the State after it, and what its client heard
+  record Moves (s : State) (x : Exchange) : Type 0 where
+    pub after : (call_step (volumes config) s x.event).1 ≡ after_tries config s (tries_in x)
+    pub heard : heard_by (asked x.event.call) x.event.mark x.is_heard (call_step (volumes config) s x.event).0 ≡ map told (told_of config s (tries_in x))
+
+  moves_by : (s : State) (call : CallBytes) (mark : Mark) (is_heard : Bool) (o : Option Request) → asked call ≡ o
+      → ((marked s ((volumes config).respond s call) mark).1 ≡ after_tries config s (tries_for o (ending mark is_heard)))
+      × (heard_by o mark is_heard (marked s ((volumes config).respond s call) mark).0 ≡ map told (told_of config s (tries_for o (ending mark is_heard))))
+  moves_by s call Unmarked true (Some r) e =
+      let is : (volumes config).respond s call ≡ answer_to s r = asked_answers s call r e in
+      (ap (λ (y : ReplyBytes × State). y.1) is, ap (λ (y : ReplyBytes × State). y.0 ∷ []) is)
+  moves_by s call Unmarked false (Some r) e = (ap (λ (y : ReplyBytes × State). y.1) (asked_answers s call r e), refl)
+  moves_by s call OutOfMemory is_heard (Some r) e = (refl, refl)
+  moves_by s call StoreRefused is_heard (Some r) e = (refl, refl)
+  moves_by s call StoreDown is_heard (Some r) e = (refl, refl)
+  moves_by s call Unmarked is_heard None e = (ap (λ (y : ReplyBytes × State). y.1) ((unasked_stays call e).1 config s), refl)
+  moves_by s call OutOfMemory is_heard None e = (refl, refl)
+  moves_by s call StoreRefused is_heard None e = (refl, refl)
+  moves_by s call StoreDown is_heard None e = (refl, refl)
+
+  moves : (s : State) (x : Exchange) → Moves s x
+  moves s x =
+      let both = moves_by s x.event.call x.event.mark x.is_heard (asked x.event.call) refl in
+      record { after = both.0; heard = both.1 }
+
+  -- ---- tries, one after the other
+
+  after_append : (s : State) (ts us : List Try) → after_tries config s (ts ++ us) ≡ after_tries config (after_tries config s ts) us
+  after_append s [] us = refl
+  after_append s (t ∷ ts) us = after_append (after_try config s t) ts us
+
+  told_append : (s : State) (ts us : List Try) → told_of config s (ts ++ us) ≡ told_of config s ts ++ told_of config (after_tries config s ts) us
+  told_append s [] us = refl
+  told_append s (t ∷ ts) us =
+      ap (λ (l : List Told). told_by config s t.request t.end ++ l) (told_append (after_try config s t) ts us)
+      ∙ sym (append_assoc (told_by config s t.request t.end) (told_of config (after_try config s t) ts) (told_of config (after_tries config (after_try config s t) ts) us))
+
+  -- ---- a session
+
+  pub session_after : (s : State) (session : List Exchange) → state_after (volumes config) s (events_of session) ≡ after_tries config s (tries_of session)
+  unfolding state_after
+  session_after s [] = refl
+  session_after s (x ∷ xs) =
+      session_after (call_step (volumes config) s x.event).1 xs
+      ∙ (ap (λ (z : State). after_tries config z (tries_of xs)) (moves s x).after ∙ sym (after_append s (tries_in x) (tries_of xs)))
+
+  pub session_heard : (s : State) (session : List Exchange) → heard_of config s session ≡ map told (told_of config s (tries_of session))
+  session_heard s [] = refl
+  session_heard s (x ∷ xs) =
+      let first = (moves s x).heard in
+      let next = session_heard (call_step (volumes config) s x.event).1 xs ∙ ap (λ (z : State). map told (told_of config z (tries_of xs))) (moves s x).after in
+      ap (λ (l : List ReplyBytes). l ++ heard_of config (call_step (volumes config) s x.event).1 xs) first
+      ∙ (ap (λ (l : List ReplyBytes). map told (told_of config s (tries_in x)) ++ l) next
+      ∙ (sym (map-append told (told_of config s (tries_in x)) (told_of config (after_tries config s (tries_in x)) (tries_of xs)))
+      ∙ ap (map told) (sym (told_append s (tries_in x) (tries_of xs)))))
+
+  -- ---- what a session leaves
+
+  still_by : (s : State) (x : Exchange) (o : Option Request) → (call_step (volumes config) s x.event).1 ≡ after_tries config s (tries_for o (ending x.event.mark x.is_heard)) → (call_step (volumes config) s x.event).1 ≡ s
+      → AllByRecursion (λ u. after_try config s u ≡ s) (tries_for o (ending x.event.mark x.is_heard))
+  still_by s x None after stays = tt
+  still_by s x (Some r) after stays = (sym after ∙ stays, tt)
+
+  -- calls that keep the State are tries that keep it
+  still : (s : State) (xs : List Exchange) → AllByRecursion (λ e. (call_step (volumes config) s e).1 ≡ s) (events_of xs) → AllByRecursion (λ u. after_try config s u ≡ s) (tries_of xs)
+  still s [] h = tt
+  still s (x ∷ xs) h = all_append (λ u. after_try config s u ≡ s) (tries_in x) (tries_of xs) (still_by s x (asked x.event.call) (moves s x).after h.0) (still s xs h.1)
+
+-- a session around one of its events
+record IsAround (session : List Exchange) (before : List Event) (e : Event) (after : List Event) : Type 0 where
+  pub first : List Exchange
+  pub middle : Exchange
+  pub last : List Exchange
+  pub whole : session ≡ first ++ middle ∷ last
+  pub is_before : events_of first ≡ before
+  pub is : middle.event ≡ e
+  pub is_after : events_of last ≡ after
+
+around_later : (x : Exchange) (xs : List Exchange) (b : Event) (bs : List Event) (e : Event) (after : List Event) → x.event ≡ b → IsAround xs bs e after → IsAround (x ∷ xs) (b ∷ bs) e after
+around_later x xs b bs e after is a = record {
+  first = x ∷ a.first;
+  middle = a.middle;
+  last = a.last;
+  whole = ap (λ (l : List Exchange). x ∷ l) a.whole;
+  is_before = ap (λ (f : Event). f ∷ events_of a.first) is ∙ ap (λ (l : List Event). b ∷ l) a.is_before;
+  is = a.is;
+  is_after = a.is_after;
+}
+
+around : (session : List Exchange) (before : List Event) (e : Event) (after : List Event) → events_of session ≡ before ++ e ∷ after → IsAround session before e after
+around [] [] e after h = absurd (cc)
+around [] (b ∷ bs) e after h = absurd (cc)
+around (x ∷ xs) [] e after h = record { first = []; middle = x; last = xs; whole = refl; is_before = refl; is = cc; is_after = cc }
+around (x ∷ xs) (b ∷ bs) e after h = around_later x xs b bs e after (cc) (around xs bs e after (cc))
+
+marked_ends : (mark : Mark) (is_heard : Bool) → mark ≢ Unmarked → ending mark is_heard ≡ Marked
+marked_ends Unmarked is_heard h = absurd (h refl)
+marked_ends OutOfMemory is_heard h = refl
+marked_ends StoreRefused is_heard h = refl
+marked_ends StoreDown is_heard h = refl
+
+module _ (config : Config) where
+  due : (s t : State) (session : List Exchange) → IsPending config s (events_of session) t → IsDue config s (tries_of session) t
+  due s t session p = record {
+    before = tries_of a.first;
+    refused = record { request = p.request; end = ending a.middle.event.mark a.middle.is_heard };
+    after = tries_of a.last;
+    whole = ap tries_of a.whole ∙ (flat_map-append tries_in a.first (a.middle ∷ a.last) ∙ ap (λ (o : Option Request). tries_of a.first ++ (tries_for o (ending a.middle.event.mark a.middle.is_heard) ++ tries_of a.last)) asks);
+    is_marked = marked_ends a.middle.event.mark a.middle.is_heard (subst (λ (e : Event). e.mark ≢ Unmarked) (sym a.is) p.is_marked);
+    still = still config (after_tries config s (tries_of a.first)) a.last (subst (λ (l : List Event). AllByRecursion (λ e. (call_step (volumes config) (after_tries config s (tries_of a.first)) e).1 ≡ after_tries config s (tries_of a.first)) l) (sym a.is_after)
+        (subst (λ (z : State). AllByRecursion (λ e. (call_step (volumes config) z e).1 ≡ z) p.after) at p.still));
+    is = p.is ∙ ap (λ (z : State). (step config z p.request).1) at;
+  }
+    where
+      a : IsAround session p.before p.refused p.after
+      a = around session p.before p.refused p.after p.whole
+
+      -- the State that the refused call met
+      at : state_after (volumes config) s p.before ≡ after_tries config s (tries_of a.first)
+      at = ap (λ (l : List Event). state_after (volumes config) s l) (sym a.is_before) ∙ session_after config s a.first
+
+      asks : asked a.middle.event.call ≡ Some p.request
+      asks = ap (λ (e : Event). asked e.call) a.is ∙ read_asks p.refused.call p.method p.request p.called p.read p.passed
+
+  pub session_leaves : (s t : State) (session : List Exchange) → IsLeft config s (events_of session) t → Leaves config s (tries_of session) t
+  session_leaves s t session (inl is) = inl (is ∙ session_after config s session)
+  session_leaves s t session (inr p) = inr (due s t session p)
+
+  -- ---- a life
+
+  -- the life of the tries, and what was told in it
+  record IsOfTries (s : State) (sessions : List (List Exchange)) (heard : List ReplyBytes) (t : State) : Type 0 where
+    pub said : List Told
+    pub life : IsLife config s (map tries_of sessions) said t
+    pub hears : heard ≡ map told said
+
+  life_tries : (s : State) (sessions : List (List Exchange)) (heard : List ReplyBytes) (t : State) → IsLifeOfCalls config s sessions heard t → IsOfTries s sessions heard t
+  life_tries s [] heard t l = record { said = []; life = (refl, l.1); hears = l.0 }
+  life_tries s (session ∷ sessions) heard t (u, rest, left, hears, more) =
+      let o = life_tries u sessions rest t more in
+      record {
+        said = told_of config s (tries_of session) ++ o.said;
+        life = (u, o.said, session_leaves s u session left, refl, o.life);
+        hears = hears
+            ∙ (ap (λ (l : List ReplyBytes). l ++ rest) (session_heard config s session)
+            ∙ (ap (λ (l : List ReplyBytes). map told (told_of config s (tries_of session)) ++ l) o.hears ∙ sym (map-append told (told_of config s (tries_of session)) o.said)));
+      }
+
+-- ---- requests that are asked for pass the checks
+
+abbrev Passes : Try → Type 0
+Passes t = checked t.request ≡ None
+
+call_passes : (call : CallBytes) (end : Ending) (o : Option Request) → asked call ≡ o → AllByRecursion Passes (tries_for o end)
+call_passes call end None e = tt
+call_passes call end (Some r) e = (asked_passes call r e, tt)
+
+session_passes : (session : List Exchange) → AllByRecursion Passes (tries_of session)
+session_passes [] = tt
+session_passes (x ∷ xs) = all_append Passes (tries_in x) (tries_of xs) (call_passes x.event.call (ending x.event.mark x.is_heard) (asked x.event.call) refl) (session_passes xs)
+
+life_passes : (sessions : List (List Exchange)) → AllByRecursion Passes (all_tries (map tries_of sessions))
+life_passes [] = tt
+life_passes (session ∷ sessions) = all_append Passes (tries_of session) (all_tries (map tries_of sessions)) (session_passes session) (life_passes sessions)
+
+-- each request is tried to its end, so each is asked for
+requests_pass : (ts : List Try) (rs : List Request) → AllByRecursion Passes ts → AreTriesOf rs ts → AllByRecursion (λ r. checked r ≡ None) rs
+requests_pass [] rs h none = subst (λ (l : List Request). AllByRecursion (λ r. checked r ≡ None) l) (sym none) tt
+requests_pass (t ∷ ts) [] h tries = absurd tries.0
+requests_pass (t ∷ ts) (r ∷ rs) h tries = by_end (λ qs more. requests_pass ts qs h.1 more) t.end tries.1
+  where
+    by_end : ((qs : List Request) → AreTriesOf qs ts → AllByRecursion (λ q. checked q ≡ None) qs) → (e : Ending) → AreTriesOf (still_open (r ∷ rs) e) ts → AllByRecursion (λ q. checked q ≡ None) (r ∷ rs)
+    by_end next Marked more = next (r ∷ rs) more
+    by_end next Unanswered more = next (r ∷ rs) more
+    by_end next Answered more = (subst (λ (q : Request). checked q ≡ None) tries.0 h.0, next rs more)
+
+module _ (config : Config) where
+  -- the law of tries, over requests
+  abbrev pub Retried : Type 0
+  Retried = (s t : State) (requests : List Request) (sessions : List (List Try)) (told : List Told) → IsInvariant config s → AllByRecursion (λ r. checked r ≡ None) requests → AreTriesOf requests (all_tries sessions)
+      → IsLife config s sessions told t → (told ≡ told_once config s requests) × (t ≡ after_once config s requests)
+
+  pub calls_retried : Retried → (s t : State) (requests : List Request) (sessions : List (List Exchange)) (heard : List ReplyBytes) → IsInvariant config s → AreTriesOf requests (all_tries (map tries_of sessions))
+      → IsLifeOfCalls config s sessions heard t → (heard ≡ map told (told_once config s requests)) × (t ≡ after_once config s requests)
+  calls_retried law s t requests sessions heard inv tries l =
+      let o = life_tries config s sessions heard t l in
+      let once = law s t requests (map tries_of sessions) o.said inv (requests_pass (all_tries (map tries_of sessions)) requests (life_passes sessions) tries) tries o.life in
+      (o.hears ∙ ap (map told) once.0, once.1)
+
+  -- ---- the same call again
+
+  -- the law of one request that is taken again
+  abbrev pub Repeated : Type 0
+  Repeated = (s : State) (r : Request) → IsInvariant config s → checked r ≡ None → step config (step config s r).1 r ≡ step config s r
+
+  pub call_repeated : Repeated → (s : State) (call : CallBytes) → IsInvariant config s → (volumes config).respond ((volumes config).respond s call).1 call ≡ (volumes config).respond s call
+  call_repeated law s call inv = by_asked (asked call) refl
+    where
+      by_asked : (o : Option Request) → asked call ≡ o → (volumes config).respond ((volumes config).respond s call).1 call ≡ (volumes config).respond s call
+      by_asked None e =
+          let u = unasked_stays call e in
+          u.1 config ((volumes config).respond s call).1 ∙ (ap (λ (y : ReplyBytes × State). (u.0, y.1)) (u.1 config s) ∙ sym (u.1 config s))
+      by_asked (Some r) e =
+          let is : (volumes config).respond s call ≡ answer_to config s r = asked_answers config s call r e in
+          let again : answer_to config (step config s r).1 r ≡ answer_to config s r = ap (λ (y : Told × State). (told y.0, y.1)) (law s r inv (asked_passes call r e)) in
+          asked_answers config ((volumes config).respond s call).1 call r e
+          ∙ (ap (λ (y : ReplyBytes × State). answer_to config y.1 r) is ∙ (again ∙ sym is))

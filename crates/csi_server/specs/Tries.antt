@@ -1,0 +1,97 @@
+-- Calls as tries of requests: what a client of the volume machine asks for, call by call, what it hears, and what its sessions leave (CSI specification, 'Timeouts').
+use Rattle.std.specs.Prelude.{◌≡◌, ◌⊎◌, ℕ, Bool, true, false, List, [], ◌∷◌, ◌++◌, map, Option, Some, None, Result, Ok, Err}
+use Rattle.std.specs.List.{flat_map}
+use Rattle.frames_core.specs.Envelope.{CallBytes, ReplyBytes}
+use Rattle.csi_types.specs.declared.method.Method.{Method}
+use Rattle.csi_types.specs.declared.reason.Reason.{Reason}
+use Rattle.csi_types.specs.declared.requests.Request.{Request}
+use Rattle.csi_types.specs.Checks.{checked}
+use Rattle.csi_types.specs.Methods.{method_at}
+use Rattle.csi_codec.specs.Reading.{read_request}
+use Rattle.csi_config.specs.declared.config.Config.{Config}
+use Rattle.csi_keeper.specs.State.{State}
+use Rattle.csi_machine.specs.Retry.{Try, Ending, Marked, Unanswered, Answered}
+use Rattle.csi_server.specs.Machine.{Event, Mark, Unmarked, OutOfMemory, StoreRefused, StoreDown, state_after}
+use Rattle.csi_server.specs.Machine.{step as call_step}
+use Rattle.csi_server.specs.Volumes.{volumes, IsPending}
+
+-- ---- what a call asks for
+
+abbrev pub unless_refused : Request → Option Reason → Option Request
+unless_refused r None = Some r
+unless_refused r (Some why) = None
+
+abbrev pub asked_in : Result Request ℕ → Option Request
+asked_in (Ok r) = unless_refused r (checked r)
+asked_in (Err at) = None
+
+abbrev pub asked_of : Option Method → List ℕ → Option Request
+asked_of None message = None
+asked_of (Some m) message = asked_in (read_request m message)
+
+-- The request that a call asks for: its path names a method, its message is read, and its arguments pass the checks. Any other call asks for none.
+abbrev pub asked : CallBytes → Option Request
+asked call = asked_of (method_at call.path) call.message
+
+-- ---- the calls of a session
+
+-- a call as its client made it: the call with its mark, and whether the client heard the reply
+pub record Exchange : Type 0 where
+  pub event : Event
+  pub is_heard : Bool
+
+abbrev pub events_of : List Exchange → List Event
+events_of session = map (λ x. x.event) session
+
+-- how a try ends: a call that was refused inside is marked, whether its client heard so or not
+abbrev pub ending : Mark → Bool → Ending
+ending Unmarked true = Answered
+ending Unmarked false = Unanswered
+ending OutOfMemory is_heard = Marked
+ending StoreRefused is_heard = Marked
+ending StoreDown is_heard = Marked
+
+abbrev pub tries_for : Option Request → Ending → List Try
+tries_for None end = []
+tries_for (Some r) end = record { request = r; end = end } ∷ []
+
+-- a call is one try of the request that it asks for, and none where it asks for none
+abbrev pub tries_in : Exchange → List Try
+tries_in x = tries_for (asked x.event.call) (ending x.event.mark x.is_heard)
+
+-- the tries of a session, in order
+abbrev pub tries_of : List Exchange → List Try
+tries_of session = flat_map tries_in session
+
+abbrev pub heard_if : Bool → ReplyBytes → List ReplyBytes
+heard_if true reply = reply ∷ []
+heard_if false reply = []
+
+abbrev pub heard_by : Option Request → Mark → Bool → ReplyBytes → List ReplyBytes
+heard_by None mark is_heard reply = []
+heard_by (Some r) Unmarked is_heard reply = heard_if is_heard reply
+heard_by (Some r) OutOfMemory is_heard reply = []
+heard_by (Some r) StoreRefused is_heard reply = []
+heard_by (Some r) StoreDown is_heard reply = []
+
+-- What the client heard of its requests: the replies to the calls that ask for one and were not refused inside, as the machine replies to them at their places.
+abbrev pub heard_of : Config → State → List Exchange → List ReplyBytes
+heard_of config s [] = []
+heard_of config s (x ∷ xs) =
+    heard_by (asked x.event.call) x.event.mark x.is_heard (call_step (volumes config) s x.event).0 ++ heard_of config (call_step (volumes config) s x.event).1 xs
+
+-- ---- over stops
+
+-- what the law `pending` says that a session leaves: the State after its calls, or what a call would have made that was refused inside
+abbrev pub IsLeft : Config → State → List Event → State → Type 0
+IsLeft config s events t = (t ≡ state_after (volumes config) s events) ⊎ IsPending config s events t
+
+-- A life in calls: sessions, each begun from what the one before it left; what the client heard in all of them, and what the last one left.
+abbrev pub IsLifeOfCalls : Config → State → List (List Exchange) → List ReplyBytes → State → Type 0
+IsLifeOfCalls config s [] heard t = (heard ≡ []) × (t ≡ s)
+IsLifeOfCalls config s (session ∷ sessions) heard t =
+    (u : State)
+    × (rest : List ReplyBytes)
+    × IsLeft config s (events_of session) u
+    × (heard ≡ heard_of config s session ++ rest)
+    × IsLifeOfCalls config u sessions rest t
