@@ -21,36 +21,40 @@ use Rattle.csi_machine.specs.Verdicts.{Told}
 use Rattle.csi_server.specs.Machine.{Event, Mark, Unmarked, OutOfMemory, StoreRefused, StoreDown, marked, refused, state_after}
 use Rattle.csi_server.specs.Machine.{step as call_step}
 use Rattle.csi_server.specs.Requests.{after_check, after_path, after_read, malformed, told}
-use Rattle.csi_server.specs.Tries.{Exchange, asked, asked_in, asked_of, unless_refused, ending, events_of, heard_by, heard_of, tries_for, tries_in, tries_of, IsLeft, IsLifeOfCalls}
+use Rattle.csi_server.specs.Tries.{Exchange, Asks, asked, asked_in, asked_of, unless_refused, ending, events_of, heard_by, heard_of, tries_for, tries_in, tries_of, IsLeft, IsLifeOfCalls}
 use Rattle.csi_server.specs.Volumes.{volumes, IsPending}
 
 all_append : (P : Try → Type 0) (ts us : List Try) → AllByRecursion P ts → AllByRecursion P us → AllByRecursion P (ts ++ us)
 all_append P [] us h k = k
 all_append P (t ∷ ts) us h k = (h.0, all_append P ts us h.1 k)
 
+all_first : (P : Try → Type 0) (ts us : List Try) → AllByRecursion P (ts ++ us) → AllByRecursion P ts
+all_first P [] us h = tt
+all_first P (t ∷ ts) us h = (h.0, all_first P ts us h.1)
+
+all_last : (P : Try → Type 0) (ts us : List Try) → AllByRecursion P (ts ++ us) → AllByRecursion P us
+all_last P [] us h = h
+all_last P (t ∷ ts) us h = all_last P ts us h.1
+
 -- ---- what a call asks for
 
--- the request passes the checks
-pub asked_passes : (call : CallBytes) (r : Request) → asked call ≡ Some r → checked r ≡ None
-asked_passes call r = by_path (method_at call.path)
+pub asked_is : (call : CallBytes) (r : Request) → asked call ≡ Some r → Asks call r
+asked_is call r = by_path (method_at call.path) refl
   where
-    by_check : (q : Request) (o : Option Reason) → checked q ≡ o → unless_refused q o ≡ Some r → checked r ≡ None
-    by_check q None passed e = let same : q ≡ r = cc in subst (λ (p : Request). checked p ≡ None) same passed
-    by_check q (Some why) passed e = absurd (cc)
+    by_check : (m : Method) (q : Request) (o : Option Reason) → method_at call.path ≡ Some m → read_request m call.message ≡ Ok q → checked q ≡ o → unless_refused q o ≡ Some r → Asks call r
+    by_check m q None called read passed e = let same : q ≡ r = cc in subst (Asks call) same (record { method = m; called = called; read = read; passed = passed })
+    by_check m q (Some why) called read passed e = absurd (cc)
 
-    by_read : (x : Result Request ℕ) → asked_in x ≡ Some r → checked r ≡ None
-    by_read (Ok q) e = by_check q (checked q) refl e
-    by_read (Err at) e = absurd (cc)
+    by_read : (m : Method) (x : Result Request ℕ) → method_at call.path ≡ Some m → read_request m call.message ≡ x → asked_in x ≡ Some r → Asks call r
+    by_read m (Ok q) called read e = by_check m q (checked q) called read refl e
+    by_read m (Err at) called read e = absurd (cc)
 
-    by_path : (p : Option Method) → asked_of p call.message ≡ Some r → checked r ≡ None
-    by_path None e = absurd (cc)
-    by_path (Some m) e = by_read (read_request m call.message) e
+    by_path : (p : Option Method) → method_at call.path ≡ p → asked_of p call.message ≡ Some r → Asks call r
+    by_path None called e = absurd (cc)
+    by_path (Some m) called e = by_read m (read_request m call.message) called refl e
 
--- what a call asks for whose request is read and passes the checks
-pub read_asks : (call : CallBytes) (m : Method) (r : Request) → method_at call.path ≡ Some m → read_request m call.message ≡ Ok r → checked r ≡ None → asked call ≡ Some r
-read_asks call m r path read passed =
-    ap (λ (p : Option Method). asked_of p call.message) path
-    ∙ (ap asked_in read ∙ ap (unless_refused r) passed)
+pub is_asked : (call : CallBytes) (r : Request) → Asks call r → asked call ≡ Some r
+is_asked call r a = ap (λ (p : Option Method). asked_of p call.message) a.called ∙ (ap asked_in a.read ∙ ap (unless_refused r) a.passed)
 
 -- a call that asks for nothing is refused from each State alike
 pub unasked_stays : (call : CallBytes) → asked call ≡ None → (reply : ReplyBytes) × ((config : Config) (s : State) → (volumes config).respond s call ≡ (reply, s))
@@ -185,6 +189,60 @@ around [] (b ∷ bs) e after h = absurd (cc)
 around (x ∷ xs) [] e after h = record { first = []; middle = x; last = xs; whole = refl; is_before = refl; is = cc; is_after = cc }
 around (x ∷ xs) (b ∷ bs) e after h = around_later x xs b bs e after (cc) (around xs bs e after (cc))
 
+-- a session around one of its tries
+record IsAroundTry (session : List Exchange) (before : List Try) (t : Try) (after : List Try) : Type 0 where
+  pub first : List Exchange
+  pub middle : Exchange
+  pub last : List Exchange
+  pub whole : session ≡ first ++ middle ∷ last
+  pub is_before : tries_of first ≡ before
+  pub is : tries_in middle ≡ t ∷ []
+  pub is_after : tries_of last ≡ after
+
+around_more : (x : Exchange) (xs : List Exchange) (before rest : List Try) (t : Try) (after : List Try) → before ≡ tries_in x ++ rest → IsAroundTry xs rest t after → IsAroundTry (x ∷ xs) before t after
+around_more x xs before rest t after is a = record {
+  first = x ∷ a.first;
+  middle = a.middle;
+  last = a.last;
+  whole = ap (λ (l : List Exchange). x ∷ l) a.whole;
+  is_before = ap (λ (l : List Try). tries_in x ++ l) a.is_before ∙ sym is;
+  is = a.is;
+  is_after = a.is_after;
+}
+
+-- the first call of a session is no try, or it is the one, or it is one before
+around_by : (x : Exchange) (xs : List Exchange) (before : List Try) (t : Try) (after : List Try) → ((rest : List Try) → tries_of xs ≡ rest ++ t ∷ after → IsAroundTry xs rest t after)
+    → (own : List Try) → tries_in x ≡ own → (o : Option Request) → own ≡ tries_for o (ending x.event.mark x.is_heard) → own ++ tries_of xs ≡ before ++ t ∷ after → IsAroundTry (x ∷ xs) before t after
+around_by x xs before t after next own is None none h =
+    let nothing : tries_in x ≡ [] = is ∙ none in
+    around_more x xs before before t after (ap (λ (l : List Try). l ++ before) (sym nothing)) (next before (ap (λ (l : List Try). l ++ tries_of xs) (sym none) ∙ h))
+around_by x xs [] t after next own is (Some r) one h =
+    let both : record { request = r; end = ending x.event.mark x.is_heard } ∷ tries_of xs ≡ t ∷ after = ap (λ (l : List Try). l ++ tries_of xs) (sym one) ∙ h in
+    record { first = []; middle = x; last = xs; whole = refl; is_before = refl; is = is ∙ (one ∙ ap (λ (u : Try). u ∷ []) (cc both)); is_after = cc both }
+around_by x xs (b ∷ bs) t after next own is (Some r) one h =
+    let both : record { request = r; end = ending x.event.mark x.is_heard } ∷ tries_of xs ≡ b ∷ (bs ++ t ∷ after) = ap (λ (l : List Try). l ++ tries_of xs) (sym one) ∙ h in
+    let same : record { request = r; end = ending x.event.mark x.is_heard } ≡ b = cc in
+    around_more x xs (b ∷ bs) bs t after (ap (λ (u : Try). u ∷ bs) (sym same) ∙ ap (λ (l : List Try). l ++ bs) (sym (is ∙ one))) (next bs (cc))
+
+around_try : (session : List Exchange) (before : List Try) (t : Try) (after : List Try) → tries_of session ≡ before ++ t ∷ after → IsAroundTry session before t after
+around_try [] [] t after h = absurd (cc)
+around_try [] (b ∷ bs) t after h = absurd (cc)
+around_try (x ∷ xs) before t after h = around_by x xs before t after (λ rest k. around_try xs rest t after k) (tries_in x) refl (asked x.event.call) refl h
+
+-- the try of a call
+try_of : (call : CallBytes) (end : Ending) (o : Option Request) (t : Try) → asked call ≡ o → tries_for o end ≡ t ∷ [] → (asked call ≡ Some t.request) × (t.end ≡ end)
+try_of call end None t e h = absurd (cc)
+try_of call end (Some r) t e h =
+    let same : record { request = r; end = end } ≡ t = cc in
+    (e ∙ ap (λ (u : Try). Some u.request) same, ap (λ (u : Try). u.end) (sym same))
+
+ends_marked : (mark : Mark) (is_heard : Bool) → ending mark is_heard ≡ Marked → mark ≢ Unmarked
+ends_marked Unmarked true h e = absurd (cc)
+ends_marked Unmarked false h e = absurd (cc)
+ends_marked OutOfMemory is_heard h e = absurd (cc)
+ends_marked StoreRefused is_heard h e = absurd (cc)
+ends_marked StoreDown is_heard h e = absurd (cc)
+
 marked_ends : (mark : Mark) (is_heard : Bool) → mark ≢ Unmarked → ending mark is_heard ≡ Marked
 marked_ends Unmarked is_heard h = absurd (h refl)
 marked_ends OutOfMemory is_heard h = refl
@@ -212,11 +270,58 @@ module _ (config : Config) where
       at = ap (λ (l : List Event). state_after (volumes config) s l) (sym a.is_before) ∙ session_after config s a.first
 
       asks : asked a.middle.event.call ≡ Some p.request
-      asks = ap (λ (e : Event). asked e.call) a.is ∙ read_asks p.refused.call p.method p.request p.called p.read p.passed
+      asks = ap (λ (e : Event). asked e.call) a.is ∙ is_asked p.refused.call p.request (record { method = p.method; called = p.called; read = p.read; passed = p.passed })
 
   pub session_leaves : (s t : State) (session : List Exchange) → IsLeft config s (events_of session) t → Leaves config s (tries_of session) t
   session_leaves s t session (inl is) = inl (is ∙ session_after config s session)
   session_leaves s t session (inr p) = inr (due s t session p)
+
+  -- ---- what tries leave is left by their calls
+
+  -- the tries of a call keep the State, and so does it
+  stays_by : (s : State) (x : Exchange) (o : Option Request) → (call_step (volumes config) s x.event).1 ≡ after_tries config s (tries_for o (ending x.event.mark x.is_heard))
+      → AllByRecursion (λ u. after_try config s u ≡ s) (tries_for o (ending x.event.mark x.is_heard)) → (call_step (volumes config) s x.event).1 ≡ s
+  stays_by s x None after h = after
+  stays_by s x (Some r) after h = after ∙ h.0
+
+  stays : (s : State) (xs : List Exchange) → AllByRecursion (λ u. after_try config s u ≡ s) (tries_of xs) → AllByRecursion (λ e. (call_step (volumes config) s e).1 ≡ s) (events_of xs)
+  stays s [] h = tt
+  stays s (x ∷ xs) h =
+      (stays_by s x (asked x.event.call) (moves config s x).after (all_first (λ u. after_try config s u ≡ s) (tries_in x) (tries_of xs) h), stays s xs (all_last (λ u. after_try config s u ≡ s) (tries_in x) (tries_of xs) h))
+
+  pending : (s t : State) (session : List Exchange) → IsDue config s (tries_of session) t → IsPending config s (events_of session) t
+  pending s t session d = record {
+    before = events_of a.first;
+    refused = a.middle.event;
+    after = events_of a.last;
+    whole = ap events_of a.whole ∙ map-append (λ (x : Exchange). x.event) a.first (a.middle ∷ a.last);
+    is_marked = ends_marked a.middle.event.mark a.middle.is_heard (sym tried.1 ∙ d.is_marked);
+    still = stays (state_after (volumes config) s (events_of a.first)) a.last (subst (λ (l : List Try). AllByRecursion (λ u. after_try config (state_after (volumes config) s (events_of a.first)) u ≡ state_after (volumes config) s (events_of a.first)) l) (sym a.is_after)
+        (subst (λ (z : State). AllByRecursion (λ u. after_try config z u ≡ z) d.after) (sym at) d.still));
+    method = asks.method;
+    request = d.refused.request;
+    called = asks.called;
+    read = asks.read;
+    passed = asks.passed;
+    is = d.is ∙ ap (λ (z : State). (step config z d.refused.request).1) (sym at);
+  }
+    where
+      a : IsAroundTry session d.before d.refused d.after
+      a = around_try session d.before d.refused d.after d.whole
+
+      tried : (asked a.middle.event.call ≡ Some d.refused.request) × (d.refused.end ≡ ending a.middle.event.mark a.middle.is_heard)
+      tried = try_of a.middle.event.call (ending a.middle.event.mark a.middle.is_heard) (asked a.middle.event.call) d.refused refl a.is
+
+      asks : Asks a.middle.event.call d.refused.request
+      asks = asked_is a.middle.event.call d.refused.request tried.0
+
+      -- the State that the marked try met
+      at : state_after (volumes config) s (events_of a.first) ≡ after_tries config s d.before
+      at = session_after config s a.first ∙ ap (λ (l : List Try). after_tries config s l) a.is_before
+
+  pub tries_leave : (s t : State) (session : List Exchange) → Leaves config s (tries_of session) t → IsLeft config s (events_of session) t
+  tries_leave s t session (inl is) = inl (is ∙ sym (session_after config s session))
+  tries_leave s t session (inr d) = inr (pending s t session d)
 
   -- ---- a life
 
@@ -245,7 +350,7 @@ Passes t = checked t.request ≡ None
 
 call_passes : (call : CallBytes) (end : Ending) (o : Option Request) → asked call ≡ o → AllByRecursion Passes (tries_for o end)
 call_passes call end None e = tt
-call_passes call end (Some r) e = (asked_passes call r e, tt)
+call_passes call end (Some r) e = ((asked_is call r e).passed, tt)
 
 session_passes : (session : List Exchange) → AllByRecursion Passes (tries_of session)
 session_passes [] = tt
@@ -294,6 +399,6 @@ module _ (config : Config) where
           u.1 config ((volumes config).respond s call).1 ∙ (ap (λ (y : ReplyBytes × State). (u.0, y.1)) (u.1 config s) ∙ sym (u.1 config s))
       by_asked (Some r) e =
           let is : (volumes config).respond s call ≡ answer_to config s r = asked_answers config s call r e in
-          let again : answer_to config (step config s r).1 r ≡ answer_to config s r = ap (λ (y : Told × State). (told y.0, y.1)) (law s r inv (asked_passes call r e)) in
+          let again : answer_to config (step config s r).1 r ≡ answer_to config s r = ap (λ (y : Told × State). (told y.0, y.1)) (law s r inv ((asked_is call r e).passed)) in
           asked_answers config ((volumes config).respond s call).1 call r e
           ∙ (ap (λ (y : ReplyBytes × State). answer_to config y.1 r) is ∙ (again ∙ sym is))

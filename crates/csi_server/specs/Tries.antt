@@ -33,6 +33,13 @@ asked_of (Some m) message = asked_in (read_request m message)
 abbrev pub asked : CallBytes → Option Request
 asked call = asked_of (method_at call.path) call.message
 
+-- the same as a relation: the call asks for the request
+pub record Asks (call : CallBytes) (r : Request) : Type 0 where
+  pub method : Method
+  pub called : method_at call.path ≡ Some method
+  pub read : read_request method call.message ≡ Ok r
+  pub passed : checked r ≡ None
+
 -- ---- the calls of a session
 
 -- a call as its client made it: the call with its mark, and whether the client heard the reply

@@ -1,6 +1,6 @@
 //! Laws of the definitions and of the machines that are served.
 
-ghost use Rattle.std.specs.Prelude.{◌≡◌, ◌⊎◌, ◌≤◌, ◌<◌, ◌^◌, ◌++◌, ℕ, List, None, Some, length, decimal, map};
+ghost use Rattle.std.specs.Prelude.{◌≡◌, ◌⊎◌, ◌↔◌, ◌≤◌, ◌<◌, ◌^◌, ◌++◌, ℕ, List, None, Some, length, decimal, map};
 ghost use Rattle.std.specs.List.{AllByRecursion};
 ghost use Rattle.frames_core.specs.declared.fault.FrameFault.{FrameFault};
 ghost use Rattle.frames_core.specs.declared.limits.TheConstants.{MAX_MESSAGE_BYTES};
@@ -13,7 +13,7 @@ ghost use Rattle.csi_keeper.specs.Invariant.{IsInvariant};
 ghost use Rattle.csi_server.specs.Machine.{Unmarked, Event, Runs, AreReplies, refusal, state_after};
 ghost use Rattle.csi_server.specs.Identity.{identity};
 ghost use Rattle.csi_server.specs.Requests.{told};
-ghost use Rattle.csi_server.specs.Tries.{Exchange, asked, events_of, tries_of, heard_of, IsLeft, IsLifeOfCalls};
+ghost use Rattle.csi_server.specs.Tries.{Asks, Exchange, asked, events_of, tries_of, heard_of, IsLeft, IsLifeOfCalls};
 ghost use Rattle.csi_server.specs.Volumes.{volumes, seen, IsPending};
 ghost use Rattle.csi_machine.specs.Retry.{Leaves, AreTriesOf, all_tries, told_of, told_once, after_once};
 ghost use Rattle.csi_machine.specs.Retry.{state_after as after_tries};
@@ -87,20 +87,23 @@ pub fn pending<K: Keeper>(config: &Config)
         → (t : MachineState) → K.survivors new t → (t ≡ state_after (volumes config.now) s events) ⊎ IsPending config.now s events t }
 {}
 
-/// A call that asks for a request is answered as the machine answers the request. One that asks for none has the
-/// same reply from each State, under each configuration, and leaves each as it is.
+/// A call asks for a request exactly where its path names a method, its message is read as that request, and the
+/// request passes the checks of its arguments. It is answered as the machine answers the request. One that asks for
+/// none has the same reply from each State, under each configuration, and leaves each as it is.
 pub fn asking()
+    ensures exact { (call : CallBytes) (r : Request) → (asked call ≡ Some r) ↔ Asks call r }
     ensures answered { (config : AnyConfig) (s : MachineState) (call : CallBytes) (r : Request) → asked call ≡ Some r → (volumes config).respond s call ≡ (told (step config s r).0, (step config s r).1) }
     ensures unasked { (call : CallBytes) → asked call ≡ None → (reply : ReplyBytes) × ((config : AnyConfig) (s : MachineState) → (volumes config).respond s call ≡ (reply, s)) }
 {}
 
 /// The calls of a session are tries of the requests that they ask for: the State after them and the replies that
-/// were heard are those of the tries, and so is what [`pending`] says that they leave. So over any keeper,
-/// after a run from a State that alone would have been left by a stop, a stop leaves what the tries leave.
+/// were heard are those of the tries, and what [`pending`] says that they leave is just what the tries leave. So
+/// over any keeper, after a run from a State that alone would have been left by a stop, a stop leaves what the
+/// tries leave.
 pub fn tries<K: Keeper>(config: &Config)
     ensures after { (s : MachineState) (session : List Exchange) → state_after (volumes config.now) s (events_of session) ≡ after_tries config.now s (tries_of session) }
     ensures heard { (s : MachineState) (session : List Exchange) → heard_of config.now s session ≡ map told (told_of config.now s (tries_of session)) }
-    ensures left { (s t : MachineState) (session : List Exchange) → IsLeft config.now s (events_of session) t → Leaves config.now s (tries_of session) t }
+    ensures left { (s t : MachineState) (session : List Exchange) → IsLeft config.now s (events_of session) t ↔ Leaves config.now s (tries_of session) t }
     ensures stopped { (old new : K) (s : MachineState) (session : List Exchange) → Runs (volumes config.now) (seen K.holds K.doubt K.refused K.survivors K.tied K.is_down config.now old) (seen K.holds K.doubt K.refused K.survivors K.tied K.is_down config.now new) s (events_of session)
         → ((t : MachineState) → K.survivors old t → t ≡ s)
         → (t : MachineState) → K.survivors new t → Leaves config.now s (tries_of session) t }
