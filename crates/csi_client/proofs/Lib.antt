@@ -1,5 +1,6 @@
 pub mod Feeding
 pub mod Gathering
 pub mod Paths
+pub mod Pauses
 pub mod Printing
 pub mod Statuses

@@ -1,3 +1,4 @@
+pub mod Again
 pub mod Escape
 pub mod Lines
 pub mod Live

@@ -1,6 +1,7 @@
 //! The client: it sends the frames of calls, and says what the replies to them are.
 #![tactic(auto)]
 
+mod again;
 mod calling;
 mod escape;
 mod lines;
@@ -8,6 +9,7 @@ mod receiving;
 mod replies;
 mod showing;
 
+pub use again::{Exchanges, Line, call_again, is_unanswered, pause_millis};
 pub use calling::{put_call, send};
 pub use escape::put_escaped;
 pub use lines::put_lines;

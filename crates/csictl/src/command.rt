@@ -129,6 +129,18 @@ const SOCKET: Field = Field {
     help: "The socket of the server, as /run/csid.sock",
 };
 
+/// The option for how often a call is tried.
+pub(crate) const TRIES: &str = "tries";
+
+/// A call is tried at most so often.
+pub(crate) const MOST_TRIES: u32 = 10;
+
+/// The option for how long a try may take, in seconds.
+pub(crate) const TIMEOUT: &str = "timeout";
+
+// A day.
+const MOST_SECONDS: i64 = 86_400;
+
 // The option of a field.
 fn option<'a>(alloc: Global, field: &Field) -> Arg<'a> {
     let arg = Arg::new(alloc, field.name)
@@ -182,11 +194,29 @@ fn frame<'a>(alloc: Global) -> Result<Command<'a>, Error> {
     with_fields(alloc, frame)
 }
 
+// The options of how a call is made.
+fn with_patience<'a>(alloc: Global, command: Command<'a>) -> Result<Command<'a>, Error> {
+    let tries = Arg::new(alloc, TRIES)
+        .long(TRIES)
+        .value_name("N")
+        .help(
+            "How often the call is sent, on a new connection each time, until it is answered, as 5; 1 without it, and at most 10",
+        )
+        .value_parser(value_parser!(u32).range(1..=i64::from(MOST_TRIES)));
+    let timeout = Arg::new(alloc, TIMEOUT)
+        .long(TIMEOUT)
+        .value_name("SECONDS")
+        .help("How long each try may take up to its reply, as 10; without it, as long as it takes")
+        .value_parser(value_parser!(u32).range(1..=MOST_SECONDS));
+    Ok(command.arg(tries)?.arg(timeout)?)
+}
+
 fn call<'a>(alloc: Global) -> Result<Command<'a>, Error> {
     let call = Command::new(alloc, "call").about(
         "Makes one call of a server on a socket, and shows its reply",
     );
-    with_fields(alloc, call.arg(option(alloc, &SOCKET).required(true))?)
+    let call = call.arg(option(alloc, &SOCKET).required(true))?;
+    with_fields(alloc, with_patience(alloc, call)?)
 }
 
 fn vectors<'a>(alloc: Global) -> Result<Command<'a>, Error> {

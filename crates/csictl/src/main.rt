@@ -3,8 +3,10 @@
 
 mod call;
 mod command;
+mod connection;
 mod fields;
 mod frame;
+mod line;
 mod message;
 mod run;
 mod say;

@@ -1,6 +1,7 @@
 //! What is said on standard error, and the statuses that the program ends with.
 
 use command_line::line;
+use std::fmt::Display;
 use std::io::{self, ErrorKind, Write};
 
 /// All went well.
@@ -37,7 +38,12 @@ pub(crate) fn no_memory(rt: &HostRuntime) -> u8 {
 }
 
 /// Says two parts of a line, with a colon between.
-pub(crate) fn say_of(rt: &HostRuntime, subject: &str, text: &str, status: u8) -> u8 {
+pub(crate) fn say_of<T: Display + Drop>(
+    rt: &HostRuntime,
+    subject: &str,
+    text: T,
+    status: u8,
+) -> u8 {
     match format!(in rt.alloc(); "{subject}: {text}") {
         Ok(line) => say(rt, line.as_str(), status),
         Err(_) => no_memory(rt),

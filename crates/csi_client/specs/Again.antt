@@ -1,0 +1,38 @@
+-- A call that is sent again until it is answered.
+use Rattle.std.specs.Prelude.{ℕ, ◌-◌, ◌*◌, ◌^◌, Bool, true, false, not, min}
+use Rattle.frames_core.specs.declared.reply_fault.ReplyWhy.{ReplyWhy}
+use Rattle.frames_core.specs.declared.reply_fault.ReplyWhy.TheVariants as why
+use Rattle.csi_client.specs.declared.receiving.Received.{Received}
+use Rattle.csi_client.specs.declared.receiving.Received.TheVariants.{Reply, Nothing, Malformed, Failed, NoMemory}
+
+-- whether the bytes of a reply ended before it was whole
+abbrev pub is_end : ReplyWhy → Bool
+is_end why.BadStatus = false
+is_end why.BadTextLength = false
+is_end why.BadText = false
+is_end why.BadFlag = false
+is_end why.BadBodyLength = false
+is_end why.EndOfInput = true
+
+-- An exchange of which it is open whether the server took the call: the connection failed, or ended before its reply was whole.
+abbrev pub is_unanswered : Received → Bool
+is_unanswered (Reply r) = false
+is_unanswered Nothing = true
+is_unanswered (Malformed f) = is_end f.why
+is_unanswered Failed = true
+is_unanswered NoMemory = false
+
+abbrev pub one_if : Bool → ℕ
+one_if true = 1
+one_if false = 0
+
+-- an unanswered exchange is counted, and an answered one
+abbrev pub unanswered_count : Received → ℕ
+unanswered_count r = one_if (is_unanswered r)
+
+abbrev pub answered_count : Received → ℕ
+answered_count r = one_if (not (is_unanswered r))
+
+-- the longest pause before a further try, in milliseconds: twice as long after each try, up to 2 s
+abbrev pub longest_pause : ℕ → ℕ
+longest_pause tried = min (100 * 2 ^ (tried - 1)) 2000

@@ -1,0 +1,115 @@
+//! A call, sent again until it is answered.
+
+ghost use Rattle.std.specs.Prelude.{◌≡◌, ◌≤◌, ◌<◌, ◌+◌, ◌-◌, ◌/◌, ◌^◌, ℕ, true};
+ghost use Rattle.csi_client.specs.Again.{is_unanswered, unanswered_count, answered_count, longest_pause};
+
+use crate::receiving::Received;
+use frames_core::ReplyWhy;
+
+/// Connections to a server, one for each exchange.
+pub trait Line {
+    // How many exchanges were made.
+    ghost exchanges: { Self → ℕ };
+
+    // How many of them were unanswered.
+    ghost unanswered: { Self → ℕ };
+
+    /// Sends the frame of a call on a new connection, and waits for its reply. Where the connection
+    /// cannot be made, or the call not be sent, that is [`Received::Failed`].
+    ///
+    /// The line counts its exchanges, and those that are unanswered.
+    fn exchange(&mut self, frame: &[u8]) -> Received
+        requires { exchanges self.old < 2 ^ 64 - 1 }
+        ensures made { exchanges self.new ≡ exchanges self.old + 1 }
+        ensures unanswered { unanswered self.new ≡ unanswered self.old + unanswered_count result };
+}
+
+/// Whether it is open if the server took the call: the connection failed, or it ended before the
+/// reply was whole. A reply of any status, and a malformed one, are answers; so is want of memory of
+/// the client, which a further try would not help.
+pub fn is_unanswered(received: &Received) -> bool
+    ensures { result ≡ is_unanswered received.now }
+{
+    match received {
+        Received::Nothing | Received::Failed => true,
+        Received::Malformed(fault) => fault.why == ReplyWhy::EndOfInput,
+        Received::Reply(_) | Received::NoMemory => false,
+    }
+}
+
+/// What a line counts.
+#[derive(Clone, Copy, Debug, PartialEq, Eq)]
+pub struct Exchanges {
+    /// How many exchanges were made.
+    pub made: u64,
+    /// How many of them were unanswered.
+    pub unanswered: u64,
+    ghost within: { unanswered ≤ made },
+}
+
+impl Exchanges {
+    /// None so far.
+    pub fn none() -> Exchanges
+        ensures made { result.made ≡ 0 }
+        ensures unanswered { result.unanswered ≡ 0 }
+    {
+        Exchanges {
+            made: 0,
+            unanswered: 0,
+        }
+    }
+
+    /// Counts one more, which gave this.
+    pub fn count(&mut self, received: &Received)
+        requires { self.old.made < 2 ^ 64 - 1 }
+        ensures made { self.new.made ≡ self.old.made + 1 }
+        ensures unanswered { self.new.unanswered ≡ self.old.unanswered + unanswered_count received.now }
+    {
+        *self = Exchanges {
+            made: self.made + 1,
+            unanswered: self.unanswered + u64::from(is_unanswered(received)),
+        };
+    }
+}
+
+/// Makes a call: the same frame is sent on a new connection until an exchange is answered, at most
+/// `tries` times, of 1 to 10. What the last exchange gave is the outcome.
+///
+/// Each call of the Container Storage Interface may be sent again so: the server takes it once
+/// (CSI specification, 'Timeouts').
+pub fn call_again<L: Line>(line: &mut L, frame: &[u8], tries: u32) -> Received
+    requires few { L.exchanges line.old < 2 ^ 63 }
+    requires least { 1 ≤ tries }
+    requires most { tries ≤ 10 }
+    ensures made { L.exchanges line.old + 1 ≤ L.exchanges line.new }
+    ensures bounded { L.exchanges line.new ≤ L.exchanges line.old + tries }
+    ensures once { L.exchanges line.new + L.unanswered line.old ≡ L.exchanges line.old + L.unanswered line.new + answered_count result }
+    ensures given_up { is_unanswered result ≡ true → L.exchanges line.new ≡ L.exchanges line.old + tries }
+{
+    for tried in 1..tries {
+        let received = line.exchange(frame);
+        if !is_unanswered(&received) {
+            return received;
+        }
+    }
+    line.exchange(frame)
+}
+
+// The longest pause where so many tries were made, in milliseconds.
+fn longest_pause(tried: u32) -> u64
+    ensures { result ≡ longest_pause tried }
+{
+    let doubled = 2_u64.saturating_pow(tried.saturating_sub(1));
+    doubled.saturating_mul(100).min(2000)
+}
+
+/// How long to wait before a further try, in milliseconds, where so many were made: 100 and twice as
+/// long after each, up to 2,000. Half of it is fixed, and of the other half the number `chance`
+/// chooses, so that clients that failed at once do not come again at once.
+pub fn pause_millis(tried: u32, chance: u32) -> u64
+    ensures least { longest_pause tried / 2 ≤ result }
+    ensures most { result ≤ longest_pause tried }
+{
+    let half = longest_pause(tried) / 2;
+    half + u64::from(chance) % (half + 1)
+}

@@ -1,0 +1,130 @@
+//! The way to a server on a socket: a connection for each try of a call.
+
+ghost use Rattle.std.specs.Prelude.{◌≡◌};
+
+use crate::connection::Connection;
+use crate::say::{DONE, INPUT_OUTPUT, no_memory, say_of};
+use csi_client::{Exchanges, Line, Received, pause_millis, receive, send};
+use frames_core::ReplyFault;
+use std::io::{self, ErrorKind};
+use std::thread;
+use std::time::{Clock, Duration};
+use thiserror::Error;
+
+/// Why a try was not answered.
+#[derive(Debug, Drop, Error)]
+pub(crate) enum Unanswered {
+    #[error("closed without a reply")]
+    Closed,
+    #[error("{0}")]
+    CutShort(ReplyFault),
+    #[error("a read failed")]
+    ReadFailed,
+    #[error("no reply within the time of --timeout")]
+    TimedOut,
+    #[error("{0}")]
+    Failed(io::Error),
+}
+
+/// The way to a server.
+#[derive(Drop)]
+pub(crate) struct SocketLine<'a> {
+    rt: &'a HostRuntime,
+    path: &'a str,
+    tries: u32,
+    // How long one try may take.
+    timeout: Option<Duration>,
+    exchanges: Exchanges,
+    // Why the last try was not answered.
+    unanswered: Option<Unanswered>,
+}
+
+impl<'a> SocketLine<'a> {
+    /// The way to the server of this socket, for so many tries, of which none takes longer than that.
+    pub(crate) fn new(
+        rt: &'a HostRuntime,
+        path: &'a str,
+        tries: u32,
+        timeout: Option<Duration>,
+    ) -> SocketLine<'a>
+        ensures { result.exchanges.made ≡ 0 }
+    {
+        SocketLine {
+            rt,
+            path,
+            tries,
+            timeout,
+            exchanges: Exchanges::none(),
+            unanswered: None,
+        }
+    }
+
+    /// Says why the last try was not answered, and gives the exit status.
+    pub(crate) fn say_unanswered(&self) -> u8 {
+        match &self.unanswered {
+            Some(why) => say_of(self.rt, self.path, why, INPUT_OUTPUT),
+            None => INPUT_OUTPUT,
+        }
+    }
+
+    // Says why the last try was not answered, and waits for the next one.
+    fn begin_again(&self, why: &Unanswered) {
+        let rt = self.rt;
+        let tried = u32::try_from(self.exchanges.made).unwrap_or(u32::MAX);
+        let turn = tried.saturating_add(1);
+        match format!(in rt.alloc(); "{why}: try {turn} of {}", self.tries) {
+            Ok(text) => say_of(rt, self.path, text.as_str(), DONE),
+            Err(_) => no_memory(rt),
+        };
+        let chance = rt.monotonic().map_or(0, |time| time.subsec_nanos());
+        thread::sleep(rt, Duration::from_millis(pause_millis(tried, chance)));
+    }
+
+    // One connection, up to its reply.
+    fn converse(&self, frame: &[u8]) -> io::Result<Received> {
+        let mut connection = Connection::new(self.rt, self.path, self.timeout)?;
+        send(&mut connection, frame)?;
+        connection.end_writing()?;
+        match receive(self.rt.alloc(), &mut connection) {
+            Received::Failed if connection.is_late => Err(io::Error::from(ErrorKind::TimedOut)),
+            received => Ok(received),
+        }
+    }
+}
+
+// What an exchange gave, and where it is not answered, why.
+fn outcome(exchanged: io::Result<Received>) -> (Received, Option<Unanswered>) {
+    let error = match exchanged {
+        Ok(Received::Nothing) => return (Received::Nothing, Some(Unanswered::Closed)),
+        Ok(Received::Malformed(fault)) => {
+            return (
+                Received::Malformed(fault),
+                Some(Unanswered::CutShort(fault)),
+            );
+        }
+        Ok(Received::Failed) => return (Received::Failed, Some(Unanswered::ReadFailed)),
+        Ok(received) => return (received, None),
+        Err(error) => error,
+    };
+    match error.kind() {
+        ErrorKind::OutOfMemory => (Received::NoMemory, None),
+        ErrorKind::TimedOut => (Received::Failed, Some(Unanswered::TimedOut)),
+        _ => (Received::Failed, Some(Unanswered::Failed(error))),
+    }
+}
+
+impl Line for SocketLine<'_> {
+    ghost exchanges = { λ line. line.exchanges.made };
+
+    ghost unanswered = { λ line. line.exchanges.unanswered };
+
+    fn exchange(&mut self, frame: &[u8]) -> Received {
+        if let Some(why) = &self.unanswered {
+            self.begin_again(why);
+        }
+        let (received, why) = outcome(self.converse(frame));
+        self.unanswered = why;
+        self.exchanges.count(&received);
+        received
+    }
+}
