@@ -6,6 +6,7 @@ mod client;
 mod codec;
 mod frames;
 mod machine;
+mod tries;
 mod types;
 mod words;
 
@@ -22,6 +23,7 @@ enum Section {
     Frames,
     Types,
     Client,
+    Tries,
     Machine(Bench),
 }
 
@@ -32,6 +34,7 @@ impl AnswerRow for Section {
             "frames" => Section::Frames,
             "types" => Section::Types,
             "client" => Section::Client,
+            "tries" => Section::Tries,
             "machine" => Section::Machine(Bench::new(rt.alloc())?),
             _ => return Err(RowFault::NotRow),
         };
@@ -45,6 +48,7 @@ impl AnswerRow for Section {
             Section::Codec => codec::answer(alloc, row)?,
             Section::Frames => frames::answer(alloc, row)?,
             Section::Types => types::answer(alloc, row)?,
+            Section::Tries => tries::answer(alloc, row)?,
             Section::Client => return Ok(Answer::Lines(client::answer(alloc, row)?)),
             Section::Machine(bench) => bench.answer(alloc, row)?,
         };

@@ -1,6 +1,7 @@
 //! Rows that put a stream of calls together and try it: it is served again and again, each time with something else cut short or
 //! refused, and what comes is compared with what the rows want.
 
+mod again;
 mod compared;
 mod fakes;
 mod kept;

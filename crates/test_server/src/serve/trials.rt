@@ -53,8 +53,11 @@ impl Trials<'_> {
         self.flushes()?;
         match self.server {
             Server::Volumes(_) => {
+                self.again()?;
                 self.store()?;
-                Ok("ok in pieces, cut, ended, reads failed, writes failed, store refused")
+                Ok(
+                    "ok in pieces, cut, ended, reads failed, writes failed, sent again, store refused",
+                )
             }
             Server::Identity { .. } => Ok("ok in pieces, cut, ended, reads failed, writes failed"),
         }
