@@ -1,6 +1,7 @@
 -- What the first bytes of a connection begin.
-use Rattle.std.specs.Prelude.{◌≡◌, ◌⊎◌, ◌≤◌, List, [], length, take, ℕ}
+use Rattle.std.specs.Prelude.{◌≡◌, ◌≢◌, ◌⊎◌, ◌≤◌, List, [], length, take, ℕ}
 use Rattle.frames_core.specs.declared.fault.FrameWhy.{FrameWhy}
+use Rattle.frames_core.specs.declared.fault.FrameWhy.TheVariants.{EndOfInput}
 use Rattle.frames_core.specs.Envelope.{CallBytes, IsCall, frame}
 use Rattle.frames_core.specs.Stream.{FaultAt}
 
@@ -11,3 +12,11 @@ BeginsCall bytes = (call : CallBytes) × (size : ℕ) × IsCall call × (size �
 -- as the whole of a stream, they are refused at their first frame, or are none
 abbrev pub BeginsNoCall : List ℕ → Type 0
 BeginsNoCall bytes = (bytes ≡ []) ⊎ ((why : FrameWhy) × (at : ℕ) × FaultAt bytes why at)
+
+-- they are refused at their first frame, whatever follows
+abbrev pub BeginsFault : List ℕ → Type 0
+BeginsFault bytes = (why : FrameWhy) × (at : ℕ) × FaultAt bytes why at × (why ≢ EndOfInput)
+
+-- nothing is wrong with them but that they end
+abbrev pub MayBeginCall : List ℕ → Type 0
+MayBeginCall bytes = (bytes ≡ []) ⊎ ((at : ℕ) × FaultAt bytes EndOfInput at)

@@ -1,7 +1,8 @@
 //! A connection that has not sent a whole call yet.
 
-ghost use Rattle.std.specs.Prelude.{◌≡◌, ◌⊎◌, ◌≤◌, length};
-ghost use Rattle.csid.specs.Starting.{BeginsCall, BeginsNoCall};
+ghost use Rattle.std.specs.Prelude.{◌≡◌, ◌⊎◌, ◌≤◌, ◌<◌, true, false, length};
+ghost use Rattle.csid.specs.declared.pending.TheConstants.{ENOUGH};
+ghost use Rattle.csid.specs.Starting.{BeginsCall, BeginsNoCall, BeginsFault, MayBeginCall};
 
 use frames_core::{FrameWhy, Taken, take_frame};
 use std::alloc::Global;
@@ -21,8 +22,6 @@ pub(crate) enum Start {
     NoCall,
     /// It is not told yet.
     Open,
-    /// It was not looked at yet.
-    New,
 }
 
 /// What a look at a connection gave.
@@ -41,15 +40,17 @@ pub(crate) enum Heard {
 pub(crate) struct Pending {
     pub(crate) stream: UnixStream,
     pub(crate) sent: Vec<u8>,
-    pub(crate) start: Start,
+    /// None where it was not looked at yet.
+    pub(crate) start: Option<Start>,
     /// When a byte of it came last, or it itself.
     pub(crate) since: Instant,
 }
 
 // What the bytes begin that a connection has sent, up to its end or so far.
 fn start_of(sent: &[u8], has_ended: bool) -> Start
-    ensures call { result ≡ Start.Call → BeginsCall sent.now ⊎ (4096 ≤ length sent.now) }
-    ensures no_call { result ≡ Start.NoCall → BeginsNoCall sent.now }
+    ensures call { result ≡ Start.Call → BeginsCall sent.now ⊎ ((has_ended ≡ false) × (ENOUGH ≤ length sent.now) × MayBeginCall sent.now) }
+    ensures no_call { result ≡ Start.NoCall → BeginsFault sent.now ⊎ ((has_ended ≡ true) × BeginsNoCall sent.now) }
+    ensures open { result ≡ Start.Open → (has_ended ≡ false) × (length sent.now < ENOUGH) × MayBeginCall sent.now }
 {
     match take_frame(sent) {
         Taken::Frame(..) => Start::Call,
@@ -71,14 +72,14 @@ impl Pending {
         Pending {
             stream,
             sent: Vec::new(alloc),
-            start: Start::New,
+            start: None,
             since,
         }
     }
 
     /// Whether it is told what the connection begins.
     pub(crate) fn is_told(&self) -> bool {
-        matches!(self.start, Start::Call | Start::NoCall)
+        matches!(self.start, Some(Start::Call | Start::NoCall))
     }
 
     // Takes a piece of what it sends, which is empty at the end.
@@ -87,7 +88,7 @@ impl Pending {
             return Heard::Lost;
         }
         self.since = now;
-        self.start = start_of(self.sent.as_slice(), piece.is_empty());
+        self.start = Some(start_of(self.sent.as_slice(), piece.is_empty()));
         Heard::Something
     }
 
@@ -101,7 +102,7 @@ impl Pending {
         match stream.read(&mut piece) {
             Ok(count) => self.take(piece.split_at(count).0, now),
             Err(error) if is_nothing(&error) => {
-                self.start = Start::Open;
+                self.start = Some(Start::Open);
                 Heard::Nothing
             }
             Err(_) => Heard::Lost,

@@ -134,7 +134,7 @@ fn serve_peer(rt: &HostRuntime, config: &Config, serving: &Serving<'_>, peer: &P
         return;
     }
     match settle(&peer.stream, serving.idle) {
-        Ok(()) if peer.start == Start::NoCall => refuse_peer(rt, config, peer),
+        Ok(()) if peer.start == Some(Start::NoCall) => refuse_peer(rt, config, peer),
         Ok(()) => serve_over_tables(rt, config, serving, peer),
         Err(error) => say_of(rt, "a connection's time cannot be limited", &error),
     }
