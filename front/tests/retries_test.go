@@ -1,0 +1,89 @@
+package tests
+
+import (
+	"fmt"
+	"math/rand"
+	"sync/atomic"
+	"testing"
+	"time"
+
+	"google.golang.org/grpc/codes"
+)
+
+const withNode = roomy + `
+[[node]]
+id = "n1"
+max_volumes = 1000
+`
+
+// oneCall is the path of a call, and its message in hexadecimal digits.
+type oneCall struct{ path, message string }
+
+// lives are the calls of so many volumes, one after the other. Of four volumes one stands at the end, and one is published.
+func lives(volumes int) (calls []oneCall) {
+	text := func(field byte, text string) string { return fmt.Sprintf("%02x%02x%x", field, len(text), text) }
+	const mode1 = "1a060a001a020801"
+	for i := 1; i <= volumes; i++ {
+		volume, node := text(0x0a, fmt.Sprintf("vol-%d", i)), text(0x12, "n1")
+		calls = append(calls, oneCall{controller + "CreateVolume", text(0x0a, fmt.Sprintf("pvc-%d", i)) + mode1})
+		if i%4 != 1 {
+			calls = append(calls, oneCall{controller + "ControllerPublishVolume", volume + node + mode1})
+		}
+		if i%4 != 2 {
+			calls = append(calls, oneCall{controller + "ControllerUnpublishVolume", volume + node})
+		}
+		if i%4 == 0 || i%4 == 3 {
+			calls = append(calls, oneCall{controller + "DeleteVolume", volume})
+		}
+	}
+	return calls
+}
+
+// A lone client repeats each call until it is answered, while csid is killed and started again: it gets the replies of the same
+// calls without a kill, and leaves the same volumes.
+func TestRepeatedCallsOverKills(t *testing.T) {
+	t.Parallel()
+	const volumes, leastKills = 120, 5
+	calls := lives(volumes)
+	calm := newClient(t, startFront(t, newServer(t, withNode).start(t).socket()).socket)
+	var wanted []answer
+	for _, call := range calls {
+		wanted = append(wanted, calm.call(t, call.path, call.message))
+	}
+
+	csid := newServer(t, withNode).start(t)
+	front := newClient(t, startFront(t, csid.socket()).socket)
+	lost, over := int32(0), make(chan struct{})
+	go func() {
+		defer close(over)
+		for i, call := range calls {
+			got := front.call(t, call.path, call.message)
+			for got.code == codes.Unavailable {
+				atomic.AddInt32(&lost, 1)
+				time.Sleep(2 * time.Millisecond)
+				got = front.call(t, call.path, call.message)
+			}
+			if got != wanted[i] {
+				t.Errorf("call %d, %s: %v, wanted %v", i, call.path, got, wanted[i])
+				return
+			}
+		}
+	}()
+	kills := 0
+	for is := true; is; {
+		select {
+		case <-over:
+			is = false
+		case <-time.After(time.Duration(rand.Intn(40_000)) * time.Microsecond):
+			csid.kill(t)
+			csid.start(t)
+			kills++
+		}
+	}
+	t.Logf("%d calls, %d kills, %d calls were UNAVAILABLE", len(calls), kills, lost)
+	if kills < leastKills || lost == 0 {
+		t.Errorf("%d kills, %d calls that were lost: this shows nothing", kills, lost)
+	}
+	stand := controller + "ListVolumes"
+	front.wants(t, stand, "", calm.call(t, stand, ""))
+}
