@@ -4,9 +4,9 @@ use Rattle.csi_keeper.specs.declared.capability.CapKey.{CapKey}
 use Rattle.csi_rules.specs.Coding.{keys_in}
 use Rattle.csi_rules.specs.declared.owners.KnownCaps.{KnownCaps}
 
-abbrev pub AreKnown : Option KnownCaps → Type 0
-AreKnown None = Unit {0}
-AreKnown (Some known) = known.caps ≡ keys_in known.bytes.items
+abbrev pub AreCached : Option KnownCaps → Type 0
+AreCached None = Unit {0}
+AreCached (Some known) = known.caps ≡ keys_in known.bytes.items
 
 -- the keys of those that were read last
 abbrev pub last_keys : Option KnownCaps → Option (List CapKey)

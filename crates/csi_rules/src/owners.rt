@@ -5,7 +5,7 @@ ghost use Rattle.csi_keeper.specs.Capability.{has_key};
 ghost use Rattle.csi_looks.specs.Failing.{FailsForMemory};
 ghost use Rattle.csi_rules.specs.Coding.{keys_in};
 ghost use Rattle.csi_rules.specs.Joins.{is_owned};
-ghost use Rattle.csi_rules.specs.Known.{AreKnown, are_last, last_keys};
+ghost use Rattle.csi_rules.specs.Known.{AreCached, are_last, last_keys};
 ghost use Rattle.csi_rules.specs.Named.{named_out};
 ghost use Rattle.csi_rules.specs.Values.{is_some_and};
 ghost use Rattle.csi_rules.specs.facts.Starts.{still_found};
@@ -66,8 +66,8 @@ fn are_last(last: &Option<KnownCaps>, bytes: &[u8]) -> bool
 }
 
 fn read_caps(alloc: Global, last: &mut Option<KnownCaps>, bytes: &[u8]) -> Result<(), Error>
-    ensures known { AreKnown last.old → OnOk result (AreKnown last.new) }
-    ensures read { AreKnown last.old → OnOk result (last_keys last.new ≡ keys_in bytes.now) }
+    ensures known { AreCached last.old → OnOk result (AreCached last.new) }
+    ensures read { AreCached last.old → OnOk result (last_keys last.new ≡ keys_in bytes.now) }
     ensures memory { FailsForMemory result }
 {
     if are_last(last, bytes) {
@@ -91,8 +91,8 @@ fn have_key(last: &Option<KnownCaps>, key: &CapKey) -> bool
 
 // Whether the volume of an attachment stands and has its capability.
 fn is_owned(alloc: Global, last: &mut Option<KnownCaps>, row: &Row) -> Result<bool, Error>
-    ensures known { AreKnown last.old → OnOk result (AreKnown last.new) }
-    ensures exact { AreKnown last.old → IfOk result (λ owned. owned ≡ is_owned row.now) }
+    ensures known { AreCached last.old → OnOk result (AreCached last.new) }
+    ensures exact { AreCached last.old → IfOk result (λ owned. owned ≡ is_owned row.now) }
     ensures memory { FailsForMemory result }
 {
     let Some(key) = key_at(alloc, row, 2)? else {
@@ -106,7 +106,7 @@ fn is_owned(alloc: Global, last: &mut Option<KnownCaps>, row: &Row) -> Result<bo
 }
 
 impl Fold for FirstUnowned {
-    ghost folds = { λ first rows now. AreKnown first.last → AreKnown now.last × (now.found ≡ named_out 0 1 is_owned first.found rows) };
+    ghost folds = { λ first rows now. AreCached first.last → AreCached now.last × (now.found ≡ named_out 0 1 is_owned first.found rows) };
 
     ghost starts = { λ first known. (known, still_found first.found) };
 
