@@ -39,7 +39,7 @@ func TestCallsOfVolumes(t *testing.T) {
 		{probe, "", ok(ready)},
 		{identity + "GetPluginInfo", "", ok("0a11 706f6f6c732e6578616d706c652e6f7267 1205 312e302e30")},
 		{identity + "GetPluginCapabilities", "", ok("0a040a020801 0a040a020802")},
-		{controller + "ControllerGetCapabilities", "", ok("0a040a020801 0a040a020802 0a040a020803 0a040a020804 0a040a020808 0a040a02080a")},
+		{controller + "ControllerGetCapabilities", "", ok("0a040a020801 0a040a020802 0a040a020803 0a040a020804 0a040a020808 0a040a02080a 0a040a02080d")},
 		{controller + "GetCapacity", "", ok("0880808007 1205 0880808004")},
 		{controller + "CreateVolume", createA, ok(volume1)},
 		{controller + "CreateVolume", createA, ok(volume1)},

@@ -9,20 +9,20 @@ use Rattle.sqlite.specs.Query.{or_nulls}
 use Rattle.sqlite.specs.Tree.{Trees}
 use Rattle.sqlite.specs.declared.types.Value.{Value}
 use Rattle.sqlite_rules.specs.Lists.{Has}
-use Rattle.sqlite_rules.proofs.ListLemmas.{all_has, has_filtered, has_kept, some_has, test_from, test_has}
+use Rattle.sqlite_rules.proofs.ListLemmas.{all_has, has_filtered, has_kept, test_from, test_has}
 use Rattle.sqlite_rules.proofs.ProbeLemmas.{has_mapped}
 use Rattle.sqlite_trees.proofs.ListLemmas.{ascending-map}
 use Rattle.std.proofs.lemmas.Cmp.{tied_itself}
 use Rattle.csi_config.specs.Values as listing
 use Rattle.csi_config.specs.declared.config.Config.{Config}
-use Rattle.csi_keeper.specs.Capability.{has_key, is_key, is_supported_key}
+use Rattle.csi_keeper.specs.Capability.{has_key, is_supported_key}
 use Rattle.csi_keeper.specs.Invariant.{IsAttached, IsInvariant}
-use Rattle.csi_keeper.specs.Order.{key_exact, keys_tie}
 use Rattle.csi_keeper.specs.State.{Place, State, place_cmp}
 use Rattle.csi_keeper.specs.declared.capability.CapKey.{CapKey}
 use Rattle.csi_keeper.specs.declared.volume.Attachment.{Attachment}
 use Rattle.csi_keeper.specs.declared.volume.Volume.{Volume}
-use Rattle.csi_keeper.specs.facts.Finite.{same_some, tied}
+use Rattle.csi_keeper.specs.facts.Capability.{had_supported}
+use Rattle.csi_keeper.specs.facts.Finite.{same_some}
 use Rattle.csi_keeper.specs.facts.Orders.{place_exact, place_total}
 use Rattle.csi_statements.specs.Deletes.{is_same}
 use Rattle.csi_statements.specs.Rows.{seen_attachment, seen_volume}
@@ -47,12 +47,6 @@ use Rattle.csi_adoption.proofs.AttachmentRowLemmas.{counted, owned_is}
 all_of_listed : {X : Type 0} (P : X → Type 0) (xs : List X) → ((x : X) → listing.Has xs x → P x) → AllByRecursion P xs
 all_of_listed P [] each = tt
 all_of_listed P (x ∷ xs) each = (each x (inl refl), all_of_listed P xs (λ y has. each y (inr has)))
-
--- a key of supported ones is supported
-key_supported : (ks : List CapKey) (k : CapKey) → has_key ks (Some k) ≡ true → list_all is_supported_key ks ≡ true → is_supported_key k ≡ true
-key_supported ks k has all =
-    let j = some_has (is_key (Some k)) ks has in
-    ap is_supported_key (key_exact k j.0 (tied _ (sym (keys_tie k j.0) ∙ j.2))) ∙ test_has is_supported_key ks j.0 all j.1
 
 some_rows : (rows : List Row) (w : Row) → Has rows w → or_nulls rows ≡ rows
 some_rows [] w has = absurd has
@@ -92,7 +86,7 @@ module _ (config : Config) (s : State) (db : Trees) (rows_are : IsRows s db) (go
   supported : (e : Place × Attachment) → Has (entries s.attachments) e → is_supported_key e.1.cap ≡ true
   supported e has =
       let at = stands e has in
-      key_supported at.volume.caps e.1.cap at.cap (good.volumes e.0.0 at.volume at.stands).caps.supported
+      had_supported at.volume.caps e.1.cap at.cap (good.volumes e.0.0 at.volume at.stands).caps.supported
 
   -- ---- the rows of attachments
 

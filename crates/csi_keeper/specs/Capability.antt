@@ -1,10 +1,11 @@
 -- What a volume can be used as (CSI specification, 'CreateVolume', the message VolumeCapability).
-use Rattle.std.specs.Prelude.{ℕ, ℤ, pos, negsuc, ◌==◌, ◌&&◌, Bool, true, false, List, [], Option, None, Some, map, if◌then◌else◌}
+use Rattle.std.specs.Prelude.{ℕ, ℤ, pos, negsuc, ◌==◌, ◌&&◌, ◌||◌, Bool, true, false, List, [], Option, None, Some, map, if◌then◌else◌}
 use Rattle.std.specs.declared.cmp.Ordering.{Ordering}
 use Rattle.std.specs.declared.cmp.Ordering.TheVariants.{Less, Equal, Greater}
 use Rattle.std.specs.FinMap.{from_entries, keys}
 use Rattle.std.specs.List.{list_any, list_all, filter_map}
 use Rattle.std.specs.List.Sorted.{IsStrictlySortedBy}
+use Rattle.std.specs.Option.{option_and_then, option_map}
 use Rattle.std.specs.Ordering.{nat_cmp, ordering_then}
 use Rattle.csi_types.specs.Checks.{is_known_mode, is_supported}
 use Rattle.csi_types.specs.Maps.{same_text}
@@ -74,15 +75,27 @@ same_kind (Mount t) (Mount u) = same_text t u
 abbrev pub same_key : CapKey → CapKey → Bool
 same_key a b = same_kind a.kind b.kind && (a.mode == b.mode)
 
+-- SINGLE_NODE_WRITER 1 is wider than SINGLE_NODE_SINGLE_WRITER 6 and SINGLE_NODE_MULTI_WRITER 7, into which it was split
+abbrev pub wider_mode : ℕ → Option ℕ
+wider_mode mode = if mode == 6 || mode == 7 then Some 1 else None
+
+-- the kind with the wider mode
+abbrev pub wider_key : CapKey → Option CapKey
+wider_key k = option_map (λ mode. record { kind = k.kind; mode = mode }) (wider_mode k.mode)
+
 abbrev pub is_key : Option CapKey → CapKey → Bool
 is_key None k = false
 is_key (Some j) k = same_key j k
 
 -- the key is one of them
-abbrev pub has_key : List CapKey → Option CapKey → Bool
-has_key keys key = list_any (is_key key) keys
+abbrev pub has_same : List CapKey → Option CapKey → Bool
+has_same keys key = list_any (is_key key) keys
 
--- the key of each capability is one of them
+-- the key is one of them, or the wider one is
+abbrev pub has_key : List CapKey → Option CapKey → Bool
+has_key keys key = has_same keys key || has_same keys (option_and_then wider_key key)
+
+-- they have the key of each capability
 abbrev pub have_keys : List CapKey → List Capability → Bool
 have_keys keys capabilities = list_all (λ c. has_key keys (key_of c)) capabilities
 

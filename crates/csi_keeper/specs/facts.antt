@@ -1,3 +1,4 @@
+pub mod Capability
 pub mod Coexistence
 pub mod Finite
 pub mod Names

@@ -1,10 +1,10 @@
 //! What a volume can be used as.
 
 ghost use Rattle.std.specs.Prelude.{◌≡◌, Some, IfOk};
-ghost use Rattle.csi_keeper.specs.Capability.{kind_cmp, mode_of, key_with, key_of, access_of, capability_of, is_supported_key, same_kind, same_key};
+ghost use Rattle.csi_keeper.specs.Capability.{kind_cmp, mode_of, key_with, key_of, access_of, capability_of, is_supported_key, same_kind, same_key, wider_mode, wider_key, is_key, has_same, has_key};
 
 use csi_types::{
-    Access, Capability, Items, MAX_ACCESS_MODE, MAX_MOUNT_MODE, Mount, Text, copy_text,
+    Access, Capability, Items, Mount, Text, copy_text, is_known_mode, writes_beside_others,
 };
 use std::alloc::{AllocError, Global};
 use std::cmp::Ordering;
@@ -28,7 +28,7 @@ pub enum Kind {
 pub struct CapKey {
     /// Block or mount.
     pub kind: Kind,
-    /// The number of the access mode (CSI 1.x, `VolumeCapability.AccessMode.Mode`), 1 to 5.
+    /// The number of the access mode (CSI 1.x, `VolumeCapability.AccessMode.Mode`), one of those known.
     pub mode: u8,
 }
 
@@ -110,24 +110,79 @@ impl Ord for CapKey {
     }
 }
 
-/// Whether a volume can be made for the key: block with the modes 1 to 5, mount with the modes 1 to
-/// 3, in which no node writes beside others (CSI specification, 'CreateVolume').
-pub fn supported(key: &CapKey) -> bool
-    ensures { result ≡ is_supported_key key.now }
+// `SINGLE_NODE_WRITER` is wider than `SINGLE_NODE_SINGLE_WRITER` and `SINGLE_NODE_MULTI_WRITER`, into
+// which CSI 1.5 split it.
+fn wider_mode(mode: u8) -> Option<u8>
+    ensures { result ≡ wider_mode mode }
 {
-    match key.kind {
-        Kind::Block => 1 <= key.mode && key.mode <= MAX_ACCESS_MODE,
-        Kind::Mount(_) => 1 <= key.mode && key.mode <= MAX_MOUNT_MODE,
+    if mode == 6 || mode == 7 {
+        Some(1)
+    } else {
+        None
     }
 }
 
-// The number of a known access mode, 1 to 5.
+/// The kind of a key with the wider mode, if there is one: whoever has that has the key too.
+pub fn wider_key(key: CapKey) -> Option<CapKey>
+    ensures { result ≡ wider_key key }
+{
+    match wider_mode(key.mode) {
+        Some(mode) => Some(CapKey {
+            kind: key.kind,
+            mode,
+        }),
+        None => None,
+    }
+}
+
+// Whether the first is the wider one of the second.
+fn is_wider(own: &CapKey, key: &CapKey) -> bool
+    ensures { result ≡ is_key (wider_key key.now) own.now }
+{
+    match wider_mode(key.mode) {
+        Some(mode) => is_same_kind(&key.kind, &own.kind) && mode == own.mode,
+        None => false,
+    }
+}
+
+fn has_same(keys: &[CapKey], key: &CapKey) -> bool
+    ensures { result ≡ has_same keys.now (Some key.now) }
+{
+    keys.iter().any(|own| key == own)
+}
+
+fn has_wider(keys: &[CapKey], key: &CapKey) -> bool
+    ensures { result ≡ has_same keys.now (wider_key key.now) }
+{
+    keys.iter().any(|own| is_wider(own, key))
+}
+
+/// Whether a set has a key: it is one of those, or the wider one is.
+pub fn has_key(keys: &[CapKey], key: &CapKey) -> bool
+    ensures { result ≡ has_key keys.now (Some key.now) }
+{
+    has_same(keys, key) || has_wider(keys, key)
+}
+
+/// Whether a volume can be made for the key: block with each known mode, mount with those in which
+/// no node writes beside others (CSI specification, 'CreateVolume').
+pub fn supported(key: &CapKey) -> bool
+    ensures { result ≡ is_supported_key key.now }
+{
+    let mode = Some(i32::from(key.mode));
+    match key.kind {
+        Kind::Block => is_known_mode(mode),
+        Kind::Mount(_) => is_known_mode(mode) && !writes_beside_others(mode),
+    }
+}
+
+// The number of a known access mode.
 fn mode_of(mode: Option<i32>) -> Option<u8>
     ensures { result ≡ mode_of mode }
 {
     match mode {
-        Some(mode) => if 1 <= mode && mode <= i32::from(MAX_ACCESS_MODE) {
-            Some(mode as u8)
+        Some(number) => if is_known_mode(mode) {
+            Some(number as u8)
         } else {
             None
         },
@@ -146,7 +201,7 @@ fn key_with(alloc: Global, access: &Access, mode: u8) -> Result<Option<CapKey>, 
     Ok(Some(CapKey { kind, mode }))
 }
 
-/// What a capability is known by; `None` without an access type, or with a mode other than 1 to 5.
+/// What a capability is known by; `None` without an access type, or with a mode that is not known.
 pub fn cap_key(alloc: Global, capability: &Capability) -> Result<Option<CapKey>, AllocError>
     ensures { IfOk result (λ key. key ≡ key_of capability.now) }
 {

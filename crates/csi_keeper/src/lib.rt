@@ -12,7 +12,7 @@ mod mem;
 mod totals;
 mod volume;
 
-pub use capability::{CapKey, Kind, cap_key, capability_of, supported};
+pub use capability::{CapKey, Kind, cap_key, capability_of, has_key, supported, wider_key};
 pub use change::{Change, StoreFault, Usage};
 pub use coexistence::coexist;
 pub use copies::copy_key;

@@ -1,17 +1,19 @@
 -- Capability keys in order, and the keys of capabilities, one capability after the other.
-use Rattle.std.proofs.Common.{◌≡◌, ◌∙◌, ap, sym, subst, refl, cond, arith, ℕ, ◌+◌, ◌<◌, ◌≤◌, Bool, true, false, ◌&&◌, ◌||◌, is_some, List, [], ◌∷◌, ◌++◌, map, length, take, get_or, Option, Some, None, T, Ordering, Less, Equal, Greater}
+use Rattle.std.proofs.Common.{◌≡◌, ◌∙◌, ap, ap₂, sym, subst, refl, cond, arith, ℕ, ◌+◌, ◌<◌, ◌≤◌, Bool, true, false, ◌&&◌, ◌||◌, is_some, List, [], ◌∷◌, ◌++◌, map, length, take, get_or, Option, Some, None, T, Ordering, Less, Equal, Greater}
 use Rattle.std.specs.BTreeMap.{is_at}
 use Rattle.std.specs.BTreeSet.{insert_key}
 use Rattle.std.specs.FinMap as fin
 use Rattle.std.specs.FinMap.Entries.{by_order, below_all}
 use Rattle.std.specs.List.{list_any, list_all, filter_map, cons_option, AllByRecursion}
 use Rattle.std.specs.List.Sorted.{IsStrictlySortedBy}
+use Rattle.std.specs.Option.{option_and_then}
 use Rattle.std.specs.Ordering.{eq_by_cmp, is_lt, match_ordering}
 use Rattle.std.proofs.lemmas.List.{take_more, length-map}
 use Rattle.csi_types.specs.declared.capability.Capability.{Capability}
 use Rattle.csi_keeper.specs.declared.capability.CapKey.{CapKey}
-use Rattle.csi_keeper.specs.Capability.{key_cmp, AreOrdered, key_of, keys_of, ordered, same_key, is_key, has_key, have_keys}
+use Rattle.csi_keeper.specs.Capability.{key_cmp, AreOrdered, key_of, keys_of, ordered, same_key, wider_key, has_same, has_key, have_keys}
 use Rattle.csi_keeper.specs.Order.{key_total, key_exact, keys_tie}
+use Rattle.csi_keeper.specs.facts.Capability.{has_same_none}
 
 abbrev Entry : Type 0
 Entry = CapKey × Bool
@@ -166,24 +168,30 @@ any_ordered k ks =
     any_tied k (ordered ks) ∙ sym (fin.contains_key-keys (set_of ks) k) ∙ ap is_some (fin.get-from_entries key_total (map entry ks) k) ∙ some_found k ks
     ∙ sym (any_tied k ks)
 
-never : (ks : List CapKey) → list_any (is_key None) ks ≡ false
-never [] = refl
-never (k ∷ ks) = never ks
+same_ordered : (ks : List CapKey) (o : Option CapKey) → has_same (ordered ks) o ≡ has_same ks o
+same_ordered ks None = has_same_none (ordered ks) ∙ sym (has_same_none ks)
+same_ordered ks (Some k) = any_ordered k ks
 
--- a set has the keys that it was made of
+-- a set has the keys that those have of which it was made
 has_ordered : (ks : List CapKey) (o : Option CapKey) → has_key (ordered ks) o ≡ has_key ks o
-has_ordered ks None = never (ordered ks) ∙ sym (never ks)
-has_ordered ks (Some k) = any_ordered k ks
+has_ordered ks o = ap₂ (λ a b. a || b) (same_ordered ks o) (same_ordered ks (option_and_then wider_key o))
 
 pub have_ordered : (ks : List CapKey) (cs : List Capability) → have_keys (ordered ks) cs ≡ have_keys ks cs
 have_ordered ks [] = refl
 have_ordered ks (c ∷ cs) = ap (λ b. b && have_keys (ordered ks) cs) (has_ordered ks (key_of c)) ∙ ap (λ b. has_key ks (key_of c) && b) (have_ordered ks cs)
 
 pub has_none : (ks : List CapKey) → false ≡ has_key ks None
-has_none ks = sym (never ks)
+has_none ks = sym (ap₂ (λ a b. a || b) (has_same_none ks) (has_same_none ks))
 
-pub has_some : (ks : List CapKey) (k : CapKey) → list_any (is_at (key_cmp k)) ks ≡ has_key ks (Some k)
+pub has_some : (ks : List CapKey) (k : CapKey) → list_any (is_at (key_cmp k)) ks ≡ has_same ks (Some k)
 has_some ks k = sym (any_tied k ks)
+
+pub has_no_wider : (ks : List CapKey) → false ≡ has_same ks None
+has_no_wider ks = sym (has_same_none ks)
+
+-- a key that is one of some is had by them
+pub has_one : (ks : List CapKey) (k : CapKey) → has_same ks (Some k) ≡ true → has_key ks (Some k) ≡ true
+has_one ks k e = ap (λ b. b || has_same ks (wider_key k)) e
 
 pub ordered_more : (ks : List CapKey) (i : ℕ) (d : CapKey) → i < length ks → ordered (take (i + 1) ks) ≡ insert_key key_cmp (ordered (take i ks)) (get_or ks i d)
 ordered_more ks i d h = ap ordered (take_more ks i d h) ∙ ordered_push (take i ks) (get_or ks i d)

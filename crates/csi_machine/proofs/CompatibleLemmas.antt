@@ -28,7 +28,7 @@ use Rattle.csi_machine.specs.Choice.{Room, rooms, fits, pairs, choice}
 use Rattle.csi_machine.specs.Size.{size, within, asked, whole, rounded_up, rounded_down, has_size}
 use Rattle.csi_machine.specs.Topology.{serves, terms}
 use Rattle.csi_machine.specs.calls.Create.{made, is_compatible}
-use Rattle.csi_machine.proofs.CapabilityLemmas.{have_ordered}
+use Rattle.csi_machine.proofs.CapabilityLemmas.{has_one, have_ordered}
 use Rattle.csi_machine.proofs.CheckedLemmas.{passed, not_off, key_by}
 use Rattle.csi_machine.proofs.CreateLemmas.{both_true, found, has_append, has_map, map_some, IsMade}
 use Rattle.csi_machine.proofs.ReachLemmas.{AreServedAlike, or_later, reachable}
@@ -77,7 +77,7 @@ have_each ks (c ∷ cs) off more =
     let all : (k : CapKey) → list_any (same_key k) (one.0 ∷ filter_map key_of cs) ≡ true → list_any (same_key k) ks ≡ true =
     λ k h. more k (ap (λ (o : Option CapKey). list_any (same_key k) (cons_option o (filter_map key_of cs))) one.1 ∙ h) in
     let first : list_any (same_key one.0) ks ≡ true = all one.0 (ap (λ b. b || list_any (same_key one.0) (filter_map key_of cs)) (key_itself one.0)) in
-    and_from _ _ (ap (has_key ks) one.1 ∙ first) (have_each ks cs two.1 (λ k h. all k (or_later (same_key k one.0) _ h)))
+    and_from _ _ (ap (has_key ks) one.1 ∙ has_one ks one.0 first) (have_each ks cs two.1 (λ k h. all k (or_later (same_key k one.0) _ h)))
 
 has_keys : (cs : List Capability) → list_any (λ c. not (is_supported c)) cs ≡ false → have_keys (keys_of cs) cs ≡ true
 has_keys cs off = have_ordered (filter_map key_of cs) cs ∙ have_each (filter_map key_of cs) cs off (λ k h. h)

@@ -1,9 +1,9 @@
 //! Sets of capability keys.
 
 ghost use Rattle.std.specs.Prelude.{◌≡◌, Some, IfOk};
-ghost use Rattle.csi_keeper.specs.Capability.{key_of, has_key, have_keys, ordered, keys_of};
+ghost use Rattle.csi_keeper.specs.Capability.{key_of, wider_key, has_same, has_key, have_keys, ordered, keys_of};
 
-use csi_keeper::{CapKey, cap_key, copy_key};
+use csi_keeper::{CapKey, cap_key, copy_key, wider_key};
 use csi_types::{Capability, Items};
 use std::alloc::{AllocError, Global};
 use std::collections::BTreeSet;
@@ -41,13 +41,6 @@ pub(crate) fn keys_of(
     listed(alloc, key_set(alloc, capabilities)?)
 }
 
-/// Whether a key is one of those.
-pub(crate) fn has_this_key(keys: &[CapKey], key: &CapKey) -> bool
-    ensures { result ≡ has_key keys.now (Some key.now) }
-{
-    keys.iter().any(|other| key == other)
-}
-
 #[tactic(auto, using(crate::proofs::CapabilityLemmas::ordered_more, crate::proofs::CapabilityLemmas::keys_none))]
 fn set_of(alloc: Global, keys: &[CapKey]) -> Result<BTreeSet<CapKey>, AllocError>
     ensures { IfOk result (λ set. set.keys ≡ ordered keys.now) }
@@ -59,6 +52,16 @@ fn set_of(alloc: Global, keys: &[CapKey]) -> Result<BTreeSet<CapKey>, AllocError
     Ok(set)
 }
 
+#[tactic(auto, using(crate::proofs::CapabilityLemmas::has_no_wider, crate::proofs::CapabilityLemmas::has_some))]
+fn has_wider(keys: &BTreeSet<CapKey>, key: CapKey) -> bool
+    ensures { result ≡ has_same keys.now.keys (wider_key key) }
+{
+    match wider_key(key) {
+        Some(wider) => keys.contains(&wider),
+        None => false,
+    }
+}
+
 #[tactic(auto, using(crate::proofs::CapabilityLemmas::has_none, crate::proofs::CapabilityLemmas::has_some))]
 fn has_key(
     alloc: Global,
@@ -68,7 +71,7 @@ fn has_key(
     ensures { IfOk result (λ has. has ≡ has_key keys.now.keys (key_of capability.now)) }
 {
     match cap_key(alloc, capability)? {
-        Some(key) => Ok(keys.contains(&key)),
+        Some(key) => Ok(keys.contains(&key) || has_wider(keys, key)),
         None => Ok(false),
     }
 }
@@ -88,7 +91,7 @@ fn have_all(
     Ok(true)
 }
 
-/// Whether the key of each capability is one of those: O((n + m) log m) for n capabilities and m
+/// Whether they have the key of each capability: O((n + m) log m) for n capabilities and m
 /// keys, which need no order.
 #[tactic(auto, using(crate::proofs::CapabilityLemmas::have_ordered))]
 pub(crate) fn have_keys(

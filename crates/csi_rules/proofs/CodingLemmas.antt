@@ -1,5 +1,5 @@
 -- What is read of the canonical bytes of keys and of parameters.
-use Rattle.std.proofs.Common.{◌≡◌, ◌∙◌, refl, sym, ap, subst, ℕ, ◌≤◌, pos, nat_lt, nat_le, bytes_eq, List, [], ◌∷◌, map, length, Bool, true, false, not, cond, ◌&&◌, ◌==◌, Option, Some, None, arith}
+use Rattle.std.proofs.Common.{◌≡◌, ◌∙◌, refl, sym, ap, subst, ℕ, ◌≤◌, pos, nat_le, bytes_eq, List, [], ◌∷◌, map, length, Bool, true, false, not, cond, ◌&&◌, ◌==◌, Option, Some, None, arith}
 use Rattle.std.specs.Bool.{Decides}
 use Rattle.std.specs.List.{list_all}
 use Rattle.std.specs.Option.{option_and_then, option_map}
@@ -7,9 +7,10 @@ use Rattle.std.proofs.lemmas.Bool.Decides.{nat_tests}
 use Rattle.std.proofs.lemmas.Slice.Eq.{bytes_eq-Decides}
 use Rattle.csi_types.specs.Checks.{is_known_mode, map_bytes}
 use Rattle.csi_types.specs.Maps.{TextMap}
-use Rattle.csi_types.specs.declared.limits.TheConstants.{MAX_ACCESS_MODE, MAX_MAP_BYTES, MAX_MOUNT_MODE}
+use Rattle.csi_types.specs.declared.limits.TheConstants.{MAX_MAP_BYTES}
 use Rattle.csi_keeper.specs.Capability.{access_of, capability_of, is_supported_key, key_of, key_with}
 use Rattle.csi_keeper.specs.Invariant.{AreKeys}
+use Rattle.csi_keeper.specs.facts.Capability.{supported_known}
 use Rattle.csi_keeper.specs.declared.capability.CapKey.{CapKey}
 use Rattle.csi_keeper.specs.declared.capability.Kind.{Kind}
 use Rattle.csi_keeper.specs.declared.capability.Kind.TheVariants.{Block, Mount}
@@ -28,13 +29,8 @@ key_known k e = ap (λ b. key_with (access_of k.kind) (cond b (Some k.mode) None
     go Block is = ap (λ x. key_with (access_of x) (Some k.mode)) is ∙ (λ i. Some (record { kind = sym is i; mode = k.mode }))
     go (Mount t) is = ap (λ x. key_with (access_of x) (Some k.mode)) is ∙ (λ i. Some (record { kind = sym is i; mode = k.mode }))
 
--- each supported mode is known
-mode_known : (k : Kind) (m : ℕ) → is_supported_key (record { kind = k; mode = m }) ≡ true → is_known_mode (Some (pos m)) ≡ true
-mode_known Block m e = e
-mode_known (Mount t) m e = let p = parts (nat_lt 0 m) (nat_le m MAX_MOUNT_MODE) e in both (nat_lt 0 m) (nat_le m MAX_ACCESS_MODE) p.0 (grind (arith, nat_tests, p.1))
-
 pub key_back : (k : CapKey) → is_supported_key k ≡ true → key_of (capability_of k) ≡ Some k
-key_back k e = key_known k (mode_known k.kind k.mode e)
+key_back k e = key_known k (supported_known (access_of k.kind) (Some (pos k.mode)) e)
 
 -- the keys of the capabilities of keys, where each is supported
 pub each_back : (ks : List CapKey) → list_all is_supported_key ks ≡ true → each_key (map capability_of ks) ≡ Some ks

@@ -13,7 +13,7 @@ ghost use Rattle.csi_rules.specs.facts.Starts.{still_found};
 use crate::coded::key_at;
 use crate::coding::keys_in;
 use crate::named::{RowName, name_at};
-use csi_keeper::CapKey;
+use csi_keeper::{CapKey, has_key};
 use csi_looks::Fold;
 use csi_statements::values::blob_at;
 use csi_types::Items;
@@ -35,7 +35,7 @@ impl KnownCaps {
         ensures { result ≡ is_some_and (λ caps. has_key caps (Some key.now)) self.now.caps }
     {
         match &self.caps {
-            Some(caps) => caps.iter().any(|own| key == own),
+            Some(caps) => has_key(caps.as_slice(), key),
             None => false,
         }
     }

@@ -1,6 +1,6 @@
 -- The checks of a request's arguments: what each call requires of its fields (CSI specification, the
 -- section of each call, and 'Size Limits'). The first line of the table that holds is answered.
-use Rattle.std.specs.Prelude.{ℕ, ℤ, pos, negsuc, ◌+◌, Bool, true, false, not, ◌||◌, ◌&&◌, nat_lt, nat_le, List, [], ◌∷◌, ◌++◌, length, sum_by, Option, None, Some, option_to_list}
+use Rattle.std.specs.Prelude.{ℕ, ℤ, pos, negsuc, ◌+◌, ◌==◌, Bool, true, false, not, ◌||◌, ◌&&◌, nat_lt, nat_le, List, [], ◌∷◌, ◌++◌, length, sum_by, Option, None, Some, option_to_list}
 use Rattle.std.specs.FinMap.{entries}
 use Rattle.std.specs.List.{list_any}
 use Rattle.csi_types.specs.declared.capability.Access.{Access}
@@ -8,7 +8,7 @@ use Rattle.csi_types.specs.declared.capability.Access.TheVariants as access
 use Rattle.csi_types.specs.declared.capability.Capability.{Capability}
 use Rattle.csi_types.specs.declared.capability.Mount.{Mount}
 use Rattle.csi_types.specs.declared.capacity.CapacityRange.{CapacityRange}
-use Rattle.csi_types.specs.declared.limits.TheConstants.{MAX_ACCESS_MODE, MAX_MOUNT_MODE, MAX_TEXT_BYTES, MAX_NODE_ID_BYTES, MAX_MOUNT_FLAGS_BYTES, MAX_MAP_BYTES}
+use Rattle.csi_types.specs.declared.limits.TheConstants.{MAX_ACCESS_MODE, MAX_TEXT_BYTES, MAX_NODE_ID_BYTES, MAX_MOUNT_FLAGS_BYTES, MAX_MAP_BYTES}
 use Rattle.csi_types.specs.declared.reason.Reason.{Reason}
 use Rattle.csi_types.specs.declared.reason.Reason.TheVariants.{NameMissing, NameTooLong, NameBanned, CapabilityMissing, AccessTypeMissing, AccessModeUnknown, CapabilityNotSupported, CapacityNegative, MapTooLarge, TextTooLong, SourceNotSupported, TopologyKeysAlike, PreferredNotRequisite, VolumeIdMissing, NodeIdMissing, MaxEntriesNegative}
 use Rattle.csi_types.specs.declared.requests.Request.{Request}
@@ -21,22 +21,24 @@ use Rattle.csi_types.specs.Topology.{has_alike_keys, same_topology}
 
 -- Capabilities
 
--- a mode is given, and is 1 to `most`
-abbrev pub is_mode_to : ℕ → Option ℤ → Bool
-is_mode_to most None = false
-is_mode_to most (Some (pos mode)) = nat_lt 0 mode && nat_le mode most
-is_mode_to most (Some (negsuc n)) = false
-
--- SINGLE_NODE_WRITER 1, SINGLE_NODE_READER_ONLY 2, MULTI_NODE_READER_ONLY 3,
--- MULTI_NODE_SINGLE_WRITER 4, MULTI_NODE_MULTI_WRITER 5
+-- a mode is given, and is one of SINGLE_NODE_WRITER 1, SINGLE_NODE_READER_ONLY 2, MULTI_NODE_READER_ONLY 3,
+-- MULTI_NODE_SINGLE_WRITER 4, MULTI_NODE_MULTI_WRITER 5, SINGLE_NODE_SINGLE_WRITER 6, SINGLE_NODE_MULTI_WRITER 7
 abbrev pub is_known_mode : Option ℤ → Bool
-is_known_mode = is_mode_to MAX_ACCESS_MODE
+is_known_mode None = false
+is_known_mode (Some (pos mode)) = nat_lt 0 mode && nat_le mode MAX_ACCESS_MODE
+is_known_mode (Some (negsuc n)) = false
+
+-- a node may write while others have the volume: MULTI_NODE_SINGLE_WRITER 4, MULTI_NODE_MULTI_WRITER 5
+abbrev pub writes_beside_others : Option ℤ → Bool
+writes_beside_others None = false
+writes_beside_others (Some (pos mode)) = mode == 4 || mode == 5
+writes_beside_others (Some (negsuc n)) = false
 
 -- supported: block with each known mode, mount with those in which no node writes beside others
 abbrev pub is_supported_access : Access → Option ℤ → Bool
 is_supported_access access.Missing mode = false
-is_supported_access access.Block mode = is_mode_to MAX_ACCESS_MODE mode
-is_supported_access (access.Mount m) mode = is_mode_to MAX_MOUNT_MODE mode
+is_supported_access access.Block mode = is_known_mode mode
+is_supported_access (access.Mount m) mode = is_known_mode mode && not (writes_beside_others mode)
 
 abbrev pub is_supported : Capability → Bool
 is_supported c = is_supported_access c.access c.mode

@@ -1,10 +1,10 @@
 //! How a volume may be used.
 
 ghost use Rattle.std.specs.Prelude.{◌≡◌};
-ghost use Rattle.csi_types.specs.Checks.{is_known_mode, is_mode_to, is_supported};
+ghost use Rattle.csi_types.specs.Checks.{is_known_mode, is_supported, writes_beside_others};
 
 use crate::items::Items;
-use crate::limits::{MAX_ACCESS_MODE, MAX_MOUNT_MODE};
+use crate::limits::MAX_ACCESS_MODE;
 use crate::text::Text;
 
 /// `VolumeCapability.MountVolume` (CSI specification, 'CreateVolume').
@@ -40,29 +40,30 @@ pub struct Capability {
     pub mode: Option<i32>,
 }
 
-// Whether a mode is given and is 1 to `most`.
-fn is_mode_to(most: u8, mode: Option<i32>) -> bool
-    ensures { result ≡ is_mode_to most mode }
-{
-    mode.is_some_and(|mode| 1 <= mode && mode <= i32::from(most))
-}
-
 /// Whether an access mode is given and is one of those that are known, 1 to `MAX_ACCESS_MODE`.
 pub fn is_known_mode(mode: Option<i32>) -> bool
     ensures { result ≡ is_known_mode mode }
 {
-    is_mode_to(MAX_ACCESS_MODE, mode)
+    mode.is_some_and(|mode| 1 <= mode && mode <= i32::from(MAX_ACCESS_MODE))
 }
 
-/// Whether a volume can be made for the capability: block with each known mode, mount with the
-/// modes 1 to `MAX_MOUNT_MODE`, in which no node writes beside others (CSI specification,
-/// 'CreateVolume').
+/// Whether a node may write while others have the volume: `MULTI_NODE_SINGLE_WRITER` and
+/// `MULTI_NODE_MULTI_WRITER`.
+pub fn writes_beside_others(mode: Option<i32>) -> bool
+    ensures { result ≡ writes_beside_others mode }
+{
+    mode.is_some_and(|mode| mode == 4 || mode == 5)
+}
+
+/// Whether a volume can be made for the capability: block with each known mode, mount with those in
+/// which no node writes beside others (CSI specification, 'CreateVolume').
 pub fn is_supported(capability: &Capability) -> bool
     ensures { result ≡ is_supported capability.now }
 {
+    let mode = capability.mode;
     match capability.access {
         Access::Missing => false,
-        Access::Block => is_known_mode(capability.mode),
-        Access::Mount(_) => is_mode_to(MAX_MOUNT_MODE, capability.mode),
+        Access::Block => is_known_mode(mode),
+        Access::Mount(_) => is_known_mode(mode) && !writes_beside_others(mode),
     }
 }

@@ -18,15 +18,17 @@ mod text;
 mod topology;
 mod volume;
 
-pub use capability::{Access, Capability, Mount, is_known_mode, is_supported};
+pub use capability::{
+    Access, Capability, Mount, is_known_mode, is_supported, writes_beside_others,
+};
 pub use capacity::CapacityRange;
 pub use code::Code;
 pub use copies::{copy_capability, copy_map, copy_text};
 pub use items::Items;
 pub use limits::{
-    MAX_ACCESS_MODE, MAX_MAP_BYTES, MAX_MOUNT_FLAGS_BYTES, MAX_MOUNT_MODE, MAX_NODE_ID_BYTES,
-    MAX_NODES, MAX_NUMBER, MAX_PAGE_ENTRIES, MAX_POOL_BYTES, MAX_POOLS, MAX_SEGMENTS,
-    MAX_TEXT_BYTES, MAX_VOLUMES,
+    MAX_ACCESS_MODE, MAX_MAP_BYTES, MAX_MOUNT_FLAGS_BYTES, MAX_NODE_ID_BYTES, MAX_NODES,
+    MAX_NUMBER, MAX_PAGE_ENTRIES, MAX_POOL_BYTES, MAX_POOLS, MAX_SEGMENTS, MAX_TEXT_BYTES,
+    MAX_VOLUMES,
 };
 pub use map::{Map, MapEntries};
 pub use method::{Method, method_named, method_of};

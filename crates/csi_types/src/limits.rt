@@ -3,14 +3,9 @@
 //! 128 bytes for a text and 4 KiB for a map are the general limits of the CSI specification, 'Size
 //! Limits'. The others are this plugin's own.
 
-/// The greatest access mode, `MULTI_NODE_MULTI_WRITER`; the least is 1 (CSI specification, the
+/// The greatest access mode, `SINGLE_NODE_MULTI_WRITER`; the least is 1 (CSI specification, the
 /// enum `VolumeCapability.AccessMode.Mode`).
-pub const MAX_ACCESS_MODE: u8 = 5;
-
-/// The greatest access mode of a mounted volume that is supported, `MULTI_NODE_READER_ONLY`.
-///
-/// In the greater ones a node writes while others have the volume.
-pub const MAX_MOUNT_MODE: u8 = 3;
+pub const MAX_ACCESS_MODE: u8 = 7;
 
 /// The most bytes of a text: a name, a volume id, a token, a file system, a mount group.
 pub const MAX_TEXT_BYTES: usize = 128;
@@ -45,9 +40,7 @@ pub const MAX_POOL_BYTES: u64 = 1 << 62;
 /// The number at which no further volume is made.
 pub const MAX_NUMBER: u64 = 1 << 62;
 
-const _: () = prove!(MAX_ACCESS_MODE == 5);
-
-const _: () = prove!(MAX_MOUNT_MODE == 3);
+const _: () = prove!(MAX_ACCESS_MODE == 7);
 
 const _: () = prove!(MAX_TEXT_BYTES == 128);
 

@@ -8,11 +8,12 @@ ghost use Rattle.csi_machine.specs.Down.{TellsDown};
 ghost use Rattle.csi_machine.specs.calls.Publish.{publication, is_at, publish_again, has_conflict, attach, publish, publish_node, publish_at, publish_key, asked_key};
 ghost use Rattle.csi_keeper.specs.Lookup.{node_of};
 
-use crate::capability::has_this_key;
 use crate::ids::number_of_id;
 use crate::plan::{Outcome, Plan, refuse, respond};
 use csi_config::{Config, Node};
-use csi_keeper::{Attachment, CapKey, Change, Keeper, StoreFault, Volume, cap_key, coexist};
+use csi_keeper::{
+    Attachment, CapKey, Change, Keeper, StoreFault, Volume, cap_key, coexist, has_key,
+};
 use csi_types::{Capability, Map, Publish, Reason, Response, Text, copy_text};
 use std::alloc::{AllocError, Global};
 
@@ -60,7 +61,7 @@ fn attach(alloc: Global, target: &Target, mine: Attachment) -> Result<Plan, Allo
     ensures bounded { IfOk result (λ p. IfSome p.change IsBounded) }
     ensures value { IfOk result (λ p. p ≡ attach target.now.number target.now.volume.now.caps target.now.attachments.now target.now.node.now target.now.there.now mine) }
 {
-    if !has_this_key(target.volume.caps.as_slice(), &mine.cap) {
+    if !has_key(target.volume.caps.as_slice(), &mine.cap) {
         return Ok(refuse(Reason::CapabilityNotOfVolume));
     }
     if has_conflict(&mine, target.attachments) {
