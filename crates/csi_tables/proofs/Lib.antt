@@ -2,6 +2,7 @@ mod CellLemmas
 mod EncodingLemmas
 mod EntryLemmas
 mod KeepLemmas
+mod ModeLemmas
 mod NewLemmas
 mod PageLemmas
 mod PlaceLemmas

@@ -2,8 +2,11 @@
 
 ghost use Rattle.std.specs.Prelude.{◌≡◌};
 ghost use Rattle.sqlite.specs.Tree.{Trees};
+ghost use Rattle.csi_config.specs.declared.config.Config.{Config};
+ghost use Rattle.csi_keeper.specs.Invariant.{IsInvariant};
 ghost use Rattle.csi_keeper.specs.State.{State};
 ghost use Rattle.csi_tables.specs.Holding.{IsRows};
+ghost use Rattle.csi_tables.specs.Refusing.{HasKnownModes};
 
 use crate::encoding::read_back;
 
@@ -13,3 +16,8 @@ pub fn one_state()
 {
     read_back();
 }
+
+/// A State of the invariant has known modes, which is what a call's refusal is told for.
+pub fn known_modes()
+    ensures { (config : Config) (s : State) → IsInvariant config s → HasKnownModes s }
+{}
