@@ -301,7 +301,7 @@ def free(available, maximum):
 READY = reply(hexa("0a020801"))
 NAMED = reply(txt(1, "pools.example.org"), txt(2, "1.0.0"))
 SERVICES = reply(hexa("0a040a020801 0a040a020802"))
-CAN_DO = reply(hexa("0a040a020801 0a040a020802 0a040a020803 0a040a020804 0a040a020808 0a040a02080a"))
+CAN_DO = reply(hexa("0a040a020801 0a040a020802 0a040a020803 0a040a020804 0a040a020808 0a040a02080a 0a040a02080d"))
 MADE = made(1, MIB, P1)
 DONE = reply()
 WRITER = reply(entry(1, "readonly", "false"))
@@ -370,7 +370,7 @@ row("probe", PROBE, PROBED)
 row("plugin-info", raw("/csi.v1.Identity/GetPluginInfo", ""), body("0a11706f6f6c732e6578616d706c652e6f7267 1205312e302e30"))
 row("plugin-capabilities", raw("/csi.v1.Identity/GetPluginCapabilities", ""), body("0a040a020801 0a040a020802"))
 row("controller-capabilities", raw("/csi.v1.Controller/ControllerGetCapabilities", ""),
-    body("0a040a020801 0a040a020802 0a040a020803 0a040a020804 0a040a020808 0a040a02080a"))
+    body("0a040a020801 0a040a020802 0a040a020803 0a040a020804 0a040a020808 0a040a02080a 0a040a02080d"))
 row("unknown-method", raw("/csi.v1.Controller/CreateSnapshot", ""), text("0c000e", "unknown method"))
 
 group("In plain bytes: malformed messages, and the call behind one")
@@ -530,6 +530,86 @@ row("number-never-used-again", CREATE_A, CREATED_A, raw(DELETE, "0a05766f6c2d31"
 
 
 # From here on calls and replies are put together by the functions above. MADE answers the volume vol-1 of the default size, in p1.
+
+group("In plain bytes: each access mode, of a block device and of a mount")
+# 'vol-1' of 1 MiB leaves 13 MiB in the two pools, and the greatest size is 8 MiB.
+NOT_SUPPORTED = body("122c" + b"capabilities or parameters are not supported".hex())
+THIRTEEN_AND_8_MIB = body("08 8080c006 1205 0880808004")
+for mode in ("01", "02", "03", "04", "05", "06", "07"):
+    row("plain-block-mode-%s" % mode[1], raw(CREATE, "0a0161 1a06 0a00 1a0208" + mode), CREATED_A,
+        raw(PUBLISH, "0a05766f6c2d31 12026e31 1a06 0a00 1a0208" + mode), FALSE,
+        raw(VALIDATE, "0a05766f6c2d31 1a06 0a00 1a0208" + mode), body("0a08 1206 0a00 1a0208" + mode),
+        raw(CAPACITY, "0a06 0a00 1a0208" + mode), THIRTEEN_AND_8_MIB)
+for mode in ("01", "02", "03", "06", "07"):
+    row("plain-mount-mode-%s" % mode[1], raw(CREATE, "0a0161 1a06 1200 1a0208" + mode), CREATED_A,
+        raw(PUBLISH, "0a05766f6c2d31 12026e31 1a06 1200 1a0208" + mode), FALSE,
+        raw(VALIDATE, "0a05766f6c2d31 1a06 1200 1a0208" + mode), body("0a08 1206 1200 1a0208" + mode),
+        raw(CAPACITY, "0a06 1200 1a0208" + mode), THIRTEEN_AND_8_MIB)
+for mode in ("04", "05"):
+    row("plain-mount-mode-%s" % mode[1], raw(CREATE, "0a0161 1a06 1200 1a0208" + mode), text("030022", "volume capability is not supported"),
+        CREATE_A, CREATED_A,
+        raw(PUBLISH, "0a05766f6c2d31 12026e31 1a06 1200 1a0208" + mode), text("030024", "volume does not have this capability"),
+        raw(VALIDATE, "0a05766f6c2d31 1a06 1200 1a0208" + mode), NOT_SUPPORTED, raw(CAPACITY, "0a06 1200 1a0208" + mode), body("1200"))
+for kind, access in (("block", "0a00"), ("mount", "1200")):
+    for mode in ("00", "08"):
+        row("plain-%s-mode-%s" % (kind, mode[1]), raw(CREATE, "0a0161 1a06 " + access + "1a0208" + mode), text("030021", "access mode is missing or unknown"),
+            CREATE_A, CREATED_A,
+            raw(PUBLISH, "0a05766f6c2d31 12026e31 1a06" + access + "1a0208" + mode), text("030021", "access mode is missing or unknown"),
+            raw(VALIDATE, "0a05766f6c2d31 1a06" + access + "1a0208" + mode), text("030021", "access mode is missing or unknown"),
+            raw(CAPACITY, "0a06" + access + "1a0208" + mode), text("030021", "access mode is missing or unknown"))
+
+group("In plain bytes: a volume made with SINGLE_NODE_WRITER (1) has SINGLE_NODE_SINGLE_WRITER (6) and SINGLE_NODE_MULTI_WRITER (7) too")
+row("mode-7-stands-at-one-node", raw(CREATE, "0a0161 1a060a001a020807"), CREATED_A,
+    raw(PUBLISH, "0a05766f6c2d31 12026e31 1a060a001a020807"), FALSE,
+    raw(PUBLISH, "0a05766f6c2d31 12026e32 1a060a001a020807"), text("09001d", "volume is published elsewhere"))
+row("mode-6-stands-at-one-node", raw(CREATE, "0a0161 1a060a001a020806"), CREATED_A,
+    raw(PUBLISH, "0a05766f6c2d31 12026e31 1a060a001a020806"), FALSE,
+    raw(PUBLISH, "0a05766f6c2d31 12026e32 1a060a001a020806 2001"), text("09001d", "volume is published elsewhere"))
+row("mode-1-is-published-with-7", CREATE_A, CREATED_A, raw(PUBLISH, "0a05766f6c2d31 12026e31 1a060a001a020807"), FALSE,
+    raw(PUBLISH, "0a05766f6c2d31 12026e31 1a060a001a020807"), FALSE,
+    raw(PUBLISH, "0a05766f6c2d31 12026e31 1a060a001a020801"), text("06001d", "volume is published otherwise"),
+    raw(PUBLISH, "0a05766f6c2d31 12026e32 1a060a001a020801"), text("09001d", "volume is published elsewhere"))
+row("mode-1-is-published-with-6", CREATE_A, CREATED_A, raw(PUBLISH, "0a05766f6c2d31 12026e32 1a060a001a020806"), FALSE,
+    raw(PUBLISH, "0a05766f6c2d31 12026e32 1a060a001a020807"), text("06001d", "volume is published otherwise"))
+row("mode-1-is-created-again-with-6-and-7", CREATE_A, CREATED_A, raw(CREATE, "0a0161 1a060a001a020806"), CREATED_A,
+    raw(CREATE, "0a0161 1a060a001a020807 1a060a001a020801 1a060a001a020806"), CREATED_A,
+    raw(CREATE, "0a0161 1a060a001a020807 1a060a001a020802"), text("060023", "volume exists and is not compatible"))
+row("mode-1-is-confirmed-with-6-and-7", CREATE_A, CREATED_A, raw(VALIDATE, "0a05766f6c2d31 1a060a001a020806"), body("0a08 1206 0a00 1a020806"),
+    raw(VALIDATE, "0a05766f6c2d31 1a060a001a020807 1a060a001a020801"), body("0a10 1206 0a00 1a020807 1206 0a00 1a020801"),
+    raw(VALIDATE, "0a05766f6c2d31 1a060a001a020806 1a060a001a020803"), NOT_SUPPORTED)
+for mode, other in (("06", "07"), ("07", "06")):
+    for wanted in ("01", other):
+        row("mode-%s-is-not-mode-%s" % (mode[1], wanted[1]), raw(CREATE, "0a0161 1a060a001a0208" + mode), CREATED_A,
+            raw(CREATE, "0a0161 1a060a001a0208" + wanted), text("060023", "volume exists and is not compatible"),
+            raw(PUBLISH, "0a05766f6c2d31 12026e31 1a060a001a0208" + wanted), text("030024", "volume does not have this capability"),
+            raw(VALIDATE, "0a05766f6c2d31 1a060a001a0208" + wanted), NOT_SUPPORTED)
+for mode in ("02", "03", "04", "05"):
+    row("mode-%s-is-neither-6-nor-7" % mode[1], raw(CREATE, "0a0161 1a060a001a0208" + mode), CREATED_A,
+        raw(PUBLISH, "0a05766f6c2d31 12026e31 1a060a001a020806"), text("030024", "volume does not have this capability"),
+        raw(PUBLISH, "0a05766f6c2d31 12026e31 1a060a001a020807"), text("030024", "volume does not have this capability"))
+row("mode-1-of-a-block-device-is-not-6-of-a-mount", CREATE_A, CREATED_A,
+    raw(PUBLISH, "0a05766f6c2d31 12026e31 1a0612001a020806"), text("030024", "volume does not have this capability"),
+    raw(VALIDATE, "0a05766f6c2d31 1a0612001a020807"), NOT_SUPPORTED)
+row("mode-1-of-a-file-system-is-6-of-that-alone", raw(CREATE, "0a0161 1a0c 12060a0465787434 1a020801"), CREATED_A,
+    raw(PUBLISH, "0a05766f6c2d31 12026e31 1a0b 12050a03786673 1a020806"), text("030024", "volume does not have this capability"),
+    raw(PUBLISH, "0a05766f6c2d31 12026e31 1a06 1200 1a020807"), text("030024", "volume does not have this capability"),
+    raw(CREATE, "0a0161 1a0c 12060a0465787434 1a020807"), CREATED_A,
+    raw(PUBLISH, "0a05766f6c2d31 12026e31 1a0c 12060a0465787434 1a020806"), FALSE)
+
+group("Each access mode at a node, and each behind it at that node and at another: of a block device that was made with all of them")
+# A line for the mode at the first node, in it a letter for each mode at the second: 'w' where both may be attached to write, 'r' where one of them
+# has to be only read, '-' where they do not stand beside one another.
+TRUE = body("0a10 0a08726561646f6e6c79 120474727565")
+BESIDE = {1: "-------", 2: "-------", 3: "--w----", 4: "---r---", 5: "----w--", 6: "-------", 7: "-------"}
+EACH_MODE = "0a0161" + "".join("1a060a001a02080%d" % mode for mode in (1, 2, 3, 4, 5, 6, 7))
+for first, beside in BESIDE.items():
+    for second, may in zip(BESIDE, beside):
+        row("modes-%d-and-%d" % (first, second), raw(CREATE, EACH_MODE), CREATED_A,
+            raw(PUBLISH, "0a05766f6c2d31 12026e31 1a060a001a02080%d" % first), FALSE,
+            raw(PUBLISH, "0a05766f6c2d31 12026e31 1a060a001a02080%d" % second), FALSE if first == second else text("06001d", "volume is published otherwise"),
+            raw(PUBLISH, "0a05766f6c2d31 12026e32 1a060a001a02080%d" % second), FALSE if may == "w" else text("09001d", "volume is published elsewhere"),
+            raw(UNPUBLISH, "0a05766f6c2d31 12026e32"), body(""),
+            raw(PUBLISH, "0a05766f6c2d31 12026e32 1a060a001a02080%d 2001" % second), text("09001d", "volume is published elsewhere") if may == "-" else TRUE)
 
 group("Identity and capability calls")
 row("probe-twice", probe(), READY, probe(), READY)
@@ -1048,14 +1128,14 @@ row("access-missing-before-mode", create(A, NO_MODE, NO_ACCESS), ACCESS_MISSING,
 row("mode-absent", create(A, NO_MODE), MODE_UNKNOWN, publish(VOL_1, N1, NO_MODE), MODE_UNKNOWN, validate(VOL_1, NO_MODE), MODE_UNKNOWN,
     capacity(msg(1, msg(1))), MODE_UNKNOWN)
 row("mode-message-empty", create(A, cap(msg(1), msg(3))), MODE_UNKNOWN, publish(VOL_1, N1, cap(msg(1), msg(3))), MODE_UNKNOWN)
-for words, mode in (("zero", 0), ("6", 6), ("7", 7), ("8", 8), ("minus-one", -1), ("128", 128), ("of-2-to-the-31", 1 << 31)):
+for words, mode in (("zero", 0), ("8", 8), ("minus-one", -1), ("128", 128), ("of-2-to-the-31", 1 << 31)):
     row("mode-" + words, create(A, cap(block(mode))), MODE_UNKNOWN, publish(VOL_1, N1, cap(mount(mode))), MODE_UNKNOWN,
         validate(VOL_1, cap(block(mode))), MODE_UNKNOWN, capacity(msg(1, mount(mode))), MODE_UNKNOWN)
 row("mode-unknown-in-the-last", create(A, BLOCK, cap(block(9))), MODE_UNKNOWN, capacity(msg(1, block(1)), msg(1, block(9))), MODE_UNKNOWN)
 row("mode-unknown-before-unsupported", create(A, cap(mount(5)), cap(block(0))), MODE_UNKNOWN)
-for mode in (1, 2, 3, 4, 5):
+for mode in (1, 2, 3, 4, 5, 6, 7):
     row("create-block-mode-%d" % mode, create(A, cap(block(mode))), MADE)
-for mode in (1, 2, 3):
+for mode in (1, 2, 3, 6, 7):
     row("create-mount-mode-%d" % mode, create(A, cap(mount(mode, EXT4, flag("ro"), gid("g")))), MADE)
 row("create-mount-mode-5", create(A, cap(mount(5, EXT4))), CAP_UNSUPPORTED)
 row("create-unsupported-in-the-last", create(A, BLOCK, cap(mount(1)), cap(mount(4))), CAP_UNSUPPORTED)
@@ -1335,13 +1415,14 @@ row("numbers-of-deleted-volumes-name-nothing", create(A, BLOCK), MADE, delete(VO
 group("ControllerPublishVolume")
 # Each row: a mode, what a second node is answered that writes where the first one writes, and one that reads where the first one reads.
 for mode, writer, reader in (
-        (1, ELSEWHERE, ELSEWHERE), (2, ELSEWHERE, ELSEWHERE), (3, WRITER, READER), (4, ELSEWHERE, READER), (5, WRITER, READER)):
+        (1, ELSEWHERE, ELSEWHERE), (2, ELSEWHERE, ELSEWHERE), (3, WRITER, READER), (4, ELSEWHERE, READER), (5, WRITER, READER),
+        (6, ELSEWHERE, ELSEWHERE), (7, ELSEWHERE, ELSEWHERE)):
     one = cap(block(mode))
     row("publish-block-mode-%d-at-both-nodes" % mode, create(A, one), MADE, publish(VOL_1, N1, one), WRITER,
         publish(VOL_1, N2, one), writer)
     row("publish-block-mode-%d-readonly-at-both-nodes" % mode, create(A, one), MADE, publish(VOL_1, N2, one, READONLY), READER,
         publish(VOL_1, N1, one, READONLY), reader)
-for mode, writer in ((1, ELSEWHERE), (2, ELSEWHERE), (3, WRITER)):
+for mode, writer in ((1, ELSEWHERE), (2, ELSEWHERE), (3, WRITER), (6, ELSEWHERE), (7, ELSEWHERE)):
     one = cap(mount(mode, EXT4))
     row("publish-mount-mode-%d-at-both-nodes" % mode, create(A, one), MADE, publish(VOL_1, N2, one), WRITER,
         publish(VOL_1, N1, one), writer)
