@@ -75,7 +75,9 @@ impl<'a> Waiting<'a> {
 
     // The place of the oldest one of those that have sent no call.
     fn oldest(&self) -> Option<usize> {
-        self.pending.iter().position(|it| it.start == Some(Start::Open))
+        self.pending
+            .iter()
+            .position(|it| it.start == Some(Start::Open))
     }
 
     // Closes that one.
@@ -140,7 +142,8 @@ impl<'a> Waiting<'a> {
     // Whether a connection has sent nothing for as long as it may.
     fn is_overdue(&self, one: &Pending, now: Instant) -> bool {
         match self.idle {
-            Some(longest) => one.start == Some(Start::Open) && now.duration_since(one.since) >= longest,
+            Some(longest) => one.start == Some(Start::Open)
+                && now.duration_since(one.since) >= longest,
             None => false,
         }
     }

@@ -133,7 +133,11 @@ fn call_answer(alloc: Global, words: &[&str]) -> Result<String, RowFault> {
         is_same: true,
     };
     let received = call_again(&mut line, FRAME, tries);
-    let Exchanges { made, unanswered, .. } = line.exchanges;
+    let Exchanges {
+        made,
+        unanswered,
+        ..
+    } = line.exchanges;
     let outcome = Outcome::of(&received);
     let word = script
         .iter()

@@ -27,9 +27,9 @@ impl Trials<'_> {
         let (end, _) = self.stream.ends_of(calls);
         let rest = self.stream.input.get(begin..end).unwrap_or(&[]);
         let pieces = Pieces::new(rest, GREATEST_PIECE);
-        let (end, written) =
-            self.server
-                .run_over(self.alloc, &mut keeper, pieces, Takes::all())?;
+        let (end, written) = self
+            .server
+            .run_over(self.alloc, &mut keeper, pieces, Takes::all())?;
         let served = Served {
             end,
             written,
