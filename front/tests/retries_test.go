@@ -43,7 +43,7 @@ func lives(volumes int) (calls []oneCall) {
 // calls without a kill, and leaves the same volumes.
 func TestRepeatedCallsOverKills(t *testing.T) {
 	t.Parallel()
-	const volumes, leastKills = 120, 5
+	const volumes, kills = 80, 8
 	calls := lives(volumes)
 	calm := newClient(t, startFront(t, newServer(t, withNode).start(t).socket()).socket)
 	var wanted []answer
@@ -53,7 +53,7 @@ func TestRepeatedCallsOverKills(t *testing.T) {
 
 	csid := newServer(t, withNode).start(t)
 	front := newClient(t, startFront(t, csid.socket()).socket)
-	lost, over := int32(0), make(chan struct{})
+	lost, answered, over := int32(0), int32(0), make(chan struct{})
 	go func() {
 		defer close(over)
 		for i, call := range calls {
@@ -67,22 +67,19 @@ func TestRepeatedCallsOverKills(t *testing.T) {
 				t.Errorf("call %d, %s: %v, wanted %v", i, call.path, got, wanted[i])
 				return
 			}
+			atomic.AddInt32(&answered, 1)
 		}
 	}()
-	kills := 0
-	for is := true; is; {
-		select {
-		case <-over:
-			is = false
-		case <-time.After(time.Duration(rand.Intn(40_000)) * time.Microsecond):
-			csid.kill(t)
-			csid.start(t)
-			kills++
-		}
+	for kill := 1; kill <= kills; kill++ {
+		eventually(t, "calls before a kill", func() bool { return int(atomic.LoadInt32(&answered)) >= kill*len(calls)/(kills+1) })
+		time.Sleep(time.Duration(rand.Intn(4000)) * time.Microsecond)
+		csid.kill(t)
+		csid.start(t)
 	}
+	<-over
 	t.Logf("%d calls, %d kills, %d calls were UNAVAILABLE", len(calls), kills, lost)
-	if kills < leastKills || lost == 0 {
-		t.Errorf("%d kills, %d calls that were lost: this shows nothing", kills, lost)
+	if lost == 0 {
+		t.Error("no call was lost: this shows nothing")
 	}
 	stand := controller + "ListVolumes"
 	front.wants(t, stand, "", calm.call(t, stand, ""))
