@@ -151,6 +151,10 @@ def validate(*parts):
     return controller("ValidateVolumeCapabilities", *parts)
 
 
+def modify(*parts):
+    return controller("ControllerModifyVolume", *parts)
+
+
 def listing(*parts):
     return controller("ListVolumes", *parts)
 
@@ -216,6 +220,16 @@ def cap(*parts):
 def param(key, value):
     """An entry of the parameters of create and validate; GetCapacity has them under the number 2."""
     return entry(4, key, value)
+
+
+def mutable(key, value):
+    """An entry of the mutable_parameters of create."""
+    return entry(8, key, value)
+
+
+def sets(key, value):
+    """An entry of the mutable_parameters of modify."""
+    return entry(3, key, value)
 
 
 def topology(*terms):
@@ -301,7 +315,7 @@ def free(available, maximum):
 READY = reply(hexa("0a020801"))
 NAMED = reply(txt(1, "pools.example.org"), txt(2, "1.0.0"))
 SERVICES = reply(hexa("0a040a020801 0a040a020802"))
-CAN_DO = reply(hexa("0a040a020801 0a040a020802 0a040a020803 0a040a020804 0a040a020808 0a040a02080a 0a040a02080d"))
+CAN_DO = reply(hexa("0a040a020801 0a040a020802 0a040a020803 0a040a020804 0a040a020808 0a040a02080a 0a040a02080d 0a040a02080e"))
 MADE = made(1, MIB, P1)
 DONE = reply()
 WRITER = reply(entry(1, "readonly", "false"))
@@ -325,6 +339,8 @@ NOT_REQUISITE = refusal(3, "preferred topology is not requisite")
 ID_MISSING = refusal(3, "volume id is missing")
 NODE_MISSING = refusal(3, "node id is missing")
 MOST_NEGATIVE = refusal(3, "max_entries is negative")
+MUTABLE_MISSING = refusal(3, "mutable parameters are missing")
+MUTABLE_LARGE = refusal(3, "mutable parameters are too large")
 NO_VOLUME = refusal(5, "volume not found")
 NO_NODE = refusal(5, "node not found")
 NOT_COMPATIBLE = refusal(6, "volume exists and is not compatible")
@@ -370,7 +386,7 @@ row("probe", PROBE, PROBED)
 row("plugin-info", raw("/csi.v1.Identity/GetPluginInfo", ""), body("0a11706f6f6c732e6578616d706c652e6f7267 1205312e302e30"))
 row("plugin-capabilities", raw("/csi.v1.Identity/GetPluginCapabilities", ""), body("0a040a020801 0a040a020802"))
 row("controller-capabilities", raw("/csi.v1.Controller/ControllerGetCapabilities", ""),
-    body("0a040a020801 0a040a020802 0a040a020803 0a040a020804 0a040a020808 0a040a02080a 0a040a02080d"))
+    body("0a040a020801 0a040a020802 0a040a020803 0a040a020804 0a040a020808 0a040a02080a 0a040a02080d 0a040a02080e"))
 row("unknown-method", raw("/csi.v1.Controller/CreateSnapshot", ""), text("0c000e", "unknown method"))
 
 group("In plain bytes: malformed messages, and the call behind one")
@@ -595,6 +611,18 @@ row("mode-1-of-a-file-system-is-6-of-that-alone", raw(CREATE, "0a0161 1a0c 12060
     raw(PUBLISH, "0a05766f6c2d31 12026e31 1a06 1200 1a020807"), text("030024", "volume does not have this capability"),
     raw(CREATE, "0a0161 1a0c 12060a0465787434 1a020807"), CREATED_A,
     raw(PUBLISH, "0a05766f6c2d31 12026e31 1a0c 12060a0465787434 1a020806"), FALSE)
+
+MODIFY, COMPATIBLE_NOT = "/csi.v1.Controller/ControllerModifyVolume", text("060023", "volume exists and is not compatible")
+MODIFY_K_V = raw(MODIFY, "0a05766f6c2d31 1a060a016b120176")
+
+group("In plain bytes: mutable parameters, k = v, and j = x beside it")
+row("modify", CREATE_A, CREATED_A, MODIFY_K_V, body(""), MODIFY_K_V, body(""))
+row("modify-and-create-again", CREATE_A, CREATED_A, MODIFY_K_V, body(""), raw(CREATE, "0a0161 1a060a001a020801 42060a016b120176"), CREATED_A,
+    raw(CREATE, "0a0161 1a060a001a020801 42060a016b120177"), COMPATIBLE_NOT)
+row("modify-without-a-key", CREATE_A, CREATED_A, raw(MODIFY, "0a05766f6c2d31"), text("03001e", "mutable parameters are missing"))
+row("modify-what-is-not-there", CREATE_A, CREATED_A, raw(MODIFY, "0a05766f6c2d39 1a060a016b120176"), text("050010", "volume not found"))
+row("modify-keeps-other-keys", CREATE_A, CREATED_A, MODIFY_K_V, body(""), raw(MODIFY, "0a05766f6c2d31 1a060a016a120178"), body(""),
+    raw(CREATE, "0a0161 1a060a001a020801 42060a016b120176 42060a016a120178"), CREATED_A)
 
 group("Each access mode at a node, and each behind it at that node and at another: of a block device that was made with all of them")
 # A line for the mode at the first node, in it a letter for each mode at the second: 'w' where both may be attached to write, 'r' where one of them
@@ -1383,6 +1411,55 @@ row("names-differ-by-case", create(A, BLOCK), MADE, create(name("A"), BLOCK), ma
 row("names-differ-by-their-accents", create(name("\u00e9"), BLOCK), MADE, create(name("e\u0301"), BLOCK), made(2, MIB, P1))
 row("names-differ-by-a-space", create(A, BLOCK), MADE, create(name("a "), BLOCK), made(2, MIB, P1),
     create(name(" a"), BLOCK), made(3, MIB, P1))
+
+group("Mutable parameters: CreateVolume and ControllerModifyVolume")
+IOPS, FAST, V4000 = mutable("iops", "500"), sets("iops", "900"), "v" * 3999
+row("mutable-created-and-asked-again", create(A, BLOCK, IOPS), MADE, create(A, BLOCK, IOPS), MADE, create(A, BLOCK), MADE,
+    create(A, BLOCK, mutable("iops", "501")), NOT_COMPATIBLE, create(A, BLOCK, IOPS, mutable("k", "")), NOT_COMPATIBLE,
+    create(A, BLOCK, mutable("IOPS", "500")), NOT_COMPATIBLE)
+row("mutable-of-a-part-of-the-keys", create(A, BLOCK, IOPS, mutable("k", "v")), MADE, create(A, BLOCK, mutable("k", "v")), MADE,
+    create(A, BLOCK, mutable("k", "")), NOT_COMPATIBLE)
+row("mutable-are-not-the-parameters", create(A, BLOCK, IOPS), MADE, create(A, BLOCK, param("iops", "500"), IOPS), NOT_COMPATIBLE,
+    create(B, BLOCK, param("iops", "500")), made(2, MIB, P1), create(B, BLOCK, IOPS, param("iops", "500")), NOT_COMPATIBLE)
+row("mutable-are-not-validated", create(A, BLOCK, IOPS), MADE, validate(VOL_1, BLOCK), confirmed(can(block(1))),
+    validate(VOL_1, BLOCK, param("iops", "500")), NOT_CONFIRMED)
+row("modify-a-key-that-stands", create(A, BLOCK, IOPS), MADE, modify(VOL_1, FAST), DONE, create(A, BLOCK, IOPS), NOT_COMPATIBLE,
+    create(A, BLOCK, mutable("iops", "900")), MADE)
+row("modify-to-an-empty-value", create(A, BLOCK, IOPS), MADE, modify(VOL_1, sets("iops", "")), DONE, create(A, BLOCK, mutable("iops", "")), MADE,
+    create(A, BLOCK, IOPS), NOT_COMPATIBLE)
+row("modify-back", create(A, BLOCK, IOPS), MADE, modify(VOL_1, FAST), DONE, modify(VOL_1, sets("iops", "500")), DONE, create(A, BLOCK, IOPS), MADE)
+row("modify-while-published", create(A, BLOCK), MADE, publish(VOL_1, N1, BLOCK), WRITER, modify(VOL_1, FAST), DONE, publish(VOL_1, N1, BLOCK), WRITER,
+    listing(), page(listed(1, MIB, P1, "n1")), create(A, BLOCK, mutable("iops", "900")), MADE)
+row("modify-one-of-two", create(A, BLOCK), MADE, create(B, BLOCK), made(2, MIB, P1), modify(VOL_2, FAST), DONE,
+    create(A, BLOCK, mutable("iops", "900")), NOT_COMPATIBLE, create(B, BLOCK, mutable("iops", "900")), made(2, MIB, P1))
+row("modify-keeps-the-parameters", create(A, BLOCK, param("tier", "gold")), MADE, modify(VOL_1, FAST), DONE,
+    create(A, BLOCK, param("tier", "gold")), MADE, create(A, BLOCK), NOT_COMPATIBLE)
+row("modify-after-a-delete", create(A, BLOCK), MADE, delete(VOL_1), DONE, modify(VOL_1, FAST), NO_VOLUME, create(A, BLOCK), made(2, MIB, P1),
+    modify(VOL_1, FAST), NO_VOLUME)
+row("modify-of-no-id", modify(FAST), ID_MISSING, modify(vol("")), ID_MISSING, modify(), ID_MISSING, modify(VOL_1), MUTABLE_MISSING,
+    modify(VOL_1, FAST), NO_VOLUME, modify(vol("vol-01"), FAST), NO_VOLUME, modify(vol("v" * 129), FAST), TEXT_LONG,
+    modify(vol("v" * 129)), TEXT_LONG, modify(vol("v" * 128)), MUTABLE_MISSING)
+row("modify-maps-before-all", modify(vol("v" * 129), sets("k", V4097)), MAP_LARGE, modify(VOL_1, entry(2, "k", V4097)), MAP_LARGE,
+    modify(VOL_1, entry(2, "k", V4096)), MUTABLE_MISSING, create(A, BLOCK, mutable("k", V4097)), MAP_LARGE, create(A, BLOCK, mutable("k", V4096)), MADE,
+    modify(VOL_1, entry(2, "k", V4096), sets("k", V4096)), DONE)
+row("modify-to-4096-bytes-and-not-beyond", create(A, BLOCK), MADE, modify(VOL_1, sets("k", V4000)), DONE, modify(VOL_1, sets("j", "v" * 95)), DONE,
+    modify(VOL_1, sets("i", "")), MUTABLE_LARGE, modify(VOL_1, sets("j", "v" * 96)), MUTABLE_LARGE,
+    create(A, BLOCK, mutable("k", V4000), mutable("j", "v" * 95)), MADE, modify(VOL_1, sets("k", ""), sets("i", V4000)), MUTABLE_LARGE, modify(VOL_1, sets("k", ""), sets("i", "v" * 3998)), DONE)
+row("modify-too-large-changes-nothing", create(A, BLOCK, IOPS, mutable("j", "v")), MADE, modify(VOL_1, FAST, sets("k", "v" * 4088)), MUTABLE_LARGE,
+    create(A, BLOCK, IOPS), MADE, modify(VOL_1, FAST, sets("k", "v" * 4087)), MUTABLE_LARGE, modify(VOL_1, FAST, sets("k", "v" * 4086)), DONE,
+    create(A, BLOCK, mutable("iops", "900"), mutable("j", "v")), MADE)
+row("modify-unknown-before-too-large", create(A, BLOCK, mutable("k", V4096)), MADE, modify(VOL_2, sets("i", "v")), NO_VOLUME,
+    modify(VOL_1, sets("i", "v")), MUTABLE_LARGE)
+row("modify-all-fields", create(A, BLOCK, IOPS), MADE, modify(FAST, entry(2, "user", "x"), num(4, 1), VOL_1, sets("k", "v")), DONE,
+    create(A, BLOCK, mutable("iops", "900"), mutable("k", "v")), MADE)
+row("modify-fields-twice", create(A, BLOCK, IOPS), MADE, modify(vol("x"), sets("iops", "1"), VOL_1, FAST), DONE,
+    create(A, BLOCK, mutable("iops", "900")), MADE)
+row("modify-an-entry-without-a-key", create(A, BLOCK), MADE, modify(VOL_1, msg(3)), DONE, create(A, BLOCK, mutable("", "")), MADE,
+    create(A, BLOCK, mutable("", "v")), NOT_COMPATIBLE)
+row("mutable-as-another-wire-type", create(A, BLOCK, num(8, 1), fixed64(8), fixed32(8)), MADE, modify(VOL_1, num(3, 1)), MUTABLE_MISSING)
+row("mutable-not-utf8", create(mutable("k", BAD)), malformed(0), modify(VOL_1, sets(BAD, "v")), malformed(7), modify(entry(2, "k", BAD)), malformed(0))
+row("mutable-malformed-entry", create(A, msg(8, hexa("12"))), malformed(3), modify(VOL_1, msg(3, hexa("12"))), malformed(7))
+row("modify-of-the-identity-service", identity("ControllerModifyVolume", VOL_1, FAST), UNKNOWN, controller("ModifyVolume", VOL_1, FAST), UNKNOWN)
 
 group("Ids of volumes, and DeleteVolume")
 row("id-leading-zero", create(A, BLOCK), MADE, delete(vol("vol-01")), DONE, validate(vol("vol-01"), BLOCK), NO_VOLUME,

@@ -209,7 +209,7 @@ func startCsid(t *testing.T) *server {
 func (s *server) wantsStartAlone(t *testing.T) {
 	t.Helper()
 	tables := filepath.Join(s.folder, "volumes.db")
-	want := fmt.Sprintf("csid: %s: no tables stood there, and new ones were made\ncsid: %s: volumes 0, attachments 0, next number 1, format 1\n", tables, tables)
+	want := fmt.Sprintf("csid: %s: no tables stood there, and new ones were made\ncsid: %s: volumes 0, attachments 0, next number 1, format 2\n", tables, tables)
 	if log := s.current.log.String(); log != want {
 		t.Errorf("csid said %q, wanted %q", log, want)
 	}

@@ -15,14 +15,15 @@ use Rattle.csi_layout.specs.Making.{MakesTables}
 use Rattle.csi_layout.specs.Tables.{no_schema, schema}
 use Rattle.csi_layout.specs.Transactions.{LeavesFrom}
 use Rattle.csi_statements.specs.Rows.{IsUndone}
-use Rattle.csi_tables.specs.Holding.{IsRows, Shows, conn_doubt, store_doubt, store_holds, store_survivors, store_tied}
+use Rattle.csi_tables.specs.Holding.{IsEitherRows, IsFirstRows, IsRows, Shows, conn_doubt, store_doubt, store_holds, store_survivors, store_tied}
 use Rattle.csi_tables.specs.Keeping.{is_down, refusals, store_of, IsNewOver}
 use Rattle.csi_tables.specs.declared.tables.Tables.{Tables}
-use Rattle.csi_adoption.specs.Adopting.{committed, IsAdopted, IsFound, IsNotRefused, IsStateOf, IsUnadopted}
+use Rattle.csi_adoption.specs.Adopting.{committed, IsAdopted, IsNotRefused, IsStateOf, IsTaken, IsUnadopted, LeavesLatest}
 use Rattle.csi_adoption.specs.Judging.{is_failure, IsFaultOf}
 use Rattle.csi_adoption.specs.declared.fault.AdoptFault.{AdoptFault}
 use Rattle.csi_adoption.specs.declared.fault.AdoptFault.TheVariants.{Foreign}
 use Rattle.csi_adoption.specs.declared.fault.Foreign.TheVariants as foreign
+use Rattle.csi_adoption.proofs.AgainLemmas.{OneState}
 
 -- ---- a connection that was settled
 
@@ -50,56 +51,50 @@ module _ {S : Type 0} (g : Ghosts S) (conn one two : Held S) (limit : one ≡ re
 -- ---- tables that stood
 
 module _ {S : Type 0} (g : Ghosts S) (config : Config) (conn two three : Held S) (totals : Totals) (settled : IsSettled g conn two) (live : IsLive (state g two))
-    (same : HasCleanDisk (state g three) → IsUnchanged (state g two) (state g three)) (survives : Survives (state g two) (state g three) (λ _. ⊥))
-    (found : HasCleanDisk (state g three) → IsFound config (state g two).now totals) where
+    (survives : Survives (state g two) (state g three) (LeavesLatest (state g two)))
+    (taken : HasCleanDisk (state g three) → IsTaken config (state g two) (state g three) totals) where
   before : HasCleanDisk (state g three) → HasCleanDisk (state g two)
   before clean = omega (arith, survives.clean)
 
-  -- what is seen is what was committed
+  -- what was seen is what was committed
   seen : HasCleanDisk (state g three) → (state g two).now ≡ (state g conn).committed
-  seen clean = settled.now (before clean) (same clean).0.was_open
+  seen clean = settled.now (before clean) (taken clean).was_open
 
-  now : HasCleanDisk (state g three) → (state g three).now ≡ (state g conn).committed
-  now clean = (same clean).0.now_is ∙ seen clean
-
-  kept : HasCleanDisk (state g three) → (state g three).committed ≡ (state g conn).committed
-  kept clean = (same clean).0.committed_is ∙ settled.kept (before clean) (same clean).0.was_open
+  now : HasCleanDisk (state g three) → (state g three).now ≡ (state g three).committed
+  now clean = (taken clean).settled (seen clean ∙ sym (settled.kept (before clean) (taken clean).was_open))
 
   sound : HasCleanDisk (state g three) → IsSound schema (state g two).now.trees
-  sound clean = subst (λ s. IsSound s (state g two).now.trees) (found clean).schema_is (live (same clean).0.was_open).0
+  sound clean = subst (λ s. IsSound s (state g two).now.trees) (taken clean).was_ours (live (taken clean).was_open).0
 
   abbrev TheState : Type 0
-  TheState = (s : State) × IsStateOf (committed g config conn) s × IsInvariant config s × store_holds g (three, totals) s × IsRows s (state g conn).committed.trees
+  TheState = (s : State) × IsStateOf (committed g config conn) s × IsInvariant config s × store_holds g (three, totals) s × IsRows s (state g three).committed.trees
 
   pub the_state : HasCleanDisk (state g three) → TheState
   the_state clean =
-      let it = (found clean).found (sound clean) in
-      let rows : IsRows it.0 (state g conn).committed.trees = subst (λ (d : Database). IsRows it.0 d.trees) (seen clean) it.1 in
-      let ours : (state g conn).committed.schema ≡ schema = sym (ap (λ (d : Database). d.schema) (seen clean)) ∙ (found clean).schema_is in
-      let shows : IsTrue (state g three).is_open → Shows (state g three) it.0 = λ _. record {
-        schema = ap (λ (d : Database). d.schema) (now clean) ∙ ours;
-        settled = now clean ∙ sym (kept clean);
-        rows = subst (λ (d : Database). IsRows it.0 d.trees) (sym (now clean)) rows;
-      } in
-      (it.0, inl (ours, rows), it.2, (shows, it.3, rows.storable), rows)
+      let it = (taken clean).found (sound clean) in
+      let rows : IsEitherRows it.0 (state g conn).committed.trees = subst (λ (d : Database). IsEitherRows it.0 d.trees) (seen clean) it.1 in
+      let ours : (state g conn).committed.schema ≡ schema = sym (ap (λ (d : Database). d.schema) (seen clean)) ∙ (taken clean).was_ours in
+      let shows : IsTrue (state g three).is_open → Shows (state g three) it.0 = λ _. record { schema = (taken clean).is_ours; settled = now clean; rows = it.2 } in
+      (it.0, inl (ours, rows), it.3, (shows, it.4, it.2.storable), subst (λ (d : Database). IsRows it.0 d.trees) (now clean) it.2)
 
   pub stands : HasCleanDisk (state g three) → (s : State) × store_holds g (three, totals) s
   stands clean = let it = the_state clean in (it.0, it.3)
 
-  pub is_adopted : ((s : S) (db : Trees) → IsTrue (g.view s).is_open → g.recovers s db → db ≡ (g.view s).committed) → (t : Tables S g) → store_of g t ≡ (three, totals) → (is_down g t ≡ false) × (refusals g t ≡ 0) → IsAdopted g config conn t
-  is_adopted law t over fresh =
+  pub is_adopted : OneState → ((s : S) (db : Trees) → IsTrue (g.view s).is_open → g.recovers s db → db ≡ (g.view s).committed) → (t : Tables S g) → store_of g t ≡ (three, totals) → (is_down g t ≡ false) × (refusals g t ≡ 0) → IsAdopted g config conn t
+  is_adopted one law t over fresh =
       let clean_of : store_doubt g (store_of g t) ≡ 0 → HasCleanDisk (state g three) = λ z. sym (ap (store_doubt g) over) ∙ z in
-      let left : (clean : HasCleanDisk (state g three)) (db : Trees) → (state g three).may_leave db → db ≡ (state g conn).committed.trees =
-      λ clean db may. law three.store db (same clean).0.is_open may ∙ ap (λ (d : Database). d.trees) (kept clean) in
+      let left : (clean : HasCleanDisk (state g three)) (db : Trees) → (state g three).may_leave db → db ≡ (state g three).committed.trees =
+      λ clean db may. law three.store db (taken clean).is_open may in
       record {
         clean = subst (λ (x : Held S × Totals). conn_doubt g conn ≤ store_doubt g x) (sym over) (omega (arith, settled.clean, survives.clean));
-        was_open = λ z. let clean = clean_of z in settled.was_open (before clean) (same clean).0.was_open;
+        was_open = λ z. let clean = clean_of z in settled.was_open (before clean) (taken clean).was_open;
         held = λ z. let it = the_state (clean_of z) in (it.0, it.1, it.2, subst (λ (x : Held S × Totals). store_holds g x it.0) (sym over) it.3);
-        settled = λ z u it.
+        settled = λ z u other.
             let clean = clean_of z in
-            let there = subst (λ (x : Held S × Totals). store_survivors g x u) over it in
-            let ours : (state g conn).committed.schema ≡ schema = sym (ap (λ (d : Database). d.schema) (seen clean)) ∙ (found clean).schema_is in
-            inl (ours, subst (IsRows u) (left clean there.0 there.1) there.2);
+            let it = the_state clean in
+            let there = subst (λ (x : Held S × Totals). store_survivors g x u) over other in
+            let rows : IsRows u (state g three).committed.trees = subst (IsRows u) (left clean there.0 there.1) there.2 in
+            subst (IsStateOf (committed g config conn)) (one it.0 u (state g three).committed.trees (inr it.4) (inr rows)) it.1;
         ties = λ z. subst (λ (x : Held S × Totals). store_tied g x) (sym over) (λ clean db may. let it = the_state clean in (it.0, subst (IsRows it.0) (sym (left clean db may)) it.4));
         up = fresh.0;
         uncounted = fresh.1;
@@ -107,9 +102,9 @@ module _ {S : Type 0} (g : Ghosts S) (config : Config) (conn two three : Held S)
 
 -- ---- a fault of the tables
 
-module _ {S : Type 0} (g : Ghosts S) (config : Config) (conn two back : Held S) (fault : AdoptFault) (settled : IsSettled g conn two) (idle : back.in_transaction ≡ false) where
-  -- the database is read and not written
-  pub is_refused : (HasCleanDisk (state g back) → KeepsCommit (state g two) (state g back)) → Survives (state g two) (state g back) (λ _. ⊥)
+module _ {S : Type 0} (g : Ghosts S) (config : Config) (conn two back : Held S) (fault : AdoptFault) (settled : IsSettled g conn two) (live : IsLive (state g two)) (idle : back.in_transaction ≡ false) where
+  -- the database is read, and only its format may have been written
+  pub is_refused : (HasCleanDisk (state g back) → KeepsCommit (state g two) (state g back)) → Survives (state g two) (state g back) (LeavesLatest (state g two))
       → (HasCleanDisk (state g back) → is_failure fault ≡ false → IsFaultOf config (state g two).now fault) → (HasCleanDisk (state g back) → (state g two).now.schema ≢ schema → fault ≡ Foreign foreign.Schema) → (HasCleanDisk (state g back) → IsNotRefused config (state g two).now fault)
       → ((state g two).now.schema ≢ no_schema) → IsUnadopted g config conn fault back
   is_refused keeps survives first other sound some =
@@ -122,7 +117,13 @@ module _ {S : Type 0} (g : Ghosts S) (config : Config) (conn two back : Held S) 
           was_open = λ is_open. settled.was_open (before clean) ((keeps clean).was_open is_open);
           committed = λ is_open. (keeps clean).committed is_open ∙ settled.kept (before clean) ((keeps clean).was_open is_open);
         };
-        crash = λ clean db may. elim (survives.crash clean db may) [ inl there ↦ inl (settled.crash (before clean) db there) | inr none ↦ absurd none ];
+        crash = λ clean db may. elim (survives.crash clean db may) [
+          | inl there ↦ inl (settled.crash (before clean) db there)
+          | inr left ↦
+              let same = settled.now (before clean) left.was_open in
+              let it = left.same (subst (λ s. IsSound s (state g two).now.trees) left.was_ours (live left.was_open).0) in
+              inr (inr (it.0, sym (ap (λ (d : Database). d.schema) same) ∙ left.was_ours, subst (λ (d : Database). IsFirstRows it.0 d.trees) same it.1, it.2))
+        ];
         first = λ clean is_open known. subst (λ (d : Database). IsFaultOf config d fault) (seen clean is_open) (first clean known);
         other = λ clean is_open not_ours _. other clean (λ ours. not_ours (sym (ap (λ (d : Database). d.schema) (seen clean is_open)) ∙ ours));
         blank = λ clean is_open none. absurd (some (ap (λ (d : Database). d.schema) (seen clean is_open) ∙ none));
@@ -163,7 +164,7 @@ module _ {S : Type 0} (g : Ghosts S) (config : Config) (conn two : Held S) (sett
           | inl there ↦ inl (settled.crash (before clean) db there)
           | inr left ↦
               let seen = settled.now (before clean) left.0 in
-              inr (left.1, sym (ap (λ (d : Database). d.schema) seen) ∙ blank, subst (λ (d : Database). MakesTables d left.1) seen (left.2 blank), left.3)
+              inr (inl (left.1, sym (ap (λ (d : Database). d.schema) seen) ∙ blank, subst (λ (d : Database). MakesTables d left.1) seen (left.2 blank), left.3))
         ];
         first = λ clean is_open known. absurd (true≢false (sym failure ∙ known));
         other = λ clean is_open _ not_blank. absurd (not_blank (sym (ap (λ (d : Database). d.schema) (settled.now (before clean) ((undone clean).was_open is_open))) ∙ blank));

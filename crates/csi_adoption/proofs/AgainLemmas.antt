@@ -9,26 +9,26 @@ use Rattle.csi_config.specs.declared.config.Config.{Config}
 use Rattle.csi_keeper.specs.Invariant.{IsInvariant}
 use Rattle.csi_keeper.specs.State.{State}
 use Rattle.csi_layout.specs.Tables.{no_schema, schema}
-use Rattle.csi_tables.specs.Holding.{IsRows, store_holds}
+use Rattle.csi_tables.specs.Holding.{IsEitherRows, IsRows, store_holds}
 use Rattle.csi_tables.specs.Keeping.{connection_of, store_of}
 use Rattle.csi_adoption.specs.Adopting.{committed, IsStateOf}
-use Rattle.csi_adoption.specs.Again.{EndsTaken, IsTakenAs, StopsTaken}
+use Rattle.csi_adoption.specs.Again.{EitherTaken, EndsTaken, IsTakenAs, StopsTaken}
 
-abbrev OneState : Type 0
-OneState = (s t : State) (db : Trees) → IsRows s db → IsRows t db → s ≡ t
+abbrev pub OneState : Type 0
+OneState = (s t : State) (db : Trees) → IsEitherRows s db → IsEitherRows t db → s ≡ t
 
 not_none : schema ≡ no_schema → ⊥
 not_none e = let tables = ap (λ s. s.tables) e in absurd cc
 
 -- the State of a database with rows is that of its rows
-state_of_rows : OneState → (db : Database) (s t : State) → db.schema ≡ schema → IsRows s db.trees → IsStateOf db t → t ≡ s
+state_of_rows : OneState → (db : Database) (s t : State) → db.schema ≡ schema → IsEitherRows s db.trees → IsStateOf db t → t ≡ s
 state_of_rows one db s t ours rows (inl it) = one t s db.trees it.1 rows
 state_of_rows one db s t ours rows (inr none) = absurd (not_none (sym ours ∙ none.0))
 
 module _ {S : Type 0} (g : Ghosts S) (one : OneState) where
   -- rows of a State that meets every rule
   taken_as : (config : Config) (conn : Held S) (s : State) → (HasCleanDisk (state g conn) → IsTrue (state g conn).is_open → (committed g config conn).schema ≡ schema)
-      → (HasCleanDisk (state g conn) → IsTrue (state g conn).is_open → IsRows s (committed g config conn).trees) → IsInvariant config s → IsTakenAs g config conn s
+      → (HasCleanDisk (state g conn) → IsTrue (state g conn).is_open → IsEitherRows s (committed g config conn).trees) → IsInvariant config s → IsTakenAs g config conn s
   taken_as config conn s ours rows invariant = record {
     taken = λ t it z.
         let clean : HasCleanDisk (state g conn) = omega (arith, it.clean, z) in
@@ -49,7 +49,10 @@ module _ {S : Type 0} (g : Ghosts S) (one : OneState) where
   ends_taken config t s held invariant =
       taken_as config (connection_of g t) s
       (λ clean open_. let shows = held.0 open_ in sym (ap (λ (d : Database). d.schema) shows.settled) ∙ shows.schema)
-      (λ clean open_. let shows = held.0 open_ in subst (λ (d : Database). IsRows s d.trees) shows.settled shows.rows) invariant
+      (λ clean open_. let shows = held.0 open_ in inr (subst (λ (d : Database). IsRows s d.trees) shows.settled shows.rows)) invariant
+
+  pub either_taken : EitherTaken g
+  either_taken config conn s ours rows invariant = taken_as config conn s (λ _ _. ours) (λ _ _. rows) invariant
 
   pub stops_taken : StopsTaken g
   stops_taken config t db clean tied may =
@@ -57,5 +60,5 @@ module _ {S : Type 0} (g : Ghosts S) (one : OneState) where
       record {
         left = it.0;
         survivor = (db, may, it.1);
-        again = λ conn ours trees invariant. taken_as config conn it.0 (λ _ _. ours) (λ _ _. subst (IsRows it.0) (sym trees) it.1) invariant;
+        again = λ conn ours trees invariant. taken_as config conn it.0 (λ _ _. ours) (λ _ _. inr (subst (IsRows it.0) (sym trees) it.1)) invariant;
       }

@@ -30,7 +30,7 @@ use Rattle.csi_looks.specs.Folds.{added_by}
 use Rattle.csi_looks.specs.Looks.{IsInOrder, keyed_attachment, owners, owns, with_owner}
 use Rattle.csi_looks.specs.declared.sums.Weight.TheVariants.{One}
 use Rattle.csi_looks.specs.facts.Joins.{some_unowned}
-use Rattle.csi_tables.specs.Holding.{attachment_entry, volume_entry, IsPlaced, IsRows, IsStored}
+use Rattle.csi_tables.specs.Holding.{attachment_entry, volume_entry, IsPlaced, IsRowsOf, IsStored}
 use Rattle.csi_rules.specs.Agreement.{keyed_entry, AttachmentAgrees, OwnerAgrees, PairAgrees}
 use Rattle.csi_rules.specs.Apart.{are_apart, NoneApart}
 use Rattle.csi_rules.specs.Attachments.{has_flag, is_at_node}
@@ -59,7 +59,7 @@ all_or_not test rows none = go (list_all test rows) refl
     go true is = is
     go false is = absurd (none is)
 
-module _ (config : Config) (s : State) (db : Trees) (rows_are : IsRows s db) (good : IsInvariant config s) where
+module _ (config : Config) (format : ℕ) (s : State) (db : Trees) (rows_are : IsRowsOf format s db) (good : IsInvariant config s) where
   -- ---- what a row stands for
 
   entry_of : (r : Row) → Has (db 3) r → (e : Place × Attachment) × Has (entries s.attachments) e × (seen_attachment r ≡ attachment_entry e)

@@ -13,6 +13,7 @@ use Rattle.csi_rules.specs.declared.named.RowName.{RowName}
 use Rattle.csi_adoption.specs.Judging.{owner_fault as unowned_fault, all_faults, count_faults, failure_of, first_named, is_failure, meta_judged, table_faults, told_attachments, told_volumes, volumes_unless, with_rows, AreJudged, ArePassed, AttachmentsFound, JudgesRows, TablesAreSeen, VolumesFound}
 use Rattle.csi_adoption.specs.declared.adopting.TablesSeen.{TablesSeen}
 use Rattle.csi_adoption.specs.declared.fault.AdoptFault.{AdoptFault}
+use Rattle.csi_adoption.specs.declared.meta.Meta.{Meta}
 use Rattle.csi_adoption.specs.declared.meta.MetaRows.TheVariants as meta
 use Rattle.csi_adoption.specs.declared.volumes.VolumesSeen.{VolumesSeen}
 use Rattle.csi_adoption.proofs.FaultLemmas.{error_fails, fault_here, fault_later}
@@ -29,7 +30,7 @@ pub joined_failure : (config : Config) (db : Trees) (tables : TablesSeen) (r : R
 joined_failure config db tables (Ok fine) x h = absurd h
 joined_failure config db tables (Err e) x h = λ known. absurd (true≢false (sym (ap is_failure h ∙ error_fails x) ∙ known))
 
-module _ (config : Config) (db : Trees) (next : ℕ) (rows : List Row) (same : IsPermutation (map seen_meta (db 0)) rows) (meta_is : meta_judged (with_rows meta.None rows) ≡ Ok next) (tables : TablesSeen) (seen : TablesAreSeen config next db tables) where
+module _ (config : Config) (db : Trees) (m : Meta) (rows : List Row) (same : IsPermutation (map seen_meta (db 0)) rows) (meta_is : meta_judged (with_rows meta.None rows) ≡ Ok m) (tables : TablesSeen) (seen : TablesAreSeen config m db tables) where
   abbrev v : VolumesFound
   v = told_volumes tables.volumes
 
@@ -43,9 +44,9 @@ module _ (config : Config) (db : Trees) (next : ℕ) (rows : List Row) (same : I
   ArePlaces places = IsPermutation (map seen_attachment (db 3)) places
 
   judged : (owned places : List Row) → AreOwned owned → ArePlaces places → (unowned apart : Option RowName) → unowned ≡ first_named 0 1 is_owned owned → apart ≡ apart_named places
-      → (fault : Option AdoptFault) → all_faults config next v a unowned apart ≡ fault → AreJudged config db fault
+      → (fault : Option AdoptFault) → all_faults config m.next v a unowned apart ≡ fault → AreJudged config db fault
   judged owned places one two unowned apart first second fault e = record {
-    next = next;
+    row = m;
     meta_rows = rows;
     volume_rows = seen.volume_rows;
     attachment_rows = seen.attachment_rows;
@@ -53,32 +54,32 @@ module _ (config : Config) (db : Trees) (next : ℕ) (rows : List Row) (same : I
     place_rows = places;
     seen = record { meta = same; volumes = seen.volumes; attachments = seen.attachments; owned = one; places = two };
     meta_is = meta_is;
-    fault_is = ap₂ (λ u w. all_faults config next u w (first_named 0 1 is_owned owned) (apart_named places)) (sym seen.sees.found) (sym seen.placed.found)
-        ∙ ap₂ (λ u w. all_faults config next v a u w) (sym first) (sym second) ∙ e;
+    fault_is = ap₂ (λ u w. all_faults config m.next u w (first_named 0 1 is_owned owned) (apart_named places)) (sym seen.sees.found) (sym seen.placed.found)
+        ∙ ap₂ (λ u w. all_faults config m.next v a u w) (sym first) (sym second) ∙ e;
   }
 
-  pub table_fault : (e : AdoptFault) → table_faults config next v a ≡ Some e → AreJudged config db (Some e)
+  pub table_fault : (e : AdoptFault) → table_faults config m.next v a ≡ Some e → AreJudged config db (Some e)
   table_fault e is =
       judged (owners (db 3) (db 1)) (map seen_attachment (db 3)) (IsPermutation-refl _) (IsPermutation-refl _) (first_named 0 1 is_owned (owners (db 3) (db 1))) (apart_named (map seen_attachment (db 3))) refl refl (Some e)
-      (fault_here (table_faults config next v a) _ e is)
+      (fault_here (table_faults config m.next v a) _ e is)
 
-  module _ (owned : List Row) (one : AreOwned owned) (unowned : Option RowName) (first : unowned ≡ first_named 0 1 is_owned owned) (fine : table_faults config next v a ≡ None) where
+  module _ (owned : List Row) (one : AreOwned owned) (unowned : Option RowName) (first : unowned ≡ first_named 0 1 is_owned owned) (fine : table_faults config m.next v a ≡ None) where
     pub owner_fault : (e : AdoptFault) → unowned_fault unowned ≡ Some e → AreJudged config db (Some e)
     owner_fault e is =
         judged owned (map seen_attachment (db 3)) one (IsPermutation-refl _) unowned (apart_named (map seen_attachment (db 3))) first refl (Some e)
-        (fault_later (table_faults config next v a) _ fine ∙ fault_here (unowned_fault unowned) _ e is)
+        (fault_later (table_faults config m.next v a) _ fine ∙ fault_here (unowned_fault unowned) _ e is)
 
     module _ (places : List Row) (two : ArePlaces places) (apart : Option RowName) (second : apart ≡ apart_named places) (at_home : unowned_fault unowned ≡ None) where
       pub counts_fault : (e : AdoptFault) → count_faults config apart a v ≡ Some e → AreJudged config db (Some e)
       counts_fault e is =
           judged owned places one two unowned apart first second (Some e)
-          (fault_later (table_faults config next v a) _ fine ∙ fault_later (unowned_fault unowned) _ at_home ∙ fault_here (count_faults config apart a v) _ e is)
+          (fault_later (table_faults config m.next v a) _ fine ∙ fault_later (unowned_fault unowned) _ at_home ∙ fault_here (count_faults config apart a v) _ e is)
 
       pub none_broken : count_faults config apart a v ≡ None → ArePassed config db tables.volumes
       unfolding judged
       none_broken is = record {
         judged = judged owned places one two unowned apart first second None
-            (fault_later (table_faults config next v a) _ fine ∙ fault_later (unowned_fault unowned) _ at_home ∙ fault_later (count_faults config apart a v) _ is);
+            (fault_later (table_faults config m.next v a) _ fine ∙ fault_later (unowned_fault unowned) _ at_home ∙ fault_later (count_faults config apart a v) _ is);
         volumes = seen.sees;
         attachments = tables.attachments;
         placed = seen.placed;

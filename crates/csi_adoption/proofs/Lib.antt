@@ -17,6 +17,7 @@ mod PlaceLemmas
 mod SeeingLemmas
 mod StateFoundLemmas
 mod SumLemmas
+mod TakeLemmas
 mod TurnLemmas
 mod VolumeFoundLemmas
 mod VolumeMapLemmas

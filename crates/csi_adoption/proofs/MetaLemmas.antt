@@ -1,5 +1,5 @@
 -- The row of meta.
-use Rattle.std.proofs.Common.{◌≡◌, refl, ap, subst, List, [], ◌∷◌, map, length, IsPermutation, arith}
+use Rattle.std.proofs.Common.{◌≡◌, refl, ap, subst, ℕ, List, [], ◌∷◌, map, length, IsPermutation, arith}
 use Rattle.std.specs.List.{AllByRecursion}
 use Rattle.std.proofs.lemmas.List.Sorted.{length_permutation}
 use Rattle.sqlite.specs.Order.{Row}
@@ -9,7 +9,7 @@ use Rattle.csi_config.specs.declared.config.Config.{Config}
 use Rattle.csi_keeper.specs.Invariant.{IsInvariant}
 use Rattle.csi_keeper.specs.State.{State}
 use Rattle.csi_layout.specs.Rows.{meta_row, seen_meta}
-use Rattle.csi_tables.specs.Holding.{IsRows}
+use Rattle.csi_tables.specs.Holding.{IsRowsOf}
 
 -- a list of one element has no other order
 one_permuted : {X : Type 0} (x : X) (ys : List X) → IsPermutation (x ∷ []) ys → ys ≡ x ∷ []
@@ -20,5 +20,5 @@ one_permuted {X} x ys same = go ys (length_permutation _ _ same) (all-permutatio
     go (y ∷ []) one all = ap (λ z. z ∷ []) all.0
     go (y ∷ z ∷ ys) one all = absurd (omega arith)
 
-pub meta_pass : (config : Config) (s : State) (db : Trees) → IsRows s db → IsInvariant config s → (meta : List Row) → IsPermutation (map seen_meta (db 0)) meta → meta ≡ meta_row s.next ∷ []
-meta_pass config s db are inv meta same = one_permuted (meta_row s.next) meta (subst (λ rows. IsPermutation rows meta) are.meta same)
+pub meta_pass : (config : Config) (format : ℕ) (s : State) (db : Trees) → IsRowsOf format s db → IsInvariant config s → (meta : List Row) → IsPermutation (map seen_meta (db 0)) meta → meta ≡ meta_row format s.next ∷ []
+meta_pass config format s db are inv meta same = one_permuted (meta_row format s.next) meta (subst (λ rows. IsPermutation rows meta) are.meta same)

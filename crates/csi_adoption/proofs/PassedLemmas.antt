@@ -14,12 +14,13 @@ use Rattle.csi_rules.specs.declared.named.RowName.{RowName}
 use Rattle.csi_rules.specs.facts.Aparts.{none_unnamed, unnamed_none}
 use Rattle.csi_adoption.specs.Judging.{all_faults, code_faults, count_faults, first_named, in_attachments, in_volumes, kinds_faults, next_fault, number_faults, owner_fault, size_faults, table_faults, AttachmentsFound, VolumesFound}
 use Rattle.csi_adoption.specs.Passing.{AttachmentsPass, VolumesPass}
+use Rattle.csi_adoption.specs.declared.meta.Meta.{Meta}
 use Rattle.csi_adoption.proofs.JudgingLemmas.{all_unnamed, few_rows, is_next, rows_few, no_full_node, no_full_pool, no_next_fault, none_both, none_first, none_named, roomy_nodes, roomy_pools, unmapped}
 use Rattle.csi_adoption.proofs.SumLemmas.{room_kept, room_told}
 
 -- what every rule of the rows behind meta asks
-pub record RowsPass (config : Config) (number : ℕ) (volume_rows attachment_rows owner_rows place_rows : List Row) : Type 0 where
-  pub volumes : VolumesPass config number volume_rows
+pub record RowsPass (config : Config) (m : Meta) (volume_rows attachment_rows owner_rows place_rows : List Row) : Type 0 where
+  pub volumes : VolumesPass config m volume_rows
   pub attachments : AttachmentsPass config attachment_rows
   pub owned : list_all is_owned owner_rows ≡ true
   pub beside : NoneApart place_rows
@@ -54,28 +55,28 @@ named : {B : Type 0} (f : RowName → B) (number text : ℕ) (test : Row → Boo
 named f number text test rows all = ap (option_map f) (all_unnamed number text test rows all)
 
 module _ (config : Config) (small : IsSmall config) (volumes attachments owned places : List Row) where
-  module _ (next : ℕ) where
+  module _ (m : Meta) where
     abbrev in_v : VolumesFound
-    in_v = in_volumes config next volumes
+    in_v = in_volumes config m volumes
 
     abbrev in_a : AttachmentsFound
     in_a = in_attachments config attachments
 
     abbrev Faultless : Type 0
-    Faultless = all_faults config next in_v in_a (first_named 0 1 is_owned owned) (apart_named places) ≡ None
+    Faultless = all_faults config m.next in_v in_a (first_named 0 1 is_owned owned) (apart_named places) ≡ None
 
-    pub rows_pass : Faultless → (1 ≤ next) × RowsPass config next volumes attachments owned places
+    pub rows_pass : Faultless → (1 ≤ m.next) × RowsPass config m volumes attachments owned places
     rows_pass e =
-        let a = none_first (table_faults config next in_v in_a) _ e in
+        let a = none_first (table_faults config m.next in_v in_a) _ e in
         let b = none_first (owner_fault (first_named 0 1 is_owned owned)) _ a.1 in
         let counts = none_first (count_faults config (apart_named places) in_a in_v) [] b.1 in
         let kinds = none_first (kinds_faults in_v in_a) _ a.0 in
-        let numbers = none_first (number_faults next in_v) _ kinds.1 in
+        let numbers = none_first (number_faults m.next in_v) _ kinds.1 in
         let sizes = none_first (size_faults config in_v) _ numbers.1 in
         let codes = none_first (code_faults in_v in_a) [] sizes.1 in
         let k1 = none_first _ _ kinds.0 in
         let k2 = none_first _ _ k1.1 in
-        let n1 = none_first (next_fault next) _ numbers.0 in
+        let n1 = none_first (next_fault m.next) _ numbers.0 in
         let n2 = none_first _ _ n1.1 in
         let n3 = none_first _ _ n2.1 in
         let s1 = none_first _ _ sizes.0 in
@@ -89,7 +90,7 @@ module _ (config : Config) (small : IsSmall config) (volumes attachments owned p
         let p1 = none_first _ _ counts.0 in
         let p2 = none_first _ _ p1.1 in
         let p3 = none_first _ _ p2.1 in (
-          no_next_fault next n1.0,
+          no_next_fault m.next n1.0,
           record {
             volumes = record {
               kinds = none_named 0 1 _ volumes (unmapped _ _ k1.0);
@@ -115,13 +116,13 @@ module _ (config : Config) (small : IsSmall config) (volumes attachments owned p
         )
 
   -- and back: by what the rows meet
-  pub rows_faultless : (n : ℕ) → 1 ≤ n → RowsPass config n volumes attachments owned places → Faultless n
-  rows_faultless n some pass =
+  pub rows_faultless : (m : Meta) → 1 ≤ m.next → RowsPass config m volumes attachments owned places → Faultless m
+  rows_faultless m some pass =
       let v = pass.volumes in
       let a = pass.attachments in
       none_both _ _
       (none_both _ _ (none_both _ _ (named _ 0 1 _ volumes v.kinds) (none_both _ _ (named _ 0 2 _ attachments a.kinds) refl))
-      (none_both _ _ (none_both _ _ (is_next n some) (none_both _ _ (named _ 0 1 _ volumes v.numbers) (none_both _ _ (named _ 0 1 _ volumes v.names) refl)))
+      (none_both _ _ (none_both _ _ (is_next m.next some) (none_both _ _ (named _ 0 1 _ volumes v.numbers) (none_both _ _ (named _ 0 1 _ volumes v.names) refl)))
       (none_both _ _ (none_both _ _ (named _ 0 1 _ volumes v.pools) (none_both _ _ (named _ 0 1 _ volumes v.sizes) (none_both _ _ (mapped _ _ (roomy_pools (λ p. sum_after 3 p.name (Number 2) 0 volumes) config.pools (kept_pools volumes config.pools v.rooms))) refl)))
       (none_both _ _ (none_both _ _ (named _ 0 1 _ volumes v.caps) (none_both _ _ (named _ 0 1 _ volumes v.params) (none_both _ _ (named _ 1 2 _ attachments a.caps) (none_both _ _ (named _ 1 2 _ attachments a.flags) (none_both _ _ (named _ 1 2 _ attachments a.nodes) refl))))) refl))))
       (none_both _ _ (named _ 0 1 _ owned pass.owned)

@@ -16,6 +16,7 @@ use Rattle.csi_rules.specs.Volumes.{is_in_pools, is_named, is_numbered, is_sized
 use Rattle.csi_rules.specs.declared.named.RowName.{RowName}
 use Rattle.csi_adoption.specs.Judging.{AttachmentsFound, SeesAttachments, SeesVolumes, VolumesFound, first_named, in_attachments, in_volumes, sums_of, told_attachments, told_volumes}
 use Rattle.csi_adoption.specs.Looking.{IsBegun}
+use Rattle.csi_adoption.specs.declared.meta.Meta.{Meta}
 use Rattle.csi_adoption.specs.declared.attachments.AttachmentsSeen.{AttachmentsSeen}
 use Rattle.csi_adoption.specs.declared.volumes.VolumesSeen.{VolumesSeen}
 
@@ -76,15 +77,15 @@ volumes_same a b e0 e1 e2 e3 e4 e5 e6 e7 e8 e9 = λ i. record { kinds = e0 i; nu
 pub attachments_same : (a b : AttachmentsFound) → a.kinds ≡ b.kinds → a.cap ≡ b.cap → a.readonly ≡ b.readonly → a.node ≡ b.node → a.node_volumes ≡ b.node_volumes → a ≡ b
 attachments_same a b e0 e1 e2 e3 e4 = λ i. record { kinds = e0 i; cap = e1 i; readonly = e2 i; node = e3 i; node_volumes = e4 i }
 
-pub sees_volumes : (config : Config) (next : ℕ) (rows : List Row) (seen : VolumesSeen)
-    → seen.kinds ≡ first_named 0 1 has_volume_kinds rows → seen.number ≡ first_named 0 1 (is_numbered next) rows → seen.name ≡ first_named 0 1 is_named rows
-    → seen.pool ≡ first_named 0 1 (is_in_pools config.pools) rows → seen.bytes ≡ first_named 0 1 is_sized rows → seen.caps ≡ first_named 0 1 has_caps rows → seen.params ≡ first_named 0 1 has_params rows
+pub sees_volumes : (config : Config) (m : Meta) (rows : List Row) (seen : VolumesSeen) → seen.format ≡ m.format
+    → seen.kinds ≡ first_named 0 1 has_volume_kinds rows → seen.number ≡ first_named 0 1 (is_numbered m.next) rows → seen.name ≡ first_named 0 1 is_named rows
+    → seen.pool ≡ first_named 0 1 (is_in_pools config.pools) rows → seen.bytes ≡ first_named 0 1 is_sized rows → seen.caps ≡ first_named 0 1 has_caps rows → seen.params ≡ first_named 0 1 (has_params m.format) rows
     → sums_of seen.pool_bytes.items ≡ map (λ p. sum_after 3 p.name (Number 2) 0 rows) config.pools → sums_of seen.pool_volumes.items ≡ map (λ p. sum_after 3 p.name One 0 rows) config.pools
     → seen.rows ≡ min (length rows) (2 ^ 64 - 1) → IsRising 0 None rows
-    → (seen.caps ≡ None → AllByRecursion (λ r. IfSome (keys_at 4 r) FitCaps) rows) → (seen.params ≡ None → AllByRecursion (λ r. IfSome (params_at 5 r) FitParams) rows)
-    → SeesVolumes config next rows seen
-sees_volumes config next rows seen a b c d e f g h i j rising caps params =
-    record { found = volumes_same (told_volumes seen) (in_volumes config next rows) a b c d e f g h i j; rising = rising; caps = caps; params = params }
+    → (seen.caps ≡ None → AllByRecursion (λ r. IfSome (keys_at 4 r) FitCaps) rows) → (seen.params ≡ None → AllByRecursion (λ r. IfSome (params_at 5 r) (λ ms. FitParams ms.0 ms.1)) rows)
+    → SeesVolumes config m rows seen
+sees_volumes config m rows seen format a b c d e f g h i j rising caps params =
+    record { format = format; found = volumes_same (told_volumes seen) (in_volumes config m rows) a b c d e f g h i j; rising = rising; caps = caps; params = params }
 
 pub sees_attachments : (config : Config) (rows : List Row) (seen : AttachmentsSeen)
     → seen.kinds ≡ first_named 0 2 has_attachment_kinds rows → seen.cap ≡ first_named 1 2 has_cap rows → seen.readonly ≡ first_named 1 2 has_flag rows → seen.node ≡ first_named 1 2 (is_at_node config.nodes) rows

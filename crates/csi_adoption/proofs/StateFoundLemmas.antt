@@ -1,6 +1,7 @@
 -- Tables that pass every rule have the rows of a State, which meets every rule; and the rows of such a State pass.
-use Rattle.std.proofs.Common.{◌≡◌, ◌∙◌, inl, inr, refl, sym, ap, ap₂, subst, arith, ℕ, ◌-◌, ◌^◌, ◌≤◌, ◌<◌, ℤ, pos, int_lt, ◌<ℤ◌, Bool, true, false, true≢false, cond, not, ◌||◌, List, [], ◌∷◌, length, map, sum, Option, Some, None, Result, Ok, Err, IsPermutation, slice_index_or}
+use Rattle.std.proofs.Common.{◌≡◌, ◌∙◌, inl, inr, refl, sym, ap, ap₂, subst, arith, ℕ, ◌-◌, ◌^◌, ◌≤◌, ◌<◌, ℤ, pos, negsuc, int_lt, nat_lt, ◌==◌, ◌<ℤ◌, Bool, true, false, true≢false, cond, not, ◌||◌, List, [], ◌∷◌, length, map, sum, Option, Some, None, Result, Ok, Err, IsPermutation, slice_index_or}
 use Rattle.std.specs.List.{AllByRecursion}
+use Rattle.std.proofs.lemmas.Bool.Decides.{nat_tests}
 use Rattle.std.specs.Ordering.{int_cmp, int_eq, is_eq, MatchOrdering}
 use Rattle.std.specs.declared.cmp.Ordering.{Ordering}
 use Rattle.std.specs.declared.cmp.Ordering.TheVariants.{Less, Equal, Greater}
@@ -23,21 +24,23 @@ use Rattle.csi_types.specs.Maps.{same_text}
 use Rattle.csi_keeper.specs.Totals.{the_total}
 use Rattle.csi_layout.specs.Rows.{meta_row, seen_meta, seen_volume}
 use Rattle.csi_layout.specs.Tables.{schema}
+use Rattle.csi_layout.specs.declared.formats.TheConstants.{FIRST_FORMAT, LATEST_FORMAT}
 use Rattle.csi_looks.specs.Folds.{as_integer, sum_after}
 use Rattle.csi_looks.specs.Looks.{IsInOrder}
 use Rattle.csi_looks.specs.declared.sums.Weight.TheVariants.{Number, One}
 use Rattle.csi_rules.specs.Coded.{has_cap, has_caps, has_params}
 use Rattle.csi_rules.specs.Apart.{apart_named}
 use Rattle.csi_rules.specs.Joins.{is_owned}
-use Rattle.csi_tables.specs.Holding.{IsRows}
+use Rattle.csi_tables.specs.Holding.{IsEitherRows, IsFormat, IsRowsIn, IsRowsOf}
 use Rattle.csi_adoption.specs.Adopting.{FoundState}
 use Rattle.csi_adoption.specs.Found.{sizes_of, told_total, FoundVolumes}
 use Rattle.csi_adoption.specs.FoundAttachments.{AttachmentsAreFound, AttachmentsDoPass, OwnersDoPass, PlacesDoPass}
-use Rattle.csi_adoption.specs.Judging.{all_faults, first_named, in_attachments, in_volumes, integers_judged, meta_judged, row_judged, total_in, valid_next, with_rows, AreJudged, ArePassed, AttachmentsFound, IsMetaFault, VolumesFound}
+use Rattle.csi_adoption.specs.Judging.{all_faults, first_named, in_attachments, in_volumes, integers_judged, meta_judged, row_judged, total_in, valid_format, valid_next, with_rows, AreJudged, ArePassed, AttachmentsFound, IsMetaFault, VolumesFound}
 use Rattle.csi_adoption.specs.Passing.{VolumesAreKnown, VolumesPass}
 use Rattle.csi_adoption.specs.declared.fault.AdoptFault.{AdoptFault}
 use Rattle.csi_adoption.specs.declared.fault.AdoptFault.TheVariants.{Foreign, Newer}
 use Rattle.csi_adoption.specs.declared.fault.Foreign.TheVariants as foreign
+use Rattle.csi_adoption.specs.declared.meta.Meta.{Meta}
 use Rattle.csi_adoption.specs.declared.meta.MetaRows.TheVariants as meta
 use Rattle.csi_adoption.specs.declared.volumes.VolumesSeen.{VolumesSeen}
 use Rattle.csi_adoption.proofs.AttachmentFoundLemmas.{is_attached}
@@ -47,17 +50,17 @@ use Rattle.csi_adoption.proofs.PassedLemmas.{rows_faultless, rows_pass, IsSmall,
 -- ---- what the laws of volumes say
 
 abbrev pub VolumesAreFound : Type 0
-VolumesAreFound = (config : Config) (next : ℕ) (db : Trees) (rows : List Row) → next ≤ MAX_NUMBER → IsSound schema db → IsInOrder (map seen_volume (db 1)) rows → VolumesPass config next rows → VolumesAreKnown rows → FoundVolumes config next rows
+VolumesAreFound = (config : Config) (m : Meta) (db : Trees) (rows : List Row) → m.next ≤ MAX_NUMBER → IsSound schema db → IsInOrder (map seen_volume (db 1)) rows → VolumesPass config m rows → VolumesAreKnown rows → FoundVolumes config m rows
 
 abbrev pub VolumesDoPass : Type 0
-VolumesDoPass = (config : Config) (s : State) (db : Trees) (rows : List Row) → IsRows s db → IsInvariant config s → IsInOrder (map seen_volume (db 1)) rows → VolumesPass config s.next rows
+VolumesDoPass = (config : Config) (format : ℕ) (s : State) (db : Trees) (rows : List Row) → IsRowsIn format s db → IsInvariant config s → IsInOrder (map seen_volume (db 1)) rows → VolumesPass config (record { format = format; next = s.next }) rows
 
 abbrev pub MetaDoesPass : Type 0
-MetaDoesPass = (config : Config) (s : State) (db : Trees) → IsRows s db → IsInvariant config s → (rows : List Row) → IsPermutation (map seen_meta (db 0)) rows → rows ≡ meta_row s.next ∷ []
+MetaDoesPass = (config : Config) (format : ℕ) (s : State) (db : Trees) → IsRowsOf format s db → IsInvariant config s → (rows : List Row) → IsPermutation (map seen_meta (db 0)) rows → rows ≡ meta_row format s.next ∷ []
 
 abbrev pub TotalsAreFound : Type 0
 TotalsAreFound =
-    (config : Config) (next : ℕ) (rows : List Row) → VolumesPass config next rows → ((p : Pool) → Has config.pools p → p.bytes < 2 ^ 64 - 1) → (found : FoundVolumes config next rows) (name : List ℕ)
+    (config : Config) (m : Meta) (rows : List Row) → VolumesPass config m rows → ((p : Pool) → Has config.pools p → p.bytes < 2 ^ 64 - 1) → (found : FoundVolumes config m rows) (name : List ℕ)
     → told_total config.pools rows name ≡ the_total (length (sizes_of found.volumes name)) (sum (sizes_of found.volumes name))
 
 -- ---- the State that was found
@@ -97,11 +100,29 @@ no_err true c e f x y h = absurd (err_ok e y h)
 no_err false true e f x y h = absurd (err_ok f y h)
 no_err false false e f x y h = (refl, refl, ok_is x y h)
 
-integers_are : (key format next : ℤ) (n : ℕ) → integers_judged key format next ≡ Ok n → (key ≡ pos 1) × (format ≡ pos 1) × (valid_next next ≡ n)
-integers_are key format next n e =
-    let parts = no_err (not (int_eq key (pos 1)) || int_lt format (pos 1)) (int_lt (pos 1) format) (Foreign foreign.Meta) (Newer format) (valid_next next) n e in
-    let low = neither_is (int_eq key (pos 1)) (int_lt format (pos 1)) parts.0 in
-    (same_integers key (pos 1) low.0, between format (pos 1) low.1 parts.1, parts.2)
+-- a format that is neither too low nor too high is one of the two
+of_two : (n : ℕ) → nat_lt n FIRST_FORMAT ≡ false → nat_lt LATEST_FORMAT n ≡ false → IsFormat n
+of_two n low high = go (n == FIRST_FORMAT) refl
+  where
+    go : (b : Bool) → (n == FIRST_FORMAT) ≡ b → IsFormat n
+    go true is = inl (grind (arith, nat_tests, is))
+    go false is = inr (grind (arith, nat_tests, is, low, high))
+
+formats : (format : ℤ) → int_lt format (pos FIRST_FORMAT) ≡ false → int_lt (pos LATEST_FORMAT) format ≡ false → (format ≡ pos (valid_format format)) × IsFormat (valid_format format)
+formats (negsuc n) low high = absurd (true≢false low)
+formats (pos n) low high = elim (of_two n low high) as (λ _. (pos n ≡ pos (valid_format (pos n))) × IsFormat (valid_format (pos n))) [
+  | inl e ↦ let is : valid_format (pos n) ≡ FIRST_FORMAT = ap (λ k. valid_format (pos k)) e in (ap pos (e ∙ sym is), inl is)
+  | inr e ↦ let is : valid_format (pos n) ≡ LATEST_FORMAT = ap (λ k. valid_format (pos k)) e in (ap pos (e ∙ sym is), inr is)
+]
+
+integers_are : (key format next : ℤ) (m : Meta) → integers_judged key format next ≡ Ok m → (key ≡ pos 1) × (format ≡ pos m.format) × (valid_next next ≡ m.next) × IsFormat m.format
+integers_are key format next m e =
+    let told : Meta = record { format = valid_format format; next = valid_next next } in
+    let parts = no_err (not (int_eq key (pos 1)) || int_lt format (pos FIRST_FORMAT)) (int_lt (pos LATEST_FORMAT) format) (Foreign foreign.Meta) (Newer format) told m e in
+    let low = neither_is (int_eq key (pos 1)) (int_lt format (pos FIRST_FORMAT)) parts.0 in
+    let known = formats format low.1 parts.1 in
+    let same : valid_format format ≡ m.format = ap (λ (r : Meta). r.format) parts.2 in
+    (same_integers key (pos 1) low.0, known.0 ∙ ap pos same, ap (λ (r : Meta). r.next) parts.2, subst IsFormat same known.1)
 
 integer_is : (v : Value) (n : ℤ) → as_integer v ≡ Some n → v ≡ Int n
 integer_is Null n e = absurd (cc)
@@ -110,61 +131,67 @@ integer_is (Real x) n e = absurd (cc)
 integer_is (Text t) n e = absurd (cc)
 integer_is (Blob b) n e = absurd (cc)
 
-row_is : (key format next : Option ℤ) (n : ℕ) → 1 ≤ n → row_judged key format next ≡ Ok n → (key ≡ Some (pos 1)) × (format ≡ Some (pos 1)) × (next ≡ Some (pos n)) × (n ≤ MAX_NUMBER)
-row_is (Some key) (Some format) (Some next) n some e =
-    let parts = integers_are key format next n e in
-    let valid = valid_is next n parts.2 some in
-    (ap Some parts.0, ap Some parts.1, ap Some valid.0, valid.1)
-row_is (Some key) (Some format) None n some e = absurd (err_ok (Foreign foreign.Meta) n e)
-row_is (Some key) None next n some e = absurd (err_ok (Foreign foreign.Meta) n e)
-row_is None format next n some e = absurd (err_ok (Foreign foreign.Meta) n e)
+row_is : (key format next : Option ℤ) (m : Meta) → 1 ≤ m.next → row_judged key format next ≡ Ok m
+    → (key ≡ Some (pos 1)) × (format ≡ Some (pos m.format)) × (next ≡ Some (pos m.next)) × (m.next ≤ MAX_NUMBER) × IsFormat m.format
+row_is (Some key) (Some format) (Some next) m some e =
+    let parts = integers_are key format next m e in
+    let valid = valid_is next m.next parts.2 some in
+    (ap Some parts.0, ap Some parts.1, ap Some valid.0, valid.1, parts.3)
+row_is (Some key) (Some format) None m some e = absurd (err_ok (Foreign foreign.Meta) m e)
+row_is (Some key) None next m some e = absurd (err_ok (Foreign foreign.Meta) m e)
+row_is None format next m some e = absurd (err_ok (Foreign foreign.Meta) m e)
 
 many_stay : (rows : List Row) → with_rows meta.Many rows ≡ meta.Many
 many_stay [] = refl
 many_stay (r ∷ rows) = many_stay rows
 
 -- the one row of meta
-one_row : (table rows : List Row) (n : ℕ) → length (map seen_meta table) ≡ length rows → IsPermutation (map seen_meta table) rows → 1 ≤ n → meta_judged (with_rows meta.None rows) ≡ Ok n → (map seen_meta table ≡ meta_row n ∷ []) × (n ≤ MAX_NUMBER)
-one_row table [] n size same some e = absurd (err_ok (Foreign foreign.Meta) n e)
-one_row table (r ∷ s ∷ rows) n size same some e = absurd (err_ok (Foreign foreign.Meta) n (sym (ap meta_judged (many_stay rows)) ∙ e))
-one_row [] (r ∷ []) n size same some e = absurd (omega (arith, size))
-one_row (x ∷ y ∷ table) (r ∷ []) n size same some e = absurd (omega (arith, size))
-one_row (x ∷ []) (r ∷ []) n size same some e =
+one_row : (table rows : List Row) (m : Meta) → length (map seen_meta table) ≡ length rows → IsPermutation (map seen_meta table) rows → 1 ≤ m.next → meta_judged (with_rows meta.None rows) ≡ Ok m
+    → (map seen_meta table ≡ meta_row m.format m.next ∷ []) × (m.next ≤ MAX_NUMBER) × IsFormat m.format
+one_row table [] m size same some e = absurd (err_ok (Foreign foreign.Meta) m e)
+one_row table (r ∷ s ∷ rows) m size same some e = absurd (err_ok (Foreign foreign.Meta) m (sym (ap meta_judged (many_stay rows)) ∙ e))
+one_row [] (r ∷ []) m size same some e = absurd (omega (arith, size))
+one_row (x ∷ y ∷ table) (r ∷ []) m size same some e = absurd (omega (arith, size))
+one_row (x ∷ []) (r ∷ []) m size same some e =
     let is : seen_meta x ≡ r = sym (ap (λ (rows : List Row). slice_index_or rows 0 r) (one_permutation (seen_meta x) (r ∷ []) same)) in
-    let parts = row_is (as_integer (column r 0)) (as_integer (column r 1)) (as_integer (column r 2)) n some e in
-    let at : (k : ℕ) (m : ℤ) → as_integer (column r k) ≡ Some m → column (seen_meta x) k ≡ Int m = λ k m h. ap (λ u. column u k) is ∙ integer_is (column r k) m h in
-    (ap (λ u. u ∷ []) (ap₂ (λ a b. a ∷ b) (at 0 (pos 1) parts.0) (ap₂ (λ a b. a ∷ b ∷ []) (at 1 (pos 1) parts.1) (at 2 (pos n) parts.2))), parts.3)
+    let parts = row_is (as_integer (column r 0)) (as_integer (column r 1)) (as_integer (column r 2)) m some e in
+    let at : (k : ℕ) (n : ℤ) → as_integer (column r k) ≡ Some n → column (seen_meta x) k ≡ Int n = λ k n h. ap (λ u. column u k) is ∙ integer_is (column r k) n h in
+    (ap (λ u. u ∷ []) (ap₂ (λ a b. a ∷ b) (at 0 (pos 1) parts.0) (ap₂ (λ a b. a ∷ b ∷ []) (at 1 (pos m.format) parts.1) (at 2 (pos m.next) parts.2))), parts.3, parts.4)
 
 module _ (config : Config) (small : IsSmall config) (bounded : (p : Pool) → Has config.pools p → p.bytes < 2 ^ 64 - 1)
     (volumes_found : VolumesAreFound) (attachments_found : AttachmentsAreFound) (totals_found : TotalsAreFound) (db : Trees) (sound : IsSound schema db) (seen : VolumesSeen) where
   pub found_state : ArePassed config db seen → FoundState config db seen
   found_state passed =
       let j = passed.judged in
-      let pass = rows_pass config small j.volume_rows j.attachment_rows j.owner_rows j.place_rows j.next j.fault_is in
-      let n = j.next in
-      let row = one_row (db 0) j.meta_rows n (sym (length_permutation _ _ j.seen.meta)) j.seen.meta pass.0 j.meta_is in
+      let m = j.row in
+      let n = m.next in
+      let pass = rows_pass config small j.volume_rows j.attachment_rows j.owner_rows j.place_rows m j.fault_is in
+      let row = one_row (db 0) j.meta_rows m (sym (length_permutation _ _ j.seen.meta)) j.seen.meta pass.0 j.meta_is in
       let low : n ≤ MAX_NUMBER = row.1 in
-      let it : RowsPass config n j.volume_rows j.attachment_rows j.owner_rows j.place_rows = pass.1 in
-      let fv = volumes_found config n db j.volume_rows low sound j.seen.volumes it.volumes (record {
+      let format : m.format ≡ seen.format = sym passed.volumes.format in
+      let it : RowsPass config m j.volume_rows j.attachment_rows j.owner_rows j.place_rows = pass.1 in
+      let fv = volumes_found config m db j.volume_rows low sound j.seen.volumes it.volumes (record {
         rising = passed.volumes.rising;
         caps = passed.volumes.caps (ap (λ (f : VolumesFound). f.caps) passed.volumes.found ∙ all_unnamed 0 1 has_caps j.volume_rows it.volumes.caps);
-        params = passed.volumes.params (ap (λ (f : VolumesFound). f.params) passed.volumes.found ∙ all_unnamed 0 1 has_params j.volume_rows it.volumes.params);
+        params = passed.volumes.params (ap (λ (f : VolumesFound). f.params) passed.volumes.found ∙ all_unnamed 0 1 (has_params m.format) j.volume_rows it.volumes.params);
       }) in
       let fa = attachments_found config n db fv.volumes j.volume_rows j.attachment_rows j.owner_rows j.place_rows sound j.seen.volumes fv.listed fv.stored fv.each j.seen.attachments it.attachments (record {
         rising = passed.placed.rising;
         caps = passed.placed.cap (ap (λ (f : AttachmentsFound). f.cap) passed.placed.found ∙ all_unnamed 1 2 has_cap j.attachment_rows it.attachments.caps);
       }) j.seen.owned it.owned j.seen.places it.beside in
       let s : State = record { next = n; volumes = fv.volumes; attachments = fa.attachments } in
+      let are : IsRowsOf m.format s db = record {
+        meta = row.0;
+        volumes = subst (λ rows. IsPermutation rows (map seen_volume (db 1))) (sym fv.listed) (IsPermutation-sym _ _ j.seen.volumes.same);
+        attachments = fa.listed;
+        keyed = fa.keyed;
+        storable = record { volumes = fv.stored; attachments = fa.placed };
+        sound = sound;
+      } in
       record {
         state = s;
-        rows = record {
-          meta = row.0;
-          volumes = subst (λ rows. IsPermutation rows (map seen_volume (db 1))) (sym fv.listed) (IsPermutation-sym _ _ j.seen.volumes.same);
-          attachments = fa.listed;
-          keyed = fa.keyed;
-          storable = record { volumes = fv.stored; attachments = fa.placed };
-          sound = sound;
-        };
+        known = subst IsFormat format row.2;
+        rows = subst (λ f. IsRowsIn f s db) format (are, fv.unmodified);
         invariant = record {
           next = (pass.0, low);
           volumes = fv.each;
@@ -176,29 +203,50 @@ module _ (config : Config) (small : IsSmall config) (bounded : (p : Pool) → Ha
           few = fv.few;
         };
         totals = λ pool. ap₂ (λ a b. total_in config.pools a b pool) (ap (λ (f : VolumesFound). f.pool_volumes) passed.volumes.found) (ap (λ (f : VolumesFound). f.pool_bytes) passed.volumes.found)
-            ∙ totals_told j.volume_rows config.pools pool ∙ totals_found config n j.volume_rows it.volumes bounded fv pool;
+            ∙ totals_told j.volume_rows config.pools pool ∙ totals_found config m j.volume_rows it.volumes bounded fv pool;
       }
 
 -- ---- a State that meets every rule is not refused
 
+-- the one row of meta is judged as it stands
+judged_one : (format next : ℕ) → IsFormat format → next ≤ MAX_NUMBER → meta_judged (with_rows meta.None (meta_row format next ∷ [])) ≡ Ok (record { format = format; next = next })
+judged_one format next known low = elim known as (λ _. meta_judged (with_rows meta.None (meta_row format next ∷ [])) ≡ Ok (record { format = format; next = next })) [
+  | inl e ↦ subst (λ (f : ℕ). meta_judged (with_rows meta.None (meta_row f next ∷ [])) ≡ Ok (record { format = f; next = next })) (sym e) (ap (λ (n : ℕ). Ok (record { format = FIRST_FORMAT; next = n })) (is_valid next low))
+  | inr e ↦ subst (λ (f : ℕ). meta_judged (with_rows meta.None (meta_row f next ∷ [])) ≡ Ok (record { format = f; next = next })) (sym e) (ap (λ (n : ℕ). Ok (record { format = LATEST_FORMAT; next = n })) (is_valid next low))
+]
+
+-- rows of either format are of one
+pub in_format : (s : State) (db : Trees) → IsEitherRows s db → (format : ℕ) × IsFormat format × IsRowsIn format s db
+in_format s db (inl first) = (FIRST_FORMAT, inl refl, (first.0, λ _. first.1))
+in_format s db (inr rows) = (LATEST_FORMAT, inr refl, (rows, λ e. absurd (omega (arith, e))))
+
 module _ (config : Config) (small : IsSmall config) (volumes_pass : VolumesDoPass) (meta_pass : MetaDoesPass) (attachments_pass : AttachmentsDoPass) (owners_pass : OwnersDoPass) (places_pass : PlacesDoPass)
-    (db : Trees) (s : State) (rows : IsRows s db) (invariant : IsInvariant config s) where
-  judged_next : (meta_rows : List Row) → IsPermutation (map seen_meta (db 0)) meta_rows → meta_judged (with_rows meta.None meta_rows) ≡ Ok s.next
-  judged_next meta_rows same = ap (λ (u : List Row). meta_judged (with_rows meta.None u)) (meta_pass config s db rows invariant meta_rows same) ∙ ap Ok (is_valid s.next invariant.next.1)
+    (db : Trees) (s : State) (rows : IsEitherRows s db) (invariant : IsInvariant config s) where
+  abbrev format : ℕ
+  format = (in_format s db rows).0
+
+  abbrev the_row : Meta
+  the_row = record { format = format; next = s.next }
+
+  are : IsRowsIn format s db
+  are = (in_format s db rows).2
+
+  judged_row : (meta_rows : List Row) → IsPermutation (map seen_meta (db 0)) meta_rows → meta_judged (with_rows meta.None meta_rows) ≡ Ok the_row
+  judged_row meta_rows same = ap (λ (u : List Row). meta_judged (with_rows meta.None u)) (meta_pass config format s db are.0 invariant meta_rows same) ∙ judged_one format s.next (in_format s db rows).1 invariant.next.1
 
   pub no_meta_fault : (fault : AdoptFault) → IsMetaFault db fault → ⊥
-  no_meta_fault fault it = err_ok fault s.next (sym it.2 ∙ judged_next it.0 it.1)
+  no_meta_fault fault it = err_ok fault the_row (sym it.2 ∙ judged_row it.0 it.1)
 
   pub no_fault : (fault : AdoptFault) → AreJudged config db (Some fault) → ⊥
   no_fault fault j =
-      let next : j.next ≡ s.next = ok_is j.next s.next (sym j.meta_is ∙ judged_next j.meta_rows j.seen.meta) in
-      let none = rows_faultless config small j.volume_rows j.attachment_rows j.owner_rows j.place_rows s.next invariant.next.0 (record {
-        volumes = volumes_pass config s db j.volume_rows rows invariant j.seen.volumes;
-        attachments = attachments_pass config s db j.attachment_rows rows invariant j.seen.attachments;
-        owned = owners_pass config s db j.owner_rows rows invariant j.seen.owned;
-        beside = places_pass config s db j.place_rows rows invariant j.seen.places;
+      let same : j.row ≡ the_row = ok_is j.row the_row (sym j.meta_is ∙ judged_row j.meta_rows j.seen.meta) in
+      let none = rows_faultless config small j.volume_rows j.attachment_rows j.owner_rows j.place_rows the_row invariant.next.0 (record {
+        volumes = volumes_pass config format s db j.volume_rows are invariant j.seen.volumes;
+        attachments = attachments_pass config format s db j.attachment_rows are.0 invariant j.seen.attachments;
+        owned = owners_pass config format s db j.owner_rows are.0 invariant j.seen.owned;
+        beside = places_pass config format s db j.place_rows are.0 invariant j.seen.places;
       }) in
-      some_none fault (sym j.fault_is ∙ ap (λ z. all_faults config z (in_volumes config z j.volume_rows) (in_attachments config j.attachment_rows) (first_named 0 1 is_owned j.owner_rows) (apart_named j.place_rows)) next ∙ none)
+      some_none fault (sym j.fault_is ∙ ap (λ (z : Meta). all_faults config z.next (in_volumes config z j.volume_rows) (in_attachments config j.attachment_rows) (first_named 0 1 is_owned j.owner_rows) (apart_named j.place_rows)) same ∙ none)
     where
       some_none : (e : AdoptFault) → Path (Option AdoptFault) (Some e) None → ⊥
       some_none e h = absurd (cc)

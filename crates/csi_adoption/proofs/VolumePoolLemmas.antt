@@ -20,6 +20,7 @@ use Rattle.csi_looks.specs.Folds.{sum_after}
 use Rattle.csi_looks.specs.declared.sums.Weight.TheVariants.{Number, One}
 use Rattle.csi_adoption.specs.Found.{FoundVolumes, sizes_of, told_total}
 use Rattle.csi_adoption.specs.Passing.{VolumesPass}
+use Rattle.csi_adoption.specs.declared.meta.Meta.{Meta}
 use Rattle.csi_adoption.proofs.VolumeSumLemmas.{pool_told}
 
 none_in : (pools : List Pool) (pool : List ℕ) → pool_named pools pool ≡ None → (es : List (ℕ × Volume)) → AllByRecursion (λ e. IsSome (pool_named pools e.1.pool)) es → in_order es pool ≡ []
@@ -36,8 +37,8 @@ none_in pools pool none (e ∷ es) all = go (same_text e.1.pool pool) refl (none
         absurd (true≢false (sym some ∙ ap (λ t. is_some (pool_named pools t)) is ∙ ap is_some none))
     go false same later = later
 
-pub none_elsewhere : (config : Config) (next : ℕ) (rows : List Row) (found : FoundVolumes config next rows) (pool : List ℕ) → pool_named config.pools pool ≡ None → sizes_of found.volumes pool ≡ []
-none_elsewhere config next rows found pool none =
+pub none_elsewhere : (config : Config) (m : Meta) (rows : List Row) (found : FoundVolumes config m rows) (pool : List ℕ) → pool_named config.pools pool ≡ None → sizes_of found.volumes pool ≡ []
+none_elsewhere config m rows found pool none =
     none_in config.pools pool none (entries found.volumes) (all_entries nat_cmp_total nat_cmp-IsAntisymmetric (λ n v. IsSome (pool_named config.pools v.pool)) found.volumes (λ n v e. (found.each n v e).pool))
 
 -- what is told of a name is told of a pool that has it, or no pool has it
@@ -59,14 +60,14 @@ told_of (p ∷ pools) rows name = go (same_text p.name name) refl (told_of pools
     go false same (inl it) = inl (it.0, inr it.1, it.2, it.3)
     go false same (inr none) = inr none
 
-pub totals_found : (config : Config) (next : ℕ) (rows : List Row) → VolumesPass config next rows → ((p : Pool) → Has config.pools p → p.bytes < 2 ^ 64 - 1) → (found : FoundVolumes config next rows) (name : List ℕ)
+pub totals_found : (config : Config) (m : Meta) (rows : List Row) → VolumesPass config m rows → ((p : Pool) → Has config.pools p → p.bytes < 2 ^ 64 - 1) → (found : FoundVolumes config m rows) (name : List ℕ)
     → told_total config.pools rows name ≡ the_total (length (sizes_of found.volumes name)) (sum (sizes_of found.volumes name))
-totals_found config next rows pass low found name = go (told_of config.pools rows name)
+totals_found config m rows pass low found name = go (told_of config.pools rows name)
   where
     go : ((p : Pool) × Has config.pools p × (p.name ≡ name) × (told_total config.pools rows name ≡ the_total (sum_after 3 p.name One 0 rows) (sum_after 3 p.name (Number 2) 0 rows)))
         ⊎ ((pool_named config.pools name ≡ None) × (told_total config.pools rows name ≡ zero_total))
         → told_total config.pools rows name ≡ the_total (length (sizes_of found.volumes name)) (sum (sizes_of found.volumes name))
     go (inl it) =
-        let told = pool_told config next rows pass it.0 it.1 (low it.0 it.1) in
+        let told = pool_told config m rows pass it.0 it.1 (low it.0 it.1) in
         it.3 ∙ ap₂ the_total (told.0 ∙ sym (found.counted it.0.name)) (told.1 ∙ sym (found.summed it.0.name)) ∙ ap (λ t. the_total (length (sizes_of found.volumes t)) (sum (sizes_of found.volumes t))) it.2
-    go (inr none) = none.1 ∙ sym (ap (λ xs. the_total (length xs) (sum xs)) (none_elsewhere config next rows found name none.0))
+    go (inr none) = none.1 ∙ sym (ap (λ xs. the_total (length xs) (sum xs)) (none_elsewhere config m rows found name none.0))

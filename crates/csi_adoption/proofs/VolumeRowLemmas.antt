@@ -69,8 +69,8 @@ caps_are : (b : List ℕ) (ks : List CapKey) → keys_in b ≡ Some ks → caps_
 caps_are b ks e = (bytes_eq-Decides (caps_bytes ks) b).0 (kept (λ js. bytes_eq (caps_bytes js) b) _ ks e)
 
 -- and so are those that say parameters
-params_are : (b : List ℕ) (m : TextMap) → params_in b ≡ Some m → params_bytes m ≡ b
-params_are b m e = (bytes_eq-Decides (params_bytes m) b).0 (kept (λ n. bytes_eq (params_bytes n) b) _ m e)
+params_are : (b : List ℕ) (ms : TextMap × TextMap) → params_in b ≡ Some ms → params_bytes ms.0 ms.1 ≡ b
+params_are b ms e = (bytes_eq-Decides (params_bytes ms.0 ms.1) b).0 (kept (λ ns. bytes_eq (params_bytes ns.0 ns.1) b) _ ms e)
 
 -- ---- a row
 
@@ -81,9 +81,9 @@ pub record IsEntry (row : Row) (e : ℕ × Volume) : Type 0 where
 small : (n next : ℕ) → (nat_le 1 n && nat_lt n next) ≡ true → next ≤ MAX_NUMBER → n < 2 ^ 63
 small n next e low = grind (arith, nat_tests)
 
-pub row_entry : (next : ℕ) → next ≤ MAX_NUMBER → (row r : Row) → row ≡ seen_volume r → has_volume_kinds row ≡ true → is_numbered next row ≡ true → is_sized row ≡ true → has_caps row ≡ true → has_params row ≡ true
-    → IfSome (keys_at 4 row) FitCaps → IfSome (params_at 5 row) FitParams → (e : ℕ × Volume) × IsEntry row e
-row_entry next low row r is kinds numbers sizes caps params fit_caps fit_params =
+pub row_entry : (format next : ℕ) → next ≤ MAX_NUMBER → (row r : Row) → row ≡ seen_volume r → has_volume_kinds row ≡ true → is_numbered next row ≡ true → is_sized row ≡ true → has_caps row ≡ true → has_params format row ≡ true
+    → IfSome (keys_at 4 row) FitCaps → IfSome (params_at 5 row) (λ ms. FitParams ms.0 ms.1) → (e : ℕ × Volume) × IsEntry row e
+row_entry format next low row r is kinds numbers sizes caps params fit_caps fit_params =
     let to_caps = and_parts _ _ kinds in
     let to_pool = and_parts _ _ to_caps.0 in
     let pool_is = and_parts _ _ to_pool.0 in
@@ -94,7 +94,7 @@ row_entry next low row r is kinds numbers sizes caps params fit_caps fit_params 
     let size = number_of is_whole (column row 2) sizes in
     let pool = text_of (column row 3) pool_is.1 in
     let cap = bytes_of keys_in are_keys (column row 4) caps in
-    let param = bytes_of params_in are_params (column row 5) params in
+    let param = bytes_of params_in (are_params format) (column row 5) params in
     let six : column row 0 ∷ column row 1 ∷ column row 2 ∷ column row 3 ∷ column row 4 ∷ column row 5 ∷ [] ≡ row = subst (λ x. column x 0 ∷ column x 1 ∷ column x 2 ∷ column x 3 ∷ column x 4 ∷ column x 5 ∷ [] ≡ x) (sym is) refl in
     let first = sym number.1 in
     let second = sym name.1 in
@@ -102,7 +102,7 @@ row_entry next low row r is kinds numbers sizes caps params fit_caps fit_params 
     let fourth = sym pool.1 in
     let fifth = ap Blob (caps_are cap.0 cap.1 cap.3) ∙ sym cap.2 in
     let sixth = ap Blob (params_are param.0 param.1 param.3) ∙ sym param.2 in (
-      (number.0, record { number = number.0; name = name.0; bytes = size.0; pool = pool.0; caps = cap.1; params = param.1 }),
+      (number.0, record { number = number.0; name = name.0; bytes = size.0; pool = pool.0; caps = cap.1; params = param.1.0; mutable = param.1.1 }),
       record {
         cells = (λ i. first i ∷ second i ∷ third i ∷ fourth i ∷ fifth i ∷ sixth i ∷ []) ∙ six;
         stored = record {
@@ -111,7 +111,7 @@ row_entry next low row r is kinds numbers sizes caps params fit_caps fit_params 
           name = name.2;
           pool = pool.2;
           caps = subst (λ o. IfSome o FitCaps) (ap (λ v. option_and_then keys_in (as_blob v)) cap.2 ∙ cap.3) fit_caps;
-          params = subst (λ o. IfSome o FitParams) (ap (λ v. option_and_then params_in (as_blob v)) param.2 ∙ param.3) fit_params;
+          params = subst (λ o. IfSome o (λ ms. FitParams ms.0 ms.1)) (ap (λ v. option_and_then params_in (as_blob v)) param.2 ∙ param.3) fit_params;
         };
       },
     )

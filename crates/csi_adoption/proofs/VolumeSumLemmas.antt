@@ -16,6 +16,7 @@ use Rattle.csi_looks.specs.Folds.{added_by, sum_after}
 use Rattle.csi_looks.specs.declared.sums.Weight.TheVariants.{Number, One}
 use Rattle.csi_tables.specs.Holding.{volume_entry}
 use Rattle.csi_adoption.specs.Passing.{VolumesPass}
+use Rattle.csi_adoption.specs.declared.meta.Meta.{Meta}
 use Rattle.csi_adoption.proofs.SumLemmas.{count_told, sum_told}
 
 -- what is so of all of a configuration's list is so of each of it
@@ -42,8 +43,8 @@ sum_of (e ∷ es) pool =
     omega (arith, here, there, one_test e.1.pool pool e.1.bytes, sum_of es pool)
 
 -- what is told of a pool of the configuration is so of rows that pass
-pub pool_told : (config : Config) (next : ℕ) (rows : List Row) → VolumesPass config next rows → (p : Pool) → Has config.pools p → p.bytes < 2 ^ 64 - 1
+pub pool_told : (config : Config) (m : Meta) (rows : List Row) → VolumesPass config m rows → (p : Pool) → Has config.pools p → p.bytes < 2 ^ 64 - 1
     → (sum_after 3 p.name One 0 rows ≡ sum_by (added_by 3 p.name One) rows) × (sum_after 3 p.name (Number 2) 0 rows ≡ sum_by (added_by 3 p.name (Number 2)) rows)
-pool_told config next rows pass p has low =
+pool_told config m rows pass p has low =
     let room : sum_by (added_by 3 p.name (Number 2)) rows ≤ p.bytes = all_of (λ q. sum_by (added_by 3 q.name (Number 2)) rows ≤ q.bytes) config.pools p pass.rooms has in
     (count_told 3 p.name rows (omega (arith, pass.few)), sum_told 3 p.name (Number 2) rows (omega (arith, room, low)))

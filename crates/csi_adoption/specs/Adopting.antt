@@ -2,6 +2,7 @@
 use Rattle.std.specs.Prelude.{◌≡◌, ◌≢◌, ◌⊎◌, ℕ, ◌≤◌, true, false, List, length, sum, IsTrue}
 use Rattle.sqlite.specs.Effect.{Database}
 use Rattle.sqlite.specs.Held.{Held, state}
+use Rattle.sqlite.specs.State as sql
 use Rattle.sqlite.specs.State.{HasCleanDisk, KeepsCommit}
 use Rattle.sqlite.specs.Store.{Ghosts}
 use Rattle.sqlite.specs.Tree.{Trees}
@@ -14,7 +15,7 @@ use Rattle.csi_keeper.specs.Totals.{the_total, AreTotals}
 use Rattle.csi_keeper.specs.declared.totals.Totals.{Totals}
 use Rattle.csi_layout.specs.Making.{MakesTables}
 use Rattle.csi_layout.specs.Tables.{no_schema, schema}
-use Rattle.csi_tables.specs.Holding.{IsRows, conn_doubt, store_doubt, store_holds, store_survivors, store_tied}
+use Rattle.csi_tables.specs.Holding.{IsEitherRows, IsFirstRows, IsFormat, IsRows, IsRowsIn, conn_doubt, store_doubt, store_holds, store_survivors, store_tied}
 use Rattle.csi_tables.specs.Keeping.{is_down, refusals, store_of}
 use Rattle.csi_tables.specs.declared.tables.Tables.{Tables}
 use Rattle.csi_adoption.specs.Judging.{is_failure, sums_of, total_in, IsFaultOf}
@@ -25,23 +26,39 @@ use Rattle.csi_adoption.specs.declared.volumes.VolumesSeen.{VolumesSeen}
 
 -- the State of a database: the one whose rows it has, or the first one where it has no table yet
 abbrev pub IsStateOf : Database → State → Type 0
-IsStateOf db s = ((db.schema ≡ schema) × IsRows s db.trees) ⊎ ((db.schema ≡ no_schema) × (s ≡ first_state 1))
+IsStateOf db s = ((db.schema ≡ schema) × IsEitherRows s db.trees) ⊎ ((db.schema ≡ no_schema) × (s ≡ first_state 1))
 
 -- a State of the rows, which meets every rule, and its totals as the sums of the look tell them
 pub record FoundState (config : Config) (db : Trees) (seen : VolumesSeen) : Type 0 where
+  pub known : IsFormat seen.format
   pub state : State
-  pub rows : IsRows state db
+  pub rows : IsRowsIn seen.format state db
   pub invariant : IsInvariant config state
   pub totals : (pool : List ℕ) → total_in config.pools (sums_of seen.pool_volumes.items) (sums_of seen.pool_bytes.items) pool ≡ the_total (length (sizes state pool)) (sum (sizes state pool))
 
--- a State of a database with our tables, which meets every rule, and its totals
-pub record IsFound (config : Config) (db : Database) (totals : Totals) : Type 0 where
+-- a State of a database with our tables of a format, which meets every rule, and its totals
+pub record IsFound (config : Config) (db : Database) (format : ℕ) (totals : Totals) : Type 0 where
   pub schema_is : db.schema ≡ schema
-  pub found : IsSound schema db.trees → (s : State) × IsRows s db.trees × IsInvariant config s × AreTotals totals s
+  pub found : IsSound schema db.trees → IsFormat format × (s : State) × IsRowsIn format s db.trees × IsInvariant config s × AreTotals totals s
+
+-- Tables that were taken: they stand for the State that they stood for, which meets every rule, and are of the latest format.
+pub record IsTaken (config : Config) (old new : sql.State) (totals : Totals) : Type 0 where
+  pub was_open : IsTrue old.is_open
+  pub is_open : IsTrue new.is_open
+  pub was_ours : old.now.schema ≡ schema
+  pub is_ours : new.now.schema ≡ schema
+  pub settled : old.now ≡ old.committed → new.now ≡ new.committed
+  pub found : IsSound schema old.now.trees → (s : State) × IsEitherRows s old.now.trees × IsRows s new.now.trees × IsInvariant config s × AreTotals totals s
+
+-- a stop may leave tables of the latest format in place of those of the first one, of the same State
+pub record LeavesLatest (old : sql.State) (db : Trees) : Type 0 where
+  pub was_open : IsTrue old.is_open
+  pub was_ours : old.now.schema ≡ schema
+  pub same : IsSound schema old.now.trees → (s : State) × IsFirstRows s old.now.trees × IsRows s db
 
 -- rows of such a State are refused only if something failed
 abbrev pub IsNotRefused : Config → Database → AdoptFault → Type 0
-IsNotRefused config db fault = (s : State) → db.schema ≡ schema → IsRows s db.trees → IsInvariant config s → is_failure fault ≡ true
+IsNotRefused config db fault = (s : State) → db.schema ≡ schema → IsEitherRows s db.trees → IsInvariant config s → is_failure fault ≡ true
 
 module _ {S : Type 0} (g : Ghosts S) (config : Config) (conn : Held S) where
   -- what was committed on the connection
@@ -66,8 +83,9 @@ module _ {S : Type 0} (g : Ghosts S) (config : Config) (conn : Held S) where
     pub clean : conn_doubt g conn ≤ conn_doubt g back
     -- what was committed stays
     pub kept : HasCleanDisk (state g back) → KeepsCommit (state g conn) (state g back)
-    -- a stop leaves what it could leave before; only where there was no table, also the new ones that were to be made
-    pub crash : HasCleanDisk (state g back) → (db : Trees) → (state g back).may_leave db → (state g conn).may_leave db ⊎ ((made : Database) × (committed.schema ≡ no_schema) × MakesTables committed made × (db ≡ made.trees))
+    -- a stop leaves what it could leave before; only where there was no table, also the new ones that were to be made, and where there
+    -- were tables of the first format, also those of the latest of the same State
+    pub crash : HasCleanDisk (state g back) → (db : Trees) → (state g back).may_leave db → (state g conn).may_leave db ⊎ ((made : Database) × (committed.schema ≡ no_schema) × MakesTables committed made × (db ≡ made.trees)) ⊎ ((s : State) × (committed.schema ≡ schema) × IsFirstRows s committed.trees × IsRows s db)
     -- the fault is the first one of what was committed, unless something failed
     pub first : HasCleanDisk (state g back) → IsTrue (state g back).is_open → is_failure fault ≡ false → IsFaultOf config committed fault
     -- other tables are told, whatever fails

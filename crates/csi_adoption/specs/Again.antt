@@ -8,7 +8,7 @@ use Rattle.csi_config.specs.declared.config.Config.{Config}
 use Rattle.csi_keeper.specs.Invariant.{IsInvariant}
 use Rattle.csi_keeper.specs.State.{State}
 use Rattle.csi_layout.specs.Tables.{schema}
-use Rattle.csi_tables.specs.Holding.{store_doubt, store_holds, store_survivors, store_tied}
+use Rattle.csi_tables.specs.Holding.{IsEitherRows, store_doubt, store_holds, store_survivors, store_tied}
 use Rattle.csi_tables.specs.Keeping.{connection_of, store_of}
 use Rattle.csi_tables.specs.declared.tables.Tables.{Tables}
 use Rattle.csi_adoption.specs.Adopting.{committed, IsAdopted, IsUnadopted}
@@ -34,6 +34,11 @@ module _ {S : Type 0} (g : Ghosts S) where
   -- a keeper that ended
   abbrev pub EndsTaken : Type 0
   EndsTaken = (config : Config) (t : Tables S g) (s : State) → store_holds g (store_of g t) s → IsInvariant config s → IsTakenAs g config (connection_of g t) s
+
+  -- tables of either format
+  abbrev pub EitherTaken : Type 0
+  EitherTaken =
+      (config : Config) (conn : Held S) (s : State) → (committed g config conn).schema ≡ schema → IsEitherRows s (committed g config conn).trees → IsInvariant config s → IsTakenAs g config conn s
 
   -- a keeper that a stop cut off
   abbrev pub StopsTaken : Type 0

@@ -1,6 +1,6 @@
 -- What rows of volumes that pass say: the volumes of a State.
 use Rattle.std.specs.Prelude.{◌≡◌, ℕ, ◌≤◌, bytes_eq, if◌then◌else◌, List, [], ◌∷◌, Some, filter, length, map, sum, sum_by}
-use Rattle.std.specs.FinMap.{FinMap, entries, get, len, values}
+use Rattle.std.specs.FinMap.{FinMap, empty, entries, get, len, values}
 use Rattle.std.specs.List.{AllByRecursion}
 use Rattle.std.specs.Ordering.{nat_cmp}
 use Rattle.sqlite.specs.Order.{Row}
@@ -13,19 +13,23 @@ use Rattle.csi_keeper.specs.Invariant.{IsVolume}
 use Rattle.csi_keeper.specs.Totals.{the_total, zero_total}
 use Rattle.csi_keeper.specs.declared.totals.Total.{Total}
 use Rattle.csi_keeper.specs.declared.volume.Volume.{Volume}
+use Rattle.csi_layout.specs.declared.formats.TheConstants.{FIRST_FORMAT}
 use Rattle.csi_looks.specs.Folds.{added_by, sum_after}
 use Rattle.csi_looks.specs.declared.sums.Weight.TheVariants.{Number, One}
 use Rattle.csi_tables.specs.Holding.{IsStored, volume_entry}
+use Rattle.csi_adoption.specs.declared.meta.Meta.{Meta}
 
 -- the bytes of a pool's volumes, as of a State that has these
 abbrev pub sizes_of : FinMap nat_cmp Volume → List ℕ → List ℕ
 sizes_of volumes pool = map (λ v. v.bytes) (filter (λ v. bytes_eq v.pool pool) (values volumes))
 
-pub record FoundVolumes (config : Config) (next : ℕ) (rows : List Row) : Type 0 where
+pub record FoundVolumes (config : Config) (m : Meta) (rows : List Row) : Type 0 where
   pub volumes : FinMap nat_cmp Volume
   pub listed : map volume_entry (entries volumes) ≡ rows
   pub stored : AllByRecursion IsStored (entries volumes)
-  pub each : (n : ℕ) (v : Volume) → get volumes n ≡ Some v → IsVolume config next n v
+  -- tables of the first format have no mutable parameters
+  pub unmodified : m.format ≡ FIRST_FORMAT → AllByRecursion (λ e. e.1.mutable ≡ empty) (entries volumes)
+  pub each : (n : ℕ) (v : Volume) → get volumes n ≡ Some v → IsVolume config m.next n v
   pub names : (m n : ℕ) (v w : Volume) → get volumes m ≡ Some v → get volumes n ≡ Some w → v.name ≡ w.name → m ≡ n
   pub few : len volumes ≤ MAX_VOLUMES
   -- what is told of a pool is so of its volumes

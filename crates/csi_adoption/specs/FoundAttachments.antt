@@ -23,7 +23,7 @@ use Rattle.csi_looks.specs.Looks.{IsInOrder, keyed_attachment, owners}
 use Rattle.csi_rules.specs.Apart.{NoneApart}
 use Rattle.csi_rules.specs.Joins.{is_owned}
 use Rattle.csi_statements.specs.Rows.{AreKeyed}
-use Rattle.csi_tables.specs.Holding.{attachment_entry, volume_entry, IsPlaced, IsRows, IsStored}
+use Rattle.csi_tables.specs.Holding.{attachment_entry, volume_entry, IsPlaced, IsRowsOf, IsStored}
 use Rattle.csi_adoption.specs.Passing.{AttachmentsAreKnown, AttachmentsPass}
 
 -- an attachment that may stand at a number and a node, beside the volumes
@@ -63,13 +63,13 @@ AttachmentsAreFound =
 -- the rows of a State's attachments pass every rule of theirs
 abbrev pub AttachmentsDoPass : Type 0
 AttachmentsDoPass =
-    (config : Config) (s : State) (db : Trees) (rows : List Row)
-    → IsRows s db → IsInvariant config s → IsInOrder (map keyed_attachment (db 3)) rows → AttachmentsPass config rows
+    (config : Config) (format : ℕ) (s : State) (db : Trees) (rows : List Row)
+    → IsRowsOf format s db → IsInvariant config s → IsInOrder (map keyed_attachment (db 3)) rows → AttachmentsPass config rows
 
 -- each with its volume
 abbrev pub OwnersDoPass : Type 0
-OwnersDoPass = (config : Config) (s : State) (db : Trees) (owned : List Row) → IsRows s db → IsInvariant config s → IsPermutation (owners (db 3) (db 1)) owned → list_all is_owned owned ≡ true
+OwnersDoPass = (config : Config) (format : ℕ) (s : State) (db : Trees) (owned : List Row) → IsRowsOf format s db → IsInvariant config s → IsPermutation (owners (db 3) (db 1)) owned → list_all is_owned owned ≡ true
 
 -- and no two of one volume are apart
 abbrev pub PlacesDoPass : Type 0
-PlacesDoPass = (config : Config) (s : State) (db : Trees) (places : List Row) → IsRows s db → IsInvariant config s → IsPermutation (map seen_attachment (db 3)) places → NoneApart places
+PlacesDoPass = (config : Config) (format : ℕ) (s : State) (db : Trees) (places : List Row) → IsRowsOf format s db → IsInvariant config s → IsPermutation (map seen_attachment (db 3)) places → NoneApart places

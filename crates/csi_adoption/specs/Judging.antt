@@ -18,6 +18,7 @@ use Rattle.csi_keeper.specs.Totals.{the_total, zero_total}
 use Rattle.csi_keeper.specs.declared.totals.Total.{Total}
 use Rattle.csi_layout.specs.Rows.{seen_meta, seen_volume}
 use Rattle.csi_layout.specs.Tables.{schema}
+use Rattle.csi_layout.specs.declared.formats.TheConstants.{FIRST_FORMAT, LATEST_FORMAT}
 use Rattle.csi_looks.specs.Folds.{IsRising, as_integer, sum_after}
 use Rattle.csi_looks.specs.Looks.{IsInOrder, keyed_attachment}
 use Rattle.csi_looks.specs.declared.sums.TextSum.{TextSum}
@@ -42,6 +43,7 @@ use Rattle.csi_adoption.specs.declared.attachments.AttachmentsSeen.{AttachmentsS
 use Rattle.csi_adoption.specs.declared.fault.AdoptFault.{AdoptFault}
 use Rattle.csi_adoption.specs.declared.fault.AdoptFault.TheVariants.{Foreign, Newer, Broken, Store, NoMemory}
 use Rattle.csi_adoption.specs.declared.fault.Foreign.TheVariants as foreign
+use Rattle.csi_adoption.specs.declared.meta.Meta.{Meta}
 use Rattle.csi_adoption.specs.declared.meta.MetaRow.{MetaRow}
 use Rattle.csi_adoption.specs.declared.meta.MetaRows.{MetaRows}
 use Rattle.csi_adoption.specs.declared.meta.MetaRows.TheVariants as meta
@@ -69,20 +71,24 @@ abbrev pub valid_next : ℤ → ℕ
 valid_next (pos n) = if nat_le n MAX_NUMBER then n else 0
 valid_next (negsuc n) = 0
 
--- the key is 1, and the format is 1
-abbrev pub integers_judged : ℤ → ℤ → ℤ → Result ℕ AdoptFault
-integers_judged key format next =
-    if not (int_eq key (pos 1)) || int_lt format (pos 1) then no_meta
-    else (if int_lt (pos 1) format then Err (Newer format) else Ok (valid_next next))
+-- of two formats
+abbrev pub valid_format : ℤ → ℕ
+valid_format format = if int_eq format (pos FIRST_FORMAT) then FIRST_FORMAT else LATEST_FORMAT
 
-abbrev pub row_judged : Option ℤ → Option ℤ → Option ℤ → Result ℕ AdoptFault
+-- the key is 1, and the format is one of the two
+abbrev pub integers_judged : ℤ → ℤ → ℤ → Result Meta AdoptFault
+integers_judged key format next =
+    if not (int_eq key (pos 1)) || int_lt format (pos FIRST_FORMAT) then no_meta
+    else (if int_lt (pos LATEST_FORMAT) format then Err (Newer format) else Ok (record { format = valid_format format; next = valid_next next }))
+
+abbrev pub row_judged : Option ℤ → Option ℤ → Option ℤ → Result Meta AdoptFault
 row_judged (Some key) (Some format) (Some next) = integers_judged key format next
 row_judged (Some key) (Some format) None = no_meta
 row_judged (Some key) None next = no_meta
 row_judged None format next = no_meta
 
--- the next number of the one row, and 0 where it is not 1 to 2^62
-abbrev pub meta_judged : MetaRows → Result ℕ AdoptFault
+-- the format and the next number of the one row, which is 0 where it is not 1 to 2^62
+abbrev pub meta_judged : MetaRows → Result Meta AdoptFault
 meta_judged meta.None = no_meta
 meta_judged (meta.One m) = row_judged m.key m.format m.next
 meta_judged meta.Many = no_meta
@@ -109,15 +115,15 @@ pub record VolumesFound : Type 0 where
   pub pool_volumes : List ℕ
   pub rows : ℕ
 
-abbrev pub in_volumes : Config → ℕ → List Row → VolumesFound
-in_volumes config next rows = record {
+abbrev pub in_volumes : Config → Meta → List Row → VolumesFound
+in_volumes config m rows = record {
   kinds = first_named 0 1 has_volume_kinds rows;
-  number = first_named 0 1 (is_numbered next) rows;
+  number = first_named 0 1 (is_numbered m.next) rows;
   name = first_named 0 1 is_named rows;
   pool = first_named 0 1 (is_in_pools config.pools) rows;
   bytes = first_named 0 1 is_sized rows;
   caps = first_named 0 1 has_caps rows;
-  params = first_named 0 1 has_params rows;
+  params = first_named 0 1 (has_params m.format) rows;
   pool_bytes = map (λ p. sum_after 3 p.name (Number 2) 0 rows) config.pools;
   pool_volumes = map (λ p. sum_after 3 p.name One 0 rows) config.pools;
   rows = min (length rows) (2 ^ 64 - 1);
@@ -161,11 +167,12 @@ abbrev pub told_attachments : AttachmentsSeen → AttachmentsFound
 told_attachments seen = record { kinds = seen.kinds; cap = seen.cap; readonly = seen.readonly; node = seen.node; node_volumes = sums_of seen.node_volumes.items }
 
 -- a look over rows whose numbers rise; what was read of bytes can be written again
-pub record SeesVolumes (config : Config) (next : ℕ) (rows : List Row) (seen : VolumesSeen) : Type 0 where
-  pub found : told_volumes seen ≡ in_volumes config next rows
+pub record SeesVolumes (config : Config) (m : Meta) (rows : List Row) (seen : VolumesSeen) : Type 0 where
+  pub format : seen.format ≡ m.format
+  pub found : told_volumes seen ≡ in_volumes config m rows
   pub rising : IsRising 0 None rows
   pub caps : seen.caps ≡ None → AllByRecursion (λ r. IfSome (keys_at 4 r) FitCaps) rows
-  pub params : seen.params ≡ None → AllByRecursion (λ r. IfSome (params_at 5 r) FitParams) rows
+  pub params : seen.params ≡ None → AllByRecursion (λ r. IfSome (params_at 5 r) (λ ms. FitParams ms.0 ms.1)) rows
 
 pub record SeesAttachments (config : Config) (rows : List Row) (seen : AttachmentsSeen) : Type 0 where
   pub found : told_attachments seen ≡ in_attachments config rows
@@ -291,15 +298,15 @@ IsMetaFault db fault = (rows : List Row) × IsPermutation (map seen_meta (db 0))
 
 -- the rows of all tables, and the first rule that they break, if they break one
 pub record AreJudged (config : Config) (db : Trees) (fault : Option AdoptFault) : Type 0 where
-  pub next : ℕ
+  pub row : Meta
   pub meta_rows : List Row
   pub volume_rows : List Row
   pub attachment_rows : List Row
   pub owner_rows : List Row
   pub place_rows : List Row
   pub seen : Seen db meta_rows volume_rows attachment_rows owner_rows place_rows
-  pub meta_is : meta_judged (with_rows meta.None meta_rows) ≡ Ok next
-  pub fault_is : all_faults config next (in_volumes config next volume_rows) (in_attachments config attachment_rows) (first_named 0 1 is_owned owner_rows) (apart_named place_rows) ≡ fault
+  pub meta_is : meta_judged (with_rows meta.None meta_rows) ≡ Ok row
+  pub fault_is : all_faults config row.next (in_volumes config row volume_rows) (in_attachments config attachment_rows) (first_named 0 1 is_owned owner_rows) (apart_named place_rows) ≡ fault
 
 -- the fault is that of a database: it has other tables, or its rows break this rule first
 abbrev pub IsFaultOf : Config → Database → AdoptFault → Type 0
@@ -308,7 +315,7 @@ IsFaultOf config db fault = ((db.schema ≢ schema) × (fault ≡ Foreign foreig
 -- the rows of volumes and attachments break no rule
 pub record ArePassed (config : Config) (db : Trees) (seen : VolumesSeen) : Type 0 where
   pub judged : AreJudged config db None
-  pub volumes : SeesVolumes config judged.next judged.volume_rows seen
+  pub volumes : SeesVolumes config judged.row judged.volume_rows seen
   pub attachments : AttachmentsSeen
   pub placed : SeesAttachments config judged.attachment_rows attachments
 
@@ -316,18 +323,18 @@ abbrev pub JudgesRows : Config → Trees → Result VolumesSeen AdoptFault → T
 JudgesRows config db (Ok seen) = ArePassed config db seen
 JudgesRows config db (Err e) = is_failure e ≡ false → IsMetaFault db e ⊎ AreJudged config db (Some e)
 
--- the next number as the row of meta has it
-abbrev pub SeesNext : Trees → Result ℕ AdoptFault → Type 0
-SeesNext db (Ok next) = (rows : List Row) × IsPermutation (map seen_meta (db 0)) rows × (meta_judged (with_rows meta.None rows) ≡ Ok next)
-SeesNext db (Err e) = is_failure e ≡ false → IsMetaFault db e
+-- the row of meta
+abbrev pub SeesRow : Trees → Result Meta AdoptFault → Type 0
+SeesRow db (Ok row) = (rows : List Row) × IsPermutation (map seen_meta (db 0)) rows × (meta_judged (with_rows meta.None rows) ≡ Ok row)
+SeesRow db (Err e) = is_failure e ≡ false → IsMetaFault db e
 
 -- the rows of volumes and of attachments
-pub record TablesAreSeen (config : Config) (next : ℕ) (db : Trees) (tables : TablesSeen) : Type 0 where
+pub record TablesAreSeen (config : Config) (m : Meta) (db : Trees) (tables : TablesSeen) : Type 0 where
   pub volume_rows : List Row
   pub attachment_rows : List Row
   pub volumes : IsInOrder (map seen_volume (db 1)) volume_rows
   pub attachments : IsInOrder (map keyed_attachment (db 3)) attachment_rows
-  pub sees : SeesVolumes config next volume_rows tables.volumes
+  pub sees : SeesVolumes config m volume_rows tables.volumes
   pub placed : SeesAttachments config attachment_rows tables.attachments
 
 -- the volumes that were seen, unless a rule is broken
@@ -335,16 +342,16 @@ abbrev pub volumes_unless : TablesSeen → Result (Unit {0}) AdoptFault → Resu
 volumes_unless tables (Ok fine) = Ok tables.volumes
 volumes_unless tables (Err e) = Err e
 
--- where the rows of each table by themselves break no rule, and this is the next number that meta has
-abbrev pub JudgesJoined : Config → Trees → ℕ → TablesSeen → Result (Unit {0}) AdoptFault → Type 0
-JudgesJoined config db next tables result = TablesAreSeen config next db tables → table_faults config next (told_volumes tables.volumes) (told_attachments tables.attachments) ≡ None
-    → (rows : List Row) → IsPermutation (map seen_meta (db 0)) rows → meta_judged (with_rows meta.None rows) ≡ Ok next → JudgesRows config db (volumes_unless tables result)
+-- where the rows of each table by themselves break no rule, and this is what meta tells
+abbrev pub JudgesJoined : Config → Trees → Meta → TablesSeen → Result (Unit {0}) AdoptFault → Type 0
+JudgesJoined config db m tables result = TablesAreSeen config m db tables → table_faults config m.next (told_volumes tables.volumes) (told_attachments tables.attachments) ≡ None
+    → (rows : List Row) → IsPermutation (map seen_meta (db 0)) rows → meta_judged (with_rows meta.None rows) ≡ Ok m → JudgesRows config db (volumes_unless tables result)
 
--- where this was seen of the tables, and this is the next number that meta has
-abbrev pub JudgesSeen : Config → Trees → ℕ → TablesSeen → Result (Unit {0}) AdoptFault → Type 0
-JudgesSeen config db next tables result = TablesAreSeen config next db tables
-    → (rows : List Row) → IsPermutation (map seen_meta (db 0)) rows → meta_judged (with_rows meta.None rows) ≡ Ok next → JudgesRows config db (volumes_unless tables result)
+-- where this was seen of the tables, and this is what meta tells
+abbrev pub JudgesSeen : Config → Trees → Meta → TablesSeen → Result (Unit {0}) AdoptFault → Type 0
+JudgesSeen config db m tables result = TablesAreSeen config m db tables
+    → (rows : List Row) → IsPermutation (map seen_meta (db 0)) rows → meta_judged (with_rows meta.None rows) ≡ Ok m → JudgesRows config db (volumes_unless tables result)
 
--- where this is the next number that meta has
-abbrev pub JudgesBehind : Config → Trees → ℕ → Result VolumesSeen AdoptFault → Type 0
-JudgesBehind config db next result = (rows : List Row) → IsPermutation (map seen_meta (db 0)) rows → meta_judged (with_rows meta.None rows) ≡ Ok next → JudgesRows config db result
+-- where this is what meta tells
+abbrev pub JudgesBehind : Config → Trees → Meta → Result VolumesSeen AdoptFault → Type 0
+JudgesBehind config db m result = (rows : List Row) → IsPermutation (map seen_meta (db 0)) rows → meta_judged (with_rows meta.None rows) ≡ Ok m → JudgesRows config db result

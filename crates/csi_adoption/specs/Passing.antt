@@ -16,25 +16,26 @@ use Rattle.csi_rules.specs.Coded.{has_cap, has_caps, has_params, key_at, keys_at
 use Rattle.csi_rules.specs.Joins.{is_owned}
 use Rattle.csi_rules.specs.Kinds.{has_attachment_kinds, has_volume_kinds}
 use Rattle.csi_rules.specs.Volumes.{is_in_pools, is_named, is_numbered, is_sized}
+use Rattle.csi_adoption.specs.declared.meta.Meta.{Meta}
 
 -- the rows of volumes meet each rule of their own
-pub record VolumesPass (config : Config) (next : ℕ) (rows : List Row) : Type 0 where
+pub record VolumesPass (config : Config) (m : Meta) (rows : List Row) : Type 0 where
   pub kinds : list_all has_volume_kinds rows ≡ true
-  pub numbers : list_all (is_numbered next) rows ≡ true
+  pub numbers : list_all (is_numbered m.next) rows ≡ true
   pub names : list_all is_named rows ≡ true
   pub pools : list_all (is_in_pools config.pools) rows ≡ true
   pub sizes : list_all is_sized rows ≡ true
   -- no pool is overcommitted
   pub rooms : AllByRecursion (λ p. sum_by (added_by 3 p.name (Number 2)) rows ≤ p.bytes) config.pools
   pub caps : list_all has_caps rows ≡ true
-  pub params : list_all has_params rows ≡ true
+  pub params : list_all (has_params m.format) rows ≡ true
   pub few : length rows ≤ MAX_VOLUMES
 
 -- the numbers rise, and what is read of bytes can be written again
 pub record VolumesAreKnown (rows : List Row) : Type 0 where
   pub rising : IsRising 0 None rows
   pub caps : AllByRecursion (λ r. IfSome (keys_at 4 r) FitCaps) rows
-  pub params : AllByRecursion (λ r. IfSome (params_at 5 r) FitParams) rows
+  pub params : AllByRecursion (λ r. IfSome (params_at 5 r) (λ ms. FitParams ms.0 ms.1)) rows
 
 -- the rows of attachments, behind their rowids, meet each rule of their own
 pub record AttachmentsPass (config : Config) (rows : List Row) : Type 0 where
@@ -59,10 +60,10 @@ pub record Seen (db : Trees) (meta_rows volume_rows attachment_rows owner_rows p
   pub places : IsPermutation (map seen_attachment (db 3)) place_rows
 
 -- the rows meet every rule
-pub record Pass (config : Config) (number : ℕ) (meta_rows volume_rows attachment_rows owner_rows place_rows : List Row) : Type 0 where
-  pub meta : meta_rows ≡ meta_row number ∷ []
-  pub next : (1 ≤ number) × (number ≤ MAX_NUMBER)
-  pub volumes : VolumesPass config number volume_rows
+pub record Pass (config : Config) (m : Meta) (meta_rows volume_rows attachment_rows owner_rows place_rows : List Row) : Type 0 where
+  pub meta : meta_rows ≡ meta_row m.format m.next ∷ []
+  pub next : (1 ≤ m.next) × (m.next ≤ MAX_NUMBER)
+  pub volumes : VolumesPass config m volume_rows
   pub attachments : AttachmentsPass config attachment_rows
   pub owned : list_all is_owned owner_rows ≡ true
   pub beside : NoneApart place_rows

@@ -1,19 +1,21 @@
 //! The tables on a connection, judged and taken.
 
-ghost use Rattle.std.specs.Prelude.{◌≡◌, ◌≢◌, ℕ, false, Some, IfErr, IfOk, IsTrue};
+ghost use Rattle.std.specs.Prelude.{◌≡◌, ◌≢◌, ℕ, false, Some, IfErr, IfOk, IsTrue, OnErr, OnOk};
 ghost use Rattle.sqlite.specs.Held.{state};
-ghost use Rattle.sqlite.specs.State.{HasCleanDisk, Survives};
+ghost use Rattle.sqlite.specs.State.{HasCleanDisk, KeepsCommit, Survives};
 ghost use Rattle.csi_layout.specs.Tables.{no_schema, schema as our_schema};
-ghost use Rattle.csi_statements.specs.Rows.{IsUndone};
+ghost use Rattle.csi_layout.specs.declared.formats.TheConstants.{FIRST_FORMAT};
+ghost use Rattle.csi_statements.specs.Rows.{Changes, IsUndone, Leaves, SetsFormat};
 ghost use Rattle.sqlite.specs.Tree.{Trees};
 ghost use Rattle.sqlite_catalog.specs.Listing.{IsSound};
 ghost use Rattle.csi_keeper.specs.Invariant.{IsInvariant};
 ghost use Rattle.csi_keeper.specs.Memory.{first_state};
 ghost use Rattle.csi_keeper.specs.State.{State};
-ghost use Rattle.csi_tables.specs.Holding.{IsRows};
-ghost use Rattle.csi_adoption.specs.Adopting.{FoundState, IsAdopted, IsFound, IsNotRefused, IsUnadopted};
+ghost use Rattle.csi_tables.specs.Holding.{IsEitherRows};
+ghost use Rattle.csi_adoption.specs.Adopting.{FoundState, IsAdopted, IsFound, IsNotRefused, IsTaken, IsUnadopted, LeavesLatest};
 ghost use Rattle.csi_adoption.specs.Looking.{Looks};
-ghost use Rattle.csi_adoption.specs.Judging.{is_failure, AreJudged, ArePassed, IsFaultOf, IsMetaFault, JudgesBehind, JudgesJoined, JudgesRows, JudgesSeen, SeesNext, Says, TablesAreSeen, Tells, code_faults, count_fault, count_faults, kinds_faults, table_faults, told_attachments, told_volumes};
+ghost use Rattle.csi_adoption.specs.declared.meta.Meta.{Meta as Row};
+ghost use Rattle.csi_adoption.specs.Judging.{is_failure, AreJudged, ArePassed, IsFaultOf, IsMetaFault, JudgesBehind, JudgesJoined, JudgesRows, JudgesSeen, SeesRow, Says, TablesAreSeen, Tells, code_faults, count_fault, count_faults, kinds_faults, table_faults, told_attachments, told_volumes};
 
 use crate::attachment_laws::{attachments_found, attachments_pass, owners_pass, places_pass};
 use crate::attachments::{
@@ -21,7 +23,7 @@ use crate::attachments::{
 };
 use crate::fault::{AdoptFault, Foreign};
 use crate::laws::{meta_pass, totals_found, volumes_found, volumes_pass};
-use crate::meta::{judge_meta, see_meta};
+use crate::meta::{Meta, judge_meta, see_meta};
 use crate::volumes::{
     VolumesSeen, check_numbers, check_sizes, check_volume, see_volumes, totals_of,
 };
@@ -29,8 +31,10 @@ use csi_config::Config;
 use csi_config::laws::{node_volumes_few, pool_bytes_whole};
 use csi_keeper::Totals;
 use csi_keeper::laws::first;
-use csi_layout::is_our_schema;
+use csi_layout::{FIRST_FORMAT, is_our_schema};
 use csi_rules::{AttachmentRule, BrokenRule, RowName, VolumeRule};
+use csi_statements::changes::set_format;
+use csi_tables::laws::{latest, one_state};
 use csi_tables::{MakeFault, Tables};
 use csi_types::MAX_VOLUMES;
 use sqlite::{Alter, Connection, Error};
@@ -133,14 +137,14 @@ fn see_tables<S: Alter>(
     alloc: Global,
     conn: &mut Connection<S>,
     config: &Config,
-    next: u64,
+    meta: Meta,
 ) -> Result<TablesSeen, Error>
     requires idle { conn.old.in_transaction ≡ false }
     requires ours { HasCleanDisk (state S.Store conn.old) → conn.old.schema ≡ our_schema }
     ensures looks { Looks S.Store conn.old conn.new result }
-    ensures seen { HasCleanDisk (state S.Store conn.new) → IfOk result (λ tables. TablesAreSeen config.now next (state S.Store conn.old).now.trees tables) }
+    ensures seen { HasCleanDisk (state S.Store conn.new) → IfOk result (λ tables. TablesAreSeen config.now meta (state S.Store conn.old).now.trees tables) }
 {
-    let volumes = see_volumes(alloc, conn, config, next)?;
+    let volumes = see_volumes(alloc, conn, config, meta)?;
     let attachments = see_attachments(alloc, conn, config)?;
     Ok(TablesSeen {
         volumes,
@@ -159,7 +163,7 @@ fn judge_joined<S: Alter>(
     requires idle { conn.old.in_transaction ≡ false }
     requires ours { HasCleanDisk (state S.Store conn.old) → conn.old.schema ≡ our_schema }
     ensures looks { Looks S.Store conn.old conn.new result }
-    ensures judged { HasCleanDisk (state S.Store conn.new) → (next : ℕ) → JudgesJoined config.now (state S.Store conn.old).now.trees next tables.now result }
+    ensures judged { HasCleanDisk (state S.Store conn.new) → (row : Row) → JudgesJoined config.now (state S.Store conn.old).now.trees row tables.now result }
 {
     let unowned = see_owners(alloc, conn)?;
     check_attachment(alloc, &unowned, AttachmentRule::Owner)?;
@@ -173,15 +177,21 @@ fn judge_seen<S: Alter>(
     alloc: Global,
     conn: &mut Connection<S>,
     config: &Config,
-    next: u64,
+    meta: Meta,
     tables: &TablesSeen,
 ) -> Result<(), AdoptFault>
     requires idle { conn.old.in_transaction ≡ false }
     requires ours { HasCleanDisk (state S.Store conn.old) → conn.old.schema ≡ our_schema }
     ensures looks { Looks S.Store conn.old conn.new result }
-    ensures judged { HasCleanDisk (state S.Store conn.new) → JudgesSeen config.now (state S.Store conn.old).now.trees next tables.now result }
+    ensures judged { HasCleanDisk (state S.Store conn.new) → JudgesSeen config.now (state S.Store conn.old).now.trees meta tables.now result }
 {
-    check_tables(alloc, config, next, &tables.volumes, &tables.attachments)?;
+    check_tables(
+        alloc,
+        config,
+        meta.next,
+        &tables.volumes,
+        &tables.attachments,
+    )?;
     judge_joined(alloc, conn, config, tables)
 }
 
@@ -191,25 +201,25 @@ fn judge_behind<S: Alter>(
     alloc: Global,
     conn: &mut Connection<S>,
     config: &Config,
-    next: u64,
+    meta: Meta,
 ) -> Result<VolumesSeen, AdoptFault>
     requires idle { conn.old.in_transaction ≡ false }
     requires ours { HasCleanDisk (state S.Store conn.old) → conn.old.schema ≡ our_schema }
     ensures looks { Looks S.Store conn.old conn.new result }
-    ensures judged { HasCleanDisk (state S.Store conn.new) → JudgesBehind config.now (state S.Store conn.old).now.trees next result }
+    ensures judged { HasCleanDisk (state S.Store conn.new) → JudgesBehind config.now (state S.Store conn.old).now.trees meta result }
 {
-    let tables = see_tables(alloc, conn, config, next)?;
-    judge_seen(alloc, conn, config, next, &tables)?;
+    let tables = see_tables(alloc, conn, config, meta)?;
+    judge_seen(alloc, conn, config, meta, &tables)?;
     let TablesSeen { volumes, .. } = tables;
     Ok(volumes)
 }
 
 #[tactic(auto, using(crate::proofs::FaultLemmas::error_fails))]
-fn see_next<S: Alter>(conn: &mut Connection<S>) -> Result<u64, AdoptFault>
+fn see_row<S: Alter>(conn: &mut Connection<S>) -> Result<Meta, AdoptFault>
     requires idle { conn.old.in_transaction ≡ false }
     requires ours { HasCleanDisk (state S.Store conn.old) → conn.old.schema ≡ our_schema }
     ensures looks { Looks S.Store conn.old conn.new result }
-    ensures seen { HasCleanDisk (state S.Store conn.new) → SeesNext (state S.Store conn.old).now.trees result }
+    ensures seen { HasCleanDisk (state S.Store conn.new) → SeesRow (state S.Store conn.old).now.trees result }
 {
     let rows = see_meta(conn)?;
     judge_meta(rows)
@@ -226,8 +236,8 @@ fn judge_rows<S: Alter>(
     ensures looks { Looks S.Store conn.old conn.new result }
     ensures judged { HasCleanDisk (state S.Store conn.new) → JudgesRows config.now (state S.Store conn.old).now.trees result }
 {
-    let next = see_next(conn)?;
-    judge_behind(alloc, conn, config, next)
+    let meta = see_row(conn)?;
+    judge_behind(alloc, conn, config, meta)
 }
 
 // What the laws of the rows tell: rows that break no rule are those of a State that meets every rule,
@@ -235,8 +245,8 @@ fn judge_rows<S: Alter>(
 #[inline(always)]
 fn rows_tell(config: &Config)
     ensures found { (db : Trees) (seen : VolumesSeen) → IsSound our_schema db → ArePassed config.now db seen → FoundState config.now db seen }
-    ensures no_meta_fault { (db : Trees) (s : State) → IsRows s db → IsInvariant config.now s → (fault : AdoptFault) → IsMetaFault db fault → ⊥ }
-    ensures no_fault { (db : Trees) (s : State) → IsRows s db → IsInvariant config.now s → (fault : AdoptFault) → AreJudged config.now db (Some fault) → ⊥ }
+    ensures no_meta_fault { (db : Trees) (s : State) → IsEitherRows s db → IsInvariant config.now s → (fault : AdoptFault) → IsMetaFault db fault → ⊥ }
+    ensures no_fault { (db : Trees) (s : State) → IsEitherRows s db → IsInvariant config.now s → (fault : AdoptFault) → AreJudged config.now db (Some fault) → ⊥ }
     ensures new { IsInvariant config.now (first_state 1) }
 {
     volumes_found();
@@ -252,15 +262,22 @@ fn rows_tell(config: &Config)
     first(config);
 }
 
-// The totals of the pools, where the tables have our schema and their rows break no rule.
+/// Tables that break no rule: their format, and the totals of the pools.
+#[derive(Drop)]
+struct Judged {
+    format: u32,
+    totals: Totals,
+}
+
+// The format and the totals, where the tables have our schema and their rows break no rule.
 fn judge<S: Alter>(
     alloc: Global,
     conn: &mut Connection<S>,
     config: &Config,
-) -> Result<Totals, AdoptFault>
+) -> Result<Judged, AdoptFault>
     requires idle { conn.old.in_transaction ≡ false }
     ensures looks { Looks S.Store conn.old conn.new result }
-    ensures found { HasCleanDisk (state S.Store conn.new) → IfOk result (λ totals. IsFound config.now (state S.Store conn.old).now totals) }
+    ensures found { HasCleanDisk (state S.Store conn.new) → IfOk result (λ judged. IsFound config.now (state S.Store conn.old).now judged.format judged.totals) }
     ensures first { HasCleanDisk (state S.Store conn.new) → IfErr result (λ fault. is_failure fault ≡ false → IsFaultOf config.now (state S.Store conn.old).now fault) }
     ensures other { HasCleanDisk (state S.Store conn.new) → (state S.Store conn.old).now.schema ≢ our_schema → IfErr result (λ fault. fault ≡ AdoptFault.Foreign Foreign.Schema) }
     ensures sound { HasCleanDisk (state S.Store conn.new) → IfErr result (IsNotRefused config.now (state S.Store conn.old).now) }
@@ -276,7 +293,48 @@ fn judge<S: Alter>(
         volumes.pool_volumes.as_slice(),
         volumes.pool_bytes.as_slice(),
     )?;
-    Ok(totals)
+    Ok(Judged {
+        format: volumes.format,
+        totals,
+    })
+}
+
+// Makes tables of the first format ones of the latest, by one statement.
+fn upgrade<S: Alter>(conn: &mut Connection<S>, format: u32) -> Result<(), Error>
+    requires idle { conn.old.in_transaction ≡ false }
+    ensures idle { conn.new.in_transaction ≡ false }
+    ensures stays { format ≢ FIRST_FORMAT → conn.new ≡ conn.old }
+    ensures sure { format ≢ FIRST_FORMAT → OnErr result ⊥ }
+    ensures ok { HasCleanDisk (state S.Store conn.new) → OnOk result (format ≡ FIRST_FORMAT → Changes SetsFormat (state S.Store conn.old) (state S.Store conn.new)) }
+    ensures err { HasCleanDisk (state S.Store conn.new) → OnErr result (IsUndone (state S.Store conn.old) (state S.Store conn.new)) }
+    ensures survives { Survives (state S.Store conn.old) (state S.Store conn.new) (λ db. (format ≡ FIRST_FORMAT) × Leaves SetsFormat (state S.Store conn.old) db) }
+{
+    if format != FIRST_FORMAT {
+        return Ok(());
+    }
+    set_format(conn)
+}
+
+// Takes tables that break no rule. That they are made ones of the latest format is the last step that can
+// fail.
+fn take<S: Alter>(
+    alloc: Global,
+    conn: &mut Connection<S>,
+    config: &Config,
+) -> Result<Totals, AdoptFault>
+    requires idle { conn.old.in_transaction ≡ false }
+    ensures idle { conn.new.in_transaction ≡ false }
+    ensures taken { HasCleanDisk (state S.Store conn.new) → IfOk result (IsTaken config.now (state S.Store conn.old) (state S.Store conn.new)) }
+    ensures kept { HasCleanDisk (state S.Store conn.new) → OnErr result (KeepsCommit (state S.Store conn.old) (state S.Store conn.new)) }
+    ensures first { HasCleanDisk (state S.Store conn.new) → IfErr result (λ fault. is_failure fault ≡ false → IsFaultOf config.now (state S.Store conn.old).now fault) }
+    ensures other { HasCleanDisk (state S.Store conn.new) → (state S.Store conn.old).now.schema ≢ our_schema → IfErr result (λ fault. fault ≡ AdoptFault.Foreign Foreign.Schema) }
+    ensures sound { HasCleanDisk (state S.Store conn.new) → IfErr result (IsNotRefused config.now (state S.Store conn.old).now) }
+    ensures survives { Survives (state S.Store conn.old) (state S.Store conn.new) (LeavesLatest (state S.Store conn.old)) }
+{
+    latest();
+    let judged = judge(alloc, conn, config)?;
+    upgrade(conn, judged.format)?;
+    Ok(judged.totals)
 }
 
 // Undoes nothing, as no transaction is open: what is seen then is what was committed.
@@ -314,6 +372,7 @@ pub fn adopt<S: Alter>(
     ensures unadopted { IfErr result (λ error. IsUnadopted S.Store config.now conn error.fault error.conn) }
 {
     rows_tell(config);
+    one_state();
     conn.set_step_limit(None);
     settle(&mut conn);
     if is_blank(conn.schema()) {
@@ -325,7 +384,7 @@ pub fn adopt<S: Alter>(
             }),
         };
     }
-    match judge(alloc, &mut conn, config) {
+    match take(alloc, &mut conn, config) {
         Ok(totals) => Ok(Tables::over(conn, totals)),
         Err(fault) => Err(AdoptError { fault, conn }),
     }

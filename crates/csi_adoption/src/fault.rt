@@ -39,7 +39,7 @@ pub enum AdoptFault {
     #[error("{0}")]
     Foreign(Foreign),
     /// A later program made the tables.
-    #[error("the tables have format {format}, and the latest known is 1")]
+    #[error("the tables have format {format}, and the latest known is 2")]
     Newer {
         /// The number of their format.
         format: i64,

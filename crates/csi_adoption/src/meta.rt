@@ -5,15 +5,25 @@ ghost use Rattle.sqlite.specs.Held.{state};
 ghost use Rattle.sqlite.specs.State.{HasCleanDisk};
 ghost use Rattle.csi_layout.specs.Rows.{seen_meta};
 ghost use Rattle.csi_layout.specs.Tables.{schema as our_schema};
-ghost use Rattle.csi_adoption.specs.Judging.{Tells, integers_judged, meta_judged, next_fault, valid_next, with_row, with_rows};
+ghost use Rattle.csi_adoption.specs.Judging.{Tells, integers_judged, meta_judged, next_fault, valid_format, valid_next, with_row, with_rows};
 ghost use Rattle.csi_adoption.specs.Looking.{Looks, SeenBy};
 ghost use Rattle.csi_adoption.specs.declared.meta.MetaRows.TheVariants as meta;
 
 use crate::fault::{AdoptFault, Foreign};
+use csi_layout::{FIRST_FORMAT, LATEST_FORMAT};
 use csi_looks::{Fold, integer_at, look_over_meta};
 use csi_rules::BrokenRule;
 use csi_types::MAX_NUMBER;
 use sqlite::{Alter, Connection, Error, Row};
+
+/// What the row of meta tells.
+#[derive(Clone, Copy, Debug, PartialEq, Eq)]
+pub(crate) struct Meta {
+    /// The format of the tables, the first or the latest.
+    pub(crate) format: u32,
+    /// The next number, and 0 where it is not 1 to 2^62.
+    pub(crate) next: u64,
+}
 
 /// The integers in a row of meta; `None` where another value stands.
 #[derive(Clone, Copy, Debug, PartialEq, Eq)]
@@ -71,21 +81,34 @@ fn valid_next(next: i64) -> u64
     }
 }
 
-// The next number of tables of format 1.
-fn judge_integers(key: i64, format: i64, next: i64) -> Result<u64, AdoptFault>
-    ensures { result ≡ integers_judged key format next }
+// The format, of the two.
+fn valid_format(format: i64) -> u32
+    ensures { result ≡ valid_format format }
 {
-    if key != 1 || format < 1 {
-        return Err(AdoptFault::Foreign(Foreign::Meta));
+    if format == FIRST_FORMAT as i64 {
+        FIRST_FORMAT
+    } else {
+        LATEST_FORMAT
     }
-    if format > 1 {
-        return Err(AdoptFault::Newer { format });
-    }
-    Ok(valid_next(next))
 }
 
-/// The next number of tables of format 1, and 0 where it is not 1 to 2^62.
-pub(crate) fn judge_meta(rows: MetaRows) -> Result<u64, AdoptFault>
+fn judge_integers(key: i64, format: i64, next: i64) -> Result<Meta, AdoptFault>
+    ensures { result ≡ integers_judged key format next }
+{
+    if key != 1 || format < FIRST_FORMAT as i64 {
+        return Err(AdoptFault::Foreign(Foreign::Meta));
+    }
+    if format > LATEST_FORMAT as i64 {
+        return Err(AdoptFault::Newer { format });
+    }
+    Ok(Meta {
+        format: valid_format(format),
+        next: valid_next(next),
+    })
+}
+
+/// What the row of meta tells, where there is just one, of a format that is known.
+pub(crate) fn judge_meta(rows: MetaRows) -> Result<Meta, AdoptFault>
     ensures { result ≡ meta_judged rows }
 {
     match rows {

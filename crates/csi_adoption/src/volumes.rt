@@ -13,7 +13,7 @@ ghost use Rattle.csi_adoption.specs.Judging.{Says, SeesVolumes, Tells, full_pool
 ghost use Rattle.csi_adoption.specs.Looking.{IsBegun, Looks, SeenBy};
 
 use crate::fault::AdoptFault;
-use crate::meta::check_next;
+use crate::meta::{Meta, check_next};
 use crate::sums::pool_sums;
 use csi_config::{Config, Pool};
 use csi_keeper::{Total, Totals};
@@ -29,6 +29,8 @@ use std::alloc::{AllocError, Global};
 /// What a look over volumes shows, whose numbers rise.
 #[derive(Drop)]
 pub(crate) struct VolumesSeen {
+    // The format of the tables, by which the rows were judged.
+    pub(crate) format: u32,
     // The first row that breaks each rule.
     pub(crate) kinds: Option<RowName>,
     pub(crate) number: Option<RowName>,
@@ -134,7 +136,8 @@ fn sizes(alloc: Global, config: &Config) -> Sizes<'_>
     }
 }
 
-fn codes(alloc: Global) -> Codes
+fn codes(alloc: Global, format: u32) -> Codes
+    ensures format { result.second.test.format ≡ format }
     ensures number_first { result.first.number ≡ 0 }
     ensures text_first { result.first.text ≡ 1 }
     ensures none_first { result.first.found ≡ None }
@@ -144,7 +147,7 @@ fn codes(alloc: Global) -> Codes
 {
     Both {
         first: unbroken(alloc, HasCaps { alloc }),
-        second: unbroken(alloc, HasParams { alloc }),
+        second: unbroken(alloc, HasParams { alloc, format }),
     }
 }
 
@@ -163,8 +166,8 @@ fn sums(alloc: Global, config: &Config) -> Result<Sums, AllocError>
 }
 
 // What the fold has found. It owns much, and nothing fails here.
-fn seen_by(fold: VolumesFold<'_>) -> VolumesSeen
-    ensures { result ≡ record { kinds = fold.entry.first.first.first.first.found; number = fold.entry.first.first.second.first.found; name = fold.entry.first.first.second.second.found; pool = fold.entry.first.second.first.first.found; bytes = fold.entry.first.second.first.second.found; caps = fold.entry.first.second.second.first.found; params = fold.entry.first.second.second.second.found; pool_bytes = fold.entry.second.first.first.parts; pool_volumes = fold.entry.second.first.second.parts; rows = fold.entry.second.second.rows } }
+fn seen_by(fold: VolumesFold<'_>, format: u32) -> VolumesSeen
+    ensures { result ≡ record { format = format; kinds = fold.entry.first.first.first.first.found; number = fold.entry.first.first.second.first.found; name = fold.entry.first.first.second.second.found; pool = fold.entry.first.second.first.first.found; bytes = fold.entry.first.second.first.second.found; caps = fold.entry.first.second.second.first.found; params = fold.entry.first.second.second.second.found; pool_bytes = fold.entry.second.first.first.parts; pool_volumes = fold.entry.second.first.second.parts; rows = fold.entry.second.second.rows } }
 {
     let Both {
         first: Both {
@@ -180,6 +183,7 @@ fn seen_by(fold: VolumesFold<'_>) -> VolumesSeen
         second: sums,
     } = fold;
     VolumesSeen {
+        format,
         kinds: kinds.first.found,
         number: names.first.found,
         name: names.second.found,
@@ -198,23 +202,23 @@ pub(crate) fn see_volumes<S: Alter>(
     alloc: Global,
     conn: &mut Connection<S>,
     config: &Config,
-    next: u64,
+    meta: Meta,
 ) -> Result<VolumesSeen, Error>
     requires idle { conn.old.in_transaction ≡ false }
     requires ours { HasCleanDisk (state S.Store conn.old) → conn.old.schema ≡ our_schema }
     ensures looks { Looks S.Store conn.old conn.new result }
-    ensures seen { SeenBy S.Store conn.old conn.new result (λ db rows. IsInOrder (map seen_volume (db 1)) rows) (λ rows seen. SeesVolumes config.now next rows seen) }
+    ensures seen { SeenBy S.Store conn.old conn.new result (λ db rows. IsInOrder (map seen_volume (db 1)) rows) (λ rows seen. SeesVolumes config.now meta rows seen) }
 {
     let sums = sums(alloc, config)?;
     let mut fold: VolumesFold<'_> = Both {
         first: Both {
             first: Both {
                 first: kinds(alloc),
-                second: names(alloc, next),
+                second: names(alloc, meta.next),
             },
             second: Both {
                 first: sizes(alloc, config),
-                second: codes(alloc),
+                second: codes(alloc, meta.format),
             },
         },
         second: sums,
@@ -223,7 +227,7 @@ pub(crate) fn see_volumes<S: Alter>(
     if !fold.first.first.first.second.good {
         return Err(Error::SqliteFailure(ErrorCode::DatabaseCorrupt));
     }
-    Ok(seen_by(fold))
+    Ok(seen_by(fold, meta.format))
 }
 
 /// The fault of a volume that breaks a rule.

@@ -5,7 +5,7 @@ ghost use Rattle.csi_types.specs.Checks.{map_bytes, is_negative_range};
 ghost use Rattle.csi_types.specs.Names.{longer_than};
 
 use csi_types::{
-    CapacityRange, Items, MAX_MAP_BYTES, MAX_NODE_ID_BYTES, MAX_TEXT_BYTES, Map, Text,
+    CapacityRange, Items, MAX_MAP_BYTES, MAX_NODE_ID_BYTES, MAX_TEXT_BYTES, Map, Text, map_bytes,
 };
 
 /// Whether a text has more than 128 bytes.
@@ -26,18 +26,7 @@ pub(crate) fn is_long_node_id(text: &Text) -> bool
 pub(crate) fn is_large_map(map: &Map) -> bool
     ensures { result ≡ nat_lt MAX_MAP_BYTES (map_bytes map.now) }
 {
-    bytes_of_map(map) > MAX_MAP_BYTES
-}
-
-// The bytes of all keys and values, as far as a number of 64 bits counts.
-fn bytes_of_map(map: &Map) -> usize
-    ensures { result ≡ min (map_bytes map.now) (2 ^ 64 - 1) }
-{
-    let mut bytes: usize = 0;
-    for (key, value) in map.iter() {
-        bytes = bytes.saturating_add(key.len()).saturating_add(value.len());
-    }
-    bytes
+    map_bytes(map) > MAX_MAP_BYTES
 }
 
 /// The bytes of all texts of a list, as far as a number of 64 bits counts.

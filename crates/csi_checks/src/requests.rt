@@ -8,8 +8,8 @@ use crate::capabilities::{has_long_text, has_missing_access, has_unknown_mode, h
 use crate::measures::{is_large_map, is_long_node_id, is_long_text, is_negative_range};
 use crate::topologies::{has_ambiguous_term, has_large_term, prefers_another};
 use csi_types::{
-    CreateVolume, DeleteVolume, GetCapacity, ListVolumes, Publish, Reason, Request, Requirement,
-    Unpublish, Validate, has_alike_keys, name_reason,
+    CreateVolume, DeleteVolume, GetCapacity, ListVolumes, Modify, Publish, Reason, Request,
+    Requirement, Unpublish, Validate, has_alike_keys, name_reason,
 };
 
 /// The reason of the first check that a request doesn't pass, in the order of the checks; `Ok`
@@ -42,6 +42,7 @@ fn first_reason(request: &Request) -> Option<Reason>
         Request::Validate(validate) => validate_reason(validate),
         Request::List(list) => list_reason(list),
         Request::Capacity(capacity) => capacity_reason(capacity),
+        Request::Modify(modify) => modify_reason(modify),
     }
 }
 
@@ -64,6 +65,7 @@ fn create_reason(request: &CreateVolume) -> Option<Reason>
         Some(Reason::CapacityNegative)
     } else if is_large_map(&request.parameters)
         || is_large_map(&request.secrets)
+        || is_large_map(&request.mutable)
         || request.topology.as_ref().is_some_and(has_large_term)
     {
         Some(Reason::MapTooLarge)
@@ -206,6 +208,23 @@ fn validate_reason(request: &Validate) -> Option<Reason>
         Some(Reason::TextTooLong)
     } else if request.volume_id.is_empty() {
         Some(Reason::VolumeIdMissing)
+    } else {
+        None
+    }
+}
+
+#[tactic(auto, unfolding(csi_types::specs::Checks::checked))]
+fn modify_reason(request: &Modify) -> Option<Reason>
+    ensures { result ≡ checked (Request.Modify request.now) }
+{
+    if is_large_map(&request.secrets) || is_large_map(&request.mutable) {
+        Some(Reason::MapTooLarge)
+    } else if is_long_text(&request.volume_id) {
+        Some(Reason::TextTooLong)
+    } else if request.volume_id.is_empty() {
+        Some(Reason::VolumeIdMissing)
+    } else if request.mutable.is_empty() {
+        Some(Reason::MutableMissing)
     } else {
         None
     }

@@ -7,7 +7,7 @@ use Rattle.std.proofs.lemmas.Bool.{leb-true}
 use Rattle.frames_core.specs.declared.limits.TheConstants.{MAX_PATH_BYTES, MAX_MESSAGE_BYTES}
 use Rattle.frames_core.specs.Envelope.{IsCall, IsPathByte}
 use Rattle.csi_types.specs.declared.method.Method.{Method}
-use Rattle.csi_types.specs.declared.method.Method.TheVariants.{GetPluginInfo, GetPluginCapabilities, Probe, CreateVolume, DeleteVolume, ControllerPublishVolume, ControllerUnpublishVolume, ValidateVolumeCapabilities, ListVolumes, GetCapacity, ControllerGetCapabilities}
+use Rattle.csi_types.specs.declared.method.Method.TheVariants.{GetPluginInfo, GetPluginCapabilities, Probe, CreateVolume, DeleteVolume, ControllerPublishVolume, ControllerUnpublishVolume, ValidateVolumeCapabilities, ListVolumes, GetCapacity, ControllerGetCapabilities, ControllerModifyVolume}
 use Rattle.csi_types.specs.Methods.{path_of}
 
 both : (a b : Bool) → (a && b) ≡ true → (a ≡ true) × (b ≡ true)
@@ -37,6 +37,7 @@ passes ValidateVolumeCapabilities = refl
 passes ListVolumes = refl
 passes GetCapacity = refl
 passes ControllerGetCapabilities = refl
+passes ControllerModifyVolume = refl
 
 call_passes : (path message : List ℕ) → is_path path ≡ true → length message ≤ MAX_MESSAGE_BYTES → IsCall (record { path = path; message = message })
 call_passes path message e short =

@@ -75,3 +75,4 @@ lines response.Unpublish = []
 lines (response.Validate confirmed message) = confirmed_line confirmed message
 lines (response.List es token) = each entry_line es ++ token_line token
 lines (response.Capacity available maximum) = codes "available " ++ signed_decimal available ++ codes " maximum " ++ number_or_none maximum ++ codes "\n"
+lines response.Modify = []

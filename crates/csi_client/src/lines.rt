@@ -204,7 +204,8 @@ fn put_capacity(out: &mut Vec<u8>, available: i64, maximum: Option<i64>) -> Resu
 /// Appends what a response says, a line a part, texts as one word each.
 ///
 /// The names and ids of a response, its numbers (sizes in bytes), and `-` where a part is absent;
-/// nothing for the responses of DeleteVolume and ControllerUnpublishVolume, which have no parts.
+/// nothing for the responses of DeleteVolume, ControllerUnpublishVolume and ControllerModifyVolume,
+/// which have no parts.
 ///
 /// # Errors
 ///
@@ -223,7 +224,7 @@ pub fn put_lines(out: &mut Vec<u8>, response: &Response) -> Result<(), AllocErro
             out.extend_from_slice(b"\n")
         }
         Response::Create(volume) => put_volume(out, volume),
-        Response::Delete | Response::Unpublish => Ok(()),
+        Response::Delete | Response::Unpublish | Response::Modify => Ok(()),
         Response::Publish(context) => put_context(out, context),
         Response::Validate { confirmed, message } => put_confirmed(out, confirmed, message),
         Response::List { entries, token } => {

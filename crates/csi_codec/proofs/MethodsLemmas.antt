@@ -15,7 +15,7 @@ use Rattle.csi_types.specs.declared.responses.Response.TheVariants as response
 use Rattle.csi_codec.proofs.SingleLemmas.{bool_value_law, only_law, types_law}
 use Rattle.csi_codec.proofs.TopologyLemmas.{map_law}
 use Rattle.csi_codec.proofs.VolumeLemmas.{volume_law}
-use Rattle.csi_codec.proofs.VolumeRequestsLemmas.{create_law, delete_law}
+use Rattle.csi_codec.proofs.VolumeRequestsLemmas.{create_law, delete_law, modify_law}
 use Rattle.csi_codec.proofs.PublishRequestsLemmas.{publish_law, unpublish_law}
 use Rattle.csi_codec.proofs.QueryRequestsLemmas.{validate_law, list_law, capacity_law}
 use Rattle.csi_codec.proofs.ResponsePartsLemmas.{info_law, validation_law, listing_law, free_law}
@@ -33,6 +33,7 @@ request_again l (request.Unpublish v) f = mapped (λ x. request.Unpublish x) ((u
 request_again l (request.Validate v) f = mapped (λ x. request.Validate x) ((validate_law l).again v f)
 request_again l (request.List v) f = mapped (λ x. request.List x) ((list_law l).again v f)
 request_again l (request.Capacity v) f = mapped (λ x. request.Capacity x) ((capacity_law l).again v f)
+request_again l (request.Modify v) f = mapped (λ x. request.Modify x) ((modify_law l).again v f)
 
 pub request_rises : (r : Request) → rises (canon_request r) ≡ true
 request_rises request.PluginInfo = refl
@@ -46,6 +47,7 @@ request_rises (request.Unpublish v) = refl
 request_rises (request.Validate v) = refl
 request_rises (request.List v) = refl
 request_rises (request.Capacity v) = refl
+request_rises (request.Modify v) = refl
 
 pub response_again : SpellingLaws → (r : Response) → FitsResponse r → MeansResponse (response_method r) (response_bytes r) r
 unfolding MeansResponse FitsResponse response_bytes
@@ -60,6 +62,7 @@ response_again l response.Unpublish f = rows_again l (Good AnyPayload) (response
 response_again l (response.Validate confirmed message) f = mapped of_validation ((validation_law l).again (record { confirmed = confirmed; message = message }) f)
 response_again l (response.List es token) f = mapped of_listing ((listing_law l).again (record { entries = es; token = token }) f)
 response_again l (response.Capacity available maximum) f = mapped of_free ((free_law l).again (record { available = available; maximum = maximum }) f)
+response_again l response.Modify f = rows_again l (Good AnyPayload) (response_in method.ControllerModifyVolume) Start response.Modify refl tt refl
 
 pub response_rises : (r : Response) → rises (canon_response r) ≡ true
 response_rises (response.PluginInfo name version) = refl
@@ -73,3 +76,4 @@ response_rises response.Unpublish = refl
 response_rises (response.Validate confirmed message) = refl
 response_rises (response.List es token) = refl
 response_rises (response.Capacity available maximum) = refl
+response_rises response.Modify = refl

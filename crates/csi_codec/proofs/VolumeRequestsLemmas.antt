@@ -4,7 +4,7 @@ use Rattle.csi_codec.specs.Schema.{Good}
 use Rattle.csi_codec.proofs.LowerLaws.{SpellingLaws}
 use Rattle.csi_codec.proofs.CanonLemmas.{rows_again}
 use Rattle.csi_codec.proofs.SlotLemmas.{Law, text_fit, text_again, option_fit, option_again, messages_fit, messages_again, presence_fit, map_fit, map_again, presence_again}
-use Rattle.csi_codec.specs.messages.VolumeRequests.{create_in, create_schema, canon_create, FitsCreate, delete_in, delete_schema, canon_delete, FitsDelete}
+use Rattle.csi_codec.specs.messages.VolumeRequests.{create_in, create_schema, canon_create, FitsCreate, delete_in, delete_schema, canon_delete, FitsDelete, modify_in, modify_schema, canon_modify, FitsModify}
 use Rattle.csi_codec.proofs.CapacityLemmas.{range_law}
 use Rattle.csi_codec.proofs.CapabilityLemmas.{capability_law}
 use Rattle.csi_codec.proofs.TopologyLemmas.{requirement_law}
@@ -13,7 +13,7 @@ pub create_law : SpellingLaws → Law (Good create_schema) create_in canon_creat
 create_law l = record {
   laws = l;
   again = λ v f. rows_again l (Good create_schema) create_in (canon_create v) v refl
-      (((((((tt, text_fit v.name f.0), option_fit (range_law l) v.range f.1), messages_fit (capability_law l) v.capabilities f.2), map_fit l v.parameters f.3), map_fit l v.secrets f.4), presence_fit v.source), option_fit (requirement_law l) v.topology f.5)
+      ((((((((tt, text_fit v.name f.0), option_fit (range_law l) v.range f.1), messages_fit (capability_law l) v.capabilities f.2), map_fit l v.parameters f.3), map_fit l v.secrets f.4), presence_fit v.source), option_fit (requirement_law l) v.topology f.5), map_fit l v.mutable f.6)
       (λ i. record {
         name = text_again v.name i;
         range = option_again (range_law l) v.range f.1 i;
@@ -22,6 +22,7 @@ create_law l = record {
         secrets = map_again l v.secrets f.4 i;
         source = presence_again v.source i;
         topology = option_again (requirement_law l) v.topology f.5 i;
+        mutable = map_again l v.mutable f.6 i;
       });
 }
 
@@ -30,4 +31,11 @@ delete_law l = record {
   laws = l;
   again = λ v f. rows_again l (Good delete_schema) delete_in (canon_delete v) v refl ((tt, text_fit v.volume_id f.0), map_fit l v.secrets f.1)
       (λ i. record { volume_id = text_again v.volume_id i; secrets = map_again l v.secrets f.1 i });
+}
+
+pub modify_law : SpellingLaws → Law (Good modify_schema) modify_in canon_modify FitsModify
+modify_law l = record {
+  laws = l;
+  again = λ v f. rows_again l (Good modify_schema) modify_in (canon_modify v) v refl (((tt, text_fit v.volume_id f.0), map_fit l v.secrets f.1), map_fit l v.mutable f.2)
+      (λ i. record { volume_id = text_again v.volume_id i; secrets = map_again l v.secrets f.1 i; mutable = map_again l v.mutable f.2 i });
 }

@@ -15,7 +15,7 @@ use Rattle.csi_codec.specs.Canon.{Rows, bytes_of, Start, FitsMap, FitsOption}
 use Rattle.csi_codec.specs.messages.Single.{bool_value_in, canon_bool_value, FitsBoolValue, only_schema, only_in, canon_only, types_in, types_schema, canon_types, FitsTypes}
 use Rattle.csi_codec.specs.messages.Topology.{map_in, map_schema, canon_map}
 use Rattle.csi_codec.specs.messages.Volume.{volume_in, volume_schema, canon_volume, FitsVolume}
-use Rattle.csi_codec.specs.messages.VolumeRequests.{create_in, create_schema, canon_create, FitsCreate, delete_in, delete_schema, canon_delete, FitsDelete}
+use Rattle.csi_codec.specs.messages.VolumeRequests.{create_in, create_schema, canon_create, FitsCreate, delete_in, delete_schema, canon_delete, FitsDelete, modify_in, modify_schema, canon_modify, FitsModify}
 use Rattle.csi_codec.specs.messages.PublishRequests.{publish_in, publish_schema, canon_publish, FitsPublish, unpublish_in, unpublish_schema, canon_unpublish, FitsUnpublish}
 use Rattle.csi_codec.specs.messages.QueryRequests.{validate_in, validate_schema, canon_validate, FitsValidate, list_in, list_schema, canon_list, FitsList, capacity_in, capacity_schema, canon_capacity, FitsCapacity}
 use Rattle.csi_codec.specs.declared.messages.response_parts.PluginInfo.{PluginInfo}
@@ -38,6 +38,7 @@ request_schema method.ValidateVolumeCapabilities = validate_schema
 request_schema method.ListVolumes = list_schema
 request_schema method.GetCapacity = capacity_schema
 request_schema method.ControllerGetCapabilities = AnyPayload
+request_schema method.ControllerModifyVolume = modify_schema
 
 abbrev pub request_in : Method → Views → Request
 request_in method.GetPluginInfo v = request.PluginInfo
@@ -51,6 +52,7 @@ request_in method.ValidateVolumeCapabilities v = request.Validate (validate_in v
 request_in method.ListVolumes v = request.List (list_in v)
 request_in method.GetCapacity v = request.Capacity (capacity_in v)
 request_in method.ControllerGetCapabilities v = request.ControllerCapabilities
+request_in method.ControllerModifyVolume v = request.Modify (modify_in v)
 
 abbrev pub request_method : Request → Method
 request_method request.PluginInfo = method.GetPluginInfo
@@ -64,6 +66,7 @@ request_method (request.Unpublish v) = method.ControllerUnpublishVolume
 request_method (request.Validate v) = method.ValidateVolumeCapabilities
 request_method (request.List v) = method.ListVolumes
 request_method (request.Capacity v) = method.GetCapacity
+request_method (request.Modify v) = method.ControllerModifyVolume
 
 abbrev pub canon_request : Request → Rows
 canon_request request.PluginInfo = Start
@@ -77,6 +80,7 @@ canon_request (request.Unpublish v) = canon_unpublish v
 canon_request (request.Validate v) = canon_validate v
 canon_request (request.List v) = canon_list v
 canon_request (request.Capacity v) = canon_capacity v
+canon_request (request.Modify v) = canon_modify v
 
 unfoldable pub FitsRequest : Request → Type 0
 FitsRequest request.PluginInfo = Unit {0}
@@ -90,6 +94,7 @@ FitsRequest (request.Unpublish v) = FitsUnpublish v
 FitsRequest (request.Validate v) = FitsValidate v
 FitsRequest (request.List v) = FitsList v
 FitsRequest (request.Capacity v) = FitsCapacity v
+FitsRequest (request.Modify v) = FitsModify v
 
 -- the bytes mean this request
 unfoldable pub MeansRequest : Method → List ℕ → Request → Type 0
@@ -126,6 +131,7 @@ response_schema method.ValidateVolumeCapabilities = validation_schema
 response_schema method.ListVolumes = listing_schema
 response_schema method.GetCapacity = free_schema
 response_schema method.ControllerGetCapabilities = types_schema
+response_schema method.ControllerModifyVolume = AnyPayload
 
 abbrev pub of_info : PluginInfo → Response
 of_info r = response.PluginInfo r.name r.version
@@ -151,6 +157,7 @@ response_in method.ValidateVolumeCapabilities v = of_validation (validation_in v
 response_in method.ListVolumes v = of_listing (listing_in v)
 response_in method.GetCapacity v = of_free (free_in v)
 response_in method.ControllerGetCapabilities v = response.ControllerCapabilities (types_in v)
+response_in method.ControllerModifyVolume v = response.Modify
 
 abbrev pub response_method : Response → Method
 response_method (response.PluginInfo name version) = method.GetPluginInfo
@@ -164,6 +171,7 @@ response_method response.Unpublish = method.ControllerUnpublishVolume
 response_method (response.Validate confirmed message) = method.ValidateVolumeCapabilities
 response_method (response.List es token) = method.ListVolumes
 response_method (response.Capacity available maximum) = method.GetCapacity
+response_method response.Modify = method.ControllerModifyVolume
 
 abbrev pub canon_response : Response → Rows
 canon_response (response.PluginInfo name version) = canon_info (record { name = name; version = version })
@@ -177,6 +185,7 @@ canon_response response.Unpublish = Start
 canon_response (response.Validate confirmed message) = canon_validation (record { confirmed = confirmed; message = message })
 canon_response (response.List es token) = canon_listing (record { entries = es; token = token })
 canon_response (response.Capacity available maximum) = canon_free (record { available = available; maximum = maximum })
+canon_response response.Modify = Start
 
 unfoldable pub FitsResponse : Response → Type 0
 FitsResponse (response.PluginInfo name version) = FitsInfo (record { name = name; version = version })
@@ -190,6 +199,7 @@ FitsResponse response.Unpublish = Unit {0}
 FitsResponse (response.Validate confirmed message) = FitsValidation (record { confirmed = confirmed; message = message })
 FitsResponse (response.List es token) = FitsListing (record { entries = es; token = token })
 FitsResponse (response.Capacity available maximum) = FitsFree (record { available = available; maximum = maximum })
+FitsResponse response.Modify = Unit {0}
 
 -- the bytes mean this response
 unfoldable pub MeansResponse : Method → List ℕ → Response → Type 0

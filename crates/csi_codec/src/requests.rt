@@ -56,6 +56,7 @@ fn decode_by_method(alloc: Global, method: Method, bytes: &[u8]) -> Result<Reque
         Method::ValidateVolumeCapabilities => Ok(Request::Validate(decode_message(alloc, bytes)?)),
         Method::ListVolumes => Ok(Request::List(decode_message(alloc, bytes)?)),
         Method::GetCapacity => Ok(Request::Capacity(decode_message(alloc, bytes)?)),
+        Method::ControllerModifyVolume => Ok(Request::Modify(decode_message(alloc, bytes)?)),
         Method::ControllerGetCapabilities => {
             let NoFields = decode_message(alloc, bytes)?;
             Ok(Request::ControllerCapabilities)
@@ -82,6 +83,7 @@ fn write_request(request: &Request, out: &mut Vec<u8>) -> Result<(), AllocError>
         Request::Validate(message) => message.write(out),
         Request::List(message) => message.write(out),
         Request::Capacity(message) => message.write(out),
+        Request::Modify(message) => message.write(out),
     }
 }
 

@@ -70,6 +70,10 @@ fn decode_by_method(alloc: Global, method: Method, bytes: &[u8]) -> Result<Respo
         Method::ControllerGetCapabilities => {
             Ok(Response::ControllerCapabilities(decode_message(alloc, bytes)?))
         }
+        Method::ControllerModifyVolume => {
+            let NoFields = decode_message(alloc, bytes)?;
+            Ok(Response::Modify)
+        }
     }
 }
 
@@ -87,7 +91,7 @@ fn write_response(response: &Response, out: &mut Vec<u8>) -> Result<(), AllocErr
         }
         Response::Probe(ready) => ready.write(out),
         Response::Create(volume) => volume.write(out),
-        Response::Delete | Response::Unpublish => Ok(()),
+        Response::Delete | Response::Unpublish | Response::Modify => Ok(()),
         Response::Publish(context) => context.write(out),
         Response::Validate { confirmed, message } => put_validation(out, confirmed, message),
         Response::List { entries, token } => put_listing(out, entries, token),

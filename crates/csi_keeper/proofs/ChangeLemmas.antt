@@ -1,5 +1,5 @@
 -- What rows stand for after a change, and after one that memory refused.
-use Rattle.std.proofs.Common.{◌≡◌, ◌∙◌, ap, sym, subst, cond, arith, refl, ℕ, ◌+◌, ◌*◌, ◌<◌, ◌≤◌, ◌^◌, List, [], ◌∷◌, length, sum, Bool, true, false, Some, None}
+use Rattle.std.proofs.Common.{◌≡◌, ◌∙◌, inl, inr, ap, sym, subst, cond, arith, refl, ℕ, ◌+◌, ◌*◌, ◌<◌, ◌≤◌, ◌^◌, List, [], ◌∷◌, length, sum, Bool, true, false, Some, None}
 use Rattle.std.specs.BTreeMap.{is_at}
 use Rattle.std.specs.Cmp.{nat_cmp_total}
 use Rattle.std.specs.Cmp.Lexicographic.{texts_ties}
@@ -8,20 +8,32 @@ use Rattle.std.specs.List.{AllByRecursion}
 use Rattle.std.specs.Map.{lookup}
 use Rattle.std.specs.Ordering.{nat_cmp, eq_by_cmp}
 use lib.Pointwise.{bytes_decides}
-use Rattle.csi_types.specs.Maps.{same_text}
+use Rattle.csi_types.specs.Maps.{TextMap, same_text}
 use Rattle.csi_keeper.specs.declared.volume.Attachment.{Attachment}
-use Rattle.csi_keeper.specs.declared.change.Change.TheVariants.{AddVolume, RemoveVolume}
+use Rattle.csi_keeper.specs.declared.change.Change.TheVariants.{AddVolume, RemoveVolume, SetMutable}
 use Rattle.csi_keeper.specs.declared.volume.Volume.{Volume}
 use Rattle.csi_keeper.specs.declared.totals.Total.{Total}
 use Rattle.csi_keeper.specs.declared.totals.Totals.{Totals}
 use Rattle.csi_keeper.specs.Memory.{Spot, IsKept, volumes_of}
 use Rattle.csi_keeper.specs.Totals.{total_of, more, less, HasRoom}
-use Rattle.csi_keeper.specs.State.{State, Place, changed, Allows}
+use Rattle.csi_keeper.specs.State.{State, Place, changed, Allows, with_mutable, mutable_set}
 use Rattle.csi_keeper.specs.Texts.{Text, text_cmp}
 use Rattle.csi_keeper.specs.facts.Finite.{same_some, removed, not_there, all_entries, tied}
 use Rattle.csi_keeper.proofs.KeptLemmas.{kept_add, kept_remove}
+use Rattle.csi_keeper.proofs.TreeLemmas.{get_number, one_volume}
+use Rattle.csi_keeper.specs.facts.Mutable.{stood, as_many, totals_kept}
 use Rattle.csi_keeper.specs.facts.Names.{nobody}
 use Rattle.csi_keeper.specs.facts.Sums.{in_order, total_cons, count_cons}
+
+-- the rows where a volume got other mutable parameters
+pub one_mutable : (es fs : List (ℕ × Volume)) (k : ℕ) (v : Volume) (m : TextMap) → lookup (is_at (nat_cmp k)) es ≡ Some v
+    → ((q : ℕ) → lookup (is_at (nat_cmp q)) fs ≡ cond (is_at (nat_cmp k) q) (Some (with_mutable m v)) (lookup (is_at (nat_cmp q)) es))
+    → volumes_of fs ≡ mutable_set (volumes_of es) k m (fin.get (volumes_of es) k)
+one_mutable es fs k v m some h = one_volume es fs k (with_mutable m v) h ∙ sym (ap (mutable_set (volumes_of es) k m) (get_number es k ∙ some))
+
+-- no volume gets them
+pub no_mutable : (es : List (ℕ × Volume)) (k : ℕ) (m : TextMap) → lookup (is_at (nat_cmp k)) es ≡ None → volumes_of es ≡ mutable_set (volumes_of es) k m (fin.get (volumes_of es) k)
+no_mutable es k m none = sym (ap (mutable_set (volumes_of es) k m) (get_number es k ∙ none))
 
 -- the index with a name set
 pub name_set : (es fs : List (Text × ℕ)) (k : Text) (n : ℕ) (q : Text) → lookup (is_at (text_cmp q)) fs ≡ cond (is_at (text_cmp k) q) (Some n) (lookup (is_at (text_cmp q)) es)
@@ -215,3 +227,24 @@ module _ (next : ℕ) (volumes : List (ℕ × Volume)) (names : List (Text × �
           let is : v.name ≡ w.name = (bytes_decides v.name w.name).0 t in
           absurd (old.0 (same_some m n (sym (k.named m w old.1) ∙ ap (λ (x : Text). lookup (is_at (text_cmp x)) names) (sym is) ∙ k.named n v stands)))
       other m w old false t = k.named m w old.1
+
+  -- a volume got other mutable parameters, or none stands
+  pub kept_mutable : (rows : List (ℕ × Volume)) (n : ℕ) (m : TextMap) → IsKept next volumes names pools attachments spots s
+      → volumes_of rows ≡ mutable_set (volumes_of volumes) n m (fin.get (volumes_of volumes) n)
+      → IsKept next rows names pools attachments spots (changed s (SetMutable n m))
+  kept_mutable rows n m k is = record {
+    next_is = k.next_is;
+    volumes_are = sym (subst (λ (vs : fin.FinMap nat_cmp Volume). volumes_of rows ≡ mutable_set vs n m (fin.get vs n)) (sym k.volumes_are) is);
+    attachments_are = k.attachments_are;
+    named = λ q w e. let old = stood s.volumes n m q w e in elim old.2 as (λ _. lookup (is_at (text_cmp w.name)) names ≡ Some q) [
+      | inl a ↦ ap (λ (x : Volume). lookup (is_at (text_cmp x.name)) names) a ∙ k.named q old.0 old.1
+      | inr b ↦ ap (λ (x : Volume). lookup (is_at (text_cmp x.name)) names) b.1 ∙ k.named q old.0 old.1
+    ];
+    totals = totals_kept pools s n m k.totals;
+    few = let less = k.few in let same = as_many s.volumes n m in omega (arith, less, same);
+    small = λ q w e. let old = stood s.volumes n m q w e in elim old.2 as (λ _. w.bytes ≤ 2 ^ 62) [
+      | inl a ↦ subst (λ (x : Volume). x.bytes ≤ 2 ^ 62) (sym a) (k.small q old.0 old.1)
+      | inr b ↦ subst (λ (x : Volume). x.bytes ≤ 2 ^ 62) (sym b.1) (k.small q old.0 old.1)
+    ];
+    spotted = k.spotted;
+  }

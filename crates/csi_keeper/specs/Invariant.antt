@@ -34,6 +34,7 @@ pub record IsVolume (config : Config) (next n : ℕ) (v : Volume) : Type 0 where
   pub bytes : is_whole v.bytes ≡ true
   pub caps : AreKeys v.caps
   pub params : map_bytes v.params ≤ MAX_MAP_BYTES
+  pub mutable : map_bytes v.mutable ≤ MAX_MAP_BYTES
 
 -- an attachment that stands at a number and a node
 pub record IsAttached (config : Config) (s : State) (n : ℕ) (node : Text) (a : Attachment) : Type 0 where

@@ -1,15 +1,18 @@
 -- The State of the volume machine, what is read of it, and what a change makes of it.
-use Rattle.std.specs.Prelude.{◌≡◌, ℕ, ◌+◌, ◌-◌, ◌^◌, ◌<◌, ◌≤◌, ◌==◌, not, min, nat_lt, List, [], Option, None, IsSome, map, filter, find, take, sum, length, bytes_eq, ⊤}
+use Rattle.std.specs.Prelude.{◌≡◌, ℕ, ◌+◌, ◌-◌, ◌^◌, ◌<◌, ◌≤◌, ◌==◌, not, min, nat_lt, List, [], Option, None, Some, IsSome, map, filter, find, take, sum, length, bytes_eq, ⊤}
 use Rattle.std.specs.declared.cmp.Ordering.{Ordering}
 use Rattle.std.specs.Ordering.{nat_cmp, ordering_then}
 use Rattle.std.specs.FinMap.{FinMap, get, insert, remove, entries, values, retain_keys}
+use Rattle.csi_types.specs.Checks.{map_bytes}
+use Rattle.csi_types.specs.Maps.{TextMap}
+use Rattle.csi_types.specs.declared.limits.TheConstants.{MAX_MAP_BYTES}
 use Rattle.csi_keeper.specs.Texts.{Text, text_cmp}
 use Rattle.csi_keeper.specs.Capability.{AreOrdered}
 use Rattle.csi_keeper.specs.declared.volume.Volume.{Volume}
 use Rattle.csi_keeper.specs.declared.volume.Attachment.{Attachment}
 use Rattle.csi_keeper.specs.declared.change.Usage.{Usage}
 use Rattle.csi_keeper.specs.declared.change.Change.{Change}
-use Rattle.csi_keeper.specs.declared.change.Change.TheVariants.{AddVolume, RemoveVolume, Attach, Detach, DetachAll}
+use Rattle.csi_keeper.specs.declared.change.Change.TheVariants.{AddVolume, RemoveVolume, Attach, Detach, DetachAll, SetMutable}
 
 -- a volume's number, and a node's id
 abbrev pub Place : Type 0
@@ -68,6 +71,15 @@ published s number = map (λ a. a.node) (attached s number)
 abbrev pub published_of_page : State → ℕ → ℕ → List (List Text)
 published_of_page s after count = map (λ v. published s v.number) (page s after count)
 
+-- a volume with other mutable parameters
+abbrev pub with_mutable : TextMap → Volume → Volume
+with_mutable m v = record v { mutable = m }
+
+-- the volumes, where the one of a number, if it stands, has other mutable parameters
+abbrev pub mutable_set : FinMap nat_cmp Volume → ℕ → TextMap → Option Volume → FinMap nat_cmp Volume
+mutable_set volumes n m None = volumes
+mutable_set volumes n m (Some v) = insert volumes n (with_mutable m v)
+
 -- the State after a change
 abbrev pub changed : State → Change → State
 changed s (AddVolume v) = record s { next = s.next + 1; volumes = insert s.volumes v.number v }
@@ -75,6 +87,7 @@ changed s (RemoveVolume n) = record s { volumes = remove s.volumes n }
 changed s (Attach n a) = record s { attachments = insert s.attachments (n, a.node) a }
 changed s (Detach n node) = record s { attachments = remove s.attachments (n, node) }
 changed s (DetachAll n) = record s { attachments = retain_keys s.attachments (λ p. not (p.0 == n)) }
+changed s (SetMutable n m) = record s { volumes = mutable_set s.volumes n m (get s.volumes n) }
 
 -- what the State has to be for a change: a premise of the promise
 abbrev pub Allows : State → Change → Type 0
@@ -83,6 +96,7 @@ Allows s (RemoveVolume n) = attached s n ≡ []
 Allows s (Attach n a) = IsSome (get s.volumes n) × (get s.attachments (n, a.node) ≡ None)
 Allows s (Detach n node) = ⊤
 Allows s (DetachAll n) = ⊤
+Allows s (SetMutable n m) = IsSome (get s.volumes n)
 
 -- what is asked of the caller
 abbrev pub IsBounded : Change → Type 0
@@ -91,3 +105,4 @@ IsBounded (RemoveVolume n) = ⊤
 IsBounded (Attach n a) = ⊤
 IsBounded (Detach n node) = ⊤
 IsBounded (DetachAll n) = ⊤
+IsBounded (SetMutable n m) = map_bytes m ≤ MAX_MAP_BYTES

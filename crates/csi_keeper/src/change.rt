@@ -1,7 +1,7 @@
 //! How what is kept changes, what is told of it, and why a call fails.
 
 use crate::volume::{Attachment, Volume};
-use csi_types::Text;
+use csi_types::{Map, Text};
 use std::alloc::{AllocError, AllocFailed};
 
 /// One change of the State, which is made whole or not at all.
@@ -20,6 +20,9 @@ pub enum Change {
     Detach(u64, Text),
     /// The volume of the number is detached at each node.
     DetachAll(u64),
+    /// The volume of the number, which stands, has these mutable parameters, of at most 4,096 bytes,
+    /// in place of its own.
+    SetMutable(u64, Map),
 }
 
 /// How many volumes a pool has, and the sum of their bytes.

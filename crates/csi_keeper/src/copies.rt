@@ -43,6 +43,7 @@ pub(crate) fn copy_volume(alloc: Global, volume: &Volume) -> Result<Volume, Allo
         pool: copy_text(alloc, volume.pool.as_str())?,
         caps: copy_keys(alloc, &volume.caps)?,
         params: copy_map(alloc, &volume.params)?,
+        mutable: copy_map(alloc, &volume.mutable)?,
     })
 }
 

@@ -7,7 +7,7 @@ mod rows;
 
 ghost use Rattle.std.specs.Prelude.{◌≡◌, ◌≤◌, ◌<◌, ◌^◌, IfOk, OnOk, OnErr};
 ghost use Rattle.csi_keeper.specs.State.{State, Allows, changed};
-ghost use Rattle.csi_keeper.specs.declared.change.Change.TheVariants.{AddVolume, RemoveVolume, Attach, Detach, DetachAll};
+ghost use Rattle.csi_keeper.specs.declared.change.Change.TheVariants.{AddVolume, RemoveVolume, Attach, Detach, DetachAll, SetMutable};
 ghost use Rattle.csi_keeper.specs.Holding.{Holds};
 ghost use Rattle.csi_keeper.specs.Memory.{first_state};
 
@@ -17,10 +17,12 @@ use crate::keeper::Keeper;
 use crate::mem::attachments::{attached_to, put_place, take_attachment, take_places};
 use crate::mem::names::{drop_name, set_name, volume_named};
 use crate::mem::nodes::{numbers_at, put_spot};
-use crate::mem::rows::{nodes_after, put_volume, sizes_of, take_volume, volume_at, volumes_after};
+use crate::mem::rows::{
+    nodes_after, put_volume, set_mutable, sizes_of, take_volume, volume_at, volumes_after,
+};
 use crate::totals::Totals;
 use crate::volume::{Attachment, Volume};
-use csi_types::{Items, Text, copy_text};
+use csi_types::{Items, Map, Text, copy_map, copy_text};
 use std::alloc::{AllocError, Global};
 use std::collections::BTreeMap;
 
@@ -127,6 +129,16 @@ impl MemKeeper {
     {
         take_places(alloc, &mut self.attachments, &mut self.nodes, number)
     }
+
+    #[tactic(auto, using(crate::proofs::ChangeLemmas::kept_mutable))]
+    fn set_mutable(&mut self, alloc: Global, number: u64, mutable: &Map) -> Result<(), AllocError>
+        ensures made { OnOk result ((s : State) → Holds self.old s → Allows s (SetMutable number mutable.now) → Holds self.new (changed s (SetMutable number mutable.now))) }
+        ensures same { OnErr result ((s : State) → Holds self.old s → Allows s (SetMutable number mutable.now) → Holds self.new s) }
+    {
+        let copy = copy_map(alloc, mutable)?;
+        set_mutable(&mut self.volumes, number, copy);
+        Ok(())
+    }
 }
 
 impl Keeper for MemKeeper {
@@ -208,6 +220,7 @@ impl Keeper for MemKeeper {
             Change::Attach(number, attachment) => self.attach(alloc, *number, attachment)?,
             Change::Detach(number, node) => self.detach(alloc, *number, node)?,
             Change::DetachAll(number) => self.detach_all(alloc, *number)?,
+            Change::SetMutable(number, mutable) => self.set_mutable(alloc, *number, mutable)?,
         }
         Ok(())
     }

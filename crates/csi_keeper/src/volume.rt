@@ -18,6 +18,10 @@ pub struct Volume {
     pub caps: Items<CapKey>,
     /// The parameters that it was created with (`CreateVolumeRequest.parameters`).
     pub params: Map,
+    /// The parameters that can be changed while it stands
+    /// (`CreateVolumeRequest.mutable_parameters`, and those of `ControllerModifyVolumeRequest` laid
+    /// over them).
+    pub mutable: Map,
 }
 
 /// A volume's being published at a node (CSI 1.x, `ControllerPublishVolume`).

@@ -14,16 +14,17 @@ use Rattle.sqlite_tied.specs.Compute.{everything}
 use Rattle.csi_layout.specs.Making.{AddsFirst}
 use Rattle.csi_layout.specs.Rows.{number_value, seen_meta}
 use Rattle.csi_layout.specs.Tables.{schema, meta, first_text}
+use Rattle.csi_layout.specs.declared.formats.TheConstants.{LATEST_FORMAT}
 use Rattle.csi_layout.specs.Transactions.{StepsFrom}
 use Rattle.csi_layout.specs.facts.Steps.{cast_null, cast_int}
 use Rattle.csi_layout.specs.facts.Writes.{IsCommand, inserted}
 
-abbrev one : Term
-one = lit (number_value 1)
+abbrev numeral : ℕ → Term
+numeral n = lit (number_value n)
 
 -- the key is the rowid, and its own column is kept as NULL
 abbrev first_terms : List Term
-first_terms = one ∷ lit Null ∷ one ∷ one ∷ []
+first_terms = numeral 1 ∷ lit Null ∷ numeral LATEST_FORMAT ∷ numeral 1 ∷ []
 
 first_command : IsCommand first_text (Insert 0 (Values first_terms 4))
 unfolding understood everything
@@ -33,8 +34,8 @@ adds_first : (old new : State) (count : ℕ) → old.now.schema ≡ schema → E
 adds_first old new count has h =
     let db = old.now.trees in
     let it = inserted first_text [] old new count has 0 meta refl (Values first_terms 4) first_command h in
-    let row : Row = number_value 1 ∷ Null ∷ number_value 1 ∷ number_value 1 ∷ [] in
-    let news : (edit_of db meta [] Chosen 0 it.0).news ≡ row ∷ [] = ap (λ all. (edit_of db meta [] Chosen 0 all).news) it.1.1 ∙ rw (cast_null, cast_int (pos 1)) refl in
+    let row : Row = number_value 1 ∷ Null ∷ number_value LATEST_FORMAT ∷ number_value 1 ∷ [] in
+    let news : (edit_of db meta [] Chosen 0 it.0).news ≡ row ∷ [] = ap (λ all. (edit_of db meta [] Chosen 0 all).news) it.1.1 ∙ rw (cast_null, cast_int (pos 1), cast_int (pos LATEST_FORMAT)) refl in
     let rows : new.now.trees 0 ≡ put_all (db 0) (row ∷ []) = it.2.made.rows ∙ ap (λ ns. put_all (db 0) ns) news in
     record {
       schema = it.2.schema_is;

@@ -8,6 +8,7 @@ use Rattle.sqlite.specs.Table.{Table}
 use Rattle.sqlite.specs.declared.error.Error.{Error}
 use Rattle.csi_layout.specs.Failing.{SqlRefuses}
 use Rattle.csi_layout.specs.Rows.{seen_meta, meta_row}
+use Rattle.csi_layout.specs.declared.formats.TheConstants.{LATEST_FORMAT}
 use Rattle.csi_layout.specs.Tables.{schema, one_schema, two_schema, meta_text, volumes_text, attachments_text, first_text}
 
 -- an empty table is made
@@ -16,11 +17,11 @@ pub record Creates (before : Schema) (table : Table) (old new : Database) : Type
   pub empty : new.trees (next_tree before) ≡ []
   pub others : KeepsRows before.tables old.trees new.trees
 
--- the first row of meta is put into the empty table: format 1, and the next number is 1
+-- the first row of meta is put into the empty table: the latest format, and the next number is 1
 pub record AddsFirst (old new : Database) : Type 0 where
   pub schema : new.schema ≡ old.schema
   pub sound : IsDatabase new
-  pub meta : old.trees 0 ≡ [] → map seen_meta (new.trees 0) ≡ meta_row 1 ∷ []
+  pub meta : old.trees 0 ≡ [] → map seen_meta (new.trees 0) ≡ meta_row LATEST_FORMAT 1 ∷ []
   pub volumes : new.trees 1 ≡ old.trees 1
   pub attachments : new.trees 3 ≡ old.trees 3
 
@@ -28,7 +29,7 @@ pub record AddsFirst (old new : Database) : Type 0 where
 pub record MakesTables (old new : Database) : Type 0 where
   pub schema : new.schema ≡ schema
   pub sound : IsDatabase new
-  pub meta : map seen_meta (new.trees 0) ≡ meta_row 1 ∷ []
+  pub meta : map seen_meta (new.trees 0) ≡ meta_row LATEST_FORMAT 1 ∷ []
   pub volumes : new.trees 1 ≡ []
   pub attachments : new.trees 3 ≡ []
 

@@ -12,8 +12,8 @@ abbrev pub bool_value : Bool → Value
 bool_value b = Int (if b then pos 1 else pos 0)
 
 -- the row of meta: its key, the number of the format, and the next number
-abbrev pub meta_row : ℕ → Row
-meta_row next = number_value 1 ∷ number_value 1 ∷ number_value next ∷ []
+abbrev pub meta_row : ℕ → ℕ → Row
+meta_row format next = number_value 1 ∷ number_value format ∷ number_value next ∷ []
 
 -- a row of volumes as it is kept: the rowid first, whose own column is kept as NULL
 abbrev pub volume_row : ℕ → List ℕ → ℕ → List ℕ → List ℕ → List ℕ → Row

@@ -23,7 +23,7 @@ abbrev pub attachments_text : List ℕ
 attachments_text = codes "CREATE TABLE attachments (number INTEGER NOT NULL, node TEXT NOT NULL, cap BLOB NOT NULL, readonly INTEGER NOT NULL, PRIMARY KEY (number, node))"
 
 abbrev pub first_text : List ℕ
-first_text = codes "INSERT INTO meta (k, format_no, next_number) VALUES (1, 1, 1)"
+first_text = codes "INSERT INTO meta (k, format_no, next_number) VALUES (1, 2, 1)"
 
 abbrev pub no_schema : Schema
 no_schema = record { tables = []; indexes = []; views = [] }

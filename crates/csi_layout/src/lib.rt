@@ -6,8 +6,10 @@
 //! nobody else has written), and of a store that had no table.
 #![tactic(auto)]
 
+mod formats;
 mod making;
 mod ours;
 
+pub use formats::{FIRST_FORMAT, LATEST_FORMAT};
 pub use making::make_tables;
 pub use ours::is_our_schema;

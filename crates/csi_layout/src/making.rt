@@ -49,7 +49,7 @@ fn create_attachments<S: Alter>(tx: &mut Transaction<'_, S>) -> Result<usize, Er
     )
 }
 
-/// The row of meta: format 1, and the first volume gets number 1.
+/// The row of meta: the latest format, 2, and the first volume gets number 1.
 fn insert_first<S: Alter>(tx: &mut Transaction<'_, S>) -> Result<usize, Error>
     ensures same_reference { tx.new.conn.ghost_name ≡ tx.old.conn.ghost_name }
     ensures ok { RunsFrom S.Store tx.old.conn.now tx.new.conn.now schema AddsFirst result }
@@ -58,7 +58,7 @@ fn insert_first<S: Alter>(tx: &mut Transaction<'_, S>) -> Result<usize, Error>
     ensures survives { LeavesNothingNew S.Store tx.old.conn.now tx.new.conn.now }
 {
     tx.execute(
-        "INSERT INTO meta (k, format_no, next_number) VALUES (1, 1, 1)",
+        "INSERT INTO meta (k, format_no, next_number) VALUES (1, 2, 1)",
         &[],
     )
 }
@@ -79,8 +79,8 @@ fn create_tables<S: Alter>(tx: &mut Transaction<'_, S>) -> Result<(), Error>
 
 /// Makes the three tables and the first row of meta, in one transaction.
 ///
-/// After `Ok` a store that had no table has these three, with no volume, no attachment and 1 as the
-/// next number, and all of it is committed. After an error nothing was made. A stop leaves what it
+/// After `Ok` a store that had no table has these three, with no volume, no attachment, the latest
+/// format and 1 as the next number, and all of it is committed. After an error nothing was made. A stop leaves what it
 /// could leave before, or the tables as they were made.
 pub fn make_tables<S: Alter>(conn: &mut Connection<S>) -> Result<(), Error>
     requires idle { conn.old.in_transaction ≡ false }

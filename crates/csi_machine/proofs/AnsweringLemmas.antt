@@ -36,6 +36,7 @@ use Rattle.csi_machine.specs.Step.{plan, limited, limited_by, settled_plan, move
 use Rattle.csi_machine.specs.Verdicts.{Told, Says, Denies, told_of, Appended, IsTold}
 use Rattle.csi_machine.specs.calls.Capacity.{capacity_of, served, greatest_size, tell_capacity}
 use Rattle.csi_machine.specs.calls.Listing.{list_after, start_of}
+use Rattle.csi_machine.specs.calls.Modify.{modify}
 use Rattle.csi_machine.specs.calls.Publish.{publish}
 use Rattle.csi_machine.specs.calls.Unpublish.{unpublish}
 use Rattle.csi_machine.specs.calls.Validate.{validate_number, validate_volume, confirm, deny}
@@ -44,6 +45,7 @@ use Rattle.csi_machine.proofs.CreateLemmas.{create_sound}
 use Rattle.csi_machine.proofs.DeleteLemmas.{delete_sound}
 use Rattle.csi_keeper.specs.facts.Finite.{none_some}
 use Rattle.csi_keeper.specs.facts.Reads.{if_ok}
+use Rattle.csi_machine.proofs.ModifyLemmas.{modify_fits}
 use Rattle.csi_machine.proofs.PlanLemmas.{IsSound, sound_by, sound_still}
 use Rattle.csi_machine.proofs.PublishLemmas.{publish_fits}
 use Rattle.csi_machine.proofs.UnpublishLemmas.{unpublish_fits}
@@ -266,6 +268,7 @@ plan_sound config good (request.Unpublish r) e = sound_by config (λ s. unpublis
 plan_sound config good (request.Validate r) e = sound_still config _ (λ s. validate_still s r (number_of_id r.volume_id))
 plan_sound config good (request.List r) e = sound_still config _ (λ s. list_still config s (whole r.max_entries) (start_of s.next r.token))
 plan_sound config good (request.Capacity r) e = sound_still config _ (λ s. capacity_still config (rooms config s) r)
+plan_sound config good (request.Modify r) e = sound_by config (λ s. modify s r) (modify_fits config r)
 
 pub settled_sound : (config : Config) → IsConfigured config → (r : Request) → checked r ≡ None → IsSound config (λ s. settled_plan config s r)
 settled_sound config good r e = limited_sound config (λ s. plan config s r) (plan_sound config good r e)

@@ -8,6 +8,7 @@ use Rattle.std.proofs.lemmas.Cmp.{tied_itself}
 use Rattle.std.proofs.lemmas.Nat.{div-add-mod'}
 use Rattle.csi_types.specs.Checks.{checked, is_supported, prefers_another, terms as all_terms}
 use Rattle.csi_types.specs.Maps.{TextMap, same_map_equiv}
+use Rattle.csi_types.specs.Overlays.{has_each}
 use Rattle.csi_types.specs.Topology.{has_alike_keys}
 use Rattle.csi_types.specs.declared.capability.Capability.{Capability}
 use Rattle.csi_types.specs.declared.capacity.CapacityRange.{CapacityRange}
@@ -100,13 +101,15 @@ serves_one rs ts n p e =
 
 -- All of it
 
-pub compatible : AreServedAlike → (config : Config) (s : State) (r : CreateVolume) (c : Change) (m : IsMade config s r c) → checked (request.Create r) ≡ None → is_compatible m.pool.segments (made r s.next m.bytes m.pool) r ≡ true
-compatible alike config s r c m pass =
+pub compatible : AreServedAlike → ((m : TextMap) → has_each m m ≡ true) → (config : Config) (s : State) (r : CreateVolume) (c : Change) (m : IsMade config s r c) → checked (request.Create r) ≡ None → is_compatible m.pool.segments (made r s.next m.bytes m.pool) r ≡ true
+compatible alike own config s r c m pass =
     let off = passed (request.Create r) pass in
     let supported : list_any (λ c. not (is_supported c)) r.capabilities ≡ false = off.1.1.1.1.1.1.0 in
     let differ : list_any has_alike_keys (all_terms r.topology) ≡ false = off.1.1.1.1.1.1.1.1.1.1.1.0 in
     let prefers : list_any prefers_another (option_to_list r.topology) ≡ false = off.1.1.1.1.1.1.1.1.1.1.1.1.0 in
     let one = serves_one (rooms config s) (terms r.topology) m.bytes m.pool m.chosen in
     and_from _ _
+    (and_from _ _
     (and_from _ _ (and_from _ _ (reachable alike m.pool.segments one.0 r.topology differ prefers one.1 one.2) (sized config.sizes r.range m.bytes m.sized)) (has_keys r.capabilities supported))
-    (same_map_equiv.refl r.parameters)
+    (same_map_equiv.refl r.parameters))
+    (own r.mutable)

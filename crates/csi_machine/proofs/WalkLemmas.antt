@@ -19,7 +19,7 @@ use Rattle.csi_config.specs.Values.{Has}
 use Rattle.csi_config.specs.declared.config.Config.{Config}
 use Rattle.frames_core.specs.declared.limits.TheConstants.{MAX_BODY_BYTES}
 use Rattle.csi_keeper.specs.declared.change.Change.{Change}
-use Rattle.csi_keeper.specs.declared.change.Change.TheVariants.{AddVolume, RemoveVolume, Attach, Detach, DetachAll}
+use Rattle.csi_keeper.specs.declared.change.Change.TheVariants.{AddVolume, RemoveVolume, Attach, Detach, DetachAll, SetMutable}
 use Rattle.csi_machine.specs.declared.plan.Outcome.TheVariants as outcome
 use Rattle.csi_keeper.specs.declared.volume.Volume.{Volume}
 use Rattle.csi_machine.specs.Ids.{number_of, number_of_id, id}
@@ -191,6 +191,7 @@ module _ (config : Config) where
   next_after s (Some (Attach n a)) = omega arith
   next_after s (Some (Detach n node)) = omega arith
   next_after s (Some (DetachAll n)) = omega arith
+  next_after s (Some (SetMutable n m)) = omega arith
 
   next_moved : (s t : State) (told : Told) → s.next ≤ t.next → s.next ≤ (moved s t told).next
   next_moved s t (Says body) h = h

@@ -16,6 +16,7 @@ use Rattle.csi_machine.specs.calls.Create.{create}
 use Rattle.csi_machine.specs.calls.Delete.{delete}
 use Rattle.csi_machine.specs.calls.Identity.{plugin_info, plugin_capabilities, probe, controller_capabilities}
 use Rattle.csi_machine.specs.calls.Listing.{list_volumes}
+use Rattle.csi_machine.specs.calls.Modify.{modify}
 use Rattle.csi_machine.specs.calls.Publish.{publish}
 use Rattle.csi_machine.specs.calls.Unpublish.{unpublish}
 use Rattle.csi_machine.specs.calls.Validate.{validate}
@@ -36,6 +37,7 @@ plan config s (request.Unpublish r) = unpublish s r
 plan config s (request.Validate r) = validate s r
 plan config s (request.List r) = list_volumes config s r
 plan config s (request.Capacity r) = capacity config s r
+plan config s (request.Modify r) = modify s r
 
 -- a refusal keeps the State
 abbrev pub moved : {S : Type 0} → S → S → Told → S

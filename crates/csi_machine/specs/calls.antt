@@ -5,4 +5,5 @@ pub mod Unpublish
 pub mod Validate
 pub mod Listing
 pub mod Capacity
+pub mod Modify
 pub mod Identity

@@ -21,6 +21,7 @@ use crate::calls::identity::{
     plan_controller_capabilities, plan_plugin_capabilities, plan_plugin_info, plan_probe,
 };
 use crate::calls::listing::plan_list;
+use crate::calls::modify::plan_modify;
 use crate::calls::publish::plan_publish;
 use crate::calls::unpublish::plan_unpublish;
 use crate::calls::validate::plan_validate;
@@ -57,6 +58,7 @@ fn plan_of<K: Keeper>(
         Request::Validate(request) => plan_validate(alloc, keeper, request),
         Request::List(request) => plan_list(alloc, config, keeper, request),
         Request::Capacity(request) => plan_capacity(alloc, config, keeper, request),
+        Request::Modify(request) => plan_modify(alloc, keeper, request),
     }
 }
 

@@ -5,6 +5,7 @@ pub(crate) mod create;
 pub(crate) mod delete;
 pub(crate) mod identity;
 pub(crate) mod listing;
+pub(crate) mod modify;
 pub(crate) mod publish;
 pub(crate) mod unpublish;
 pub(crate) mod validate;

@@ -24,7 +24,7 @@ ghost use Rattle.csi_types.specs.Checks.{checked};
 
 use crate::configured::configured;
 use csi_config::Config;
-use csi_types::laws::equal_topologies;
+use csi_types::laws::{equal_topologies, inclusions, overlays};
 
 /// An id names the volume that it was made of, and no other text names that volume.
 #[inline(always)]
@@ -85,6 +85,8 @@ pub fn repeat(config: &Config)
 {
     configured(config);
     equal_topologies();
+    overlays();
+    inclusions();
 }
 
 /// Requests that are tried again until they are answered are each taken once (CSI specification,
@@ -100,4 +102,6 @@ pub fn retry(config: &Config)
 {
     configured(config);
     equal_topologies();
+    overlays();
+    inclusions();
 }

@@ -62,15 +62,15 @@ some_flag : (b : Bool) → is_some (as_flag (bool_value b)) ≡ true
 some_flag true = refl
 some_flag false = refl
 
-pub volume_agrees : ReadsBack → (config : Config) (next : ℕ) (e : ℕ × Volume) → VolumeAgrees config next e
-volume_agrees back config next e = record {
+pub volume_agrees : ReadsBack → (config : Config) (format next : ℕ) (e : ℕ × Volume) → VolumeAgrees config format next e
+volume_agrees back config format next e = record {
   kinds = λ name pool. rw (is_utf8-from_IsUtf8 e.1.name name, is_utf8-from_IsUtf8 e.1.pool pool) refl;
   number = given e.0 next;
   name = fine_name e.1.name;
   pool = found_any (λ p. same_text p.name e.1.pool) config.pools;
   bytes = (λ h. h, λ h. h);
   caps = caps_pass back e.1.caps;
-  params = params_pass back e.1.params;
+  params = params_pass back format e.1.params e.1.mutable;
 }
 
 pub attachment_agrees : ReadsBack → (config : Config) (rowid : Value) (e : Place × Attachment) → AttachmentAgrees config rowid e

@@ -1,6 +1,7 @@
 -- What is read of the canonical bytes of keys and of parameters.
-use Rattle.std.proofs.Common.{◌≡◌, ◌∙◌, refl, sym, ap, subst, ℕ, ◌≤◌, pos, nat_le, bytes_eq, List, [], ◌∷◌, map, length, Bool, true, false, not, cond, ◌&&◌, ◌==◌, Option, Some, None, arith}
+use Rattle.std.proofs.Common.{◌≡◌, ◌∙◌, refl, sym, ap, subst, ℕ, ◌≤◌, pos, nat_le, bytes_eq, List, [], ◌∷◌, map, length, Bool, true, false, not, cond, ◌&&◌, ◌||◌, ◌==◌, Option, Some, None, arith}
 use Rattle.std.specs.Bool.{Decides}
+use Rattle.std.specs.FinMap.{empty, empty_of_len, len, len-empty}
 use Rattle.std.specs.List.{list_all}
 use Rattle.std.specs.Option.{option_and_then, option_map}
 use Rattle.std.proofs.lemmas.Bool.Decides.{nat_tests}
@@ -8,14 +9,16 @@ use Rattle.std.proofs.lemmas.Slice.Eq.{bytes_eq-Decides}
 use Rattle.csi_types.specs.Checks.{is_known_mode, map_bytes}
 use Rattle.csi_types.specs.Maps.{TextMap}
 use Rattle.csi_types.specs.declared.limits.TheConstants.{MAX_MAP_BYTES}
+use Rattle.csi_keeper.specs.Texts.{Text, text_cmp}
 use Rattle.csi_keeper.specs.Capability.{access_of, capability_of, is_supported_key, key_of, key_with}
 use Rattle.csi_keeper.specs.Invariant.{AreKeys}
 use Rattle.csi_keeper.specs.facts.Capability.{supported_known}
 use Rattle.csi_keeper.specs.declared.capability.CapKey.{CapKey}
 use Rattle.csi_keeper.specs.declared.capability.Kind.{Kind}
 use Rattle.csi_keeper.specs.declared.capability.Kind.TheVariants.{Block, Mount}
+use Rattle.csi_layout.specs.declared.formats.TheConstants.{FIRST_FORMAT}
 use Rattle.csi_tables.specs.Encoding.{caps_bytes, params_bytes, FitCaps, FitParams, ReadsBack, with_caps, with_params}
-use Rattle.csi_rules.specs.Coding.{are_keys, are_params, created, each_key, in_front, key_in, keys_in, only, params_in, rise}
+use Rattle.csi_rules.specs.Coding.{are_keys, are_params, is_small, created, each_key, in_front, key_in, keys_in, only, params_in, rise}
 use Rattle.csi_rules.specs.Values.{if_passes, is_some_and}
 use Rattle.csi_rules.proofs.OrderLemmas.{both, ordered_rise, parts, rise-ordered}
 
@@ -76,11 +79,11 @@ keys_in-caps_bytes back ks fit =
     ∙ kept ks (each_key (map capability_of ks)) (each_same ks)
 
 -- the bytes of parameters say the parameters
-pub params_in-params_bytes : ReadsBack → (m : TextMap) → FitParams m → params_in (params_bytes m) ≡ Some m
+pub params_in-params_bytes : ReadsBack → (m n : TextMap) → FitParams m n → params_in (params_bytes m n) ≡ Some (m, n)
 unfolding FitParams params_bytes
-params_in-params_bytes back m fit =
-    ap (λ r. if_passes (λ n. bytes_eq (params_bytes n) (params_bytes m)) (option_map (λ v. v.parameters) (created r))) (back (with_params m) fit)
-    ∙ ap (λ b. cond b (Some m) None) (itself (params_bytes m))
+params_in-params_bytes back m n fit =
+    ap (λ r. if_passes (λ ms. bytes_eq (params_bytes ms.0 ms.1) (params_bytes m n)) (option_map (λ v. (v.parameters, v.mutable)) (created r))) (back (with_params m n) fit)
+    ∙ ap (λ b. cond b (Some (m, n)) None) (itself (params_bytes m n))
 
 -- those of one supported key say it
 pub key_in-caps_bytes : ReadsBack → (k : CapKey) → FitCaps (k ∷ []) → is_supported_key k ≡ true → key_in (caps_bytes (k ∷ [])) ≡ Some k
@@ -117,10 +120,28 @@ caps_pass back ks fit = (
 few : (n most : ℕ) → Decides (nat_le n most) (n ≤ most)
 few n most = (λ h. grind (arith, nat_tests), λ h. grind (arith, nat_tests))
 
-pub params_pass : ReadsBack → (m : TextMap) → FitParams m → Decides (is_some_and are_params (params_in (params_bytes m))) (map_bytes m ≤ MAX_MAP_BYTES)
-params_pass back m fit =
-    let same = ap (is_some_and are_params) (params_in-params_bytes back m fit) in
-    (λ e. (few (map_bytes m) MAX_MAP_BYTES).0 (sym same ∙ e), λ h. same ∙ (few (map_bytes m) MAX_MAP_BYTES).1 h)
+-- none that are mutable, where the format has none
+unmodified : (format : ℕ) (n : TextMap) → Decides (not (format == FIRST_FORMAT) || len n == 0) (format ≡ FIRST_FORMAT → n ≡ empty)
+unmodified format n = (
+  λ h is. empty_of_len n (grind (arith, nat_tests, is, h)),
+  λ h. go (format == FIRST_FORMAT) refl (λ same. ap len (h same) ∙ len-empty text_cmp Text),
+)
+  where
+    go : (b : Bool) → (format == FIRST_FORMAT) ≡ b → (format ≡ FIRST_FORMAT → len n ≡ 0) → (not b || len n == 0) ≡ true
+    go false is h = refl
+    go true is h = let none = h (grind (arith, nat_tests, is)) in grind (arith, nat_tests, none)
+
+pub params_pass : ReadsBack → (format : ℕ) (m n : TextMap) → FitParams m n
+    → Decides (is_some_and (are_params format) (params_in (params_bytes m n))) ((map_bytes m ≤ MAX_MAP_BYTES) × (map_bytes n ≤ MAX_MAP_BYTES) × (format ≡ FIRST_FORMAT → n ≡ empty))
+params_pass back format m n fit =
+    let same = ap (is_some_and (are_params format)) (params_in-params_bytes back m n fit) in
+    let last = not (format == FIRST_FORMAT) || len n == 0 in (
+      λ e.
+          let all = parts (is_small m && is_small n) last (sym same ∙ e) in
+          let two = parts (is_small m) (is_small n) all.0 in
+          ((few (map_bytes m) MAX_MAP_BYTES).0 two.0, (few (map_bytes n) MAX_MAP_BYTES).0 two.1, (unmodified format n).0 all.1),
+      λ h. same ∙ both (is_small m && is_small n) last (both (is_small m) (is_small n) ((few (map_bytes m) MAX_MAP_BYTES).1 h.0) ((few (map_bytes n) MAX_MAP_BYTES).1 h.1)) ((unmodified format n).1 h.2),
+    )
 
 pub cap_pass : ReadsBack → (k : CapKey) → FitCaps (k ∷ []) → Decides (is_some_and is_supported_key (key_in (caps_bytes (k ∷ [])))) (is_supported_key k ≡ true)
 cap_pass back k fit = (

@@ -1,6 +1,7 @@
 -- A row that stands for a volume or for an attachment passes a rule exactly where the State may have it.
 use Rattle.std.specs.Prelude.{◌≡◌, ℕ, ◌≤◌, ◌<◌, true, false, not, List, [], ◌∷◌, ◌++◌, None, Some, IsSome, IsUtf8}
 use Rattle.std.specs.Bool.{Decides}
+use Rattle.std.specs.FinMap.{empty}
 use Rattle.sqlite.specs.Order.{Row}
 use Rattle.sqlite.specs.declared.types.Value.{Value}
 use Rattle.sqlite.specs.declared.types.Value.TheVariants.{Blob}
@@ -17,6 +18,7 @@ use Rattle.csi_keeper.specs.State.{Place}
 use Rattle.csi_keeper.specs.declared.capability.CapKey.{CapKey}
 use Rattle.csi_keeper.specs.declared.volume.Attachment.{Attachment}
 use Rattle.csi_keeper.specs.declared.volume.Volume.{Volume}
+use Rattle.csi_layout.specs.declared.formats.TheConstants.{FIRST_FORMAT}
 use Rattle.csi_looks.specs.Looks.{with_owner}
 use Rattle.csi_tables.specs.Encoding.{caps_bytes, FitCaps, FitParams}
 use Rattle.csi_tables.specs.Holding.{attachment_entry, volume_entry}
@@ -31,15 +33,15 @@ use Rattle.csi_rules.specs.Volumes.{is_in_pools, is_named, is_numbered, is_sized
 abbrev pub keyed_entry : Value → Place × Attachment → Row
 keyed_entry rowid e = rowid ∷ attachment_entry e
 
--- the row of a volume, whose name and pool are texts
-pub record VolumeAgrees (config : Config) (next : ℕ) (e : ℕ × Volume) : Type 0 where
+-- the row of a volume, whose name and pool are texts, in tables of a format
+pub record VolumeAgrees (config : Config) (format next : ℕ) (e : ℕ × Volume) : Type 0 where
   pub kinds : IsUtf8 e.1.name → IsUtf8 e.1.pool → has_volume_kinds (volume_entry e) ≡ true
   pub number : Decides (is_numbered next (volume_entry e)) ((1 ≤ e.0) × (e.0 < next))
   pub name : IsUtf8 e.1.name → Decides (is_named (volume_entry e)) (refused_name e.1.name ≡ None)
   pub pool : Decides (is_in_pools config.pools (volume_entry e)) (IsSome (pool_named config.pools e.1.pool))
   pub bytes : Decides (is_sized (volume_entry e)) (is_whole e.1.bytes ≡ true)
   pub caps : FitCaps e.1.caps → Decides (has_caps (volume_entry e)) (AreKeys e.1.caps)
-  pub params : FitParams e.1.params → Decides (has_params (volume_entry e)) (map_bytes e.1.params ≤ MAX_MAP_BYTES)
+  pub params : FitParams e.1.params e.1.mutable → Decides (has_params format (volume_entry e)) ((map_bytes e.1.params ≤ MAX_MAP_BYTES) × (map_bytes e.1.mutable ≤ MAX_MAP_BYTES) × (format ≡ FIRST_FORMAT → e.1.mutable ≡ empty))
 
 -- the row of an attachment, whose node is a text
 pub record AttachmentAgrees (config : Config) (rowid : Value) (e : Place × Attachment) : Type 0 where

@@ -17,17 +17,17 @@ keys_at at row = option_and_then keys_in (as_blob (column row at))
 abbrev pub key_at : ℕ → Row → Option CapKey
 key_at at row = option_and_then key_in (as_blob (column row at))
 
--- the parameters that a cell says
-abbrev pub params_at : ℕ → Row → Option TextMap
+-- the parameters and mutable parameters that a cell says
+abbrev pub params_at : ℕ → Row → Option (TextMap × TextMap)
 params_at at row = option_and_then params_in (as_blob (column row at))
 
 -- caps says capabilities: at least one, in order, each supported
 abbrev pub has_caps : Row → Bool
 has_caps row = is_some_and are_keys (keys_at 4 row)
 
--- params says parameters of at most 4,096 bytes
-abbrev pub has_params : Row → Bool
-has_params row = is_some_and are_params (params_at 5 row)
+-- params says parameters and mutable parameters, each of at most 4,096 bytes; under format 1 none that are mutable
+abbrev pub has_params : ℕ → Row → Bool
+has_params format row = is_some_and (are_params format) (params_at 5 row)
 
 -- cap says one capability, which is supported
 abbrev pub has_cap : Row → Bool

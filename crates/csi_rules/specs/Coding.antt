@@ -1,5 +1,6 @@
 -- What capabilities and parameters bytes say: those whose canonical bytes they are.
-use Rattle.std.specs.Prelude.{ℕ, Bool, true, ◌&&◌, not, nat_le, bytes_eq, List, [], ◌∷◌, Option, None, Some, Result, Ok}
+use Rattle.std.specs.Prelude.{ℕ, ◌==◌, Bool, true, ◌&&◌, ◌||◌, not, nat_le, bytes_eq, List, [], ◌∷◌, Option, None, Some, Result, Ok}
+use Rattle.std.specs.FinMap.{len}
 use Rattle.std.specs.List.{list_all}
 use Rattle.std.specs.Option.{option_and_then, option_map}
 use Rattle.std.specs.Ordering.{is_lt}
@@ -15,6 +16,7 @@ use Rattle.csi_types.specs.declared.requests.Request.TheVariants.{Create}
 use Rattle.csi_codec.specs.Reading.{read_request}
 use Rattle.csi_keeper.specs.Capability.{is_supported_key, key_cmp, key_of}
 use Rattle.csi_keeper.specs.declared.capability.CapKey.{CapKey}
+use Rattle.csi_layout.specs.declared.formats.TheConstants.{FIRST_FORMAT}
 use Rattle.csi_tables.specs.Encoding.{caps_bytes, params_bytes}
 use Rattle.csi_rules.specs.Values.{if_passes}
 
@@ -52,9 +54,9 @@ only _ = None
 abbrev pub key_in : List ℕ → Option CapKey
 key_in bytes = option_and_then only (keys_in bytes)
 
--- the parameters whose canonical bytes these are, if there are such parameters
-abbrev pub params_in : List ℕ → Option TextMap
-params_in bytes = if_passes (λ m. bytes_eq (params_bytes m) bytes) (option_map (λ v. v.parameters) (message_in bytes))
+-- the parameters and mutable parameters whose canonical bytes these are, if there are such parameters
+abbrev pub params_in : List ℕ → Option (TextMap × TextMap)
+params_in bytes = if_passes (λ ms. bytes_eq (params_bytes ms.0 ms.1) bytes) (option_map (λ v. (v.parameters, v.mutable)) (message_in bytes))
 
 -- ---- the rules of what is said
 
@@ -70,6 +72,10 @@ rise (k ∷ ks) = list_all (is_before k) ks && rise ks
 abbrev pub are_keys : List CapKey → Bool
 are_keys ks = not (is_empty ks) && rise ks && list_all is_supported_key ks
 
--- parameters of at most 4,096 bytes
-abbrev pub are_params : TextMap → Bool
-are_params m = nat_le (map_bytes m) MAX_MAP_BYTES
+-- a map of at most 4,096 bytes
+abbrev pub is_small : TextMap → Bool
+is_small m = nat_le (map_bytes m) MAX_MAP_BYTES
+
+-- parameters and mutable parameters, each of at most 4,096 bytes; format 1 has none that are mutable
+abbrev pub are_params : ℕ → TextMap × TextMap → Bool
+are_params format ms = is_small ms.0 && is_small ms.1 && (not (format == FIRST_FORMAT) || len ms.1 == 0)

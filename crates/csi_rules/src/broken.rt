@@ -21,7 +21,8 @@ pub enum VolumeRule {
     /// `caps` says capabilities: at least one, in order, each supported.
     #[error("its caps are not the bytes of supported capabilities in order")]
     Caps,
-    /// `params` says parameters of at most 4,096 bytes.
+    /// `params` says parameters and mutable parameters, each of at most 4,096 bytes; tables of format
+    /// 1 have none that are mutable.
     #[error("its params are not the bytes of parameters of at most 4096 bytes")]
     Params,
 }

@@ -37,9 +37,9 @@ pub(crate) fn key_at(alloc: Global, row: &Row, at: usize) -> Result<Option<CapKe
     }
 }
 
-fn params_at(alloc: Global, row: &Row, at: usize) -> Result<Option<Map>, Error>
+fn params_at(alloc: Global, row: &Row, at: usize) -> Result<Option<(Map, Map)>, Error>
     ensures value { IfOk result (λ params. params ≡ params_at at row.now) }
-    ensures fits { IfOk result (λ params. IfSome params FitParams) }
+    ensures fits { IfOk result (λ params. IfSome params (λ ms. FitParams ms.0 ms.1)) }
     ensures memory { FailsForMemory result }
 {
     match blob_at(row, at) {
@@ -68,21 +68,24 @@ impl RowTrial for HasCaps {
     }
 }
 
-/// `params` of a volume is the canonical bytes of parameters, which have at most 4,096 bytes.
+/// `params` of a volume is the canonical bytes of parameters and mutable parameters, each of at most
+/// 4,096 bytes. Tables of format 1 have none that are mutable.
 #[derive(Clone, Copy, Debug)]
 pub struct HasParams {
     /// What holds the parameters while they are looked at.
     pub alloc: Global,
+    /// The format of the tables, as `meta` tells it.
+    pub format: u32,
 }
 
 impl RowTrial for HasParams {
-    ghost accepts = { λ _ row. has_params row };
+    ghost accepts = { λ test row. has_params test.format row };
 
-    ghost knows = { λ _ row. IfSome (params_at 5 row) FitParams };
+    ghost knows = { λ _ row. IfSome (params_at 5 row) (λ ms. FitParams ms.0 ms.1) };
 
     fn try_test(&self, row: &Row) -> Result<bool, Error> {
         match params_at(self.alloc, row, 5)? {
-            Some(params) => Ok(are_params(&params)),
+            Some((params, mutable)) => Ok(are_params(self.format, &params, &mutable)),
             None => Ok(false),
         }
     }

@@ -9,12 +9,13 @@ ghost use Rattle.csi_keeper.specs.Capability.{is_supported_key};
 ghost use Rattle.csi_tables.specs.Encoding.{caps_bytes, params_bytes, FitCaps, FitParams};
 ghost use Rattle.csi_looks.specs.Failing.{FailsForMemory};
 ghost use Rattle.csi_rules.specs.Values.{if_passes};
-ghost use Rattle.csi_rules.specs.Coding.{are_keys, are_params, created, each_key, is_before, key_in, keys_in, message_in, only, params_in, rise};
+ghost use Rattle.csi_rules.specs.Coding.{are_keys, are_params, is_small, created, each_key, is_before, key_in, keys_in, message_in, only, params_in, rise};
 
 use csi_codec::{DecodeFault, decode};
 use csi_keeper::{CapKey, cap_key, supported};
+use csi_layout::FIRST_FORMAT;
 use csi_tables::{write_caps, write_params};
-use csi_types::{Capability, CreateVolume, Items, MAX_MAP_BYTES, Map, Method, Request};
+use csi_types::{Capability, CreateVolume, Items, MAX_MAP_BYTES, Map, Method, Request, map_bytes};
 use sqlite::{Error, ErrorCode};
 use std::alloc::{AllocError, Global};
 use std::cmp::Ordering;
@@ -65,11 +66,16 @@ fn are_caps(alloc: Global, keys: &[CapKey], bytes: &[u8]) -> Result<bool, AllocE
     Ok(write_caps(alloc, keys)?.as_slice() == bytes)
 }
 
-fn are_params_of(alloc: Global, params: &Map, bytes: &[u8]) -> Result<bool, AllocError>
-    ensures same { IfOk result (λ same. same ≡ bytes_eq (params_bytes params.now) bytes.now) }
-    ensures fits { OnOk result (FitParams params.now) }
+fn are_params_of(
+    alloc: Global,
+    params: &Map,
+    mutable: &Map,
+    bytes: &[u8],
+) -> Result<bool, AllocError>
+    ensures same { IfOk result (λ same. same ≡ bytes_eq (params_bytes params.now mutable.now) bytes.now) }
+    ensures fits { OnOk result (FitParams params.now mutable.now) }
 {
-    Ok(write_params(alloc, params)?.as_slice() == bytes)
+    Ok(write_params(alloc, params, mutable)?.as_slice() == bytes)
 }
 
 // ---- what bytes say
@@ -126,17 +132,17 @@ pub(crate) fn key_in(alloc: Global, bytes: &[u8]) -> Result<Option<CapKey>, Erro
     }
 }
 
-/// The parameters whose canonical bytes these are.
-pub(crate) fn params_in(alloc: Global, bytes: &[u8]) -> Result<Option<Map>, Error>
+/// The parameters and mutable parameters whose canonical bytes these are.
+pub(crate) fn params_in(alloc: Global, bytes: &[u8]) -> Result<Option<(Map, Map)>, Error>
     ensures value { IfOk result (λ params. params ≡ params_in bytes.now) }
-    ensures fits { IfOk result (λ params. IfSome params FitParams) }
+    ensures fits { IfOk result (λ params. IfSome params (λ ms. FitParams ms.0 ms.1)) }
     ensures memory { FailsForMemory result }
 {
     let Some(message) = message_in(alloc, bytes)? else {
         return Ok(None);
     };
-    if are_params_of(alloc, &message.parameters, bytes)? {
-        Ok(Some(message.parameters))
+    if are_params_of(alloc, &message.parameters, &message.mutable, bytes)? {
+        Ok(Some((message.parameters, message.mutable)))
     } else {
         Ok(None)
     }
@@ -174,20 +180,16 @@ pub(crate) fn are_keys(keys: &[CapKey]) -> bool
     !keys.is_empty() && rise(keys) && all_supported(keys)
 }
 
-// The bytes of all keys and values, as far as a number of 64 bits counts.
-fn bytes_of_map(map: &Map) -> usize
-    ensures { result ≡ min (map_bytes map.now) (2 ^ 64 - 1) }
+fn is_small(map: &Map) -> bool
+    ensures { result ≡ is_small map.now }
 {
-    let mut bytes: usize = 0;
-    for (key, value) in map.iter() {
-        bytes = bytes.saturating_add(key.len()).saturating_add(value.len());
-    }
-    bytes
+    map_bytes(map) <= MAX_MAP_BYTES
 }
 
-/// Whether parameters have at most 4,096 bytes.
-pub(crate) fn are_params(params: &Map) -> bool
-    ensures { result ≡ are_params params.now }
+/// Whether parameters and mutable parameters have at most 4,096 bytes each, and tables of the format
+/// may have them.
+pub(crate) fn are_params(format: u32, params: &Map, mutable: &Map) -> bool
+    ensures { result ≡ are_params format (params.now, mutable.now) }
 {
-    bytes_of_map(params) <= MAX_MAP_BYTES
+    is_small(params) && is_small(mutable) && (format != FIRST_FORMAT || mutable.is_empty())
 }

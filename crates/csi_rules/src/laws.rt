@@ -23,7 +23,7 @@ fn read_back()
 
 /// The rules of a row of volumes are those of the volume that stands under the number.
 pub fn volumes()
-    ensures { (config : Config) (next : ℕ) (e : ℕ × Volume) → VolumeAgrees config next e }
+    ensures { (config : Config) (format next : ℕ) (e : ℕ × Volume) → VolumeAgrees config format next e }
 {
     read_back();
 }

@@ -28,6 +28,7 @@ known (Some method.ValidateVolumeCapabilities) = None
 known (Some method.ListVolumes) = None
 known (Some method.GetCapacity) = None
 known (Some method.ControllerGetCapabilities) = None
+known (Some method.ControllerModifyVolume) = None
 
 -- ready, and the name and the version
 unfoldable pub said : List ℕ → List ℕ → Request → Outcome
@@ -42,6 +43,7 @@ said name version (request.Unpublish r) = Refused UnknownMethod
 said name version (request.Validate r) = Refused UnknownMethod
 said name version (request.List r) = Refused UnknownMethod
 said name version (request.Capacity r) = Refused UnknownMethod
+said name version (request.Modify r) = Refused UnknownMethod
 
 abbrev pub outcome_of : Option Response → Outcome
 outcome_of None = Refused UnknownMethod

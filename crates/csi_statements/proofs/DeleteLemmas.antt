@@ -1,20 +1,17 @@
 -- What a DELETE makes of the rows.
-use Rattle.std.proofs.Common.{◌≡◌, ◌∙◌, refl, sym, ap, ap₂, subst, ℕ, ℤ, pos, List, [], ◌∷◌, map, filter, Bool, true, false, not, ◌&&◌, Some, slice_get, Ok, Err, Result, OnOk, IsPermutation}
+use Rattle.std.proofs.Common.{◌≡◌, ◌∙◌, refl, ap, ap₂, subst, ℕ, ℤ, pos, List, [], ◌∷◌, map, filter, Bool, true, false, not, ◌&&◌, Some, slice_get, Ok, Err, Result, OnOk, IsPermutation}
 use Rattle.std.specs.List.{list_all}
-use Rattle.std.proofs.lemmas.List.Sorted.{IsPermutation-map}
 use Rattle.sqlite.specs.Command.TheVariants.{Delete}
 use Rattle.sqlite.specs.Edit.{without_all}
 use Rattle.sqlite.specs.Ops.{unary}
 use Rattle.sqlite.specs.Order.{Row, column}
 use Rattle.sqlite.specs.Program.{overlay}
-use Rattle.sqlite.specs.Query.{Output, output}
 use Rattle.sqlite.specs.State.{State, Executes, ExecutesInside}
 use Rattle.sqlite.specs.Table.{Table}
 use Rattle.sqlite.specs.Term.{Term, col, holds}
 use Rattle.sqlite.specs.Tree.{Trees}
 use Rattle.sqlite.specs.declared.error.Error.{Error}
 use Rattle.sqlite.specs.declared.types.Value.TheVariants.{Int, Text}
-use Rattle.sqlite_keyed.proofs.ListLemmas.{map-map}
 use Rattle.sqlite_rules.specs.Calls.{ids_of}
 use Rattle.sqlite_sql.specs.declared.ops.UnaryOp.TheVariants.{ToNumeric}
 use Rattle.csi_layout.specs.facts.Writes.{IsCommand, deleted}
@@ -23,7 +20,7 @@ use Rattle.csi_statements.specs.Rows.{number_value, seen_attachment, seen_volume
 use Rattle.csi_statements.specs.Shown.{IsShownOf}
 use Rattle.csi_statements.specs.Tables.{schema, attachments, volumes}
 use Rattle.csi_statements.proofs.FilterLemmas.{left_rows}
-use Rattle.csi_statements.proofs.SelectLemmas.{shows_one, one_table}
+use Rattle.csi_statements.proofs.SelectLemmas.{shows_one, shown_each, one_table}
 use Rattle.csi_statements.proofs.TextLemmas.{detach_text, detach_query, detach_command, detach_all_text, detach_all_query, detach_all_command, remove_text, remove_query, remove_command}
 
 -- an integer is a number already
@@ -31,29 +28,22 @@ pub to_numeric : (n : ℤ) → unary ToNumeric (Int n) ≡ Int n
 unfolding unary
 to_numeric n = refl
 
--- the rows that a query shows by their rowids alone
-shown_ids : (tree : ℕ) (test : List Term) (rows : List Row) (params : Row) (shown : List Row)
-    → IsShownOf (one_table tree test (col 1 0 ∷ []) []) rows params shown → IsPermutation (map (λ r. column r 0 ∷ []) (filter (λ r. list_all (holds (params ∷ r ∷ [])) test) rows)) shown
-shown_ids tree test rows params shown h =
-    subst (λ xs. IsPermutation xs shown) (map-map (λ (o : Output). o.1) (λ r. output (one_table tree test (col 1 0 ∷ []) []) (params ∷ r ∷ [])) (filter (λ r. list_all (holds (params ∷ r ∷ [])) test) rows))
-    (subst (IsPermutation _) (sym h.shown_is) (IsPermutation-map (λ (o : Output). o.1) _ _ h.same))
-
-and_true : (b : Bool) → (b && true) ≡ b
+pub and_true : (b : Bool) → (b && true) ≡ b
 and_true true = refl
 and_true false = refl
 
-filter_by : {X : Type 0} (p q : X → Bool) → ((x : X) → p x ≡ q x) → (xs : List X) → filter p xs ≡ filter q xs
+pub filter_by : {X : Type 0} (p q : X → Bool) → ((x : X) → p x ≡ q x) → (xs : List X) → filter p xs ≡ filter q xs
 filter_by p q same [] = refl
 filter_by p q same (x ∷ xs) = rw (same x, filter_by p q same xs) refl
 
-abbrev passes : List Term → Row → Row → Bool
+abbrev pub passes : List Term → Row → Row → Bool
 passes test params r = list_all (holds (params ∷ r ∷ [])) test
 
 -- what is left where the rows that pass are shown
 left_where : (tree : ℕ) (test : List Term) (see : Row → Row) (pass : Row → Bool) → ((a b : Row) → see a ≡ see b → pass a ≡ pass b) → (rows : List Row) (params : Row) (shown : List Row)
     → ((r : Row) → passes test params r ≡ pass r) → IsShownOf (one_table tree test (col 1 0 ∷ []) []) rows params shown → AreKeyed see rows → without_all rows (ids_of shown) ≡ filter (λ r. not (pass r)) rows
 left_where tree test see pass same rows params shown is h are =
-    left_rows see pass same rows shown are (subst (λ xs. IsPermutation (map (λ r. column r 0 ∷ []) xs) shown) (filter_by _ pass is rows) (shown_ids tree test rows params shown h))
+    left_rows see pass same rows shown are (subst (λ xs. IsPermutation (map (λ r. column r 0 ∷ []) xs) shown) (filter_by _ pass is rows) (shown_each tree test (col 1 0 ∷ []) rows params shown h))
 
 attachment_at : (i : ℕ) (a b : Row) → seen_attachment a ≡ seen_attachment b → column (seen_attachment a) i ≡ column (seen_attachment b) i
 attachment_at i a b e = ap (λ r. column r i) e
@@ -64,7 +54,7 @@ same_place number node a b e = ap₂ (λ x y. is_same x (Int (pos number)) && is
 same_of : (number : ℕ) (a b : Row) → seen_attachment a ≡ seen_attachment b → is_of number a ≡ is_of number b
 same_of number a b e = ap (λ x. is_same x (Int (pos number))) (attachment_at 0 a b e)
 
-same_number : (number : ℕ) (a b : Row) → seen_volume a ≡ seen_volume b → is_numbered number a ≡ is_numbered number b
+pub same_number : (number : ℕ) (a b : Row) → seen_volume a ≡ seen_volume b → is_numbered number a ≡ is_numbered number b
 same_number number a b e = ap (λ r. is_same (column r 0) (Int (pos number))) e
 
 place_passes : (number : ℕ) (node : List ℕ) (r : Row) → passes detach_query.filter (number_value number ∷ Text node ∷ []) r ≡ is_place number node r

@@ -24,7 +24,7 @@ use Rattle.csi_statements.proofs.TextLemmas.{attach_text, attach_terms, attach_c
 
 -- ---- a row that is put where none has its rowid
 
-put_new : (r : Row) (rows : List Row) → is_taken rows r ≡ false → IsPermutation (r ∷ rows) (put_row r rows)
+pub put_new : (r : Row) (rows : List Row) → is_taken rows r ≡ false → IsPermutation (r ∷ rows) (put_row r rows)
 put_new r [] free = IsPermutation-refl _
 put_new r (x ∷ xs) free = go (value_cmp (rowid x) (rowid r)) free (put_new r xs)
   where
@@ -56,7 +56,7 @@ keyed_new see r rows int free are = record {
   ];
 }
 
-untaken : (b : Bool) → (not b && true) ≡ true → b ≡ false
+pub untaken : (b : Bool) → (not b && true) ≡ true → b ≡ false
 untaken true h = absurd (true≢false (sym h))
 untaken false h = refl
 
@@ -85,7 +85,7 @@ attaches old new number node cap readonly count has h =
       volumes = it.2.made.tables.1.0 (λ e. absurd (omega arith));
     }
 
-abbrev kept : Table
+abbrev pub kept : Table
 kept = record volumes { tree = 1 }
 
 adds : (old new : State) (number : ℕ) (name : List ℕ) (bytes : ℕ) (pool caps params : List ℕ) (count : ℕ) → old.now.schema ≡ schema

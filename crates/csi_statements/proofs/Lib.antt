@@ -3,6 +3,7 @@ mod DeleteLemmas
 mod FailLemmas
 mod FilterLemmas
 mod InsertLemmas
+mod ParamsLemmas
 mod ReadLemmas
 mod SelectLemmas
 mod TextLemmas

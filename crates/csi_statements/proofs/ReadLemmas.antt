@@ -146,14 +146,14 @@ number_shown old new row h has r one =
     cc
 
 pub number_read : (old new : State) (r : Result Row Error) → IsTrue old.in_transaction → QueriesRowInside number_text [] old new r
-    → IfOk r (λ row. Steps (Sees (λ db. (next : ℕ) → map seen_meta (db.trees 0) ≡ meta_row next ∷ [] → row ≡ number_value next ∷ [])) old new)
+    → IfOk r (λ row. Steps (Sees (λ db. (format next : ℕ) → map seen_meta (db.trees 0) ≡ meta_row format next ∷ [] → row ≡ number_value next ∷ [])) old new)
 number_read old new (Err e) inside h = tt
 number_read old new (Ok row) inside h = record {
   shown = step_row number_text old new row inside h;
   effect = λ has. record {
     same = row_stays number_text old new row number_select.plain has h;
-    told = λ next seen.
-        let it = one_seen seen_meta (old.now.trees 0) (meta_row next) seen in
+    told = λ format next seen.
+        let it = one_seen seen_meta (old.now.trees 0) (meta_row format next) seen in
         number_shown old new row h has it.0 it.1 ∙ ap (λ v. v ∷ []) (ap (λ (x : Row). column x 2) it.2);
   };
 }

@@ -1,10 +1,12 @@
 -- What a SELECT over one table shows.
-use Rattle.std.proofs.Common.{◌≡◌, ◌∙◌, refl, ap, subst, ℕ, List, [], ◌∷◌, ◌++◌, map, filter, flat_map, true, false, cond, IsPermutation}
+use Rattle.std.proofs.Common.{◌≡◌, ◌∙◌, refl, sym, ap, subst, ℕ, List, [], ◌∷◌, ◌++◌, map, filter, flat_map, true, false, cond, IsPermutation}
 use Rattle.std.specs.List.{list_all}
+use Rattle.std.proofs.lemmas.List.Sorted.{IsPermutation-map}
 use Rattle.sqlite.specs.Order.{Row}
 use Rattle.sqlite.specs.Query.{Query, inner, end, IsAnswer, Output, output}
-use Rattle.sqlite.specs.Term.{Term, holds}
+use Rattle.sqlite.specs.Term.{Term, eval_all, holds}
 use Rattle.sqlite.specs.Tree.{Trees}
+use Rattle.sqlite_keyed.proofs.ListLemmas.{map-map}
 use Rattle.sqlite_value.specs.declared.keys.Key.{Key}
 use Rattle.csi_statements.specs.Shown.{IsShownOf}
 use Rattle.csi_statements.specs.Statements.{plain_query}
@@ -41,3 +43,10 @@ module _ (t : ℕ) (test shown : List Term) (order : List (Term × Key)) (limit 
 pub shows_one : (t : ℕ) (test shown : List Term) (order : List (Term × Key)) (db : Trees) (params : Row) (rows : List Row)
     → IsAnswer (one_table t test shown order) db params rows → IsShownOf (one_table t test shown order) (db t) params rows
 shows_one t test shown order db params rows a = subst (IsShownOf (one_table t test shown order) (db t) params) (Rattle.std.proofs.Common.sym a.shown) (shows_all t test shown order plain_query.limit db params rows a)
+
+-- what is shown of the rows that pass, in any order
+pub shown_each : (t : ℕ) (test shown : List Term) (rows : List Row) (params : Row) (answer : List Row)
+    → IsShownOf (one_table t test shown []) rows params answer → IsPermutation (map (λ r. eval_all shown (params ∷ r ∷ [])) (filter (λ r. list_all (holds (params ∷ r ∷ [])) test) rows)) answer
+shown_each t test shown rows params answer h =
+    subst (λ xs. IsPermutation xs answer) (map-map (λ (o : Output). o.1) (λ r. output (one_table t test shown []) (params ∷ r ∷ [])) (filter (λ r. list_all (holds (params ∷ r ∷ [])) test) rows))
+    (subst (IsPermutation _) (sym h.shown_is) (IsPermutation-map (λ (o : Output). o.1) _ _ h.same))

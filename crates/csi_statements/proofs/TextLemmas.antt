@@ -15,10 +15,11 @@ use Rattle.sqlite.proofs.Callers.{IsPlain, command_of}
 use Rattle.sqlite_tied.specs.Compute.{everything}
 use Rattle.csi_layout.specs.facts.Failing.{IsAlone, IsAloneWrite, IsNeverRefused, IsSure}
 use Rattle.csi_layout.specs.facts.Writes.{IsCommand}
+use Rattle.csi_layout.specs.declared.formats.TheConstants.{LATEST_FORMAT}
 use Rattle.csi_statements.specs.Statements.{plain_query, number_query, volume_query, named_query, sizes_query, page_query, page_numbers_query, nodes_query, attached_query, places_query}
 use Rattle.csi_statements.specs.Rows.{number_value}
 use Rattle.csi_statements.specs.Tables.{schema}
-pub use Rattle.csi_statements.specs.Texts.{attach_text, add_text, next_text, detach_text, detach_all_text, remove_text}
+pub use Rattle.csi_statements.specs.Texts.{attach_text, add_text, next_text, format_text, params_text, detach_text, detach_all_text, remove_text}
 
 -- ---- writes
 
@@ -46,9 +47,12 @@ pub add_alone : IsAloneWrite add_text 6 (understood schema add_text)
 unfolding understood everything
 add_alone = (omega arith, refl, refl, tt, refl)
 
--- the rowid, and then each column as it will be
+-- an UPDATE asks for the rowid of what passes, and for each column as it will be: that of the key is kept as NULL
+abbrev pub meta_query : Term → Term → Query
+meta_query format next = record plain_query { project = col 1 0 ∷ col 1 0 ∷ lit Null ∷ format ∷ next ∷ [] }
+
 abbrev pub next_query : Query
-next_query = record plain_query { project = col 1 0 ∷ col 1 0 ∷ lit Null ∷ col 1 2 ∷ col 0 0 ∷ [] }
+next_query = meta_query (col 1 2) (col 0 0)
 
 pub next_command : IsCommand next_text (Update 0 (record { lets = []; body = next_query }))
 unfolding understood everything
@@ -57,6 +61,32 @@ next_command = record { is = refl; plain = (refl, refl) }
 pub next_alone : IsAloneWrite next_text 1 (understood schema next_text)
 unfolding understood everything
 next_alone = (omega arith, refl, refl, tt, refl)
+
+abbrev pub format_query : Query
+format_query = meta_query (lit (number_value LATEST_FORMAT)) (col 1 3)
+
+pub format_command : IsCommand format_text (Update 0 (record { lets = []; body = format_query }))
+unfolding understood everything
+format_command = record { is = refl; plain = (refl, refl) }
+
+pub format_alone : IsAloneWrite format_text 0 (understood schema format_text)
+unfolding understood everything
+format_alone = (omega arith, refl, refl, tt, refl)
+
+abbrev pub params_query : Query
+params_query = record plain_query {
+  from = inner 1 end;
+  filter = op2 (Compare Eq Binary) (col 1 0) (col 0 0) ∷ [];
+  project = col 1 0 ∷ col 1 0 ∷ lit Null ∷ col 1 2 ∷ col 1 3 ∷ col 1 4 ∷ col 1 5 ∷ col 0 1 ∷ [];
+}
+
+pub params_command : IsCommand params_text (Update 1 (record { lets = []; body = params_query }))
+unfolding understood everything
+params_command = record { is = refl; plain = (refl, refl) }
+
+pub params_alone : IsAloneWrite params_text 2 (understood schema params_text)
+unfolding understood everything
+params_alone = (omega arith, refl, refl, tt, refl)
 
 -- a DELETE asks for the rowids of what passes
 abbrev pub detach_query : Query

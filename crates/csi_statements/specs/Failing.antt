@@ -5,11 +5,11 @@ use Rattle.sqlite.specs.Order.{Row}
 use Rattle.sqlite.specs.State.{State}
 use Rattle.sqlite.specs.declared.error.Error.{Error}
 use Rattle.sqlite.specs.declared.error.Error.TheVariants.{QueryReturnedNoRows}
-use Rattle.sqlite.specs.declared.types.Value.TheVariants.{Text}
+use Rattle.sqlite.specs.declared.types.Value.TheVariants.{Blob, Text}
 use Rattle.csi_layout.specs.Failing.{SqlRefuses}
 use Rattle.csi_statements.specs.Rows.{AddsVolume, number_value, seen_volume}
 use Rattle.csi_statements.specs.Tables.{schema}
-use Rattle.csi_statements.specs.Texts.{add_text, next_text, remove_text, attach_text, detach_text, detach_all_text}
+use Rattle.csi_statements.specs.Texts.{add_text, next_text, format_text, params_text, remove_text, attach_text, detach_text, detach_all_text}
 pub use Rattle.csi_layout.specs.Failing.{FailsFor, FailsOver, FailsFrom, Unrefused}
 
 -- ---- changes
@@ -23,6 +23,12 @@ RefusesNext next s e = SqlRefuses next_text (number_value next ∷ []) s e
 -- the row is refused, or the next number once the row is there
 abbrev pub RefusesNumbered : Row → ℕ → State → Error → Type 0
 RefusesNumbered row next s e = RefusesVolume row s e ⊎ ((db : Database) × (s.now.schema ≡ schema → AddsVolume row s.now db) × RefusesNext next (record s { now = db }) e)
+
+abbrev pub RefusesFormat : State → Error → Type 0
+RefusesFormat s e = SqlRefuses format_text [] s e
+
+abbrev pub RefusesParams : ℕ → List ℕ → State → Error → Type 0
+RefusesParams volume params s e = SqlRefuses params_text (number_value volume ∷ Blob params ∷ []) s e
 
 abbrev pub RefusesRemoval : ℕ → State → Error → Type 0
 RefusesRemoval volume s e = SqlRefuses remove_text (number_value volume ∷ []) s e

@@ -6,3 +6,4 @@ pub mod Shown
 pub mod Statements
 pub mod Tables
 pub mod Texts
+pub mod Updates

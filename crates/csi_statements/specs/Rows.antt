@@ -11,6 +11,7 @@ use Rattle.sqlite.specs.Tree.{Trees, rowid}
 use Rattle.sqlite.specs.View.{is_int}
 use Rattle.sqlite_rules.specs.Lists.{Has}
 use Rattle.csi_layout.specs.Transactions.{StepsFrom, ChangesFrom, LeavesFrom}
+use Rattle.csi_layout.specs.declared.formats.TheConstants.{LATEST_FORMAT}
 use Rattle.csi_statements.specs.Tables.{schema}
 pub use Rattle.csi_layout.specs.Rows.{number_value, bool_value, meta_row, volume_row, attachment_row, seen_meta, seen_volume, seen_attachment}
 pub use Rattle.csi_layout.specs.Transactions.{IsUndone}
@@ -66,11 +67,19 @@ pub record AddsVolume (row : Row) (old new : Database) : Type 0 where
   pub meta : new.trees 0 ≡ old.trees 0
   pub attachments : new.trees 3 ≡ old.trees 3
 
--- the one row of meta has the number
+-- the one row of meta has the number, and the format that it had
 pub record SetsNext (next : ℕ) (old new : Database) : Type 0 where
   pub schema : new.schema ≡ old.schema
   pub sound : IsDatabase new
-  pub meta : (was : ℕ) → map seen_meta (old.trees 0) ≡ meta_row was ∷ [] → map seen_meta (new.trees 0) ≡ meta_row next ∷ []
+  pub meta : (format was : ℕ) → map seen_meta (old.trees 0) ≡ meta_row format was ∷ [] → map seen_meta (new.trees 0) ≡ meta_row format next ∷ []
+  pub volumes : new.trees 1 ≡ old.trees 1
+  pub attachments : new.trees 3 ≡ old.trees 3
+
+-- the one row of meta has the latest format, and the next number that it had
+pub record SetsFormat (old new : Database) : Type 0 where
+  pub schema : new.schema ≡ old.schema
+  pub sound : IsDatabase new
+  pub meta : (was next : ℕ) → map seen_meta (old.trees 0) ≡ meta_row was next ∷ [] → map seen_meta (new.trees 0) ≡ meta_row LATEST_FORMAT next ∷ []
   pub volumes : new.trees 1 ≡ old.trees 1
   pub attachments : new.trees 3 ≡ old.trees 3
 
@@ -79,5 +88,5 @@ pub record AddsNumbered (row : Row) (next : ℕ) (old new : Database) : Type 0 w
   pub schema : new.schema ≡ old.schema
   pub sound : IsDatabase new
   pub rows : IsPermutation (row ∷ old.trees 1) (new.trees 1)
-  pub meta : (was : ℕ) → map seen_meta (old.trees 0) ≡ meta_row was ∷ [] → map seen_meta (new.trees 0) ≡ meta_row next ∷ []
+  pub meta : (format was : ℕ) → map seen_meta (old.trees 0) ≡ meta_row format was ∷ [] → map seen_meta (new.trees 0) ≡ meta_row format next ∷ []
   pub attachments : new.trees 3 ≡ old.trees 3

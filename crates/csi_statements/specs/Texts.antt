@@ -7,6 +7,12 @@ add_text = codes "INSERT INTO volumes (number, name, bytes, pool, caps, params) 
 abbrev pub next_text : List ℕ
 next_text = codes "UPDATE meta SET next_number = ?1"
 
+abbrev pub format_text : List ℕ
+format_text = codes "UPDATE meta SET format_no = 2"
+
+abbrev pub params_text : List ℕ
+params_text = codes "UPDATE volumes SET params = ?2 WHERE number = ?1"
+
 abbrev pub remove_text : List ℕ
 remove_text = codes "DELETE FROM volumes WHERE number = ?1"
 

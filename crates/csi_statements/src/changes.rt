@@ -8,13 +8,14 @@ ghost use Rattle.std.specs.Prelude.{◌≡◌, ◌+◌, ◌<◌, ◌^◌, false,
 ghost use Rattle.sqlite.specs.Held.{state};
 ghost use Rattle.sqlite.specs.State.{HasCleanDisk, Survives};
 ghost use Rattle.csi_statements.specs.Deletes.{Drops, is_numbered, is_of, is_place};
-ghost use Rattle.csi_statements.specs.Failing.{FailsOver, RefusesAttachment, RefusesDetaching, RefusesDetachingAll, RefusesNumbered, RefusesRemoval};
-ghost use Rattle.csi_statements.specs.Rows.{AddsAttachment, AddsNumbered, Changes, IsUndone, Leaves, attachment_row, seen_attachment, seen_volume, volume_row};
+ghost use Rattle.csi_statements.specs.Failing.{FailsOver, RefusesAttachment, RefusesDetaching, RefusesDetachingAll, RefusesFormat, RefusesNumbered, RefusesParams, RefusesRemoval};
+ghost use Rattle.csi_statements.specs.Rows.{AddsAttachment, AddsNumbered, Changes, IsUndone, Leaves, SetsFormat, attachment_row, seen_attachment, seen_volume, volume_row};
 ghost use Rattle.csi_statements.specs.Tables.{schema};
+ghost use Rattle.csi_statements.specs.Updates.{SetsParams};
 
 use crate::statements::attachments::{delete_attachment, delete_attachments, insert_attachment};
-use crate::statements::meta::set_next;
-use crate::statements::volumes::{delete_volume, insert_volume};
+use crate::statements::meta::{set_next, update_format};
+use crate::statements::volumes::{delete_volume, insert_volume, update_params};
 use sqlite::{Alter, Connection, Error};
 
 /// Adds a volume, and makes its number plus 1 the next number.
@@ -45,6 +46,26 @@ pub fn add_volume<S: Alter>(
     tx.commit()
 }
 
+/// Sets the params of the volume of a number, which is below 2^63. They are kept as they are given,
+/// and all else of the volume stays. Where no volume has the number the tables stay.
+pub fn set_params<S: Alter>(
+    conn: &mut Connection<S>,
+    volume: u64,
+    params: &[u8],
+) -> Result<(), Error>
+    requires idle { conn.old.in_transaction ≡ false }
+    requires volume { volume < 2 ^ 63 }
+    ensures idle { conn.new.in_transaction ≡ false }
+    ensures ok { HasCleanDisk (state S.Store conn.new) → OnOk result (Changes (SetsParams volume params.now) (state S.Store conn.old) (state S.Store conn.new)) }
+    ensures err { HasCleanDisk (state S.Store conn.new) → OnErr result (IsUndone (state S.Store conn.old) (state S.Store conn.new)) }
+    ensures failed { HasCleanDisk (state S.Store conn.new) → FailsOver schema (RefusesParams volume params.now) (state S.Store conn.old) (state S.Store conn.new) result }
+    ensures survives { Survives (state S.Store conn.old) (state S.Store conn.new) (Leaves (SetsParams volume params.now) (state S.Store conn.old)) }
+{
+    let mut tx = conn.transaction();
+    update_params(&mut tx, volume, params)?;
+    tx.commit()
+}
+
 /// Removes the volume of a number, which is below 2^63. Where no volume has the number the tables stay.
 /// Its attachments are left alone.
 pub fn remove_volume<S: Alter>(conn: &mut Connection<S>, volume: u64) -> Result<(), Error>
@@ -58,6 +79,20 @@ pub fn remove_volume<S: Alter>(conn: &mut Connection<S>, volume: u64) -> Result<
 {
     let mut tx = conn.transaction();
     delete_volume(&mut tx, volume)?;
+    tx.commit()
+}
+
+/// Sets the format to `csi_layout::LATEST_FORMAT`. The next number, the volumes and the attachments stay.
+pub fn set_format<S: Alter>(conn: &mut Connection<S>) -> Result<(), Error>
+    requires idle { conn.old.in_transaction ≡ false }
+    ensures idle { conn.new.in_transaction ≡ false }
+    ensures ok { HasCleanDisk (state S.Store conn.new) → OnOk result (Changes SetsFormat (state S.Store conn.old) (state S.Store conn.new)) }
+    ensures err { HasCleanDisk (state S.Store conn.new) → OnErr result (IsUndone (state S.Store conn.old) (state S.Store conn.new)) }
+    ensures failed { HasCleanDisk (state S.Store conn.new) → FailsOver schema RefusesFormat (state S.Store conn.old) (state S.Store conn.new) result }
+    ensures survives { Survives (state S.Store conn.old) (state S.Store conn.new) (Leaves SetsFormat (state S.Store conn.old)) }
+{
+    let mut tx = conn.transaction();
+    update_format(&mut tx)?;
     tx.commit()
 }
 

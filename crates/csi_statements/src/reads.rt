@@ -22,11 +22,11 @@ use crate::statements::volumes::{
 use crate::values::{first, number_at};
 use sqlite::{Alter, Connection, Error, Row};
 
-/// The next number, in the one cell of the row.
+/// The next number, in the one cell of the row, whatever the format is.
 pub fn next_number<S: Alter>(conn: &mut Connection<S>) -> Result<Row, Error>
     requires idle { conn.old.in_transaction ≡ false }
     ensures idle { conn.new.in_transaction ≡ false }
-    ensures ok { HasCleanDisk (state S.Store conn.new) → IfOk result (λ row. Reads (λ db. (next : ℕ) → map seen_meta (db.trees 0) ≡ meta_row next ∷ [] → row ≡ number_value next ∷ []) (state S.Store conn.old)) }
+    ensures ok { HasCleanDisk (state S.Store conn.new) → IfOk result (λ row. Reads (λ db. (format next : ℕ) → map seen_meta (db.trees 0) ≡ meta_row format next ∷ [] → row ≡ number_value next ∷ []) (state S.Store conn.old)) }
     ensures undone { HasCleanDisk (state S.Store conn.new) → IsUndone (state S.Store conn.old) (state S.Store conn.new) }
     ensures failed { HasCleanDisk (state S.Store conn.new) → FailsOver schema HasNoNext (state S.Store conn.old) (state S.Store conn.new) result }
     ensures survives { Survives (state S.Store conn.old) (state S.Store conn.new) (λ _. ⊥) }

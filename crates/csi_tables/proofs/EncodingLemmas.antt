@@ -50,23 +50,23 @@ keys_of : Result Request ℕ → List CapKey
 keys_of (Ok (Create v)) = map key_back v.capabilities
 keys_of _ = []
 
-params_of : Result Request ℕ → TextMap
-params_of (Ok (Create v)) = v.parameters
-params_of _ = empty
+params_of : Result Request ℕ → TextMap × TextMap
+params_of (Ok (Create v)) = (v.parameters, v.mutable)
+params_of _ = (empty, empty)
 
 pub keys_in : List ℕ → List CapKey
 keys_in bytes = keys_of (read_request CreateVolume bytes)
 
-pub params_in : List ℕ → TextMap
+pub params_in : List ℕ → TextMap × TextMap
 params_in bytes = params_of (read_request CreateVolume bytes)
 
 pub keys_back : ReadsBack → (ks : List CapKey) → FitCaps ks → keys_in (caps_bytes ks) ≡ ks
 unfolding caps_bytes FitCaps keys_in keys_of
 keys_back back ks fit = ap keys_of (back (with_caps ks) fit) ∙ back_keys ks
 
-pub params_back : ReadsBack → (m : TextMap) → FitParams m → params_in (params_bytes m) ≡ m
+pub params_back : ReadsBack → (p m : TextMap) → FitParams p m → params_in (params_bytes p m) ≡ (p, m)
 unfolding params_bytes FitParams params_in params_of
-params_back back m fit = ap params_of (back (with_params m) fit)
+params_back back p m fit = ap params_of (back (with_params p m) fit)
 
 -- ---- what the program reads
 
@@ -91,9 +91,9 @@ capabilities_of : Request → List Capability
 capabilities_of (Create v) = v.capabilities
 capabilities_of _ = []
 
-parameters_of : Request → TextMap
-parameters_of (Create v) = v.parameters
-parameters_of _ = empty
+parameters_of : Request → TextMap × TextMap
+parameters_of (Create v) = (v.parameters, v.mutable)
+parameters_of _ = (empty, empty)
 
 -- the request that bytes are read as is the one that they were written of
 made_of : (bytes : List ℕ) (v : message.CreateVolume) (r : Request) → read_request CreateVolume bytes ≡ Ok (Create v) → read_request CreateVolume bytes ≡ Ok r → Create v ≡ r
@@ -106,10 +106,11 @@ caps_read back bytes v js read keys ks fit is =
     let same = made_of bytes v (with_caps ks) read (ap (read_request CreateVolume) is ∙ back (with_caps ks) fit) in
     same_keys ks js (keys ∙ ap (λ r. map key_of (capabilities_of r)) same)
 
-pub params_read : ReadsBack → (bytes : List ℕ) (v : message.CreateVolume) → read_request CreateVolume bytes ≡ Ok (Create v) → (m : TextMap) → FitParams m → bytes ≡ params_bytes m → v.parameters ≡ m
+pub params_read : ReadsBack → (bytes : List ℕ) (v : message.CreateVolume) → read_request CreateVolume bytes ≡ Ok (Create v) → (p m : TextMap) → FitParams p m → bytes ≡ params_bytes p m
+    → ◌≡◌ {A = TextMap × TextMap} (v.parameters, v.mutable) (p, m)
 unfolding params_bytes FitParams parameters_of
-params_read back bytes v read m fit is =
-    let same = made_of bytes v (with_params m) read (ap (read_request CreateVolume) is ∙ back (with_params m) fit) in
+params_read back bytes v read p m fit is =
+    let same = made_of bytes v (with_params p m) read (ap (read_request CreateVolume) is ∙ back (with_params p m) fit) in
     ap parameters_of same
 
 -- ---- what the program does not read
@@ -146,6 +147,6 @@ caps_without_keys back bytes v read none ks fit known is =
     let same = made_of bytes v (with_caps ks) read (ap (read_request CreateVolume) is ∙ back (with_caps ks) fit) in
     none ks (known_keys ks known ∙ ap (λ r. map key_of (capabilities_of r)) (sym same))
 
-pub params_not_read : ReadsBack → (bytes : List ℕ) → ((v : message.CreateVolume) → read_request CreateVolume bytes ≡ Ok (Create v) → ⊥) → (m : TextMap) → FitParams m → bytes ≡ params_bytes m → ⊥
+pub params_not_read : ReadsBack → (bytes : List ℕ) → ((v : message.CreateVolume) → read_request CreateVolume bytes ≡ Ok (Create v) → ⊥) → (p m : TextMap) → FitParams p m → bytes ≡ params_bytes p m → ⊥
 unfolding params_bytes FitParams
-params_not_read back bytes none m fit is = none _ (ap (read_request CreateVolume) is ∙ back (with_params m) fit)
+params_not_read back bytes none p m fit is = none _ (ap (read_request CreateVolume) is ∙ back (with_params p m) fit)

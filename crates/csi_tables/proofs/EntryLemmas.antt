@@ -1,5 +1,5 @@
 -- Entries of a finite map, under a permutation.
-use Rattle.std.proofs.Common.{◌≡◌, ◌∙◌, refl, sym, ap, subst, not, filter, ℕ, zero, suc, ◌+◌, ◌<◌, ◌≤◌, T, Bool, true, false, cond, ◌&&◌, List, [], ◌∷◌, map, length, slice_index_or, Option, Some, None, Ordering, Less, Equal, Greater, is_eq, is_lt, IsPermutation, IsSorted, arith}
+use Rattle.std.proofs.Common.{◌≡◌, ◌∙◌, inl, inr, refl, sym, ap, subst, not, filter, ℕ, zero, suc, ◌+◌, ◌<◌, ◌≤◌, T, Bool, true, false, cond, ◌&&◌, List, [], ◌∷◌, map, length, slice_index_or, Option, Some, None, Ordering, Less, Equal, Greater, is_eq, is_lt, IsPermutation, IsSorted, arith}
 use Rattle.std.specs.List.{AllByRecursion}
 use Rattle.std.specs.Ordering.{eq_by_cmp, ordering_reverse}
 use Rattle.std.specs.Cmp.{IsTotalOrder, eq_by_cmp_equiv}
@@ -7,7 +7,7 @@ use Rattle.std.specs.FinMap.{FinMap, entries, find, put, get, insert, remove, re
 use Rattle.std.specs.FinMap.Entries.{by_order, below_all, find-where_key, is_sorted-where_key}
 use Rattle.std.proofs.lemmas.Cmp.{on_total}
 use Rattle.std.proofs.lemmas.List.Sorted.{IsPermutation-refl, IsPermutation-cons, IsPermutation-trans, IsPermutation-middle, IsPermutation-sym}
-use Rattle.csi_keeper.specs.facts.Finite.{none_some}
+use Rattle.csi_keeper.specs.facts.Finite.{gone, none_some, same_some, set_anew, tied}
 use Rattle.sqlite_rules.specs.Lists.{Has}
 use Rattle.sqlite_rules.proofs.ListLemmas.{all_has, all_from}
 use Rattle.sqlite_trees.proofs.ListLemmas.{all-permutation, all-filter}
@@ -77,6 +77,20 @@ module _ {K X : Type 0} (R : K → K → Ordering) where
     pub all_inserted : (P : K × X → Type 0) (m : FinMap R X) (k : K) (v : X) → get m k ≡ None → P (k, v) → AllByRecursion P (entries m) → AllByRecursion P (entries (insert m k v))
     all_inserted P m k v none p all = subst (AllByRecursion P) (sym (entries-insert o m k v)) (all_put P k v (entries m) (sym (get-entries m k) ∙ none) p all)
 
+-- ---- an entry of a map
+
+module _ {K X : Type 0} {R : K → K → Ordering} (exact : IsAntisymmetric R) where
+  find_has : (k : K) (v : X) (es : List (K × X)) → find R k es ≡ Some v → Has es (k, v)
+  find_has k v [] f = absurd (none_some v f)
+  find_has k v (e ∷ es) f = go (eq_by_cmp R k e.0) refl f (find_has k v es)
+    where
+      go : (b : Bool) → eq_by_cmp R k e.0 ≡ b → cond b (Some e.1) (find R k es) ≡ Some v → (find R k es ≡ Some v → Has es (k, v)) → Has (e ∷ es) (k, v)
+      go true t h more = inl (λ i. (exact k e.0 (tied _ t) i, sym (same_some e.1 v h) i))
+      go false t h more = inr (more h)
+
+  pub found_has : (m : FinMap R X) (k : K) (v : X) → get m k ≡ Some v → Has (entries m) (k, v)
+  found_has m k v f = find_has k v (entries m) (sym (get-entries m k) ∙ f)
+
 pub map_back_on : {A B : Type 0} (P : A → Type 0) (encode : A → B) (decode : B → A) → ((x : A) → P x → decode (encode x) ≡ x) → (xs : List A) → AllByRecursion P xs → map decode (map encode xs) ≡ xs
 map_back_on P encode decode back [] all = refl
 map_back_on P encode decode back (x ∷ xs) all = ap (λ y. y ∷ map decode (map encode xs)) (back x all.0) ∙ ap (λ ys. x ∷ ys) (map_back_on P encode decode back xs all.1)
@@ -102,6 +116,18 @@ module _ {K X : Type 0} {R : K → K → Ordering} (o : IsTotalOrder R) (exact :
 
   pub entries-retain_keys : (m : FinMap R X) (p : K → Bool) → entries (retain_keys m p) ≡ filter (λ e. p e.0) (entries m)
   entries-retain_keys m p = entries_where m (retain_keys m p) p (alike_key R exact p) (λ q. get-retain_keys m p q (alike_key R exact p q))
+
+-- ---- entries of a map in which a key has a new value
+
+module _ {K X : Type 0} {R : K → K → Ordering} (o : IsTotalOrder R) (exact : IsAntisymmetric R) where
+  pub overwritten : (m : FinMap R X) (k : K) (v : X) → IsPermutation ((k, v) ∷ filter (λ e. not (eq_by_cmp R k e.0)) (entries m)) (entries (insert m k v))
+  overwritten m k v =
+      subst (λ (n : FinMap R X). IsPermutation ((k, v) ∷ filter (λ e. not (eq_by_cmp R k e.0)) (entries m)) (entries n)) (sym (set_anew o exact m k v))
+      (subst (λ es. IsPermutation ((k, v) ∷ es) (entries (insert (remove m k) k v))) (entries-remove o exact m k) (inserted R o (remove m k) k v (gone o exact m k)))
+
+  pub all_overwritten : (P : K × X → Type 0) (m : FinMap R X) (k : K) (v : X) → P (k, v) → AllByRecursion P (entries m) → AllByRecursion P (entries (insert m k v))
+  all_overwritten P m k v p all =
+      all-permutation P _ _ (overwritten m k v) (p, all-filter P (λ e. not (eq_by_cmp R k e.0)) (entries m) all)
 
 pub all_left : {E : Type 0} (P : E → Type 0) (p : E → Bool) (es kept : List E) → kept ≡ filter p es → AllByRecursion P es → AllByRecursion P kept
 all_left P p es kept is all = subst (AllByRecursion P) (sym is) (all-filter P p es all)

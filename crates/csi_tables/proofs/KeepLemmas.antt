@@ -13,7 +13,7 @@ use Rattle.csi_keeper.specs.declared.change.Change.{Change}
 use Rattle.csi_layout.specs.Tables.{schema}
 use Rattle.csi_statements.specs.Rows.{Changes, IsUndone, Leaves}
 use Rattle.csi_tables.specs.Encoding.{ReadsBack}
-use Rattle.csi_tables.specs.Holding.{IsRows, IsStorable, Holds, Store, conn_holds, conn_doubt, ConnIsQuiet, ConnMakes, ConnFails, StoreMakes, StoreFails}
+use Rattle.csi_tables.specs.Holding.{IsRows, IsStorable, Holds, Shows, Store, conn_holds, conn_doubt, ConnIsQuiet, ConnMakes, ConnFails, StoreMakes, StoreFails}
 use Rattle.csi_tables.proofs.StateLemmas.{same_state}
 
 kept_holds : (old new : sql.State) → IsUndone old new → (s : State) → Holds old s → Holds new s
@@ -38,22 +38,30 @@ module _ {S : Type 0} (g : Ghosts S) where
     down = refl;
   }
 
-  -- a change by one transaction
+  -- no call
+  stays_quiet : (h : Held S) → ConnIsQuiet g h h
+  stays_quiet h = record { clean = omega arith; state = λ clean s held. held; crash = λ clean t it. it; ties = λ clean tied. tied; down = refl }
+
+  -- a change by one transaction, behind a call that kept the State
   module _ (back : ReadsBack) (change : Change) (Effect : Database → Database → Type 0) (keeps : (old new : Database) → Effect old new → new.schema ≡ old.schema)
-      (steps : (s : State) (old new : Database) → old.schema ≡ schema → IsRows s old.trees → Allows s change → Effect old new → IsRows (changed s change) new.trees)
-      (old new : Held S) (h : Survives (state g old) (state g new) (Leaves Effect (state g old))) where
-    pub makes : ((s : S) (db : Trees) → IsTrue (g.view s).is_open → g.recovers s db → db ≡ (g.view s).committed) → (HasCleanDisk (state g new) → Changes Effect (state g old) (state g new))
-        → ConnMakes g old new change
-    makes settled made =
-        let after = λ (clean : HasCleanDisk (state g new)) (s : State) (held : conn_holds g old s) (allowed : Allows s change).
+      (before old new : Held S) (q : ConnIsQuiet g before old)
+      (steps : HasCleanDisk (state g new) → (s : State) → conn_holds g before s → (db after : Database) → db.schema ≡ schema → IsRows s db.trees → Allows s change → Effect db after → IsRows (changed s change) after.trees)
+      (h : Survives (state g old) (state g new) (Leaves Effect (state g old))) where
+    shown : HasCleanDisk (state g new) → (s : State) → conn_holds g before s → IsTrue (state g old).is_open → Shows (state g old) s
+    shown clean s held = q.state (omega (arith, h.clean)) s held
+
+    pub makes_behind : ((s : S) (db : Trees) → IsTrue (g.view s).is_open → g.recovers s db → db ≡ (g.view s).committed) → (HasCleanDisk (state g new) → Changes Effect (state g old) (state g new))
+        → ConnMakes g before new change
+    makes_behind settled made =
+        let after = λ (clean : HasCleanDisk (state g new)) (s : State) (held : conn_holds g before s) (allowed : Allows s change).
         let it = made clean in
-        let shows = held it.was_open in
-        steps s (state g old).now (state g new).now shows.schema shows.rows allowed (it.effect shows.schema) in
+        let shows = shown clean s held it.was_open in
+        steps clean s held (state g old).now (state g new).now shows.schema shows.rows allowed (it.effect shows.schema) in
         record {
-          clean = h.clean;
+          clean = omega (arith, q.clean, h.clean);
           state = λ clean s held allowed is_open.
               let it = made clean in
-              let shows = held it.was_open in
+              let shows = shown clean s held it.was_open in
               record { schema = keeps _ _ (it.effect shows.schema) ∙ shows.schema; settled = sym it.committed; rows = after clean s held allowed };
           settled = λ clean s held allowed t it.
               let done = made clean in
@@ -66,45 +74,35 @@ module _ {S : Type 0} (g : Ghosts S) where
           down = refl;
         }
 
+    pub fails_behind : (HasCleanDisk (state g new) → IsUndone (state g old) (state g new)) → ConnFails g before new change
+    fails_behind undone =
+        record {
+          clean = omega (arith, q.clean, h.clean);
+          state = λ clean s held allowed. kept_holds (state g old) (state g new) (undone clean) s (q.state (omega (arith, h.clean)) s held);
+          crash = λ clean s held allowed t it. elim (h.crash clean it.0 it.1) [
+            | inl same ↦ inl (q.crash (omega (arith, h.clean)) t (it.0, same, it.2))
+            | inr left ↦
+                let shows = shown clean s held left.0 in
+                inr (same_state back t (changed s change) left.1.trees (subst (IsRows t) left.3 it.2) (steps clean s held (state g old).now left.1 shows.schema shows.rows allowed (left.2 shows.schema)))
+          ];
+          ties = λ clean s held allowed tied _ trees may. elim (h.crash clean trees may) [
+            | inl same ↦ q.ties (omega (arith, h.clean)) tied (omega (arith, h.clean)) trees same
+            | inr left ↦
+                let shows = shown clean s held left.0 in
+                (changed s change, subst (IsRows (changed s change)) (sym left.3) (steps clean s held (state g old).now left.1 shows.schema shows.rows allowed (left.2 shows.schema)))
+          ];
+        }
+
+  -- a change by one transaction
+  module _ (back : ReadsBack) (change : Change) (Effect : Database → Database → Type 0) (keeps : (old new : Database) → Effect old new → new.schema ≡ old.schema)
+      (steps : (s : State) (db after : Database) → db.schema ≡ schema → IsRows s db.trees → Allows s change → Effect db after → IsRows (changed s change) after.trees)
+      (old new : Held S) (h : Survives (state g old) (state g new) (Leaves Effect (state g old))) where
+    pub makes : ((s : S) (db : Trees) → IsTrue (g.view s).is_open → g.recovers s db → db ≡ (g.view s).committed) → (HasCleanDisk (state g new) → Changes Effect (state g old) (state g new))
+        → ConnMakes g old new change
+    makes = makes_behind back change Effect keeps old old new (stays_quiet old) (λ clean s held. steps s) h
+
     pub fails : (HasCleanDisk (state g new) → IsUndone (state g old) (state g new)) → ConnFails g old new change
-    fails undone = record {
-      clean = h.clean;
-      state = λ clean s held allowed. kept_holds (state g old) (state g new) (undone clean) s held;
-      crash = λ clean s held allowed t it. elim (h.crash clean it.0 it.1) [
-        | inl before ↦ inl (it.0, before, it.2)
-        | inr left ↦
-            let shows = held left.0 in
-            inr (same_state back t (changed s change) left.1.trees (subst (IsRows t) left.3 it.2) (steps s (state g old).now left.1 shows.schema shows.rows allowed (left.2 shows.schema)))
-      ];
-      ties = λ clean s held allowed tied _ trees may. elim (h.crash clean trees may) [
-        | inl before ↦ tied (omega (arith, h.clean)) trees before
-        | inr left ↦ (changed s change, subst (IsRows (changed s change)) (sym left.3) (steps s (state g old).now left.1 (held left.0).schema (held left.0).rows allowed (left.2 (held left.0).schema)))
-      ];
-    }
-
--- ---- a read before a change
-
-module _ {S : Type 0} (g : Ghosts S) (change : Change) (a b d : Held S) where
-  pub makes_after : ConnIsQuiet g a b → ConnMakes g b d change → ConnMakes g a d change
-  makes_after q m =
-      let before : conn_doubt g d ≡ 0 → conn_doubt g b ≡ 0 = λ z. omega (arith, m.clean) in
-      record {
-        clean = omega (arith, q.clean, m.clean);
-        state = λ z s held. m.state z s (q.state (before z) s held);
-        settled = λ z s held. m.settled z s (q.state (before z) s held);
-        ties = λ z s held allowed tied. m.ties z s (q.state (before z) s held) allowed (q.ties (before z) tied);
-        down = refl;
-      }
-
-  pub fails_after : ConnIsQuiet g a b → ConnFails g b d change → ConnFails g a d change
-  fails_after q m =
-      let before : conn_doubt g d ≡ 0 → conn_doubt g b ≡ 0 = λ z. omega (arith, m.clean) in
-      record {
-        clean = omega (arith, q.clean, m.clean);
-        state = λ z s held. m.state z s (q.state (before z) s held);
-        crash = λ z s held allowed t it. elim (m.crash z s (q.state (before z) s held) allowed t it) [ inl old ↦ inl (q.crash (before z) t old) | inr made ↦ inr made ];
-        ties = λ z s held allowed tied. m.ties z s (q.state (before z) s held) allowed (q.ties (before z) tied);
-      }
+    fails = fails_behind back change Effect keeps old old new (stays_quiet old) (λ clean s held. steps s) h
 
 module _ {S : Type 0} (g : Ghosts S) (change : Change) (old new : Held S) where
   -- a read that fails makes no change
@@ -126,14 +124,25 @@ module _ {S : Type 0} (g : Ghosts S) (change : Change) (old new : Held S) where
     down = refl;
   }
 
+module _ {S : Type 0} (g : Ghosts S) (change : Change) (old new : Held S) where
+  -- a read that finds that the change is not allowed
+  pub makes_never : ConnIsQuiet g old new → (conn_doubt g new ≡ 0 → (s : State) → conn_holds g old s → Allows s change → ⊥) → ConnMakes g old new change
+  makes_never q never = record {
+    clean = q.clean;
+    state = λ z s held allowed. absurd (never z s held allowed);
+    settled = λ z s held allowed. absurd (never z s held allowed);
+    ties = λ z s held allowed. absurd (never z s held allowed);
+    down = refl;
+  }
+
 -- ---- the totals beside a connection
 
 module _ {S : Type 0} (g : Ghosts S) (change : Change) (old new : Store S) where
   pub store_makes : ((s : State) → conn_doubt g new.0 ≡ 0 → conn_holds g old.0 s → Allows s change → IsStorable s → AreTotals old.1 s → AreTotals new.1 (changed s change))
-      → ((s : State) → Allows s change → IsStorable s → IsStorable (changed s change)) → ConnMakes g old.0 new.0 change → StoreMakes g old new change
+      → ((s : State) → conn_doubt g new.0 ≡ 0 → conn_holds g old.0 s → Allows s change → IsStorable s → IsStorable (changed s change)) → ConnMakes g old.0 new.0 change → StoreMakes g old new change
   store_makes totals storable h = record {
     clean = h.clean;
-    state = λ clean s held allowed. (h.state clean s held.0 allowed, totals s clean held.0 allowed held.2 held.1, storable s allowed held.2);
+    state = λ clean s held allowed. (h.state clean s held.0 allowed, totals s clean held.0 allowed held.2 held.1, storable s clean held.0 allowed held.2);
     settled = λ clean s held allowed. h.settled clean s held.0 allowed;
     ties = λ clean s held allowed. h.ties clean s held.0 allowed;
     down = refl;

@@ -1,5 +1,5 @@
 -- A State of the invariant has known modes.
-use Rattle.std.proofs.Common.{◌≡◌, ℕ, pos, true, ◌&&◌, Bool, false, refl, List, [], ◌∷◌, Some}
+use Rattle.std.proofs.Common.{◌≡◌, pos, true, ◌&&◌, Bool, false, refl, List, [], ◌∷◌, Some}
 use Rattle.std.specs.FinMap as fin
 use Rattle.std.specs.List.{list_all}
 use Rattle.std.specs.Cmp.{nat_cmp_total}

@@ -14,6 +14,7 @@ use Rattle.csi_keeper.specs.declared.change.StoreFault.TheVariants as store
 use Rattle.csi_layout.specs.Failing as fails
 use Rattle.csi_layout.specs.Failing.{SqlRefuses}
 use Rattle.csi_layout.specs.Tables.{schema}
+use Rattle.csi_layout.specs.declared.formats.TheConstants.{LATEST_FORMAT}
 use Rattle.csi_statements.specs.Failing.{FailsFor, HasNoNext, Unrefused}
 use Rattle.csi_statements.specs.Rows.{IsUndone, meta_row, seen_meta}
 use Rattle.csi_tables.specs.Answers.{answered, of_database}
@@ -59,7 +60,7 @@ module _ {S : Type 0} (g : Ghosts S) (old new : Held S) where
 
   -- meta has a row
   pub next_refused : (e : Error) (s : State) → of_database e ≡ Refused → (old.schema ≡ schema → FailsFor (HasNoNext (state g old)) (state g old) (state g new) e) → conn_holds g old s → IsRefusal ⊥ (state g old) (state g new)
-  next_refused e s told failed held = call_refused HasNoNext ⊥ e s (λ shows none. let is : [] ≡ meta_row s.next ∷ [] = sym (ap (map seen_meta) none.1) ∙ shows.rows.meta in absurd cc) told failed held
+  next_refused e s told failed held = call_refused HasNoNext ⊥ e s (λ shows none. let is : [] ≡ meta_row LATEST_FORMAT s.next ∷ [] = sym (ap (map seen_meta) none.1) ∙ shows.rows.meta in absurd cc) told failed held
 
 -- ---- a change behind a read
 

@@ -1,5 +1,5 @@
 -- The rows after a change.
-use Rattle.std.proofs.Common.{◌≡◌, ◌∙◌, refl, sym, ap, ap₂, subst, ℕ, ◌+◌, ◌<◌, ◌^◌, ◌==◌, ◌&&◌, not, pos, List, [], ◌∷◌, map, filter, Bool, true, false, cond, None, Some, ◌≤◌, IsUtf8, IsPermutation, is_eq, Ordering, Less, arith, inl, inr}
+use Rattle.std.proofs.Common.{◌≡◌, ◌∙◌, refl, sym, ap, ap₂, subst, ℕ, ◌+◌, ◌<◌, ◌^◌, ◌==◌, ◌&&◌, not, pos, List, [], ◌∷◌, map, filter, Bool, true, false, cond, None, Option, Some, ◌≤◌, IsUtf8, IsPermutation, is_eq, Ordering, Less, arith, inl, inr}
 use Rattle.std.specs.Cmp.{nat_cmp_total, IsTotalOrder}
 use Rattle.std.specs.FinMap.{FinMap, entries, find, get, get-entries, entries_sorted, same_entries_map, nat_cmp-IsAntisymmetric}
 use Rattle.std.specs.List.{AllByRecursion}
@@ -18,24 +18,27 @@ use Rattle.sqlite_rules.proofs.ListLemmas.{all_has, has_filtered}
 use Rattle.sqlite_rules.proofs.ProbeLemmas.{has_mapped, mapped_has}
 use Rattle.sqlite_rules.specs.Lists.{Has}
 use Rattle.sqlite_value.proofs.OrderLemmas.{value_cmp-Int}
-use Rattle.csi_keeper.specs.State.{State, Place, place_cmp, changed, Allows}
+use Rattle.csi_types.specs.Maps.{TextMap}
+use Rattle.csi_keeper.specs.State.{State, Place, place_cmp, changed, mutable_set, with_mutable, Allows}
 use Rattle.csi_keeper.specs.Texts.{text_cmp}
-use Rattle.csi_keeper.specs.declared.change.Change.TheVariants.{AddVolume, RemoveVolume, Attach, Detach, DetachAll}
+use Rattle.csi_keeper.specs.declared.change.Change.TheVariants.{AddVolume, RemoveVolume, Attach, Detach, DetachAll, SetMutable}
 use Rattle.csi_keeper.specs.declared.volume.Attachment.{Attachment}
 use Rattle.csi_keeper.specs.declared.volume.Volume.{Volume}
 use Rattle.csi_keeper.specs.facts.Finite.{not_there}
 use Rattle.csi_keeper.specs.facts.Orders.{place_total, place_exact}
 use Rattle.csi_layout.specs.Tables.{schema}
+use Rattle.csi_layout.specs.declared.formats.TheConstants.{LATEST_FORMAT}
 use Rattle.csi_statements.specs.Deletes.{is_same, is_place, is_of, is_numbered, Drops}
-use Rattle.csi_statements.specs.Rows.{meta_row, seen_meta, seen_volume, seen_attachment, volume_row, attachment_row, AreKeyed, AddsAttachment, AddsNumbered}
+use Rattle.csi_statements.specs.Rows.{meta_row, seen_meta, seen_volume, seen_attachment, volume_row, attachment_row, AreKeyed, AddsAttachment, AddsNumbered, SetsFormat}
+use Rattle.csi_statements.specs.Updates.{SetsParams}
 use Rattle.csi_tables.specs.Encoding.{caps_bytes, params_bytes, FitCaps, FitParams}
-use Rattle.csi_tables.specs.Holding.{IsRows, IsStorable, IsStored, IsPlaced, volume_entry, attachment_entry}
-use Rattle.csi_tables.proofs.EntryLemmas.{inserted, all_inserted, all_left, entries-remove, entries-retain_keys, has_permuted, rises}
+use Rattle.csi_tables.specs.Holding.{IsRows, IsRowsOf, IsStorable, IsStored, IsPlaced, volume_entry, attachment_entry}
+use Rattle.csi_tables.proofs.EntryLemmas.{inserted, all_inserted, all_left, all_overwritten, entries-remove, entries-retain_keys, found_has, has_permuted, overwritten, rises}
 use Rattle.csi_tables.proofs.TestLemmas.{same_numbers, same_texts, both_eq}
 
 -- ---- a State that rows can say, after a change
 
-pub storable_added : (s : State) (v : Volume) → v.number < 2 ^ 63 → IsUtf8 v.name → IsUtf8 v.pool → FitCaps v.caps → FitParams v.params → Allows s (AddVolume v) → IsStorable s → IsStorable (changed s (AddVolume v))
+pub storable_added : (s : State) (v : Volume) → v.number < 2 ^ 63 → IsUtf8 v.name → IsUtf8 v.pool → FitCaps v.caps → FitParams v.params v.mutable → Allows s (AddVolume v) → IsStorable s → IsStorable (changed s (AddVolume v))
 storable_added s v low name pool caps params allowed h = record {
   volumes = all_inserted nat_cmp nat_cmp_total IsStored s.volumes v.number v allowed.1 (record { number = refl; small = low; name = name; pool = pool; caps = caps; params = params }) h.volumes;
   attachments = h.attachments;
@@ -59,6 +62,15 @@ storable_detached_all s n h = record {
   attachments = all_left _ _ (entries s.attachments) _ (entries-retain_keys place_total place_exact s.attachments (λ q. not (q.0 == n))) h.attachments;
 }
 
+pub storable_mutable : (s : State) (n : ℕ) (m : TextMap) (v : Volume) → get s.volumes n ≡ Some v → FitParams v.params m → IsStorable s → IsStorable (changed s (SetMutable n m))
+storable_mutable s n m v stands fit h =
+    let was : IsStored (n, v) = all_has IsStored (entries s.volumes) (n, v) h.volumes (found_has nat_cmp-IsAntisymmetric s.volumes n v stands) in
+    record {
+      volumes = subst (λ (o : Option Volume). AllByRecursion IsStored (entries (mutable_set s.volumes n m o))) (sym stands)
+          (all_overwritten nat_cmp_total nat_cmp-IsAntisymmetric IsStored s.volumes n (with_mutable m v) (record { number = was.number; small = was.small; name = was.name; pool = was.pool; caps = was.caps; params = fit }) h.volumes);
+      attachments = h.attachments;
+    }
+
 -- ---- a number that no row can say
 
 not_small : (n : ℕ) (es : List (ℕ × Volume)) → 2 ^ 63 ≤ n → AllByRecursion IsStored es → find nat_cmp n es ≡ None
@@ -76,6 +88,13 @@ not_placed n node (e ∷ es) far all =
 
 pub none_removed : (n : ℕ) (s : State) → get s.volumes n ≡ None → changed s (RemoveVolume n) ≡ s
 none_removed n s none = ap (λ (m : FinMap nat_cmp Volume). record s { volumes = m }) (not_there nat_cmp_total nat_cmp-IsAntisymmetric s.volumes n none)
+
+-- what is set of no volume
+pub none_set : (n : ℕ) (m : TextMap) (s : State) → get s.volumes n ≡ None → changed s (SetMutable n m) ≡ s
+none_set n m s none = ap (λ (o : Option Volume). record s { volumes = mutable_set s.volumes n m o }) none
+
+pub nothing_set : (n : ℕ) (m : TextMap) → 2 ^ 63 ≤ n → (s : State) → IsStorable s → changed s (SetMutable n m) ≡ s
+nothing_set n m far s h = none_set n m s (no_volume s n far h)
 
 pub nothing_removed : (n : ℕ) → 2 ^ 63 ≤ n → (s : State) → IsStorable s → changed s (RemoveVolume n) ≡ s
 nothing_removed n far s h = none_removed n s (no_volume s n far h)
@@ -199,14 +218,43 @@ rows_attached s n a old new has p low text fit none h = record {
   sound = sound_after new (h.schema ∙ has) h.sound;
 }
 
-pub rows_added : (s : State) (v : Volume) (old new : Database) → old.schema ≡ schema → IsRows s old.trees → v.number < 2 ^ 63 → IsUtf8 v.name → IsUtf8 v.pool → FitCaps v.caps → FitParams v.params → Allows s (AddVolume v)
-    → AddsNumbered (volume_row v.number v.name v.bytes v.pool (caps_bytes v.caps) (params_bytes v.params)) (v.number + 1) old new → IsRows (changed s (AddVolume v)) new.trees
+pub rows_added : (s : State) (v : Volume) (old new : Database) → old.schema ≡ schema → IsRows s old.trees → v.number < 2 ^ 63 → IsUtf8 v.name → IsUtf8 v.pool → FitCaps v.caps → FitParams v.params v.mutable → Allows s (AddVolume v)
+    → AddsNumbered (volume_row v.number v.name v.bytes v.pool (caps_bytes v.caps) (params_bytes v.params v.mutable)) (v.number + 1) old new → IsRows (changed s (AddVolume v)) new.trees
 rows_added s v old new has p low name pool caps params allowed h = record {
-  meta = h.meta s.next p.meta ∙ ap (λ n. meta_row (n + 1) ∷ []) allowed.0;
+  meta = h.meta LATEST_FORMAT s.next p.meta ∙ ap (λ n. meta_row LATEST_FORMAT (n + 1) ∷ []) allowed.0;
   volumes = IsPermutation-trans _ _ _ (IsPermutation-sym _ _ (IsPermutation-map volume_entry _ _ (inserted nat_cmp nat_cmp_total s.volumes v.number v allowed.1)))
       (IsPermutation-trans _ _ _ (IsPermutation-cons _ _ _ p.volumes) (IsPermutation-map seen_volume _ _ h.rows));
   attachments = subst (λ rows. IsPermutation (map attachment_entry (entries s.attachments)) (map seen_attachment rows)) (sym h.attachments) p.attachments;
   keyed = subst (AreKeyed seen_attachment) (sym h.attachments) p.keyed;
   storable = storable_added s v low name pool caps params allowed p.storable;
+  sound = sound_after new (h.schema ∙ has) h.sound;
+}
+
+-- the row of the volume goes, and the one with the map comes
+pub rows_mutable : (s : State) (n : ℕ) (m : TextMap) (v : Volume) (old new : Database) → old.schema ≡ schema → IsRows s old.trees → get s.volumes n ≡ Some v → FitParams v.params m → SetsParams n (params_bytes v.params m) old new
+    → IsRows (changed s (SetMutable n m)) new.trees
+rows_mutable s n m v old new has p stands fit h =
+    let there = has_permuted _ _ (volume_entry (n, v)) (IsPermutation-sym _ _ p.volumes) (mapped_has volume_entry (entries s.volumes) (n, v) (found_has nat_cmp-IsAntisymmetric s.volumes n v stands)) in
+    let rows = h.rows (volumes_keyed s.volumes (old.trees 1) p.volumes) v.name v.bytes v.pool (caps_bytes v.caps) (params_bytes v.params v.mutable) there in
+    let left = filtered_rows volume_entry seen_volume (entries s.volumes) _ (old.trees 1) _ (λ e. not (eq_by_cmp nat_cmp n e.0)) (is_numbered n) (λ x. is_same (column x 0) (Int (pos n))) (λ e. ap not (same_numbers e.0 n)) (λ r. refl) refl refl p.volumes in
+    record {
+      meta = ap (map seen_meta) h.meta ∙ p.meta;
+      volumes = subst (λ (o : Option Volume). IsPermutation (map volume_entry (entries (mutable_set s.volumes n m o))) (map seen_volume (new.trees 1))) (sym stands)
+          (IsPermutation-trans _ _ _ (IsPermutation-sym _ _ (IsPermutation-map volume_entry _ _ (overwritten nat_cmp_total nat_cmp-IsAntisymmetric s.volumes n (with_mutable m v))))
+          (IsPermutation-trans _ _ _ (IsPermutation-cons (volume_entry (n, with_mutable m v)) _ _ left) (IsPermutation-map seen_volume _ _ rows)));
+      attachments = subst (λ rows. IsPermutation (map attachment_entry (entries s.attachments)) (map seen_attachment rows)) (sym h.attachments) p.attachments;
+      keyed = subst (AreKeyed seen_attachment) (sym h.attachments) p.keyed;
+      storable = storable_mutable s n m v stands fit p.storable;
+      sound = sound_after new (h.schema ∙ has) h.sound;
+    }
+
+-- rows of another format, once they have the number of this one
+pub rows_latest : (format : ℕ) (s : State) (old new : Database) → old.schema ≡ schema → IsRowsOf format s old.trees → SetsFormat old new → IsRows s new.trees
+rows_latest format s old new has p h = record {
+  meta = h.meta format s.next p.meta;
+  volumes = subst (λ rows. IsPermutation (map volume_entry (entries s.volumes)) (map seen_volume rows)) (sym h.volumes) p.volumes;
+  attachments = subst (λ rows. IsPermutation (map attachment_entry (entries s.attachments)) (map seen_attachment rows)) (sym h.attachments) p.attachments;
+  keyed = subst (AreKeyed seen_attachment) (sym h.attachments) p.keyed;
+  storable = p.storable;
   sound = sound_after new (h.schema ∙ has) h.sound;
 }

@@ -1,5 +1,5 @@
 -- Rows stand for one State.
-use Rattle.std.proofs.Common.{◌≡◌, ◌∙◌, refl, sym, ap, subst, ℕ, suc, pos, List, [], ◌∷◌, map, Bool, true, false, get_or, slice_index_or, IsPermutation}
+use Rattle.std.proofs.Common.{◌≡◌, ◌∙◌, inl, inr, refl, sym, ap, subst, ℕ, suc, pos, List, [], ◌∷◌, map, Bool, true, false, get_or, slice_index_or, IsPermutation}
 use Rattle.std.specs.Cmp.{nat_cmp_total}
 use Rattle.std.specs.FinMap.{entries}
 use Rattle.std.specs.Ordering.{nat_cmp}
@@ -13,9 +13,10 @@ use Rattle.csi_keeper.specs.declared.capability.Kind.TheVariants.{Block}
 use Rattle.csi_keeper.specs.declared.volume.Attachment.{Attachment}
 use Rattle.csi_keeper.specs.declared.volume.Volume.{Volume}
 use Rattle.csi_keeper.specs.facts.Orders.{place_total}
+use Rattle.csi_layout.specs.declared.formats.TheConstants.{FIRST_FORMAT, LATEST_FORMAT}
 use Rattle.csi_statements.specs.Rows.{bool_value, meta_row}
 use Rattle.csi_tables.specs.Encoding.{ReadsBack}
-use Rattle.csi_tables.specs.Holding.{IsRows, IsStored, IsPlaced, volume_entry, attachment_entry}
+use Rattle.csi_tables.specs.Holding.{IsEitherRows, IsRows, IsRowsOf, IsStored, IsPlaced, volume_entry, attachment_entry}
 use Rattle.csi_tables.proofs.EncodingLemmas.{keys_in, params_in, keys_back, params_back}
 use Rattle.csi_tables.proofs.EntryLemmas.{same_if_permuted, map_back_on}
 
@@ -42,26 +43,27 @@ flag_back false = refl
 
 module _ (back : ReadsBack) where
   volume_of : Row → ℕ × Volume
-  volume_of row = (nat_of (column row 0), record { number = nat_of (column row 0); name = text_of (column row 1); bytes = nat_of (column row 2); pool = text_of (column row 3); caps = keys_in (blob_of (column row 4)); params = params_in (blob_of (column row 5)) })
+  volume_of row = (nat_of (column row 0), record { number = nat_of (column row 0); name = text_of (column row 1); bytes = nat_of (column row 2); pool = text_of (column row 3); caps = keys_in (blob_of (column row 4)); params = (params_in (blob_of (column row 5))).0; mutable = (params_in (blob_of (column row 5))).1 })
 
   attachment_of : Row → Place × Attachment
   attachment_of row = ((nat_of (column row 0), text_of (column row 1)), record { node = text_of (column row 1); cap = get_or (keys_in (blob_of (column row 2))) 0 (record { kind = Block; mode = 0 }); readonly = flag_of (column row 3) })
 
   volume_back : (e : ℕ × Volume) → IsStored e → volume_of (volume_entry e) ≡ e
   unfolding volume_of nat_of text_of blob_of
-  volume_back e h = λ i. (e.0, record { number = sym h.number i; name = e.1.name; bytes = e.1.bytes; pool = e.1.pool; caps = keys_back back e.1.caps h.caps i; params = params_back back e.1.params h.params i })
+  volume_back e h = λ i. (e.0, record { number = sym h.number i; name = e.1.name; bytes = e.1.bytes; pool = e.1.pool; caps = keys_back back e.1.caps h.caps i; params = (params_back back e.1.params e.1.mutable h.params i).0; mutable = (params_back back e.1.params e.1.mutable h.params i).1 })
 
   attachment_back : (e : Place × Attachment) → IsPlaced e → attachment_of (attachment_entry e) ≡ e
   unfolding attachment_of nat_of text_of blob_of
   attachment_back e h = λ i. (e.0, record { node = sym h.node i; cap = get_or (keys_back back (e.1.cap ∷ []) h.cap i) 0 (record { kind = Block; mode = 0 }); readonly = flag_back e.1.readonly i })
 
-  same_next : (a b : ℕ) → meta_row a ∷ [] ≡ meta_row b ∷ [] → a ≡ b
+  same_next : (f g a b : ℕ) → meta_row f a ∷ [] ≡ meta_row g b ∷ [] → a ≡ b
   unfolding nat_of
-  same_next a b e = ap (λ rows. nat_of (column (slice_index_or rows 0 []) 2)) e
+  same_next f g a b e = ap (λ rows. nat_of (column (slice_index_or rows 0 []) 2)) e
 
-  pub same_state : (s t : State) (db : Trees) → IsRows s db → IsRows t db → s ≡ t
-  same_state s t db p q =
-      let next = same_next _ _ (sym p.meta ∙ q.meta) in
+  -- of either format
+  same_state_of : (f g : ℕ) (s t : State) (db : Trees) → IsRowsOf f s db → IsRowsOf g t db → s ≡ t
+  same_state_of f g s t db p q =
+      let next = same_next f g _ _ (sym p.meta ∙ q.meta) in
       let volumes = same_if_permuted nat_cmp nat_cmp_total s.volumes t.volumes (
       subst (λ xs. IsPermutation xs (entries t.volumes)) (map_back_on _ volume_entry volume_of volume_back (entries s.volumes) p.storable.volumes)
       (subst (IsPermutation (map volume_of (map volume_entry (entries s.volumes)))) (map_back_on _ volume_entry volume_of volume_back (entries t.volumes) q.storable.volumes)
@@ -71,3 +73,12 @@ module _ (back : ReadsBack) where
       (subst (IsPermutation (map attachment_of (map attachment_entry (entries s.attachments)))) (map_back_on _ attachment_entry attachment_of attachment_back (entries t.attachments) q.storable.attachments)
       (IsPermutation-map attachment_of _ _ (IsPermutation-trans _ _ _ p.attachments (IsPermutation-sym _ _ q.attachments))))) in
       λ i. record { next = next i; volumes = volumes i; attachments = attachments i }
+
+  pub same_state : (s t : State) (db : Trees) → IsRows s db → IsRows t db → s ≡ t
+  same_state = same_state_of LATEST_FORMAT LATEST_FORMAT
+
+  pub same_either : (s t : State) (db : Trees) → IsEitherRows s db → IsEitherRows t db → s ≡ t
+  same_either s t db (inl p) (inl q) = same_state_of FIRST_FORMAT FIRST_FORMAT s t db p.0 q.0
+  same_either s t db (inl p) (inr q) = same_state_of FIRST_FORMAT LATEST_FORMAT s t db p.0 q
+  same_either s t db (inr p) (inl q) = same_state_of LATEST_FORMAT FIRST_FORMAT s t db p q.0
+  same_either s t db (inr p) (inr q) = same_state_of LATEST_FORMAT LATEST_FORMAT s t db p q

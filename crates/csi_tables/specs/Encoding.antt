@@ -12,9 +12,9 @@ use Rattle.csi_codec.specs.Reading.{read_request}
 use Rattle.csi_keeper.specs.Capability.{capability_of}
 use Rattle.csi_keeper.specs.declared.capability.CapKey.{CapKey}
 
--- a request with these capabilities (field 3) and parameters (field 4) alone
-abbrev pub create_with : List Capability → TextMap → Request
-create_with capabilities parameters = request.Create (record {
+-- a request with these capabilities (field 3), parameters (field 4) and mutable parameters (field 8) alone
+abbrev pub create_with : List Capability → TextMap → TextMap → Request
+create_with capabilities parameters mutable = request.Create (record {
   name = [];
   range = None;
   capabilities = capabilities;
@@ -22,27 +22,29 @@ create_with capabilities parameters = request.Create (record {
   secrets = empty;
   source = false;
   topology = None;
+  mutable = mutable;
 })
 
 -- the capabilities of keys, without mount flags and mount group
 abbrev pub with_caps : List CapKey → Request
-with_caps keys = create_with (map capability_of keys) empty
+with_caps keys = create_with (map capability_of keys) empty empty
 
-abbrev pub with_params : TextMap → Request
-with_params params = create_with [] params
+-- the parameters of a volume, and beside them its mutable ones: where it has none of these the field is absent
+abbrev pub with_params : TextMap → TextMap → Request
+with_params params mutable = create_with [] params mutable
 
 unfoldable pub caps_bytes : List CapKey → List ℕ
 caps_bytes keys = request_bytes (with_caps keys)
 
-unfoldable pub params_bytes : TextMap → List ℕ
-params_bytes params = request_bytes (with_params params)
+unfoldable pub params_bytes : TextMap → TextMap → List ℕ
+params_bytes params mutable = request_bytes (with_params params mutable)
 
 -- what can be read again
 unfoldable pub FitCaps : List CapKey → Type 0
 FitCaps keys = FitsRequest (with_caps keys)
 
-unfoldable pub FitParams : TextMap → Type 0
-FitParams params = FitsRequest (with_params params)
+unfoldable pub FitParams : TextMap → TextMap → Type 0
+FitParams params mutable = FitsRequest (with_params params mutable)
 
 -- the modes are known, so that the capability of each key has that key
 abbrev pub AreKnown : List CapKey → Type 0

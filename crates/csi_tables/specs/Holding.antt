@@ -1,7 +1,7 @@
 -- The rows that stand for a State, and what a connection over them holds.
-use Rattle.std.specs.Prelude.{◌≡◌, ℕ, ◌<◌, ◌^◌, Bool, false, [], ◌∷◌, map, IsPermutation, IsTrue, IsUtf8}
+use Rattle.std.specs.Prelude.{◌≡◌, ◌⊎◌, ℕ, ◌<◌, ◌^◌, Bool, false, [], ◌∷◌, map, IsPermutation, IsTrue, IsUtf8}
 use Rattle.std.specs.List.{AllByRecursion}
-use Rattle.std.specs.FinMap.{entries}
+use Rattle.std.specs.FinMap.{empty, entries}
 use Rattle.sqlite.specs.Held.{Held, state}
 use Rattle.sqlite.specs.Order.{Row}
 use Rattle.sqlite.specs.State as sql
@@ -19,14 +19,15 @@ use Rattle.csi_keeper.specs.declared.totals.Totals.{Totals}
 use Rattle.csi_keeper.specs.declared.volume.Attachment.{Attachment}
 use Rattle.csi_keeper.specs.declared.volume.Volume.{Volume}
 use Rattle.csi_layout.specs.Tables.{schema}
+use Rattle.csi_layout.specs.declared.formats.TheConstants.{FIRST_FORMAT, LATEST_FORMAT}
 use Rattle.csi_statements.specs.Rows.{number_value, bool_value, meta_row, seen_meta, seen_volume, seen_attachment, AreKeyed}
 use Rattle.csi_tables.specs.Encoding.{caps_bytes, params_bytes, AreKnown, FitCaps, FitParams}
 
 -- ---- rows
 
--- number, name, bytes, pool, caps, params
+-- number, name, bytes, pool, caps, and both kinds of parameters
 abbrev pub volume_entry : ℕ × Volume → Row
-volume_entry e = number_value e.0 ∷ Text e.1.name ∷ number_value e.1.bytes ∷ Text e.1.pool ∷ Blob (caps_bytes e.1.caps) ∷ Blob (params_bytes e.1.params) ∷ []
+volume_entry e = number_value e.0 ∷ Text e.1.name ∷ number_value e.1.bytes ∷ Text e.1.pool ∷ Blob (caps_bytes e.1.caps) ∷ Blob (params_bytes e.1.params e.1.mutable) ∷ []
 
 -- number, node, cap, readonly
 abbrev pub attachment_entry : Place × Attachment → Row
@@ -43,7 +44,7 @@ pub record IsStored (e : ℕ × Volume) : Type 0 where
   pub name : IsUtf8 e.1.name
   pub pool : IsUtf8 e.1.pool
   pub caps : FitCaps e.1.caps
-  pub params : FitParams e.1.params
+  pub params : FitParams e.1.params e.1.mutable
 
 -- an attachment that a row can say
 pub record IsPlaced (e : Place × Attachment) : Type 0 where
@@ -67,15 +68,40 @@ pub record IsStorable (s : State) : Type 0 where
   pub volumes : AllByRecursion IsStored (entries s.volumes)
   pub attachments : AllByRecursion IsPlaced (entries s.attachments)
 
--- What a SELECT of all columns sees of the three tables is the State, in any order.
-pub record IsRows (s : State) (db : Trees) : Type 0 where
-  pub meta : map seen_meta (db 0) ≡ meta_row s.next ∷ []
+-- What a SELECT of all columns sees of the three tables, in a format, is the State, in any order.
+pub record IsRowsOf (format : ℕ) (s : State) (db : Trees) : Type 0 where
+  pub meta : map seen_meta (db 0) ≡ meta_row format s.next ∷ []
   pub volumes : IsPermutation (map volume_entry (entries s.volumes)) (map seen_volume (db 1))
   pub attachments : IsPermutation (map attachment_entry (entries s.attachments)) (map seen_attachment (db 3))
   -- the rows of attachments have rowids of their own
   pub keyed : AreKeyed seen_attachment (db 3)
   pub storable : IsStorable s
   pub sound : IsSound schema db
+
+-- those of the format that is written
+abbrev pub IsRows : State → Trees → Type 0
+IsRows s db = IsRowsOf LATEST_FORMAT s db
+
+-- no volume has mutable parameters
+abbrev pub AreUnmodified : State → Type 0
+AreUnmodified s = AllByRecursion (λ e. e.1.mutable ≡ empty) (entries s.volumes)
+
+-- Those of the first format, which has no mutable parameters: but for the number of the format they are the rows that
+-- are written of such a State.
+abbrev pub IsFirstRows : State → Trees → Type 0
+IsFirstRows s db = IsRowsOf FIRST_FORMAT s db × AreUnmodified s
+
+-- those of either format
+abbrev pub IsEitherRows : State → Trees → Type 0
+IsEitherRows s db = IsFirstRows s db ⊎ IsRows s db
+
+-- a format that is read
+abbrev pub IsFormat : ℕ → Type 0
+IsFormat format = (format ≡ FIRST_FORMAT) ⊎ (format ≡ LATEST_FORMAT)
+
+-- those of a format that is given by its number
+abbrev pub IsRowsIn : ℕ → State → Trees → Type 0
+IsRowsIn format s db = IsRowsOf format s db × (format ≡ FIRST_FORMAT → AreUnmodified s)
 
 -- ---- a connection
 

@@ -7,14 +7,15 @@ use Rattle.sqlite.specs.State as sql
 use Rattle.sqlite.specs.Store.{Ghosts}
 use Rattle.sqlite.specs.declared.error.Error.{Error}
 use Rattle.sqlite_disk.specs.Disk.{MoreFaults}
+use Rattle.csi_types.specs.Maps.{TextMap}
 use Rattle.csi_keeper.specs.State.{State}
 use Rattle.csi_keeper.specs.Totals.{HasRoom, total_of}
 use Rattle.csi_keeper.specs.declared.change.Change.{Change}
-use Rattle.csi_keeper.specs.declared.change.Change.TheVariants.{AddVolume, RemoveVolume, Attach, Detach, DetachAll}
+use Rattle.csi_keeper.specs.declared.change.Change.TheVariants.{AddVolume, RemoveVolume, Attach, Detach, DetachAll, SetMutable}
 use Rattle.csi_keeper.specs.declared.totals.Totals.{Totals}
 use Rattle.csi_keeper.specs.declared.volume.Attachment.{Attachment}
 use Rattle.csi_keeper.specs.declared.volume.Volume.{Volume}
-use Rattle.csi_statements.specs.Failing.{RefusesAttachment, RefusesDetaching, RefusesDetachingAll, RefusesNumbered, RefusesRemoval}
+use Rattle.csi_statements.specs.Failing.{RefusesAttachment, RefusesDetaching, RefusesDetachingAll, RefusesNumbered, RefusesParams, RefusesRemoval}
 use Rattle.csi_statements.specs.Rows.{attachment_row, volume_row}
 use Rattle.csi_tables.specs.Encoding.{caps_bytes, params_bytes, AreKnown}
 use Rattle.csi_tables.specs.Holding.{Store, conn_doubt, conn_holds, store_doubt, store_holds}
@@ -43,7 +44,7 @@ pub record HasKnownModes (s : State) : Type 0 where
 abbrev pub RefusesAdding : Volume → Totals → sql.State → Type 0
 RefusesAdding v totals s =
     (¬ HasRoom (total_of totals v.pool) v.bytes)
-    ⊎ ((e : Error) × RefusesNumbered (volume_row v.number v.name v.bytes v.pool (caps_bytes v.caps) (params_bytes v.params)) (v.number + 1) s e)
+    ⊎ ((e : Error) × RefusesNumbered (volume_row v.number v.name v.bytes v.pool (caps_bytes v.caps) (params_bytes v.params v.mutable)) (v.number + 1) s e)
 
 abbrev pub RefusesRemoving : ℕ → sql.State → Type 0
 RefusesRemoving n s = (e : Error) × RefusesRemoval n s e
@@ -58,12 +59,17 @@ RefusesDetach n node s = (e : Error) × RefusesDetaching n node s e
 abbrev pub RefusesDetachAll : ℕ → sql.State → Type 0
 RefusesDetachAll n s = (e : Error) × RefusesDetachingAll n s e
 
+-- with parameters that the volume has beside them
+abbrev pub RefusesMutable : ℕ → TextMap → sql.State → Type 0
+RefusesMutable n m s = (params : TextMap) × (e : Error) × RefusesParams n (params_bytes params m) s e
+
 abbrev pub RefusesChange : Change → Totals → sql.State → Type 0
 RefusesChange (AddVolume v) totals s = RefusesAdding v totals s
 RefusesChange (RemoveVolume n) totals s = RefusesRemoving n s
 RefusesChange (Attach n a) totals s = RefusesAttaching n a s
 RefusesChange (Detach n node) totals s = RefusesDetach n node s
 RefusesChange (DetachAll n) totals s = RefusesDetachAll n s
+RefusesChange (SetMutable n m) totals s = RefusesMutable n m s
 
 -- ---- a call that was refused
 

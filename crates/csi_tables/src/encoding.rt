@@ -29,8 +29,13 @@ pub(crate) fn read_back()
     read_as_meant();
 }
 
-fn create_with(alloc: Global, capabilities: Items<Capability>, parameters: Map) -> Request
-    ensures { result ≡ create_with capabilities parameters }
+fn create_with(
+    alloc: Global,
+    capabilities: Items<Capability>,
+    parameters: Map,
+    mutable: Map,
+) -> Request
+    ensures { result ≡ create_with capabilities parameters mutable }
 {
     Request::Create(CreateVolume {
         name: Text::new(alloc),
@@ -40,6 +45,7 @@ fn create_with(alloc: Global, capabilities: Items<Capability>, parameters: Map) 
         secrets: Map::new(alloc),
         source: false,
         topology: None,
+        mutable,
     })
 }
 
@@ -67,11 +73,12 @@ fn write_parts(
     alloc: Global,
     capabilities: Items<Capability>,
     parameters: Map,
+    mutable: Map,
 ) -> Result<Vec<u8>, AllocError>
-    ensures bytes { IfOk result (λ out. out.items ≡ request_bytes (create_with capabilities parameters)) }
-    ensures fits { OnOk result (FitsRequest (create_with capabilities parameters)) }
+    ensures bytes { IfOk result (λ out. out.items ≡ request_bytes (create_with capabilities parameters mutable)) }
+    ensures fits { OnOk result (FitsRequest (create_with capabilities parameters mutable)) }
 {
-    let request = create_with(alloc, capabilities, parameters);
+    let request = create_with(alloc, capabilities, parameters, mutable);
     write(alloc, &request)
 }
 
@@ -85,20 +92,31 @@ pub fn write_caps(alloc: Global, keys: &[CapKey]) -> Result<Vec<u8>, AllocError>
     ensures bytes { IfOk result (λ out. out.items ≡ caps_bytes keys.now) }
     ensures fits { OnOk result (FitCaps keys.now) }
 {
-    write_parts(alloc, capabilities_of(alloc, keys)?, Map::new(alloc))
+    write_parts(
+        alloc,
+        capabilities_of(alloc, keys)?,
+        Map::new(alloc),
+        Map::new(alloc),
+    )
 }
 
-/// The canonical bytes of parameters, as they stand in a column.
+/// The canonical bytes of parameters and of mutable parameters, as they stand in a column. Without
+/// mutable parameters they are those of the parameters alone.
 ///
 /// # Errors
 ///
 /// Where memory was refused.
 #[tactic(auto, unfolding(crate::specs::Encoding::params_bytes, crate::specs::Encoding::FitParams))]
-pub fn write_params(alloc: Global, params: &Map) -> Result<Vec<u8>, AllocError>
-    ensures bytes { IfOk result (λ out. out.items ≡ params_bytes params.now) }
-    ensures fits { OnOk result (FitParams params.now) }
+pub fn write_params(alloc: Global, params: &Map, mutable: &Map) -> Result<Vec<u8>, AllocError>
+    ensures bytes { IfOk result (λ out. out.items ≡ params_bytes params.now mutable.now) }
+    ensures fits { OnOk result (FitParams params.now mutable.now) }
 {
-    write_parts(alloc, Items::new(alloc), copy_map(alloc, params)?)
+    write_parts(
+        alloc,
+        Items::new(alloc),
+        copy_map(alloc, params)?,
+        copy_map(alloc, mutable)?,
+    )
 }
 
 fn read(alloc: Global, bytes: &[u8]) -> Result<CreateVolume, Fault>
@@ -136,11 +154,12 @@ pub(crate) fn read_caps(alloc: Global, bytes: &[u8]) -> Result<Items<CapKey>, Fa
     keys_of(alloc, message.capabilities.as_slice())
 }
 
-/// The parameters whose bytes these are.
-pub(crate) fn read_params(alloc: Global, bytes: &[u8]) -> Result<Map, Fault>
-    ensures ok { IfOk result (λ params. (m : TextMap) → FitParams m → bytes.now ≡ params_bytes m → params ≡ m) }
-    ensures refused { IsErrOf result Refused → (m : TextMap) → FitParams m → bytes.now ≢ params_bytes m }
+/// The parameters and the mutable parameters whose bytes these are.
+pub(crate) fn read_params(alloc: Global, bytes: &[u8]) -> Result<(Map, Map), Fault>
+    ensures ok { IfOk result (λ read. (p m : TextMap) → FitParams p m → bytes.now ≡ params_bytes p m → read ≡ (p, m)) }
+    ensures refused { IsErrOf result Refused → (p m : TextMap) → FitParams p m → bytes.now ≢ params_bytes p m }
 {
     read_back();
-    Ok(read(alloc, bytes)?.parameters)
+    let message = read(alloc, bytes)?;
+    Ok((message.parameters, message.mutable))
 }

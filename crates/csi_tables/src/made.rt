@@ -9,19 +9,19 @@ ghost use Rattle.sqlite.specs.Held.{state};
 ghost use Rattle.csi_keeper.specs.State.{State, IsBounded, changed};
 ghost use Rattle.csi_keeper.specs.Totals.{HasRoom, IsReserved, total_of};
 ghost use Rattle.csi_keeper.specs.declared.change.Change.{Change as Changing};
-ghost use Rattle.csi_keeper.specs.declared.change.Change.TheVariants.{AddVolume, RemoveVolume, Attach, Detach, DetachAll};
+ghost use Rattle.csi_keeper.specs.declared.change.Change.TheVariants.{AddVolume, RemoveVolume, Attach, Detach, DetachAll, SetMutable};
 ghost use Rattle.csi_tables.specs.Encoding.{FitCaps};
-ghost use Rattle.csi_tables.specs.Holding.{IsStorable, ConnMakes, ConnFails, StoreMakes, StoreFails};
-ghost use Rattle.csi_tables.specs.Refusing.{ConnRefuses, StoreRefuses, RefusesAdding, RefusesAttaching, RefusesChange, RefusesDetach, RefusesDetachAll, RefusesRemoving};
+ghost use Rattle.csi_tables.specs.Holding.{conn_doubt, conn_holds, IsStorable, ConnMakes, ConnFails, StoreMakes, StoreFails};
+ghost use Rattle.csi_tables.specs.Refusing.{ConnRefuses, StoreRefuses, RefusesAdding, RefusesAttaching, RefusesChange, RefusesDetach, RefusesDetachAll, RefusesMutable, RefusesRemoving};
 ghost use Rattle.csi_tables.specs.declared.fault.Fault.TheVariants.{Refused};
 
 use crate::encoding::{read_back, write_caps, write_params};
 use crate::fault::Fault;
 use crate::read::by_number;
 use csi_keeper::{Attachment, Change, Totals, Volume};
-use csi_statements::changes::{add_volume, attach, detach, detach_all, remove_volume};
+use csi_statements::changes::{add_volume, attach, detach, detach_all, remove_volume, set_params};
 use csi_statements::reads;
-use csi_types::{Text, copy_text};
+use csi_types::{Map, Text, copy_text};
 use sqlite::{Alter, Connection};
 use std::alloc::Global;
 use std::slice::from_ref;
@@ -59,7 +59,7 @@ pub(crate) fn make_volume<S: Alter>(
 {
     read_back();
     let caps = write_caps(alloc, volume.caps.as_slice())?;
-    let params = write_params(alloc, &volume.params)?;
+    let params = write_params(alloc, &volume.params, &volume.mutable)?;
     reserve(alloc, totals, &volume.pool, volume.bytes)?;
     add_volume(
         conn,
@@ -183,6 +183,34 @@ pub(crate) fn unmake_volume<S: Alter>(
     Ok(())
 }
 
+/// Gives a volume other mutable parameters. The volume is read first, since they stand in one column
+/// with its parameters, which stay.
+pub(crate) fn make_mutable<S: Alter>(
+    alloc: Global,
+    conn: &mut Connection<S>,
+    number: u64,
+    mutable: &Map,
+) -> Result<(), Fault>
+    requires idle { conn.old.in_transaction ≡ false }
+    ensures idle { conn.new.in_transaction ≡ false }
+    ensures made { OnOk result (ConnMakes S.Store conn.old conn.new (SetMutable number mutable.now)) }
+    ensures stored { OnOk result (conn_doubt S.Store conn.new ≡ 0 → (s : State) → conn_holds S.Store conn.old s → IsStorable s → IsStorable (changed s (SetMutable number mutable.now))) }
+    ensures failed { OnErr result (ConnFails S.Store conn.old conn.new (SetMutable number mutable.now)) }
+    ensures refused { ConnRefuses S.Store conn.old conn.new (RefusesMutable number mutable.now (state S.Store conn.old)) result }
+{
+    read_back();
+    if number >= NUMBERS {
+        return make_nothing(conn);
+    }
+    let stands = by_number(alloc, conn, number)?;
+    let Some(volume) = stands else {
+        return Ok(());
+    };
+    let params = write_params(alloc, &volume.params, mutable)?;
+    set_params(conn, number, &params)?;
+    Ok(())
+}
+
 /// Makes a change.
 pub(crate) fn make<S: Alter>(
     alloc: Global,
@@ -203,5 +231,6 @@ pub(crate) fn make<S: Alter>(
         Change::Attach(number, attachment) => make_attachment(alloc, conn, *number, attachment),
         Change::Detach(number, node) => unmake_attachment(conn, *number, node),
         Change::DetachAll(number) => unmake_attachments(conn, *number),
+        Change::SetMutable(number, mutable) => make_mutable(alloc, conn, *number, mutable),
     }
 }

@@ -48,9 +48,9 @@ fn caps_in(alloc: Global, row: &Row, at: usize) -> Result<Items<CapKey>, Fault>
     }
 }
 
-fn params_in(alloc: Global, row: &Row, at: usize) -> Result<Map, Fault>
-    ensures ok { IfOk result (λ params. (m : TextMap) → FitParams m → column row.now at ≡ Blob (params_bytes m) → params ≡ m) }
-    ensures refused { IsErrOf result Refused → (m : TextMap) → FitParams m → column row.now at ≢ Blob (params_bytes m) }
+fn params_in(alloc: Global, row: &Row, at: usize) -> Result<(Map, Map), Fault>
+    ensures ok { IfOk result (λ read. (p m : TextMap) → FitParams p m → column row.now at ≡ Blob (params_bytes p m) → read ≡ (p, m)) }
+    ensures refused { IsErrOf result Refused → (p m : TextMap) → FitParams p m → column row.now at ≢ Blob (params_bytes p m) }
 {
     match blob_at(row, at) {
         Some(bytes) => read_params(alloc, bytes),
@@ -63,13 +63,15 @@ pub(crate) fn volume_from(alloc: Global, row: &Row) -> Result<Volume, Fault>
     ensures ok { IfOk result (λ v. (e : ℕ × Stored) → IsStored e → row.now ≡ volume_entry e → v ≡ e.1) }
     ensures refused { IsErrOf result Refused → (e : ℕ × Stored) → IsReadable e → row.now ≢ volume_entry e }
 {
+    let (params, mutable) = params_in(alloc, row, 5)?;
     Ok(Volume {
         number: number_in(row, 0)?,
         name: text_in(row, 1)?,
         bytes: number_in(row, 2)?,
         pool: text_in(row, 3)?,
         caps: caps_in(alloc, row, 4)?,
-        params: params_in(alloc, row, 5)?,
+        params,
+        mutable,
     })
 }
 

@@ -10,6 +10,7 @@ use Rattle.std.specs.FinMap.{FinMap, find, get, put, insert, entries, empty, fro
 use Rattle.std.specs.FinMap.Entries.{by_order, below_all, is_sorted-put}
 use Rattle.std.specs.Ordering.{is_eq, is_lt}
 use Rattle.std.specs.List.{AllByRecursion}
+use Rattle.std.specs.Option.{option_or}
 use Rattle.std.proofs.lemmas.Bool.{ltb-true, ltb-false}
 use Rattle.std.proofs.lemmas.List.{reverse-append}
 use Rattle.std.specs.declared.cmp.Ordering.TheVariants.{Less, Equal, Greater}
@@ -40,42 +41,37 @@ zero_long (e ∷ es) h = absurd (omega arith)
 empty_entries : entries (empty {X = Text} {R = text_cmp}) ≡ []
 empty_entries = zero_long _ (sym (len-entries empty) ∙ len-empty text_cmp Text)
 
--- the first that is there
-abbrev or_else : Option Text → Option Text → Option Text
-or_else None b = b
-or_else (Some v) b = Some v
-
-or_none : (a : Option Text) → or_else a None ≡ a
+or_none : (a : Option Text) → option_or a None ≡ a
 or_none None = refl
 or_none (Some v) = refl
 
-pub find_app : (q : Text) (xs ys : List (Text × Text)) → find text_cmp q (xs ++ ys) ≡ or_else (find text_cmp q xs) (find text_cmp q ys)
+pub find_app : (q : Text) (xs ys : List (Text × Text)) → find text_cmp q (xs ++ ys) ≡ option_or (find text_cmp q xs) (find text_cmp q ys)
 find_app q [] ys = refl
 find_app q (x ∷ xs) ys =
-    elim (eq_by_cmp text_cmp q x.0) as (λ b. cond b (Some x.1) (find text_cmp q (xs ++ ys)) ≡ or_else (cond b (Some x.1) (find text_cmp q xs)) (find text_cmp q ys)) [
+    elim (eq_by_cmp text_cmp q x.0) as (λ b. cond b (Some x.1) (find text_cmp q (xs ++ ys)) ≡ option_or (cond b (Some x.1) (find text_cmp q xs)) (find text_cmp q ys)) [
       | true ↦ refl
       | false ↦ find_app q xs ys
     ]
 
-not_found : (k : Text) (es : List (Text × Text)) → IsStrictlySortedBy text_cmp (k ∷ keys_of es) → find text_cmp k es ≡ None
+pub not_found : (k : Text) (es : List (Text × Text)) → IsStrictlySortedBy text_cmp (k ∷ keys_of es) → find text_cmp k es ≡ None
 unfolding IsStrictlySortedBy
 not_found k [] h = refl
 not_found k (e ∷ es) h = ap (λ r. cond (is_eq r) (Some e.1) (find text_cmp k es)) h.0.0 ∙ not_found k es (h.0.1, h.1.1)
 
-tied : (r : Ordering) → is_eq r ≡ true → r ≡ Equal
+pub tied : (r : Ordering) → is_eq r ≡ true → r ≡ Equal
 tied Less e = absurd cc
 tied Equal e = refl
 tied Greater e = absurd cc
 
 -- in sorted entries the last of a key is the first
-find_back : (q : Text) (es : List (Text × Text)) → IsStrictlySortedBy text_cmp (keys_of es) → find text_cmp q (reverse es) ≡ find text_cmp q es
+pub find_back : (q : Text) (es : List (Text × Text)) → IsStrictlySortedBy text_cmp (keys_of es) → find text_cmp q (reverse es) ≡ find text_cmp q es
 find_back q [] h = refl
 find_back q (e ∷ es) h =
     let rest = find_back q es (sorted_rest e.0 (keys_of es) h) in
     ap (find text_cmp q) (reverse-append (e ∷ []) es) ∙ find_app q (reverse es) (e ∷ [])
-    ∙ ap (λ (o : Option Text). or_else o (cond (eq_by_cmp text_cmp q e.0) (Some e.1) None)) rest
-    ∙ elim (eq_by_cmp text_cmp q e.0) as (λ b. eq_by_cmp text_cmp q e.0 ≡ b → or_else (find text_cmp q es) (cond b (Some e.1) None) ≡ cond b (Some e.1) (find text_cmp q es)) [
-      | true ↦ λ t. ap (λ (o : Option Text). or_else o (Some e.1)) (subst (λ (k : Text). find text_cmp k es ≡ None) (sym (exact q e.0 (tied _ t))) (not_found e.0 es h))
+    ∙ ap (λ (o : Option Text). option_or o (cond (eq_by_cmp text_cmp q e.0) (Some e.1) None)) rest
+    ∙ elim (eq_by_cmp text_cmp q e.0) as (λ b. eq_by_cmp text_cmp q e.0 ≡ b → option_or (find text_cmp q es) (cond b (Some e.1) None) ≡ cond b (Some e.1) (find text_cmp q es)) [
+      | true ↦ λ t. ap (λ (o : Option Text). option_or o (Some e.1)) (subst (λ (k : Text). find text_cmp k es ≡ None) (sym (exact q e.0 (tied _ t))) (not_found e.0 es h))
       | false ↦ λ t. or_none (find text_cmp q es)
     ] refl
 
@@ -88,7 +84,7 @@ first_so : (a b : Bool) → T (a && b) → T a
 first_so true b p = tt
 first_so false b p = absurd p
 
-second_so : (a b : Bool) → T (a && b) → T b
+pub second_so : (a b : Bool) → T (a && b) → T b
 second_so true b p = p
 second_so false b p = absurd p
 
@@ -236,9 +232,9 @@ find_none k es i h p =
 pub got_listed : (k : Text) (es ts : List (Text × Text)) (i : ℕ) (d : Text × Text) → IsRising (es ++ ts) → i < length es → text_cmp (get_or es i d).0 k ≡ Equal → get (from_sorted {R = text_cmp} (es ++ ts)) k ≡ Some (get_or es i d).1
 got_listed k es ts i d h l e =
     get-from_sorted text_cmp (es ++ ts) k h ∙ find_app k es ts
-    ∙ ap (λ (o : Option Text). or_else o (find text_cmp k ts)) (find_at k es i d (front_rises es ts h) l e)
+    ∙ ap (λ (o : Option Text). option_or o (find text_cmp k ts)) (find_at k es i d (front_rises es ts h) l e)
 
 pub got_in_tree : (k : Text) (es ts : List (Text × Text)) → IsRising (es ++ ts) → find text_cmp k es ≡ None → get (from_sorted {R = text_cmp} (es ++ ts)) k ≡ lookup (is_at (text_cmp k)) ts
 got_in_tree k es ts h e =
     get-from_sorted text_cmp (es ++ ts) k h ∙ find_app k es ts
-    ∙ ap (λ (o : Option Text). or_else o (find text_cmp k ts)) e ∙ find_text ts k
+    ∙ ap (λ (o : Option Text). option_or o (find text_cmp k ts)) e ∙ find_text ts k

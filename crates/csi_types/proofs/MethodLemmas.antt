@@ -32,6 +32,7 @@ each_found method.ValidateVolumeCapabilities = refl
 each_found method.ListVolumes = refl
 each_found method.GetCapacity = refl
 each_found method.ControllerGetCapabilities = refl
+each_found method.ControllerModifyVolume = refl
 
 -- a path of no method
 pub no_method : (path : List ℕ) → ((m : Method) → path ≡ path_of m → None ≡ Some m) → None ≡ method_at path

@@ -1,7 +1,7 @@
 -- The checks of a request's arguments: what each call requires of its fields (CSI specification, the
 -- section of each call, and 'Size Limits'). The first line of the table that holds is answered.
 use Rattle.std.specs.Prelude.{ℕ, ℤ, pos, negsuc, ◌+◌, ◌==◌, Bool, true, false, not, ◌||◌, ◌&&◌, nat_lt, nat_le, List, [], ◌∷◌, ◌++◌, length, sum_by, Option, None, Some, option_to_list}
-use Rattle.std.specs.FinMap.{entries}
+use Rattle.std.specs.FinMap.{entries, len}
 use Rattle.std.specs.List.{list_any}
 use Rattle.csi_types.specs.declared.capability.Access.{Access}
 use Rattle.csi_types.specs.declared.capability.Access.TheVariants as access
@@ -10,9 +10,9 @@ use Rattle.csi_types.specs.declared.capability.Mount.{Mount}
 use Rattle.csi_types.specs.declared.capacity.CapacityRange.{CapacityRange}
 use Rattle.csi_types.specs.declared.limits.TheConstants.{MAX_ACCESS_MODE, MAX_TEXT_BYTES, MAX_NODE_ID_BYTES, MAX_MOUNT_FLAGS_BYTES, MAX_MAP_BYTES}
 use Rattle.csi_types.specs.declared.reason.Reason.{Reason}
-use Rattle.csi_types.specs.declared.reason.Reason.TheVariants.{NameMissing, NameTooLong, NameBanned, CapabilityMissing, AccessTypeMissing, AccessModeUnknown, CapabilityNotSupported, CapacityNegative, MapTooLarge, TextTooLong, SourceNotSupported, TopologyKeysAlike, PreferredNotRequisite, VolumeIdMissing, NodeIdMissing, MaxEntriesNegative}
+use Rattle.csi_types.specs.declared.reason.Reason.TheVariants.{NameMissing, NameTooLong, NameBanned, CapabilityMissing, AccessTypeMissing, AccessModeUnknown, CapabilityNotSupported, CapacityNegative, MapTooLarge, TextTooLong, SourceNotSupported, TopologyKeysAlike, PreferredNotRequisite, VolumeIdMissing, NodeIdMissing, MaxEntriesNegative, MutableMissing}
 use Rattle.csi_types.specs.declared.requests.Request.{Request}
-use Rattle.csi_types.specs.declared.requests.Request.TheVariants.{PluginInfo, PluginCapabilities, Probe, ControllerCapabilities, Create, Delete, Publish, Unpublish, Validate, List as Listing, Capacity}
+use Rattle.csi_types.specs.declared.requests.Request.TheVariants.{PluginInfo, PluginCapabilities, Probe, ControllerCapabilities, Create, Delete, Publish, Unpublish, Validate, List as Listing, Capacity, Modify}
 use Rattle.csi_types.specs.declared.topology.Requirement.{Requirement}
 use Rattle.csi_types.specs.Lines.{first_line}
 use Rattle.csi_types.specs.Maps.{TextMap}
@@ -95,8 +95,10 @@ pub record Parts : Type 0 where
   pub ranges : List CapacityRange
   pub requirements : List Requirement
   pub topologies : List TextMap
-  -- all maps: parameters, secrets, contexts and topologies
+  -- all maps: parameters, mutable parameters, secrets, contexts and topologies
   pub maps : List TextMap
+  -- the mutable parameters, of the call that has to give some
+  pub required_maps : List TextMap
   pub volume_ids : List (List ℕ)
   pub node_ids : List (List ℕ)
   -- the node id, of the call that has to give one
@@ -115,6 +117,7 @@ no_parts = record {
   requirements = [];
   topologies = [];
   maps = [];
+  required_maps = [];
   volume_ids = [];
   node_ids = [];
   required_node_ids = [];
@@ -136,7 +139,7 @@ parts (Create r) = record no_parts {
   ranges = option_to_list r.range;
   requirements = option_to_list r.topology;
   topologies = terms r.topology;
-  maps = r.parameters ∷ r.secrets ∷ terms r.topology;
+  maps = r.parameters ∷ r.secrets ∷ r.mutable ∷ terms r.topology;
   has_source = r.source;
 }
 parts (Delete r) = record no_parts { volume_ids = r.volume_id ∷ []; maps = r.secrets ∷ [] }
@@ -165,6 +168,11 @@ parts (Capacity r) = record no_parts {
   topologies = option_to_list r.topology;
   maps = r.parameters ∷ option_to_list r.topology;
 }
+parts (Modify r) = record no_parts {
+  maps = r.secrets ∷ r.mutable ∷ [];
+  required_maps = r.mutable ∷ [];
+  volume_ids = r.volume_id ∷ [];
+}
 
 -- The table, in the order in which its lines are answered.
 
@@ -192,6 +200,7 @@ lines =
     ∷ (VolumeIdMissing, λ p. list_any is_empty p.volume_ids)
     ∷ (NodeIdMissing, λ p. list_any is_empty p.required_node_ids)
     ∷ (MaxEntriesNegative, λ p. list_any is_negative p.most_entries)
+    ∷ (MutableMissing, λ p. list_any (λ m. len m == 0) p.required_maps)
     ∷ []
 
 -- what a request is refused for, if for anything

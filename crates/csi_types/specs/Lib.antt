@@ -4,6 +4,7 @@ pub mod Lines
 pub mod Maps
 pub mod Methods
 pub mod Names
+pub mod Overlays
 pub mod Reasons
 pub mod Segments
 pub mod Topology

@@ -2,7 +2,7 @@
 use Rattle.std.specs.Prelude.{ℕ, List, [], ◌∷◌, ◌++◌, Option, Some, None, codes, find}
 use Rattle.std.specs.Str.{bytes_eq}
 use Rattle.csi_types.specs.declared.method.Method.{Method}
-use Rattle.csi_types.specs.declared.method.Method.TheVariants.{GetPluginInfo, GetPluginCapabilities, Probe, CreateVolume, DeleteVolume, ControllerPublishVolume, ControllerUnpublishVolume, ValidateVolumeCapabilities, ListVolumes, GetCapacity, ControllerGetCapabilities}
+use Rattle.csi_types.specs.declared.method.Method.TheVariants.{GetPluginInfo, GetPluginCapabilities, Probe, CreateVolume, DeleteVolume, ControllerPublishVolume, ControllerUnpublishVolume, ValidateVolumeCapabilities, ListVolumes, GetCapacity, ControllerGetCapabilities, ControllerModifyVolume}
 
 -- the path of a method
 abbrev pub path_of : Method → List ℕ
@@ -17,6 +17,7 @@ path_of ValidateVolumeCapabilities = codes "/csi.v1.Controller/ValidateVolumeCap
 path_of ListVolumes = codes "/csi.v1.Controller/ListVolumes"
 path_of GetCapacity = codes "/csi.v1.Controller/GetCapacity"
 path_of ControllerGetCapabilities = codes "/csi.v1.Controller/ControllerGetCapabilities"
+path_of ControllerModifyVolume = codes "/csi.v1.Controller/ControllerModifyVolume"
 
 -- all methods
 abbrev pub methods : List Method
@@ -32,6 +33,7 @@ methods =
     ∷ ListVolumes
     ∷ GetCapacity
     ∷ ControllerGetCapabilities
+    ∷ ControllerModifyVolume
     ∷ []
 
 -- the method of a path, where one has it

@@ -3,7 +3,7 @@ use Rattle.std.specs.Prelude.{ℕ, List, codes}
 use Rattle.csi_types.specs.declared.code.Code.{Code}
 use Rattle.csi_types.specs.declared.code.Code.TheVariants as code
 use Rattle.csi_types.specs.declared.reason.Reason.{Reason}
-use Rattle.csi_types.specs.declared.reason.Reason.TheVariants.{NameMissing, NameTooLong, NameBanned, CapabilityMissing, AccessTypeMissing, AccessModeUnknown, CapabilityNotSupported, CapacityNegative, MapTooLarge, TextTooLong, SourceNotSupported, TopologyKeysAlike, PreferredNotRequisite, VolumeIdMissing, NodeIdMissing, MaxEntriesNegative, UnknownMethod, VolumeNotFound, NodeNotFound, VolumeNotCompatible, NoRoom, TooManyVolumes, NumbersUsedUp, OutOfRange, VolumeInUse, PublishedElsewhere, PublishedOtherwise, NodeFull, CapabilityNotOfVolume, BadToken, ReplyTooLarge, OutOfMemory, StoreRefused, StoreDown}
+use Rattle.csi_types.specs.declared.reason.Reason.TheVariants.{NameMissing, NameTooLong, NameBanned, CapabilityMissing, AccessTypeMissing, AccessModeUnknown, CapabilityNotSupported, CapacityNegative, MapTooLarge, TextTooLong, SourceNotSupported, TopologyKeysAlike, PreferredNotRequisite, VolumeIdMissing, NodeIdMissing, MaxEntriesNegative, MutableMissing, UnknownMethod, VolumeNotFound, NodeNotFound, VolumeNotCompatible, NoRoom, TooManyVolumes, NumbersUsedUp, OutOfRange, VolumeInUse, PublishedElsewhere, PublishedOtherwise, NodeFull, CapabilityNotOfVolume, BadToken, MutableTooLarge, ReplyTooLarge, OutOfMemory, StoreRefused, StoreDown}
 
 -- the code and the text of each refusal
 abbrev pub answer_of : Reason → Code × List ℕ
@@ -23,6 +23,7 @@ answer_of PreferredNotRequisite = (code.InvalidArgument, codes "preferred topolo
 answer_of VolumeIdMissing = (code.InvalidArgument, codes "volume id is missing")
 answer_of NodeIdMissing = (code.InvalidArgument, codes "node id is missing")
 answer_of MaxEntriesNegative = (code.InvalidArgument, codes "max_entries is negative")
+answer_of MutableMissing = (code.InvalidArgument, codes "mutable parameters are missing")
 answer_of UnknownMethod = (code.Unimplemented, codes "unknown method")
 answer_of VolumeNotFound = (code.NotFound, codes "volume not found")
 answer_of NodeNotFound = (code.NotFound, codes "node not found")
@@ -37,6 +38,7 @@ answer_of PublishedOtherwise = (code.AlreadyExists, codes "volume is published o
 answer_of NodeFull = (code.ResourceExhausted, codes "node is full")
 answer_of CapabilityNotOfVolume = (code.InvalidArgument, codes "volume does not have this capability")
 answer_of BadToken = (code.Aborted, codes "bad starting token")
+answer_of MutableTooLarge = (code.InvalidArgument, codes "mutable parameters are too large")
 answer_of ReplyTooLarge = (code.ResourceExhausted, codes "reply too large")
 answer_of OutOfMemory = (code.Internal, codes "out of memory")
 answer_of StoreRefused = (code.Internal, codes "store refused")

@@ -9,8 +9,10 @@ mod items;
 pub mod laws;
 mod limits;
 mod map;
+mod measures;
 mod method;
 mod name;
+mod overlay;
 mod reason;
 mod requests;
 mod responses;
@@ -31,11 +33,14 @@ pub use limits::{
     MAX_VOLUMES,
 };
 pub use map::{Map, MapEntries};
+pub use measures::map_bytes;
 pub use method::{Method, method_named, method_of};
 pub use name::name_reason;
+pub use overlay::{has_each, laid_over};
 pub use reason::Reason;
 pub use requests::{
-    CreateVolume, DeleteVolume, GetCapacity, ListVolumes, Publish, Request, Unpublish, Validate,
+    CreateVolume, DeleteVolume, GetCapacity, ListVolumes, Modify, Publish, Request, Unpublish,
+    Validate,
 };
 pub use responses::Response;
 pub use text::Text;

@@ -31,6 +31,8 @@ pub enum Method {
     GetCapacity,
     /// `csi.v1.Controller.ControllerGetCapabilities`.
     ControllerGetCapabilities,
+    /// `csi.v1.Controller.ControllerModifyVolume`.
+    ControllerModifyVolume,
 }
 
 impl Method {
@@ -50,6 +52,7 @@ impl Method {
             Method::ListVolumes => "/csi.v1.Controller/ListVolumes",
             Method::GetCapacity => "/csi.v1.Controller/GetCapacity",
             Method::ControllerGetCapabilities => "/csi.v1.Controller/ControllerGetCapabilities",
+            Method::ControllerModifyVolume => "/csi.v1.Controller/ControllerModifyVolume",
         }
     }
 }
@@ -100,6 +103,7 @@ fn likely_method(path: &[u8]) -> Option<Method>
         31 if path[19] == b'C' => Method::CreateVolume,
         31 => Method::DeleteVolume,
         38 => Method::GetPluginCapabilities,
+        41 => Method::ControllerModifyVolume,
         42 => Method::ControllerPublishVolume,
         44 if path[29] == b'U' => Method::ControllerUnpublishVolume,
         44 => Method::ControllerGetCapabilities,

@@ -44,6 +44,8 @@ pub enum Reason {
     NodeIdMissing,
     /// `max_entries` is below 0.
     MaxEntriesNegative,
+    /// `mutable_parameters` has no entry.
+    MutableMissing,
     /// The path is that of no method.
     UnknownMethod,
     /// No volume has the id.
@@ -72,6 +74,8 @@ pub enum Reason {
     CapabilityNotOfVolume,
     /// `starting_token` is none that this plugin gives.
     BadToken,
+    /// The mutable parameters of the volume, as asked for, would have more than 4,096 bytes.
+    MutableTooLarge,
     /// The reply would pass 4,194,304 bytes.
     ReplyTooLarge,
     /// Memory was refused.
@@ -104,7 +108,9 @@ impl Reason {
             | Reason::VolumeIdMissing
             | Reason::NodeIdMissing
             | Reason::MaxEntriesNegative
-            | Reason::CapabilityNotOfVolume => Code::InvalidArgument,
+            | Reason::MutableMissing
+            | Reason::CapabilityNotOfVolume
+            | Reason::MutableTooLarge => Code::InvalidArgument,
             Reason::VolumeNotFound | Reason::NodeNotFound => Code::NotFound,
             Reason::VolumeNotCompatible | Reason::PublishedOtherwise => Code::AlreadyExists,
             Reason::NoRoom
@@ -141,6 +147,7 @@ impl Reason {
             Reason::VolumeIdMissing => "volume id is missing",
             Reason::NodeIdMissing => "node id is missing",
             Reason::MaxEntriesNegative => "max_entries is negative",
+            Reason::MutableMissing => "mutable parameters are missing",
             Reason::UnknownMethod => "unknown method",
             Reason::VolumeNotFound => "volume not found",
             Reason::NodeNotFound => "node not found",
@@ -155,6 +162,7 @@ impl Reason {
             Reason::NodeFull => "node is full",
             Reason::CapabilityNotOfVolume => "volume does not have this capability",
             Reason::BadToken => "bad starting token",
+            Reason::MutableTooLarge => "mutable parameters are too large",
             Reason::ReplyTooLarge => "reply too large",
             Reason::OutOfMemory => "out of memory",
             Reason::StoreRefused => "store refused",

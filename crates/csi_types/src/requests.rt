@@ -27,6 +27,8 @@ pub struct CreateVolume {
     pub source: bool,
     /// `accessibility_requirements`, field 7.
     pub topology: Option<Requirement>,
+    /// `mutable_parameters`, field 8.
+    pub mutable: Map,
 }
 
 impl fmt::Debug for CreateVolume {
@@ -38,6 +40,7 @@ impl fmt::Debug for CreateVolume {
             .field("parameters", &self.parameters)
             .field("source", &self.source)
             .field("topology", &self.topology)
+            .field("mutable", &self.mutable)
             .finish_non_exhaustive()
     }
 }
@@ -154,6 +157,26 @@ pub struct GetCapacity {
     pub topology: Option<Map>,
 }
 
+/// `ControllerModifyVolumeRequest` (CSI specification, 'ControllerModifyVolume').
+#[derive(PartialEq, Eq, Drop)]
+pub struct Modify {
+    /// `volume_id`, field 1.
+    pub volume_id: Text,
+    /// `secrets`, field 2.
+    pub secrets: Map,
+    /// `mutable_parameters`, field 3: the keys that are given a value.
+    pub mutable: Map,
+}
+
+impl fmt::Debug for Modify {
+    fn fmt<W: fmt::Write>(&self, f: &mut fmt::Formatter<W>) -> fmt::Result {
+        f.debug_struct("Modify")
+            .field("volume_id", &self.volume_id)
+            .field("mutable", &self.mutable)
+            .finish_non_exhaustive()
+    }
+}
+
 /// The request of a call, by its method.
 #[derive(Debug, PartialEq, Eq, Drop)]
 pub enum Request {
@@ -179,4 +202,6 @@ pub enum Request {
     List(ListVolumes),
     /// `GetCapacityRequest`.
     Capacity(GetCapacity),
+    /// `ControllerModifyVolumeRequest`.
+    Modify(Modify),
 }

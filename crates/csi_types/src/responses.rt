@@ -52,4 +52,6 @@ pub enum Response {
         /// The value, field 1, of `maximum_volume_size`, field 2.
         maximum: Option<i64>,
     },
+    /// `ControllerModifyVolumeResponse`, without fields.
+    Modify,
 }

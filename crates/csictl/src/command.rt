@@ -33,7 +33,7 @@ impl Field {
 }
 
 /// The options that are fields of a message.
-pub(crate) const FIELDS: [Field; 12] = [
+pub(crate) const FIELDS: [Field; 13] = [
     Field {
         name: "name",
         takes: Takes::Text("TEXT"),
@@ -69,6 +69,12 @@ pub(crate) const FIELDS: [Field; 12] = [
         takes: Takes::Text("KEY=VALUE,.."),
         beside: None,
         help: "The parameters, as tier=fast,copies=2",
+    },
+    Field {
+        name: "mutable",
+        takes: Takes::Text("KEY=VALUE,.."),
+        beside: None,
+        help: "The parameters that can be changed, as iops=500",
     },
     Field {
         name: "topology",

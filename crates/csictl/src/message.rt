@@ -5,7 +5,7 @@ use clap::ArgMatches;
 use csi_client::put_call;
 use csi_codec::encode_request;
 use csi_types::{
-    CreateVolume, DeleteVolume, GetCapacity, ListVolumes, Method, Publish, Request, Text,
+    CreateVolume, DeleteVolume, GetCapacity, ListVolumes, Method, Modify, Publish, Request, Text,
     Unpublish, Validate, method_named,
 };
 use frames_core::MAX_MESSAGE_BYTES;
@@ -21,6 +21,7 @@ fn create(fields: Fields<'_, '_>) -> Result<Request, WordsFault> {
         secrets: fields.no_map(),
         source: false,
         topology: fields.requirement()?,
+        mutable: fields.map("mutable")?,
     }))
 }
 
@@ -64,6 +65,11 @@ fn request(method: Method, fields: Fields<'_, '_>) -> Result<Request, WordsFault
             secrets: fields.no_map(),
         }),
         Method::ValidateVolumeCapabilities => validate(fields)?,
+        Method::ControllerModifyVolume => Request::Modify(Modify {
+            volume_id: fields.text("volume")?,
+            secrets: fields.no_map(),
+            mutable: fields.map("mutable")?,
+        }),
         Method::ListVolumes => Request::List(ListVolumes {
             max_entries: fields.max(),
             token: fields.text("token")?,

@@ -11,7 +11,7 @@ use std::alloc::Global;
 use test_kit::{RowFault, words_of};
 use values::{
     capability_answer, code_answer, list_answer, map_answer, method_answer, name_answer,
-    reason_answer, text_answer,
+    over_answer, reason_answer, text_answer,
 };
 
 /// The answer to a row: a word that says what is asked, and the words that this takes.
@@ -27,6 +27,7 @@ pub(crate) fn answer(alloc: Global, row: &str) -> Result<String, RowFault> {
         "text" => text_answer(alloc, words),
         "list" => list_answer(alloc, words),
         "map" => map_answer(alloc, words),
+        "over" => over_answer(alloc, words),
         "capability" => capability_answer(alloc, words),
         "sample" => sample_answer(alloc),
         _ => config_answer(alloc, kind, words),

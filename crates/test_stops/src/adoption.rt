@@ -17,10 +17,11 @@ pub(crate) fn answer(alloc: Global, row: &str) -> Result<String, RowFault> {
     let (start, config) = how.split_once(' ').ok_or(RowFault::NotRow)?;
     let config = config_named(alloc, config)?;
     let conn = database(alloc, start, statements)?;
-    let (first, conn) = told(alloc, conn, &config)?;
+    let (first, mut conn) = told(alloc, conn, &config)?;
+    let format = format_of(alloc, &mut conn, start)?;
     let (second, _) = told(alloc, conn, &config)?;
     if first == second {
-        return Ok(first);
+        return Ok(format!(in alloc; "{first}{format}")?);
     }
     Ok(format!(in alloc; "{first}, and then {second}")?)
 }
@@ -34,6 +35,11 @@ fn database(
     let mut conn = Connection::open_in_memory(alloc)?;
     match start {
         "tables" | "limited" => make_tables(&mut conn).map_err(refused)?,
+        "older" => {
+            make_tables(&mut conn).map_err(refused)?;
+            conn.execute_batch("UPDATE meta SET format_no = 1")
+                .map_err(refused)?;
+        }
         "empty" => {}
         _ => return Err(RowFault::NotRow),
     }
@@ -42,6 +48,22 @@ fn database(
         conn.set_step_limit(Some(1));
     }
     Ok(conn)
+}
+
+// The format that the tables have, where it was the first one.
+fn format_of(
+    alloc: Global,
+    conn: &mut Connection<MemStore>,
+    start: &str,
+) -> Result<String, RowFault> {
+    if start != "older" {
+        return Ok(String::new(alloc));
+    }
+    let row = conn
+        .query_row("SELECT format_no FROM meta", &[])
+        .map_err(refused)?;
+    let format: i64 = row.get(0).map_err(refused)?;
+    Ok(format!(in alloc; ", in format {format}")?)
 }
 
 fn refused(error: SqlError) -> RowFault {

@@ -10,7 +10,7 @@ use test_kit::RowFault;
 // More volumes than any row makes.
 const MOST_VOLUMES: u32 = 100;
 
-/// The next number, each volume with its nodes, and what each pool has used.
+/// The next number, each volume with its mutable parameters and its nodes, and what each pool has used.
 pub(crate) fn state_text<K: Keeper>(
     alloc: Global,
     config: &Config,
@@ -38,6 +38,9 @@ fn put_volume(text: &mut String, volume: &Volume, nodes: &Items<Text>) -> Result
         "; {} '{}' {} {}",
         volume.number, volume.name, volume.bytes, volume.pool
     )?;
+    for (key, value) in &volume.mutable {
+        write!(text, " {key}:={value}")?;
+    }
     for node in nodes.iter() {
         write!(text, " at {node}")?;
     }

@@ -7,13 +7,24 @@ mod serving;
 mod trials;
 
 use csi_config::Config;
-use disks::{NEVER, copies, end, left_of, new_files};
+use disks::{NEVER, copies, end, left_of, make_older, new_files};
 use runs::Wanted;
 use serving::{adopted, answered, outcome_of};
 use sqlite_disk::{Files, Memory};
 use std::alloc::{AllocError, Global};
 use test_kit::{RowFault, bytes_of, number_at};
-use trials::Trials;
+use trials::{Trials, Way};
+
+// How a database is left.
+#[derive(Clone, Copy)]
+enum Ending {
+    // Closed.
+    Closed,
+    // What was committed stands in the log alone.
+    Open,
+    // Closed, with tables of format 1.
+    Older,
+}
 
 /// The sample configuration, and the two files.
 #[derive(Drop)]
@@ -35,30 +46,37 @@ impl Bench {
     pub(crate) fn answer(&mut self, alloc: Global, row: &str) -> Result<String, RowFault> {
         let (word, rest) = row.split_once(' ').ok_or(RowFault::NotRow)?;
         match word {
-            "begin" => self.begin(alloc, rest, true),
-            "begun" => self.begin(alloc, rest, false),
-            "stops" => self.stop(alloc, rest, false),
-            "closes" => self.stop(alloc, rest, true),
+            "begin" => self.begin(alloc, rest, Ending::Closed),
+            "begun" => self.begin(alloc, rest, Ending::Open),
+            "older" => self.begin(alloc, rest, Ending::Older),
+            "stops" => self.stop(alloc, rest, Way::Once),
+            "twice" => self.stop(alloc, rest, Way::Twice),
+            "closes" => self.stop(alloc, rest, Way::Closing),
             "new" => {
                 self.files = new_files(alloc);
-                self.stop(alloc, rest, false)
+                self.stop(alloc, rest, Way::Once)
             }
             _ => Err(RowFault::NotRow),
         }
     }
 
     // New files with the tables, over which these calls are made.
-    fn begin(&mut self, alloc: Global, calls: &str, closes: bool) -> Result<String, RowFault> {
+    fn begin(&mut self, alloc: Global, calls: &str, ending: Ending) -> Result<String, RowFault> {
         let calls = bytes_of(alloc, calls)?;
         let disks = copies(alloc, &new_files(alloc), NEVER)?;
         let mut tables = adopted(alloc, &self.config, disks)?;
         let made = answered(alloc, &self.config, &mut tables, &calls)?;
-        self.files = left_of(alloc, end(tables.into_connection(), closes), false)?;
+        let mut conn = tables.into_connection();
+        if let Ending::Older = ending {
+            make_older(alloc, &mut conn)?;
+        }
+        let closes = !matches!(ending, Ending::Open);
+        self.files = left_of(alloc, end(conn, closes), false)?;
         Ok(made.after)
     }
 
     // Stops in a call. The words are how many calls of the disk a run stops later than the last one, and the call.
-    fn stop(&mut self, alloc: Global, words: &str, closes: bool) -> Result<String, RowFault> {
+    fn stop(&mut self, alloc: Global, words: &str, way: Way) -> Result<String, RowFault> {
         let (step, call) = words.split_once(' ').ok_or(RowFault::NotRow)?;
         let step = number_at(&[step], 0)?;
         let call = bytes_of(alloc, call)?;
@@ -70,7 +88,7 @@ impl Bench {
             call: &call,
             whole: &whole,
         };
-        let seen = Trials::new(wanted, step).all(closes)?;
+        let seen = Trials::new(wanted, step, way).all()?;
         Ok(format!(in alloc; "{}, {seen}, all allowed", whole.after)?)
     }
 }

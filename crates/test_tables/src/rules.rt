@@ -2,6 +2,7 @@
 
 use crate::database::{run, with_tables};
 use crate::looks::Look;
+use crate::numbers::count_at;
 use csi_config::Config;
 use csi_looks::RowTest;
 use csi_rules::{
@@ -79,7 +80,8 @@ fn ask_volumes(
             VolumeRule::Caps,
         ),
         "params" => {
-            let found = first_broken(alloc, conn, look, HasParams { alloc })?;
+            let format = count_at(words, 2)?;
+            let found = first_broken(alloc, conn, look, HasParams { alloc, format })?;
             (found, VolumeRule::Params)
         }
         _ => return Err(RowFault::NotRow),

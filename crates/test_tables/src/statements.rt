@@ -36,6 +36,10 @@ impl Bench {
             "remove" => self.remove(alloc, &words),
             "attach" => self.attach(alloc, &words),
             "detach" => self.detach(alloc, &words),
+            "params" => self.params(alloc, &words),
+            "format" => done(alloc, changes::set_format(&mut self.conn)),
+            "first" => done(alloc, take_first_format(&mut self.conn)),
+            "meta" => all(alloc, meta(&mut self.conn)),
             "next" | "number" | "name" => self.find(alloc, &words),
             "attachments" | "at" | "sizes" => self.list(alloc, &words),
             "page" | "nodes" => self.page(alloc, &words),
@@ -54,6 +58,12 @@ impl Bench {
             alloc,
             changes::add_volume(&mut self.conn, number, name, bytes, pool, &caps, &params),
         )
+    }
+
+    fn params(&mut self, alloc: Global, words: &[&str]) -> Result<String, RowFault> {
+        let number = small_at(words, 1)?;
+        let params = bytes_of(alloc, word_at(words, 2)?)?;
+        done(alloc, changes::set_params(&mut self.conn, number, &params))
     }
 
     fn remove(&mut self, alloc: Global, words: &[&str]) -> Result<String, RowFault> {
@@ -116,6 +126,27 @@ impl Bench {
         let places = all(alloc, Ok(page.places))?;
         Ok(format!(in alloc; "{numbers}; {places}")?)
     }
+}
+
+// Gives the tables the first format, which no statement of the crate does.
+fn take_first_format(conn: &mut Connection<MemStore>) -> Result<(), SqlError>
+    requires { conn.old.in_transaction ≡ false }
+    ensures { conn.new.in_transaction ≡ false }
+{
+    let mut tx = conn.transaction();
+    tx.execute("UPDATE meta SET format_no = 1", &[])?;
+    tx.commit()
+}
+
+// The rows of meta: the key, the format and the next number of each.
+fn meta(conn: &mut Connection<MemStore>) -> Result<Vec<Row>, SqlError>
+    requires { conn.old.in_transaction ≡ false }
+    ensures { conn.new.in_transaction ≡ false }
+{
+    let mut tx = conn.transaction();
+    let rows = tx.query_all("SELECT k, format_no, next_number FROM meta", &[])?;
+    tx.rollback();
+    Ok(rows)
 }
 
 fn done(alloc: Global, change: Result<(), SqlError>) -> Result<String, RowFault> {

@@ -54,6 +54,16 @@ module _ {K X : Type 0} {R : K → K → Ordering} (o : IsTotalOrder R) (exact :
         | false ↦ λ t. refl
       ] refl)
 
+  -- a key that is set anew is taken away and put
+  pub set_anew : (m : fin.FinMap R X) (k : K) (x : X) → fin.insert m k x ≡ fin.insert (fin.remove m k) k x
+  set_anew m k x = fin.same_map o exact _ _ (λ q.
+      fin.get-insert o m k x q
+      ∙ elim (eq_by_cmp R q k) as (λ b. eq_by_cmp R q k ≡ b → cond b (Some x) (fin.get m q) ≡ cond b (Some x) (cond b None (fin.get m q))) [
+        | true ↦ λ t. refl
+        | false ↦ λ t. refl
+      ] refl
+      ∙ sym (fin.get-insert o (fin.remove m k) k x q ∙ ap (cond (eq_by_cmp R q k) (Some x)) (fin.get-remove o m k q)))
+
   pub gone : (m : fin.FinMap R X) (k : K) → fin.get (fin.remove m k) k ≡ None
   gone m k = fin.get-remove o m k k ∙ ap (λ b. cond b None (fin.get m k)) (ap is_eq (tied_itself o k))
 

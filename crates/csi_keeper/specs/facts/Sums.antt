@@ -10,7 +10,7 @@ use Rattle.csi_keeper.specs.declared.change.Change.TheVariants.{AddVolume, Remov
 use Rattle.csi_keeper.specs.declared.volume.Volume.{Volume}
 use Rattle.csi_keeper.specs.State.{State, sizes, changed}
 use Rattle.csi_keeper.specs.Texts.{Text}
-use Rattle.csi_keeper.specs.facts.Finite.{none_some, put_back, gone}
+use Rattle.csi_keeper.specs.facts.Finite.{none_some, put_back, set_anew, gone}
 
 abbrev pub in_order : List (ℕ × Volume) → Text → List ℕ
 in_order es pool = map (λ v. v.bytes) (filter (λ v. same_text v.pool pool) (map (λ e. e.1) es))
@@ -46,6 +46,14 @@ module _ (measure : List (ℕ × Volume) → ℕ) (part : Volume → ℕ) (more 
   measure_removed m k v some =
       ap (λ (x : fin.FinMap nat_cmp Volume). measure (fin.entries x)) (sym (put_back nat_cmp_total fin.nat_cmp-IsAntisymmetric m k v some))
       ∙ measure_added (fin.remove m k) k v (gone nat_cmp_total fin.nat_cmp-IsAntisymmetric m k)
+
+  -- a value of the same part in another's place
+  pub measure_set : (m : fin.FinMap nat_cmp Volume) (k : ℕ) (v w : Volume) → fin.get m k ≡ Some v → part w ≡ part v → measure (fin.entries (fin.insert m k w)) ≡ measure (fin.entries m)
+  measure_set m k v w some same =
+      ap (λ (x : fin.FinMap nat_cmp Volume). measure (fin.entries x)) (set_anew nat_cmp_total fin.nat_cmp-IsAntisymmetric m k w)
+      ∙ measure_added (fin.remove m k) k w (gone nat_cmp_total fin.nat_cmp-IsAntisymmetric m k)
+      ∙ ap (λ n. n + measure (fin.entries (fin.remove m k))) same
+      ∙ sym (measure_removed m k v some)
 
 -- the bytes, and the number, of a pool's volumes after one more, and after one less
 pub added_sum : (s : State) (v : Volume) (pool : Text) → fin.get s.volumes v.number ≡ None → sum (sizes (changed s (AddVolume v)) pool) ≡ cond (same_text v.pool pool) v.bytes 0 + sum (sizes s pool)

@@ -10,11 +10,12 @@ ghost use Rattle.std.specs.Ordering.{nat_cmp};
 ghost use Rattle.std.specs.declared.ops.Bound.TheVariants.{Excluded, Unbounded};
 ghost use Rattle.csi_types.specs.Maps.{same_text};
 ghost use Rattle.csi_keeper.specs.Memory.{volumes_of, nodes_in};
+ghost use Rattle.csi_keeper.specs.State.{mutable_set};
 
 use crate::copies::copy_volume;
 use crate::mem::attachments::nodes_of;
 use crate::volume::{Attachment, Volume};
-use csi_types::{Items, Text};
+use csi_types::{Items, Map, Text};
 use std::alloc::{AllocError, Global};
 use std::collections::BTreeMap;
 use std::collections::btree_map::Range;
@@ -128,4 +129,14 @@ pub(crate) fn take_volume(volumes: &mut BTreeMap<u64, Volume>, number: u64) -> O
     ensures rest { volumes_of volumes.new.entries ≡ remove (volumes_of volumes.old.entries) number }
 {
     volumes.remove(&number)
+}
+
+/// Gives the volume of a number, where one stands, other mutable parameters. It takes no memory.
+#[tactic(auto, using(crate::proofs::ChangeLemmas::one_mutable, crate::proofs::ChangeLemmas::no_mutable))]
+pub(crate) fn set_mutable(volumes: &mut BTreeMap<u64, Volume>, number: u64, mutable: Map)
+    ensures { volumes_of volumes.new.entries ≡ mutable_set (volumes_of volumes.old.entries) number mutable (get (volumes_of volumes.old.entries) number) }
+{
+    if let Some(volume) = volumes.get_mut(&number) {
+        volume.mutable = mutable;
+    }
 }

@@ -1,6 +1,7 @@
 -- CreateVolume (CSI specification, 'CreateVolume').
 use Rattle.std.specs.Prelude.{ℕ, ◌&&◌, nat_le, Bool, List, Option, Some, None, if◌then◌else◌}
 use Rattle.csi_types.specs.Maps.{TextMap, same_map}
+use Rattle.csi_types.specs.Overlays.{has_each}
 use Rattle.csi_types.specs.declared.limits.TheConstants.{MAX_VOLUMES, MAX_NUMBER}
 use Rattle.csi_types.specs.declared.reason.Reason.TheVariants.{VolumeNotCompatible, NoRoom, TooManyVolumes, NumbersUsedUp, OutOfRange}
 use Rattle.csi_types.specs.declared.requests.CreateVolume.{CreateVolume}
@@ -20,10 +21,10 @@ use Rattle.csi_machine.specs.Topology.{is_reachable, terms}
 
 -- a volume of the name stands
 
--- the volume, whose pool has these segments, is as the request asks
+-- the volume, whose pool has these segments, is as the request asks; a mutable parameter that is given has to be as it is now
 abbrev pub is_compatible : TextMap → Volume → CreateVolume → Bool
 is_compatible segments v r =
-    is_reachable segments r.topology && has_size v.bytes r.range && have_keys v.caps r.capabilities && same_map v.params r.parameters
+    is_reachable segments r.topology && has_size v.bytes r.range && have_keys v.caps r.capabilities && same_map v.params r.parameters && has_each v.mutable r.mutable
 
 abbrev pub again_at : TextMap → CreateVolume → Volume → Plan
 again_at segments r v =
@@ -42,6 +43,7 @@ made r number bytes pool = record {
   pool = pool.name;
   caps = keys_of r.capabilities;
   params = r.parameters;
+  mutable = r.mutable;
 }
 
 abbrev pub place_in : CreateVolume → ℕ → ℕ → Option Pool → Plan

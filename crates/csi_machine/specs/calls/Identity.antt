@@ -18,7 +18,7 @@ abbrev pub probe : Plan
 probe = respond (response.Probe (Some true))
 
 -- CREATE_DELETE_VOLUME 1, PUBLISH_UNPUBLISH_VOLUME 2, LIST_VOLUMES 3, GET_CAPACITY 4, PUBLISH_READONLY 8,
--- LIST_VOLUMES_PUBLISHED_NODES 10, SINGLE_NODE_MULTI_WRITER 13
+-- LIST_VOLUMES_PUBLISHED_NODES 10, SINGLE_NODE_MULTI_WRITER 13, MODIFY_VOLUME 14
 abbrev pub controller_capabilities : Plan
 controller_capabilities =
-    respond (response.ControllerCapabilities (Some (pos 1) ∷ Some (pos 2) ∷ Some (pos 3) ∷ Some (pos 4) ∷ Some (pos 8) ∷ Some (pos 10) ∷ Some (pos 13) ∷ []))
+    respond (response.ControllerCapabilities (Some (pos 1) ∷ Some (pos 2) ∷ Some (pos 3) ∷ Some (pos 4) ∷ Some (pos 8) ∷ Some (pos 10) ∷ Some (pos 13) ∷ Some (pos 14) ∷ []))

@@ -18,7 +18,7 @@ use csi_config::laws::sizes_whole;
 use csi_config::{Config, Pool};
 use csi_keeper::{Change, Keeper, StoreFault, Volume};
 use csi_types::{
-    CreateVolume, MAX_NUMBER, MAX_VOLUMES, Map, Reason, Response, copy_map, copy_text,
+    CreateVolume, MAX_NUMBER, MAX_VOLUMES, Map, Reason, Response, copy_map, copy_text, has_each,
 };
 use std::alloc::{AllocError, Global};
 
@@ -40,7 +40,8 @@ fn is_compatible(
         is_reachable(segments, &request.topology)
             && has_size(volume.bytes, &request.range)
             && have
-            && volume.params == request.parameters,
+            && volume.params == request.parameters
+            && has_each(&volume.mutable, &request.mutable),
     )
 }
 
@@ -92,6 +93,7 @@ fn made(
         pool: copy_text(alloc, pool.name.as_str())?,
         caps: keys_of(alloc, request.capabilities.as_slice())?,
         params: copy_map(alloc, &request.parameters)?,
+        mutable: copy_map(alloc, &request.mutable)?,
     })
 }
 

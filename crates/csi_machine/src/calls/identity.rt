@@ -41,8 +41,8 @@ pub(crate) fn plan_probe() -> Plan
 }
 
 /// The plan of ControllerGetCapabilities: `CREATE_DELETE_VOLUME`, `PUBLISH_UNPUBLISH_VOLUME`,
-/// `LIST_VOLUMES`, `GET_CAPACITY`, `PUBLISH_READONLY`, `LIST_VOLUMES_PUBLISHED_NODES` and
-/// `SINGLE_NODE_MULTI_WRITER`.
+/// `LIST_VOLUMES`, `GET_CAPACITY`, `PUBLISH_READONLY`, `LIST_VOLUMES_PUBLISHED_NODES`,
+/// `SINGLE_NODE_MULTI_WRITER` and `MODIFY_VOLUME`.
 pub(crate) fn plan_controller_capabilities(alloc: Global) -> Result<Plan, AllocError>
     ensures none { IfOk result (λ p. p.change ≡ None) }
     ensures value { IfOk result (λ p. p ≡ controller_capabilities) }
@@ -55,5 +55,6 @@ pub(crate) fn plan_controller_capabilities(alloc: Global) -> Result<Plan, AllocE
     types.push(Some(8))?;
     types.push(Some(10))?;
     types.push(Some(13))?;
+    types.push(Some(14))?;
     Ok(respond(Response::ControllerCapabilities(types)))
 }

@@ -4,11 +4,12 @@ ghost use Rattle.std.specs.Prelude.{◌≡◌, ◌<◌, ◌^◌, [], ◌∷◌};
 ghost use Rattle.sqlite.specs.declared.types.Value.TheVariants.{Text};
 ghost use Rattle.csi_layout.specs.Transactions.{KeepsCommitted, LeavesNothingNew, RunsFrom};
 ghost use Rattle.csi_statements.specs.Deletes.{Drops, is_numbered};
-ghost use Rattle.csi_statements.specs.Failing.{FailsFrom, NothingRefuses, RefusesRemoval, RefusesVolume};
+ghost use Rattle.csi_statements.specs.Failing.{FailsFrom, NothingRefuses, RefusesParams, RefusesRemoval, RefusesVolume};
 ghost use Rattle.csi_statements.specs.Rows.{AddsVolume, Looks, number_value, seen_volume, volume_row};
 ghost use Rattle.csi_statements.specs.Shown.{IsBeginningOf, IsPage, IsShownOf};
 ghost use Rattle.csi_statements.specs.Statements.{named_query, page_numbers_query, sizes_query, volume_query};
 ghost use Rattle.csi_statements.specs.Tables.{schema};
+ghost use Rattle.csi_statements.specs.Updates.{SetsParams};
 
 use crate::values::integer;
 use sqlite::types::ValueRef;
@@ -42,6 +43,25 @@ pub(crate) fn insert_volume<S: Alter>(
             ValueRef::Blob(caps),
             ValueRef::Blob(params),
         ],
+    )
+}
+
+/// Sets the params of a volume.
+pub(crate) fn update_params<S: Alter>(
+    tx: &mut Transaction<'_, S>,
+    volume: u64,
+    params: &[u8],
+) -> Result<usize, Error>
+    requires { volume < 2 ^ 63 }
+    ensures same_reference { tx.new.conn.ghost_name ≡ tx.old.conn.ghost_name }
+    ensures ok { RunsFrom S.Store tx.old.conn.now tx.new.conn.now schema (SetsParams volume params.now) result }
+    ensures failed { FailsFrom S.Store tx.old.conn.now tx.new.conn.now schema (RefusesParams volume params.now) result }
+    ensures kept { KeepsCommitted S.Store tx.old.conn.now tx.new.conn.now }
+    ensures survives { LeavesNothingNew S.Store tx.old.conn.now tx.new.conn.now }
+{
+    tx.execute(
+        "UPDATE volumes SET params = ?2 WHERE number = ?1",
+        &[integer(volume), ValueRef::Blob(params)],
     )
 }
 

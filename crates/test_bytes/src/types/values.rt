@@ -3,7 +3,8 @@
 use super::texts::{map_of, text_at, texts_of};
 use crate::words::number_of;
 use csi_types::{
-    Access, Capability, Code, Mount, Reason, copy_capability, copy_map, method_of, name_reason,
+    Access, Capability, Code, Map, Mount, Reason, copy_capability, copy_map, has_each, laid_over,
+    map_bytes, method_of, name_reason,
 };
 use std::alloc::Global;
 use std::convert::AsStr;
@@ -11,7 +12,7 @@ use std::fmt::Write;
 use test_kit::{RowFault, word_at};
 
 // All reasons.
-const REASONS: [Reason; 34] = [
+const REASONS: [Reason; 36] = [
     Reason::NameMissing,
     Reason::NameTooLong,
     Reason::NameBanned,
@@ -28,6 +29,7 @@ const REASONS: [Reason; 34] = [
     Reason::VolumeIdMissing,
     Reason::NodeIdMissing,
     Reason::MaxEntriesNegative,
+    Reason::MutableMissing,
     Reason::UnknownMethod,
     Reason::VolumeNotFound,
     Reason::NodeNotFound,
@@ -42,6 +44,7 @@ const REASONS: [Reason; 34] = [
     Reason::NodeFull,
     Reason::CapabilityNotOfVolume,
     Reason::BadToken,
+    Reason::MutableTooLarge,
     Reason::ReplyTooLarge,
     Reason::OutOfMemory,
     Reason::StoreRefused,
@@ -109,12 +112,32 @@ pub(crate) fn list_answer(alloc: Global, words: &[&str]) -> Result<String, RowFa
 
 /// Of `map KEY VALUE ..`: the entries of a copy, as they come out.
 pub(crate) fn map_answer(alloc: Global, words: &[&str]) -> Result<String, RowFault> {
-    let copy = copy_map(alloc, &map_of(alloc, words)?)?;
+    entries_told(alloc, &copy_map(alloc, &map_of(alloc, words)?)?)
+}
+
+fn entries_told(alloc: Global, map: &Map) -> Result<String, RowFault> {
     let mut told = String::new(alloc);
-    for (key, value) in &copy {
+    for (key, value) in map {
         write!(told, "[{key}={value}]")?;
     }
     Ok(told)
+}
+
+/// Of `over KEY VALUE .. under KEY VALUE ..`: the entries of the second map with the first laid over it, as they come
+/// out, and their bytes; and whether the second had each of the first.
+pub(crate) fn over_answer(alloc: Global, words: &[&str]) -> Result<String, RowFault> {
+    let parts = words.iter().position(|word| *word == "under");
+    let place = parts.ok_or(RowFault::NotRow)?;
+    let given = map_of(alloc, words.get(..place).unwrap_or_default())?;
+    let map = map_of(alloc, words.get(place + 1..).unwrap_or_default())?;
+    let laid = laid_over(alloc, &map, &given)?;
+    let told = entries_told(alloc, &laid)?;
+    let had = if has_each(&map, &given) {
+        "had"
+    } else {
+        "had not"
+    };
+    Ok(format!(in alloc; "{told} of {} bytes; {had} each", map_bytes(&laid))?)
 }
 
 /// Of `capability none`, `capability block` or `capability mount TYPE GROUP MODE FLAG ..`: the value of a copy.

@@ -148,6 +148,14 @@ pub(crate) fn open(alloc: Global, disks: Disks) -> Result<Connection<Store>, (Sq
     }
 }
 
+/// Makes tables ones of format 1, which have no mutable parameters.
+pub(crate) fn make_older(alloc: Global, conn: &mut Connection<Store>) -> Result<(), RowFault> {
+    match conn.execute_batch("UPDATE meta SET format_no = 1") {
+        Ok(()) => Ok(()),
+        Err(error) => Err(RowFault::Differs(format!(in alloc; "tables: {error}")?)),
+    }
+}
+
 /// Ends a connection, and gives its files back: closed, or as a stop leaves them.
 pub(crate) fn end(conn: Connection<Store>, closes: bool) -> Disks {
     if !closes {

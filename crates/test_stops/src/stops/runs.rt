@@ -50,10 +50,10 @@ pub(crate) struct Came {
 }
 
 impl Wanted<'_> {
-    /// A run in which the disk stops.
-    pub(crate) fn run(&self, stop: Stop) -> Result<Left, RowFault> {
+    /// A run over files in which the disk stops.
+    pub(crate) fn run(&self, files: &Files<Memory>, stop: Stop) -> Result<Left, RowFault> {
         let mut reply = Vec::new(self.alloc);
-        let disks = copies(self.alloc, self.files, stop.calls_of_each())?;
+        let disks = copies(self.alloc, files, stop.calls_of_each())?;
         let mut disks = serve_files(
             self.alloc,
             self.config,

@@ -2,6 +2,7 @@
 
 use super::disks::{Stop, Which, are_same};
 use super::runs::{Came, Found, Left, Wanted};
+use sqlite_disk::{Files, Memory};
 use std::fmt;
 use test_kit::RowFault;
 
@@ -40,12 +41,24 @@ impl fmt::Display for Seen {
     }
 }
 
+/// How the disk stops.
+#[derive(Clone, Copy)]
+pub(crate) enum Way {
+    /// In the call.
+    Once,
+    /// In the call, and the next start stops at the same place.
+    Twice,
+    /// In the call, or as the connection is closed behind it.
+    Closing,
+}
+
 /// The runs of a call.
 #[derive(Drop)]
 pub(crate) struct Trials<'a> {
     wanted: Wanted<'a>,
     // A run stops so many calls later than the last one.
     step: u64,
+    way: Way,
     // What was found last, which is not looked for again of the same bytes: most calls of a disk are reads.
     found: Option<Found>,
     seen: Seen,
@@ -53,10 +66,11 @@ pub(crate) struct Trials<'a> {
 
 impl<'a> Trials<'a> {
     /// No run yet.
-    pub(crate) fn new(wanted: Wanted<'a>, step: u64) -> Trials<'a> {
+    pub(crate) fn new(wanted: Wanted<'a>, step: u64, way: Way) -> Trials<'a> {
         Trials {
             wanted,
             step,
+            way,
             found: None,
             seen: Seen {
                 before: false,
@@ -72,16 +86,17 @@ impl<'a> Trials<'a> {
     /// # Errors
     ///
     /// The first stop behind which something is found that must not be.
-    pub(crate) fn all(mut self, closes: bool) -> Result<Seen, RowFault> {
+    pub(crate) fn all(mut self) -> Result<Seen, RowFault> {
         for which in [Which::Log, Which::Database, Which::Both] {
-            self.stops_of(which, closes, false)?;
-            self.stops_of(which, closes, true)?;
+            self.stops_of(which, false)?;
+            self.stops_of(which, true)?;
         }
         Ok(self.seen)
     }
 
     // Each run stops later than the last one, until one does not stop.
-    fn stops_of(&mut self, which: Which, closes: bool, loses: bool) -> Result<(), RowFault> {
+    fn stops_of(&mut self, which: Which, loses: bool) -> Result<(), RowFault> {
+        let closes = matches!(self.way, Way::Closing);
         let mut calls: u64 = 0;
         for _ in 0..MOST_CALLS {
             let stop = Stop {
@@ -98,13 +113,22 @@ impl<'a> Trials<'a> {
         Err(RowFault::NotRow)
     }
 
+    // What a second start leaves, where there is one.
+    fn left_again(&self, files: Files<Memory>, stop: Stop) -> Result<Files<Memory>, RowFault> {
+        match self.way {
+            Way::Twice => Ok(self.wanted.run(&files, stop)?.files),
+            Way::Once | Way::Closing => Ok(files),
+        }
+    }
+
     // One run, and whether the disk stopped in it.
     fn stop(&mut self, stop: Stop) -> Result<bool, RowFault> {
         let Left {
             is_stopped,
             reply,
             files,
-        } = self.wanted.run(stop)?;
+        } = self.wanted.run(self.wanted.files, stop)?;
+        let files = self.left_again(files, stop)?;
         let found = match self.found.take() {
             Some(found) if are_same(&found.files, &files) => found,
             _ => self.wanted.find(stop, files)?,

@@ -9,7 +9,7 @@ use super::words::{attachments_in_words, nodes_in_words, numbers_in_words, volum
 use crate::numbers::{count_at, small_at};
 use csi_keeper::{Attachment, CapKey, Change, Keeper, Kind, Volume};
 use csi_tables::Tables;
-use csi_types::{Items, Map, Text};
+use csi_types::{Items, MAX_MAP_BYTES, Map, Text, map_bytes};
 use sqlite::MemStore;
 use std::alloc::{AllocError, Global};
 use test_kit::{RowFault, number_at, word_at, words_of};
@@ -22,7 +22,7 @@ pub(crate) fn call(
 ) -> Result<String, RowFault> {
     let words = words_of(alloc, row)?;
     match word_at(&words, 0)? {
-        "add" | "remove" | "attach" | "detach" => {
+        "add" | "remove" | "attach" | "detach" | "set" => {
             let change = change(alloc, &words)?;
             tables.apply(alloc, &change).map_err(failed)?;
             Ok(String::from_str(alloc, "done")?)
@@ -101,6 +101,7 @@ fn change(alloc: Global, words: &[&str]) -> Result<Change, RowFault>
             let number = number_at(words, 1)?;
             Ok(Change::Attach(number, attachment(alloc, word_at(words, 2)?)?))
         }
+        "set" => set(alloc, words),
         _ => {
             let number = number_at(words, 1)?;
             match word_at(words, 2)? {
@@ -109,6 +110,22 @@ fn change(alloc: Global, words: &[&str]) -> Result<Change, RowFault>
             }
         }
     }
+}
+
+// Other mutable parameters: of one key, or none.
+fn set(alloc: Global, words: &[&str]) -> Result<Change, RowFault>
+    ensures { IfOk result IsBounded }
+{
+    let number = number_at(words, 1)?;
+    let mut mutable = Map::new(alloc);
+    if words.len() > 3 {
+        let key = Text::from_str(alloc, word_at(words, 2)?)?;
+        mutable.insert(key, Text::from_str(alloc, word_at(words, 3)?)?)?;
+    }
+    if map_bytes(&mutable) > MAX_MAP_BYTES {
+        return Err(RowFault::NotRow);
+    }
+    Ok(Change::SetMutable(number, mutable))
 }
 
 fn volume(alloc: Global, words: &[&str]) -> Result<Volume, RowFault>
@@ -124,6 +141,7 @@ fn volume(alloc: Global, words: &[&str]) -> Result<Volume, RowFault>
         pool: Text::from_str(alloc, word_at(words, 4)?)?,
         caps: Items::new(alloc),
         params: Map::new(alloc),
+        mutable: Map::new(alloc),
     })
 }
 

@@ -23,14 +23,15 @@ fn put_keys(text: &mut String, keys: &Items<CapKey>) -> Result<(), RowFault> {
     Ok(())
 }
 
-fn put_params(text: &mut String, params: &Map) -> Result<(), RowFault> {
+fn put_params(text: &mut String, params: &Map, sign: &str) -> Result<(), RowFault> {
     for (key, value) in params {
-        write!(text, " {}={}", key.as_str(), value.as_str())?;
+        write!(text, " {}{sign}{}", key.as_str(), value.as_str())?;
     }
     Ok(())
 }
 
-/// Volumes: of each its number, name, bytes and pool, what it may be used as, and its parameters.
+/// Volumes: of each its number, name, bytes and pool, what it may be used as, its parameters, and those
+/// that can be changed, with `:=` between.
 pub(crate) fn volumes_in_words(alloc: Global, volumes: &[Volume]) -> Result<String, RowFault> {
     let mut text = String::from_str(alloc, "volumes")?;
     for volume in volumes {
@@ -38,7 +39,8 @@ pub(crate) fn volumes_in_words(alloc: Global, volumes: &[Volume]) -> Result<Stri
         let pool = volume.pool.as_str();
         write!(text, "; {} {name} {} {pool}", volume.number, volume.bytes)?;
         put_keys(&mut text, &volume.caps)?;
-        put_params(&mut text, &volume.params)?;
+        put_params(&mut text, &volume.params, "=")?;
+        put_params(&mut text, &volume.mutable, ":=")?;
     }
     Ok(text)
 }

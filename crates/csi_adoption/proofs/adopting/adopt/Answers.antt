@@ -20,19 +20,17 @@ returns-in-Err-clause-unadopted g c =
 pub over-requires-clause-stands : goal.over-requires-clause-stands
 over-requires-clause-stands g c =
     let settled = is_settled g.S.Store c.args.conn c.set_step_limit.new.self c.settle.new.conn c.set_step_limit.ensures c.settle.ensures.undone c.settle.ensures.survives in
-    let looks = c.in-Ok-judge.ensures.looks in
-    stands g.S.Store c.args.config.now c.args.conn c.settle.new.conn c.judge.new.conn c.in-Ok-judge.totals settled c.schema.ensures.live looks.same looks.survives c.in-Ok-judge.ensures.found
+    stands g.S.Store c.args.config.now c.args.conn c.settle.new.conn c.take.new.conn c.in-Ok-take.totals settled c.schema.ensures.live c.in-Ok-take.ensures.survives c.in-Ok-take.ensures.taken
 
-pub returns-in-Ok-judge-clause-adopted : goal.returns-in-Ok-judge-clause-adopted
-returns-in-Ok-judge-clause-adopted g c =
+pub returns-in-Ok-take-clause-adopted : goal.returns-in-Ok-take-clause-adopted
+returns-in-Ok-take-clause-adopted g c =
     let settled = is_settled g.S.Store c.args.conn c.set_step_limit.new.self c.settle.new.conn c.set_step_limit.ensures c.settle.ensures.undone c.settle.ensures.survives in
-    let looks = c.in-Ok-judge.ensures.looks in
-    is_adopted g.S.Store c.args.config.now c.args.conn c.settle.new.conn c.judge.new.conn c.in-Ok-judge.totals settled c.schema.ensures.live looks.same looks.survives c.in-Ok-judge.ensures.found
-    g.met.S.Store.settled c.over.result c.over.ensures.same c.over.ensures.fresh
+    is_adopted g.S.Store c.args.config.now c.args.conn c.settle.new.conn c.take.new.conn c.in-Ok-take.totals settled c.schema.ensures.live c.in-Ok-take.ensures.survives c.in-Ok-take.ensures.taken
+    c.one_state.ensures g.met.S.Store.settled c.over.result c.over.ensures.same c.over.ensures.fresh
 
-pub returns-in-Err-judge-clause-unadopted : goal.returns-in-Err-judge-clause-unadopted
-returns-in-Err-judge-clause-unadopted g c =
+pub returns-in-Err-take-clause-unadopted : goal.returns-in-Err-take-clause-unadopted
+returns-in-Err-take-clause-unadopted g c =
     let settled = is_settled g.S.Store c.args.conn c.set_step_limit.new.self c.settle.new.conn c.set_step_limit.ensures c.settle.ensures.undone c.settle.ensures.survives in
-    let looks = c.in-Err-judge.ensures.looks in
+    let it = c.in-Err-take.ensures in
     let some = λ (none : c.settle.new.conn.schema ≡ no_schema). true≢false (sym (c.is_blank.ensures.whole (c.schema.ensures.value ∙ none)) ∙ c.if-is_blank.false) in
-    is_refused g.S.Store c.args.config.now c.args.conn c.settle.new.conn c.judge.new.conn c.in-Err-judge.fault settled looks.idle looks.kept looks.survives c.in-Err-judge.ensures.first c.in-Err-judge.ensures.other c.in-Err-judge.ensures.sound some
+    is_refused g.S.Store c.args.config.now c.args.conn c.settle.new.conn c.take.new.conn c.in-Err-take.fault settled c.schema.ensures.live it.idle it.kept it.survives it.first it.other it.sound some

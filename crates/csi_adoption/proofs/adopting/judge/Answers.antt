@@ -38,6 +38,7 @@ returns-clause-found g c = λ clean.
       schema_is = ours;
       found = λ sound.
           let it = c.rows_tell.ensures.found db.trees c.in_ok-volumes.volumes sound (c.in_ok-volumes.ensures.judged clean) in (
+            it.known,
             it.state,
             it.rows,
             it.invariant,

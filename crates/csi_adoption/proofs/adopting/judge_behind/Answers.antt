@@ -23,7 +23,7 @@ returns-in_err-judge_seen-clause-judged g c = λ clean rows same is.
     let db = (state g.S.Store c.args.conn.now).now.trees in
     let before = clean_before g.S.Store c.see_tables.new.conn c.judge_seen.new.conn _ c.in_err-judge_seen.ensures.looks clean in
     let trees = same_trees g.S.Store c.args.conn.now c.see_tables.new.conn (c.in_ok-tables.ensures.looks.same before) in
-    let joined = subst (λ (t : Trees). JudgesSeen config t c.args.next c.in_ok-tables.tables (Err c.in_err-judge_seen.field-0.0)) trees (c.in_err-judge_seen.ensures.judged clean) in
+    let joined = subst (λ (t : Trees). JudgesSeen config t c.args.meta c.in_ok-tables.tables (Err c.in_err-judge_seen.field-0.0)) trees (c.in_err-judge_seen.ensures.judged clean) in
     subst (JudgesRows config db) (sym answer) (joined (c.in_ok-tables.ensures.seen before) rows same is)
 
 pub returns-clause-looks : goal.returns-clause-looks
@@ -36,5 +36,5 @@ returns-clause-judged g c = λ clean rows same is.
     let config = c.args.config.now in
     let before = clean_before g.S.Store c.see_tables.new.conn c.judge_seen.new.conn _ c.in_ok-judge_seen.ensures.looks clean in
     let trees = same_trees g.S.Store c.args.conn.now c.see_tables.new.conn (c.in_ok-tables.ensures.looks.same before) in
-    let joined = subst (λ (t : Trees). JudgesSeen config t c.args.next c.in_ok-tables.tables (Ok tt)) trees (c.in_ok-judge_seen.ensures.judged clean) in
+    let joined = subst (λ (t : Trees). JudgesSeen config t c.args.meta c.in_ok-tables.tables (Ok tt)) trees (c.in_ok-judge_seen.ensures.judged clean) in
     joined (c.in_ok-tables.ensures.seen before) rows same is

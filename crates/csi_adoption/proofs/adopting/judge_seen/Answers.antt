@@ -12,7 +12,7 @@ returns-in_err-check_tables-clause-judged g c = λ clean seen rows same is.
     let tables = c.args.tables.now in
     let db = (state g.S.Store c.args.conn.now).now.trees in
     subst (λ r. JudgesRows config db (volumes_unless tables r)) (sym answer) (judged_err config db c.in_err-check_tables.field-0.0 (λ known.
-    table_fault config db c.args.next rows same is tables seen c.in_err-check_tables.field-0.0 (c.in_err-check_tables.ensures (not_memory c.in_err-check_tables.field-0.0 known))))
+    table_fault config db c.args.meta rows same is tables seen c.in_err-check_tables.field-0.0 (c.in_err-check_tables.ensures (not_memory c.in_err-check_tables.field-0.0 known))))
 
 pub returns-clause-judged : goal.returns-clause-judged
-returns-clause-judged g c = λ clean seen rows same is. c.judge_joined.ensures.judged clean c.args.next seen c.in_ok-check_tables.ensures rows same is
+returns-clause-judged g c = λ clean seen rows same is. c.judge_joined.ensures.judged clean c.args.meta seen c.in_ok-check_tables.ensures rows same is

@@ -1,4 +1,4 @@
-use Rattle.std.proofs.Common.{subst, sym}
+use Rattle.std.proofs.Common.{refl, subst, sym}
 use Rattle.csi_looks.specs.declared.sums.Weight.TheVariants.{Number, One}
 use Rattle.csi_rules.specs.Coded.{has_caps, has_params}
 use Rattle.csi_rules.specs.Kinds.{has_volume_kinds}
@@ -19,14 +19,14 @@ returns-clause-seen g c clean =
     let sums = c.in_ok-sums.ensures in (
       rows,
       seen.1,
-      subst (SeesVolumes c.args.config.now c.args.next rows) (sym c.seen_by.ensures) (sees_volumes c.args.config.now c.args.next rows _
+      subst (SeesVolumes c.args.config.now c.args.meta rows) (sym c.seen_by.ensures) (sees_volumes c.args.config.now c.args.meta rows _ refl
           (named 0 1 _ _ has_volume_kinds _ _ rows kinds.number kinds.text kinds.none all.0.0.0.0.3)
           (named_by 0 1 _ _ is_numbered _ _ _ _ rows names.next names.number_first names.text_first names.none_first all.0.0.1.0.3)
           (named 0 1 _ _ is_named _ _ rows names.number_second names.text_second names.none_second all.0.0.1.1.3)
           (named_by 0 1 _ _ (λ config. is_in_pools config.pools) _ _ _ _ rows sizes.config sizes.number_first sizes.text_first sizes.none_first all.0.1.0.0.3)
           (named 0 1 _ _ is_sized _ _ rows sizes.number_second sizes.text_second sizes.none_second all.0.1.0.1.3)
           (named 0 1 _ _ has_caps _ _ rows codes.number_first codes.text_first codes.none_first all.0.1.1.0.3)
-          (named 0 1 _ _ has_params _ _ rows codes.number_second codes.text_second codes.none_second all.0.1.1.1.3)
+          (named_by 0 1 _ _ has_params _ _ _ _ rows codes.format codes.number_second codes.text_second codes.none_second all.0.1.1.1.3)
           (all_sums 3 (λ p. p.name) (Number 2) rows c.args.config.now.pools _ _ sums.bytes all.1.0.0)
           (all_sums 3 (λ p. p.name) One rows c.args.config.now.pools _ _ sums.volumes all.1.0.1)
           (counted _ _ rows sums.rows all.1.1)

@@ -6,6 +6,9 @@ use Rattle.csi_machine.proofs.answering.plan_of.Goals as goal
 pub returns-in-Delete-clause-down : goal.returns-in-Delete-clause-down
 returns-in-Delete-clause-down g c = told_more c.plan_delete.result (λ p so s. so s ∙ ap (plan c.args.config.now s) (sym c.in-Delete.is)) c.plan_delete.ensures.down
 
+pub returns-in-Modify-clause-down : goal.returns-in-Modify-clause-down
+returns-in-Modify-clause-down g c = told_more c.plan_modify.result (λ p so s. so s ∙ ap (plan c.args.config.now s) (sym c.in-Modify.is)) c.plan_modify.ensures.down
+
 pub returns-in-Publish-clause-down : goal.returns-in-Publish-clause-down
 returns-in-Publish-clause-down g c = told_more c.plan_publish.result (λ p so s. so s ∙ ap (plan c.args.config.now s) (sym c.in-Publish.is)) c.plan_publish.ensures.down
 

@@ -1,5 +1,5 @@
-use Rattle.csi_tables.proofs.StateLemmas.{same_state}
+use Rattle.csi_tables.proofs.StateLemmas.{same_either}
 use Rattle.csi_tables.proofs.laws.one_state.Goals as goal
 
 pub returns : goal.returns
-returns c = same_state c.read_back.ensures
+returns c = same_either c.read_back.ensures

@@ -9,7 +9,7 @@ use Rattle.csi_statements.specs.Failing.{RefusesRemoval}
 use Rattle.csi_statements.specs.Rows.{number_value, seen_volume}
 use Rattle.csi_statements.specs.Texts.{remove_text}
 use Rattle.csi_tables.specs.Refusing.{RefusesRemoving}
-use Rattle.csi_tables.proofs.KeepLemmas.{is_quiet, makes, fails, makes_after, fails_after, fails_quiet, store_makes, store_fails, on_err, on_ok_so, on_err_so}
+use Rattle.csi_tables.proofs.KeepLemmas.{is_quiet, makes_behind, fails_behind, fails_quiet, store_makes, store_fails, on_err, on_ok_so, on_err_so}
 use Rattle.csi_tables.proofs.RowLemmas.{nothing_removed, none_removed, rows_removed, storable_removed}
 use Rattle.csi_tables.proofs.RefusalLemmas.{refused_after, refuses_same, told_as}
 use Rattle.csi_tables.proofs.made.unmake_volume.Goals as goal
@@ -19,7 +19,7 @@ returns-then-number-ge-NUMBERS-clause-made g c =
     let n = c.args.number in
     let same = nothing_removed n c.if-number-ge-NUMBERS.true in
     on_ok_so (λ made. store_makes g.S.Store (RemoveVolume n) (c.args.conn.now, c.args.totals.now) (c.make_nothing.new.conn, c.args.totals.now)
-    (λ s clean held allowed storable totals. subst (AreTotals c.args.totals.now) (sym (same s storable)) totals) (λ s allowed h. storable_removed s n h) (made (RemoveVolume n) same)) c.make_nothing.result c.make_nothing.ensures.made
+    (λ s clean held allowed storable totals. subst (AreTotals c.args.totals.now) (sym (same s storable)) totals) (λ s clean held allowed h. storable_removed s n h) (made (RemoveVolume n) same)) c.make_nothing.result c.make_nothing.ensures.made
 
 pub returns-then-number-ge-NUMBERS-clause-failed : goal.returns-then-number-ge-NUMBERS-clause-failed
 returns-then-number-ge-NUMBERS-clause-failed g c =
@@ -37,29 +37,29 @@ returns-in_err-remove_volume-clause-failed g c =
     let n = c.args.number in
     on_err c.from_residual-in_err-remove_volume.result (
     store_fails g.S.Store (RemoveVolume n) (c.args.conn.now, c.args.totals.now) (c.remove_volume.new.conn, c.args.totals.now) (λ q. refl)
-    (fails_after g.S.Store (RemoveVolume n) c.args.conn.now c.by_number.new.conn c.remove_volume.new.conn (is_quiet g.S.Store c.args.conn.now c.by_number.new.conn c.by_number.ensures.undone c.by_number.ensures.survives)
-    (fails g.S.Store c.read_back.ensures (RemoveVolume n) (Drops 1 seen_volume (is_numbered n)) (λ old new h. h.schema) (λ s old new has p allowed h. rows_removed s n old new has p h)
-    c.by_number.new.conn c.remove_volume.new.conn c.remove_volume.ensures.survives c.in_err-remove_volume.ensures.err)))
+    (fails_behind g.S.Store c.read_back.ensures (RemoveVolume n) (Drops 1 seen_volume (is_numbered n)) (λ old new h. h.schema) c.args.conn.now c.by_number.new.conn c.remove_volume.new.conn
+    (is_quiet g.S.Store c.args.conn.now c.by_number.new.conn c.by_number.ensures.undone c.by_number.ensures.survives) (λ clean s held old new has p allowed h. rows_removed s n old new has p h)
+    c.remove_volume.ensures.survives c.in_err-remove_volume.ensures.err))
 
 pub returns-in_default-clause-made : goal.returns-in_default-clause-made
 returns-in_default-clause-made g c =
     let n = c.args.number in
     store_makes g.S.Store (RemoveVolume n) (c.args.conn.now, c.args.totals.now) (c.remove_volume.new.conn, c.args.totals.now)
     (λ s clean held allowed storable totals. subst (AreTotals c.args.totals.now) (sym (none_removed n s (sym (c.in_ok-found.ensures.value (omega (arith, c.remove_volume.ensures.survives.clean)) s held) ∙ c.in_default.is))) totals)
-    (λ s allowed h. storable_removed s n h)
-    (makes_after g.S.Store (RemoveVolume n) c.args.conn.now c.by_number.new.conn c.remove_volume.new.conn (is_quiet g.S.Store c.args.conn.now c.by_number.new.conn c.by_number.ensures.undone c.by_number.ensures.survives)
-    (makes g.S.Store c.read_back.ensures (RemoveVolume n) (Drops 1 seen_volume (is_numbered n)) (λ old new h. h.schema) (λ s old new has p allowed h. rows_removed s n old new has p h)
-    c.by_number.new.conn c.remove_volume.new.conn c.remove_volume.ensures.survives g.met.S.Store.settled (λ clean. c.in_ok-remove_volume.ensures.ok clean)))
+    (λ s clean held allowed h. storable_removed s n h)
+    (makes_behind g.S.Store c.read_back.ensures (RemoveVolume n) (Drops 1 seen_volume (is_numbered n)) (λ old new h. h.schema) c.args.conn.now c.by_number.new.conn c.remove_volume.new.conn
+    (is_quiet g.S.Store c.args.conn.now c.by_number.new.conn c.by_number.ensures.undone c.by_number.ensures.survives) (λ clean s held old new has p allowed h. rows_removed s n old new has p h)
+    c.remove_volume.ensures.survives g.met.S.Store.settled (λ clean. c.in_ok-remove_volume.ensures.ok clean))
 
 pub returns-clause-made : goal.returns-clause-made
 returns-clause-made g c =
     let n = c.args.number in
     store_makes g.S.Store (RemoveVolume n) (c.args.conn.now, c.args.totals.now) (c.remove_volume.new.conn, c.remove.new.self)
     (λ s clean held allowed storable totals. totals_removed c.args.totals.now c.remove.new.self s n c.in-Some.volume (sym (c.in_ok-found.ensures.value (omega (arith, c.remove_volume.ensures.survives.clean)) s held) ∙ c.in-Some.is) totals c.remove.ensures)
-    (λ s allowed h. storable_removed s n h)
-    (makes_after g.S.Store (RemoveVolume n) c.args.conn.now c.by_number.new.conn c.remove_volume.new.conn (is_quiet g.S.Store c.args.conn.now c.by_number.new.conn c.by_number.ensures.undone c.by_number.ensures.survives)
-    (makes g.S.Store c.read_back.ensures (RemoveVolume n) (Drops 1 seen_volume (is_numbered n)) (λ old new h. h.schema) (λ s old new has p allowed h. rows_removed s n old new has p h)
-    c.by_number.new.conn c.remove_volume.new.conn c.remove_volume.ensures.survives g.met.S.Store.settled (λ clean. c.in_ok-remove_volume.ensures.ok clean)))
+    (λ s clean held allowed h. storable_removed s n h)
+    (makes_behind g.S.Store c.read_back.ensures (RemoveVolume n) (Drops 1 seen_volume (is_numbered n)) (λ old new h. h.schema) c.args.conn.now c.by_number.new.conn c.remove_volume.new.conn
+    (is_quiet g.S.Store c.args.conn.now c.by_number.new.conn c.by_number.ensures.undone c.by_number.ensures.survives) (λ clean s held old new has p allowed h. rows_removed s n old new has p h)
+    c.remove_volume.ensures.survives g.met.S.Store.settled (λ clean. c.in_ok-remove_volume.ensures.ok clean))
 
 pub returns-in_err-remove_volume-clause-refused : goal.returns-in_err-remove_volume-clause-refused
 returns-in_err-remove_volume-clause-refused g c clean is s held known =

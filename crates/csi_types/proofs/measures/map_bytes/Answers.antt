@@ -2,7 +2,7 @@ use Rattle.std.proofs.Common.{◌^◌, ◌-◌, ◌+◌, ◌∙◌, ap, min, len
 use Rattle.std.specs.FinMap.{entries}
 use Rattle.std.specs.Map.Iter.{deref_pair}
 use Rattle.std.proofs.lemmas.Map.Iter.{iter_end}
-use Rattle.csi_rules.proofs.coding.bytes_of_map.Goals as goal
+use Rattle.csi_types.proofs.measures.map_bytes.Goals as goal
 
 pub returns : goal.returns
 returns c =

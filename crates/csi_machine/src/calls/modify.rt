@@ -1,0 +1,79 @@
+//! ControllerModifyVolume (CSI specification, 'ControllerModifyVolume').
+
+ghost use Rattle.std.specs.Prelude.{◌≡◌, nat_lt, IfOk, IfSome};
+ghost use Rattle.csi_types.specs.Checks.{map_bytes};
+ghost use Rattle.csi_keeper.specs.Keeper.{IsQuiet, Tells, count_after};
+ghost use Rattle.csi_keeper.specs.State.{State, IsBounded};
+ghost use Rattle.csi_machine.specs.Down.{TellsDown};
+ghost use Rattle.csi_machine.specs.calls.Modify.{modify_own, modify_volume, modify};
+
+use crate::ids::number_of_id;
+use crate::plan::{Outcome, Plan, refuse, respond};
+use csi_keeper::{Change, Keeper, StoreFault, Volume};
+use csi_types::{MAX_MAP_BYTES, Map, Modify, Reason, Response, has_each, laid_over, map_bytes};
+use std::alloc::{AllocError, Global};
+
+fn is_large(map: &Map) -> bool
+    ensures { result ≡ nat_lt MAX_MAP_BYTES (map_bytes map.now) }
+{
+    map_bytes(map) > MAX_MAP_BYTES
+}
+
+// The plan for a volume with these parameters of its own. What it has already is not written again.
+fn modify_own(alloc: Global, number: u64, own: &Map, given: &Map) -> Result<Plan, AllocError>
+    ensures bounded { IfOk result (λ p. IfSome p.change IsBounded) }
+    ensures value { IfOk result (λ p. p ≡ modify_own number own.now given.now) }
+{
+    let laid = laid_over(alloc, own, given)?;
+    if is_large(&laid) {
+        return Ok(refuse(Reason::MutableTooLarge));
+    }
+    if has_each(own, given) {
+        return Ok(respond(Response::Modify));
+    }
+    Ok(Plan {
+        outcome: Outcome::Done(Response::Modify),
+        change: Some(Change::SetMutable(number, laid)),
+    })
+}
+
+fn modify_volume(
+    alloc: Global,
+    number: u64,
+    request: &Modify,
+    volume: &Option<Volume>,
+) -> Result<Plan, AllocError>
+    ensures bounded { IfOk result (λ p. IfSome p.change IsBounded) }
+    ensures value { IfOk result (λ p. p ≡ modify_volume number request.now volume.now) }
+{
+    match volume {
+        Some(volume) => modify_own(alloc, number, &volume.mutable, &request.mutable),
+        None => Ok(refuse(Reason::VolumeNotFound)),
+    }
+}
+
+/// The plan of ControllerModifyVolume (CSI specification, the section of this name), by reads alone:
+/// the given parameters are laid over the volume's own, whether it is published or not. A result of
+/// more than 4,096 bytes is refused. Where the volume has each given one already nothing changes.
+///
+/// # Errors
+///
+/// What the keeper answers, or want of memory.
+#[tactic(auto, using(csi_keeper::specs::facts::Reads::quiet_same, csi_keeper::specs::facts::Reads::quiet_then))]
+pub(crate) fn plan_modify<K: Keeper>(
+    alloc: Global,
+    keeper: &mut K,
+    request: &Modify,
+) -> Result<Plan, StoreFault>
+    ensures bounded { IfOk result (λ p. IfSome p.change IsBounded) }
+    ensures value { IfOk result (λ p. Tells K.holds K.doubt keeper.old keeper.new (λ s. p ≡ modify s request.now)) }
+    ensures quiet { IsQuiet K.holds K.doubt K.survivors K.tied K.is_down keeper.old keeper.new }
+    ensures down { TellsDown (K.is_down keeper.old) (λ p. (s : State) → p ≡ modify s request.now) result }
+    ensures count { K.refused keeper.new ≡ count_after (K.refused keeper.old) result }
+{
+    let Some(number) = number_of_id(alloc, request.volume_id.as_str())? else {
+        return Ok(refuse(Reason::VolumeNotFound));
+    };
+    let volume = keeper.by_number(alloc, number)?;
+    Ok(modify_volume(alloc, number, request, &volume)?)
+}

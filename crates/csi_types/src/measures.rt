@@ -1,0 +1,17 @@
+//! How much a value holds, in bytes.
+
+ghost use Rattle.std.specs.Prelude.{◌≡◌, ◌^◌, ◌-◌, min};
+ghost use Rattle.csi_types.specs.Checks.{map_bytes};
+
+use crate::map::Map;
+
+/// The bytes of all keys and values of a map, as far as a number of 64 bits counts.
+pub fn map_bytes(map: &Map) -> usize
+    ensures { result ≡ min (map_bytes map.now) (2 ^ 64 - 1) }
+{
+    let mut bytes: usize = 0;
+    for (key, value) in map.iter() {
+        bytes = bytes.saturating_add(key.len()).saturating_add(value.len());
+    }
+    bytes
+}

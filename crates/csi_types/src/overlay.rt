@@ -1,0 +1,41 @@
+//! Maps laid over one another, and whether a map has what another gives.
+
+ghost use Rattle.std.specs.Prelude.{◌≡◌, IfOk};
+ghost use Rattle.std.specs.FinMap.{get};
+ghost use Rattle.csi_types.specs.Overlays.{has_each, is_text, laid_over};
+
+use crate::copies::{copy_map, copy_text};
+use crate::map::Map;
+use crate::text::Text;
+use std::alloc::{AllocError, Global};
+
+/// A map with another laid over it: the given keys have the given values, and the other keys keep
+/// theirs.
+pub fn laid_over(alloc: Global, map: &Map, given: &Map) -> Result<Map, AllocError>
+    ensures { IfOk result (λ laid. laid ≡ laid_over map.now given.now) }
+{
+    let mut laid = copy_map(alloc, map)?;
+    for (key, value) in given {
+        laid.insert(
+            copy_text(alloc, key.as_str())?,
+            copy_text(alloc, value.as_str())?,
+        )?;
+    }
+    Ok(laid)
+}
+
+/// Whether each key of the given map has its value in this one.
+pub fn has_each(map: &Map, given: &Map) -> bool
+    ensures { result ≡ has_each map.now given.now }
+{
+    given.iter().all(|(key, value)| has_value(map, key, value))
+}
+
+fn has_value(map: &Map, key: &Text, value: &Text) -> bool
+    ensures { result ≡ is_text value.now (get map.now key.now) }
+{
+    match map.get(key) {
+        Some(own) => own == value,
+        None => false,
+    }
+}
