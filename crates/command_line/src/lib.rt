@@ -1,5 +1,10 @@
-//! What programs say of words that they do not understand, and what they do where standard input, output
-//! or error is closed.
+//! What both programs do at their start: what they say of arguments that they do not understand, and what they do where standard input, output or
+//! error is closed, so that no file or connection gets the number of a standard handle.
+//!
+//! ```rust
+//! let taken = take_closed(rt); // before anything is opened
+//! let text = refusal_line(alloc, &error)?;
+//! ```
 #![tactic(auto)]
 
 mod lines;
@@ -10,7 +15,7 @@ pub use lines::{is_decimal, line};
 pub use standard::take_closed;
 use std::alloc::{AllocError, Global};
 
-/// Why words are refused, in one line: the first paragraph of what `clap` says, without the word
+/// Why arguments are refused, in one line: the first paragraph of what `clap` says, without the word
 /// `error` before it.
 ///
 /// # Errors

@@ -41,12 +41,12 @@ fn are_digits(bytes: &[u8]) -> bool
     bytes.iter().all(|byte| byte.is_ascii_digit())
 }
 
-/// Whether a word is a number in decimal digits alone: no sign, no space.
-pub fn is_decimal(word: &str) -> bool
-    ensures { result ≡ (nat_lt 0 (length word.now) && list_all is_ascii_digit word.now) }
+/// Whether a text is a number in decimal digits alone: no sign, no space.
+pub fn is_decimal(text: &str) -> bool
+    ensures { result ≡ (nat_lt 0 (length text.now) && list_all is_ascii_digit text.now) }
 {
-    if word.is_empty() {
+    if text.is_empty() {
         return false;
     }
-    are_digits(word.as_bytes())
+    are_digits(text.as_bytes())
 }

@@ -11,10 +11,10 @@ use Rattle.csi_keeper.specs.Invariant.{IsInvariant}
 use Rattle.csi_keeper.specs.State.{State}
 use Rattle.csi_keeper.specs.declared.totals.Totals.{Totals}
 use Rattle.csi_keeper.specs.Memory.{first_state}
-use Rattle.csi_layout.specs.Making.{MakesTables}
-use Rattle.csi_layout.specs.Tables.{no_schema, schema}
-use Rattle.csi_layout.specs.Transactions.{LeavesFrom}
-use Rattle.csi_statements.specs.Rows.{IsUndone}
+use Rattle.csi_schema.specs.Making.{MakesTables}
+use Rattle.csi_schema.specs.Tables.{no_schema, schema}
+use Rattle.csi_schema.specs.Transactions.{LeavesFrom}
+use Rattle.csi_transactions.specs.Rows.{IsUndone}
 use Rattle.csi_tables.specs.Holding.{IsEitherRows, IsFirstRows, IsRows, Shows, conn_doubt, store_doubt, store_holds, store_survivors, store_tied}
 use Rattle.csi_tables.specs.Keeping.{is_down, refusals, store_of, IsNewOver}
 use Rattle.csi_tables.specs.declared.tables.Tables.{Tables}

@@ -8,7 +8,7 @@ use Rattle.sqlite.specs.Tree.{Trees}
 use Rattle.csi_config.specs.declared.config.Config.{Config}
 use Rattle.csi_keeper.specs.Invariant.{IsInvariant}
 use Rattle.csi_keeper.specs.State.{State}
-use Rattle.csi_layout.specs.Tables.{no_schema, schema}
+use Rattle.csi_schema.specs.Tables.{no_schema, schema}
 use Rattle.csi_tables.specs.Holding.{IsEitherRows, IsRows, store_holds}
 use Rattle.csi_tables.specs.Keeping.{connection_of, store_of}
 use Rattle.csi_adoption.specs.Adopting.{committed, IsStateOf}
@@ -26,7 +26,7 @@ state_of_rows one db s t ours rows (inl it) = one t s db.trees it.1 rows
 state_of_rows one db s t ours rows (inr none) = absurd (not_none (sym ours ∙ none.0))
 
 module _ {S : Type 0} (g : Ghosts S) (one : OneState) where
-  -- rows of a State that meets every rule
+  -- rows of a State that meets every constraint
   taken_as : (config : Config) (conn : Held S) (s : State) → (HasCleanDisk (state g conn) → IsTrue (state g conn).is_open → (committed g config conn).schema ≡ schema)
       → (HasCleanDisk (state g conn) → IsTrue (state g conn).is_open → IsEitherRows s (committed g config conn).trees) → IsInvariant config s → IsTakenAs g config conn s
   taken_as config conn s ours rows invariant = record {

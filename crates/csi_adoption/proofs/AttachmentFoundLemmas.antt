@@ -1,4 +1,4 @@
--- Rows of attachments that pass every rule are the attachments of a State.
+-- Rows of attachments that pass every constraint are the attachments of a State.
 use Rattle.std.proofs.Common.{◌≡◌, ◌∙◌, inl, inr, refl, sym, ap, subst, ℕ, ◌≤◌, true, false, ◌&&◌, List, [], ◌∷◌, map, filter, length, drop, bytes_eq, Option, Some, IfSome, unwrap_or, IsPermutation, Less}
 use Rattle.std.specs.FinMap.{FinMap, entries, from_entries, get}
 use Rattle.std.specs.List.{AllByRecursion, list_all}
@@ -30,20 +30,20 @@ use Rattle.csi_keeper.specs.declared.volume.Attachment.{Attachment}
 use Rattle.csi_keeper.specs.declared.volume.Volume.{Volume}
 use Rattle.csi_keeper.specs.facts.Coexistence.{coexist_turned}
 use Rattle.csi_keeper.specs.facts.Orders.{place_exact, place_total}
-use Rattle.csi_layout.specs.Tables.{schema}
-use Rattle.csi_statements.specs.Cells.{as_flag, as_number, as_text}
-use Rattle.csi_statements.specs.Rows.{number_value, seen_attachment, seen_volume}
-use Rattle.csi_looks.specs.Looks.{IsInOrder, keyed_attachment, owners}
-use Rattle.csi_looks.specs.facts.Keyed.{keyed_attachments}
+use Rattle.csi_schema.specs.Tables.{schema}
+use Rattle.csi_transactions.specs.Cells.{as_flag, as_number, as_text}
+use Rattle.csi_transactions.specs.Rows.{number_value, seen_attachment, seen_volume}
+use Rattle.csi_scans.specs.Scans.{IsInOrder, keyed_attachment, owners}
+use Rattle.csi_scans.specs.facts.Keyed.{keyed_attachments}
 use Rattle.csi_tables.specs.Encoding.{FitCaps}
 use Rattle.csi_tables.specs.Holding.{attachment_entry, volume_entry, IsPlaced, IsStored}
-use Rattle.csi_rules.specs.Agreement.{AttachmentAgrees, OwnerAgrees, PairAgrees}
-use Rattle.csi_rules.specs.Apart.{are_apart, NoneApart}
-use Rattle.csi_rules.specs.Attachments.{has_flag, is_at_node, is_node}
-use Rattle.csi_rules.specs.Coded.{has_cap, key_at}
-use Rattle.csi_rules.specs.Joins.{is_owned}
-use Rattle.csi_rules.specs.Kinds.{has_attachment_kinds, is_blob, is_integer, is_text}
-use Rattle.csi_rules.specs.Values.{is_some_and}
+use Rattle.csi_constraints.specs.Agreement.{AttachmentAgrees, OwnerAgrees, PairAgrees}
+use Rattle.csi_constraints.specs.Apart.{are_apart, NoneApart}
+use Rattle.csi_constraints.specs.Attachments.{has_flag, is_at_node, is_node}
+use Rattle.csi_constraints.specs.Coded.{has_cap, key_at}
+use Rattle.csi_constraints.specs.Joins.{is_owned}
+use Rattle.csi_constraints.specs.Kinds.{has_attachment_kinds, is_blob, is_integer, is_text}
+use Rattle.csi_constraints.specs.Values.{is_some_and}
 use Rattle.csi_adoption.specs.FoundAttachments.{AttachmentsAreFound, FoundAttachments, StandsAmong}
 use Rattle.csi_adoption.specs.Passing.{AttachmentsAreKnown, AttachmentsPass}
 use Rattle.csi_adoption.proofs.AttachmentCellLemmas.{flag_cell, key_cell, text_cell}
@@ -232,7 +232,7 @@ module _ (attachment_agrees : (config : Config) (rowid : Value) (e : Place × At
     nodes = nodes_found;
   }
 
--- the same, over the rows that two looks show
+-- the same, over the rows that two scans show
 pub attachments_found : ((config : Config) (rowid : Value) (e : Place × Attachment) → AttachmentAgrees config rowid e) → ((e : Place × Attachment) (own : List CapKey) → OwnerAgrees e own)
     → ((e f : Place × Attachment) → PairAgrees e f) → AttachmentsAreFound
 attachments_found attachment_agrees owner_agrees pair_agrees config next db volumes standing rows owned places sound shown are stored each order pass known owned_are owned_pass places_are none =

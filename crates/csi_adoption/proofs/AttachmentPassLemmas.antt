@@ -1,4 +1,4 @@
--- The rows of a State's attachments pass every rule.
+-- The rows of a State's attachments pass every constraint.
 use Rattle.std.proofs.Common.{◌≡◌, ◌∙◌, inl, inr, refl, sym, ap, ap₂, subst, ℕ, ◌≤◌, ◌==◌, not, eq-eqb, eqb-true, Less, Bool, true, false, true≢false, List, [], ◌∷◌, map, filter, sum_by, Some, IsPermutation}
 use Rattle.std.specs.Cmp.{nat_cmp_total}
 use Rattle.std.specs.FinMap.{entries, entries_sorted, get, nat_cmp-IsAntisymmetric}
@@ -24,19 +24,19 @@ use Rattle.csi_keeper.specs.declared.volume.Volume.{Volume}
 use Rattle.csi_keeper.specs.facts.Capability.{had_supported}
 use Rattle.csi_keeper.specs.facts.Finite.{same_some}
 use Rattle.csi_keeper.specs.facts.Orders.{place_exact, place_total}
-use Rattle.csi_statements.specs.Deletes.{is_same}
-use Rattle.csi_statements.specs.Rows.{seen_attachment, seen_volume}
-use Rattle.csi_looks.specs.Folds.{added_by}
-use Rattle.csi_looks.specs.Looks.{IsInOrder, keyed_attachment, owners, owns, with_owner}
-use Rattle.csi_looks.specs.declared.sums.Weight.TheVariants.{One}
-use Rattle.csi_looks.specs.facts.Joins.{some_unowned}
+use Rattle.csi_transactions.specs.Deletes.{is_same}
+use Rattle.csi_transactions.specs.Rows.{seen_attachment, seen_volume}
+use Rattle.csi_scans.specs.Folds.{added_by}
+use Rattle.csi_scans.specs.Scans.{IsInOrder, keyed_attachment, owners, owns, with_owner}
+use Rattle.csi_scans.specs.declared.sums.Weight.TheVariants.{One}
+use Rattle.csi_scans.specs.facts.Joins.{some_unowned}
 use Rattle.csi_tables.specs.Holding.{attachment_entry, volume_entry, IsPlaced, IsRowsOf, IsStored}
-use Rattle.csi_rules.specs.Agreement.{keyed_entry, AttachmentAgrees, OwnerAgrees, PairAgrees}
-use Rattle.csi_rules.specs.Apart.{are_apart, NoneApart}
-use Rattle.csi_rules.specs.Attachments.{has_flag, is_at_node}
-use Rattle.csi_rules.specs.Coded.{has_cap}
-use Rattle.csi_rules.specs.Joins.{is_owned}
-use Rattle.csi_rules.specs.Kinds.{has_attachment_kinds}
+use Rattle.csi_constraints.specs.Agreement.{keyed_entry, AttachmentAgrees, OwnerAgrees, PairAgrees}
+use Rattle.csi_constraints.specs.Apart.{are_apart, NoneApart}
+use Rattle.csi_constraints.specs.Attachments.{has_flag, is_at_node}
+use Rattle.csi_constraints.specs.Coded.{has_cap}
+use Rattle.csi_constraints.specs.Joins.{is_owned}
+use Rattle.csi_constraints.specs.Kinds.{has_attachment_kinds}
 use Rattle.csi_adoption.specs.Passing.{AttachmentsPass}
 use Rattle.csi_adoption.proofs.AttachmentCellLemmas.{number_itself, same_number}
 use Rattle.csi_adoption.proofs.AttachmentMapLemmas.{got_has, has_got, has_permuted, shown_by}

@@ -32,21 +32,21 @@ use Rattle.csi_keeper.specs.declared.capability.CapKey.{CapKey}
 use Rattle.csi_keeper.specs.declared.capability.Kind.TheVariants.{Block}
 use Rattle.csi_keeper.specs.declared.volume.Attachment.{Attachment}
 use Rattle.csi_keeper.specs.declared.volume.Volume.{Volume}
-use Rattle.csi_layout.specs.Tables.{attachments, schema}
-use Rattle.csi_statements.specs.Cells.{as_blob}
-use Rattle.csi_statements.specs.Deletes.{is_same}
-use Rattle.csi_statements.specs.Rows.{number_value, seen_attachment, seen_volume}
-use Rattle.csi_looks.specs.Folds.{added_by}
-use Rattle.csi_looks.specs.Looks.{keyed_attachment, owners, with_owner}
-use Rattle.csi_looks.specs.declared.sums.Weight.TheVariants.{One}
-use Rattle.csi_looks.specs.facts.Joins.{each_owned}
+use Rattle.csi_schema.specs.Tables.{attachments, schema}
+use Rattle.csi_transactions.specs.Cells.{as_blob}
+use Rattle.csi_transactions.specs.Deletes.{is_same}
+use Rattle.csi_transactions.specs.Rows.{number_value, seen_attachment, seen_volume}
+use Rattle.csi_scans.specs.Folds.{added_by}
+use Rattle.csi_scans.specs.Scans.{keyed_attachment, owners, with_owner}
+use Rattle.csi_scans.specs.declared.sums.Weight.TheVariants.{One}
+use Rattle.csi_scans.specs.facts.Joins.{each_owned}
 use Rattle.csi_tables.specs.Encoding.{caps_bytes, FitCaps}
 use Rattle.csi_tables.specs.Holding.{attachment_entry, volume_entry, IsStored}
-use Rattle.csi_rules.specs.Agreement.{owned_entry, OwnerAgrees}
-use Rattle.csi_rules.specs.Coding.{key_in, keys_in}
-use Rattle.csi_rules.specs.Joins.{is_owned}
-use Rattle.csi_rules.specs.Kinds.{is_integer}
-use Rattle.csi_rules.specs.Values.{are_some_and}
+use Rattle.csi_constraints.specs.Agreement.{owned_entry, OwnerAgrees}
+use Rattle.csi_constraints.specs.Coding.{key_in, keys_in}
+use Rattle.csi_constraints.specs.Joins.{is_owned}
+use Rattle.csi_constraints.specs.Kinds.{is_integer}
+use Rattle.csi_constraints.specs.Values.{are_some_and}
 use Rattle.csi_adoption.proofs.AttachmentCellLemmas.{are_different, equal_numbers, equal_texts, is_number}
 use Rattle.csi_adoption.proofs.AttachmentMapLemmas.{has_got, shown_by}
 
@@ -68,7 +68,7 @@ with_cap k = ((0, []), record { node = []; cap = k; readonly = false })
 no_cap : CapKey
 no_cap = record { kind = Block; mode = 0 }
 
--- the rule of an attachment with its volume goes by two cells
+-- the constraint of an attachment with its volume goes by two cells
 says_own : Value → Value → Bool
 says_own cap caps = are_some_and (λ key ks. has_key ks (Some key)) (option_and_then key_in (as_blob cap)) (option_and_then keys_in (as_blob caps))
 
@@ -150,7 +150,7 @@ at_node id (e ∷ es) = sum_by-cons (added_by 1 id One) (attachment_entry e) (ma
     go false true same more = absurd (cc)
     go false false same more = omega (arith, more)
 
--- the rows that a look shows count what the entries count
+-- the rows that a scan shows count what the entries count
 pub counted : (es : List (Place × Attachment)) (table rows : List Row) → IsPermutation (map attachment_entry es) (map seen_attachment table) → IsPermutation (map keyed_attachment table) rows
     → (id : Bytes) → sum_by (added_by 2 id One) rows ≡ length (map (λ e. e.0.0) (filter (λ e. bytes_eq e.0.1 id) es))
 counted es table rows listed shown id =

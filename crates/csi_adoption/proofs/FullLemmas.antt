@@ -2,7 +2,7 @@
 use Rattle.std.proofs.Common.{◌≡◌, ◌⊎◌, inl, inr, refl, ap, List, [], ◌∷◌, None}
 use Rattle.csi_config.specs.declared.nodes.Node.{Node}
 use Rattle.csi_config.specs.declared.pools.Pool.{Pool}
-use Rattle.csi_looks.specs.declared.sums.TextSum.{TextSum}
+use Rattle.csi_scans.specs.declared.sums.TextSum.{TextSum}
 use Rattle.csi_adoption.specs.Judging.{full_node, full_pool, sums_of}
 
 pub no_pool_left : (pools : List Pool) (bytes : List TextSum) → (pools ≡ []) ⊎ (bytes ≡ []) → full_pool pools (sums_of bytes) ≡ None

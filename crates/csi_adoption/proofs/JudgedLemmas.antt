@@ -5,11 +5,11 @@ use Rattle.sqlite.specs.Order.{Row}
 use Rattle.sqlite.specs.Tree.{Trees}
 use Rattle.sqlite.specs.declared.error.Error.{Error}
 use Rattle.csi_config.specs.declared.config.Config.{Config}
-use Rattle.csi_layout.specs.Rows.{seen_attachment, seen_meta}
-use Rattle.csi_looks.specs.Looks.{owners}
-use Rattle.csi_rules.specs.Apart.{apart_named}
-use Rattle.csi_rules.specs.Joins.{is_owned}
-use Rattle.csi_rules.specs.declared.named.RowName.{RowName}
+use Rattle.csi_schema.specs.Rows.{seen_attachment, seen_meta}
+use Rattle.csi_scans.specs.Scans.{owners}
+use Rattle.csi_constraints.specs.Apart.{apart_named}
+use Rattle.csi_constraints.specs.Joins.{is_owned}
+use Rattle.csi_constraints.specs.declared.named.RowName.{RowName}
 use Rattle.csi_adoption.specs.Judging.{owner_fault as unowned_fault, all_faults, count_faults, failure_of, first_named, is_failure, meta_judged, table_faults, told_attachments, told_volumes, volumes_unless, with_rows, AreJudged, ArePassed, AttachmentsFound, JudgesRows, TablesAreSeen, VolumesFound}
 use Rattle.csi_adoption.specs.declared.adopting.TablesSeen.{TablesSeen}
 use Rattle.csi_adoption.specs.declared.fault.AdoptFault.{AdoptFault}

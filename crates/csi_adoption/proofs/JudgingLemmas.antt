@@ -1,4 +1,4 @@
--- Rows break no rule exactly where they pass.
+-- Rows break no constraint exactly where they pass.
 use Rattle.std.proofs.Common.{◌≡◌, ◌∙◌, refl, sym, ap, subst, arith, ℕ, ◌-◌, ◌^◌, ◌≤◌, min, nat_lt, nat_le, ℤ, pos, negsuc, Bool, true, false, cond, not, ◌&&◌, List, [], ◌∷◌, map, Option, Some, None, true≢false}
 use Rattle.std.specs.List.{AllByRecursion, list_all}
 use Rattle.std.specs.Option.{option_map}
@@ -7,8 +7,8 @@ use Rattle.sqlite.specs.Order.{Row}
 use Rattle.csi_types.specs.declared.limits.TheConstants.{MAX_NUMBER, MAX_VOLUMES}
 use Rattle.csi_config.specs.declared.nodes.Node.{Node}
 use Rattle.csi_config.specs.declared.pools.Pool.{Pool}
-use Rattle.csi_rules.specs.Named.{first_out, name_of}
-use Rattle.csi_rules.specs.declared.broken.BrokenRule.TheVariants as broken
+use Rattle.csi_constraints.specs.Named.{first_out, name_of}
+use Rattle.csi_constraints.specs.declared.broken.BrokenConstraint.TheVariants as broken
 use Rattle.csi_adoption.specs.Judging.{count_fault, first_fault, first_named, full_node, full_pool, next_fault, valid_next}
 use Rattle.csi_adoption.specs.declared.fault.AdoptFault.{AdoptFault}
 use Rattle.csi_adoption.specs.declared.fault.AdoptFault.TheVariants.{Broken}
@@ -53,7 +53,7 @@ parts_of : (a b : Bool) → (a && b) ≡ true → (a ≡ true) × (b ≡ true)
 parts_of true b e = (refl, e)
 parts_of false b e = absurd (true≢false (sym e))
 
--- ---- no row that breaks a rule
+-- ---- no row that breaks a constraint
 
 none_out : (test : Row → Bool) (rows : List Row) → first_out test rows ≡ None → list_all test rows ≡ true
 none_out test [] e = refl

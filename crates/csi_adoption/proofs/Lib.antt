@@ -10,7 +10,7 @@ mod FaultLemmas
 mod FullLemmas
 mod JudgedLemmas
 mod JudgingLemmas
-mod LookLemmas
+mod ScanLemmas
 mod MetaLemmas
 mod PassedLemmas
 mod PlaceLemmas
@@ -18,7 +18,7 @@ mod SeeingLemmas
 mod StateFoundLemmas
 mod SumLemmas
 mod TakeLemmas
-mod TurnLemmas
+mod ChainLemmas
 mod VolumeFoundLemmas
 mod VolumeMapLemmas
 mod VolumeNameLemmas

@@ -1,4 +1,4 @@
--- Rows that break no rule pass all, and rows that pass break none.
+-- Rows that break no constraint pass all, and rows that pass break none.
 use Rattle.std.proofs.Common.{◌≡◌, refl, ap, ℕ, ◌-◌, ◌^◌, ◌≤◌, ◌<◌, Bool, true, List, [], ◌∷◌, length, Option, None, sum_by}
 use Rattle.std.specs.List.{AllByRecursion, list_all}
 use Rattle.std.specs.Option.{option_map}
@@ -6,19 +6,19 @@ use Rattle.sqlite.specs.Order.{Row}
 use Rattle.csi_config.specs.declared.config.Config.{Config}
 use Rattle.csi_config.specs.declared.nodes.Node.{Node}
 use Rattle.csi_config.specs.declared.pools.Pool.{Pool}
-use Rattle.csi_looks.specs.Folds.{added_by, sum_after}
-use Rattle.csi_looks.specs.declared.sums.Weight.TheVariants.{Number, One}
-use Rattle.csi_rules.specs.Apart.{apart_named, NoneApart}
-use Rattle.csi_rules.specs.Joins.{is_owned}
-use Rattle.csi_rules.specs.declared.named.RowName.{RowName}
-use Rattle.csi_rules.specs.facts.Aparts.{none_unnamed, unnamed_none}
+use Rattle.csi_scans.specs.Folds.{added_by, sum_after}
+use Rattle.csi_scans.specs.declared.sums.Weight.TheVariants.{Number, One}
+use Rattle.csi_constraints.specs.Apart.{apart_named, NoneApart}
+use Rattle.csi_constraints.specs.Joins.{is_owned}
+use Rattle.csi_constraints.specs.declared.named.RowName.{RowName}
+use Rattle.csi_constraints.specs.facts.Aparts.{none_unnamed, unnamed_none}
 use Rattle.csi_adoption.specs.Judging.{all_faults, code_faults, count_faults, first_named, in_attachments, in_volumes, kinds_faults, next_fault, number_faults, owner_fault, size_faults, table_faults, AttachmentsFound, VolumesFound}
 use Rattle.csi_adoption.specs.Passing.{AttachmentsPass, VolumesPass}
 use Rattle.csi_adoption.specs.declared.meta.Meta.{Meta}
 use Rattle.csi_adoption.proofs.JudgingLemmas.{all_unnamed, few_rows, is_next, rows_few, no_full_node, no_full_pool, no_next_fault, none_both, none_first, none_named, roomy_nodes, roomy_pools, unmapped}
 use Rattle.csi_adoption.proofs.SumLemmas.{room_kept, room_told}
 
--- what every rule of the rows behind meta asks
+-- what every constraint of the rows behind meta asks
 pub record RowsPass (config : Config) (m : Meta) (volume_rows attachment_rows owner_rows place_rows : List Row) : Type 0 where
   pub volumes : VolumesPass config m volume_rows
   pub attachments : AttachmentsPass config attachment_rows

@@ -3,19 +3,19 @@ use Rattle.std.proofs.Common.{◌≡◌, ◌∙◌, refl, ap, subst, arith, ℕ,
 use Rattle.std.specs.List.{AllByRecursion, AllZip}
 use Rattle.sqlite.specs.Order.{Row}
 use Rattle.csi_config.specs.declared.config.Config.{Config}
-use Rattle.csi_looks.specs.Folds.{IsRising, Rises, sum_after}
-use Rattle.csi_looks.specs.declared.sums.TextSum.{TextSum}
-use Rattle.csi_looks.specs.declared.sums.Weight.{Weight}
-use Rattle.csi_looks.specs.declared.sums.Weight.TheVariants.{Number, One}
+use Rattle.csi_scans.specs.Folds.{IsRising, Rises, sum_after}
+use Rattle.csi_scans.specs.declared.sums.TextSum.{TextSum}
+use Rattle.csi_scans.specs.declared.sums.Weight.{Weight}
+use Rattle.csi_scans.specs.declared.sums.Weight.TheVariants.{Number, One}
 use Rattle.csi_tables.specs.Encoding.{FitCaps, FitParams}
-use Rattle.csi_rules.specs.Attachments.{has_flag, is_at_node}
-use Rattle.csi_rules.specs.Coded.{has_cap, has_caps, has_params, key_at, keys_at, params_at}
-use Rattle.csi_rules.specs.Kinds.{has_attachment_kinds, has_volume_kinds}
-use Rattle.csi_rules.specs.Named.{named_out}
-use Rattle.csi_rules.specs.Volumes.{is_in_pools, is_named, is_numbered, is_sized}
-use Rattle.csi_rules.specs.declared.named.RowName.{RowName}
+use Rattle.csi_constraints.specs.Attachments.{has_flag, is_at_node}
+use Rattle.csi_constraints.specs.Coded.{has_cap, has_caps, has_params, key_at, keys_at, params_at}
+use Rattle.csi_constraints.specs.Kinds.{has_attachment_kinds, has_volume_kinds}
+use Rattle.csi_constraints.specs.Named.{named_out}
+use Rattle.csi_constraints.specs.Volumes.{is_in_pools, is_named, is_numbered, is_sized}
+use Rattle.csi_constraints.specs.declared.named.RowName.{RowName}
 use Rattle.csi_adoption.specs.Judging.{AttachmentsFound, SeesAttachments, SeesVolumes, VolumesFound, first_named, in_attachments, in_volumes, sums_of, told_attachments, told_volumes}
-use Rattle.csi_adoption.specs.Looking.{IsBegun}
+use Rattle.csi_adoption.specs.Scanning.{IsBegun}
 use Rattle.csi_adoption.specs.declared.meta.Meta.{Meta}
 use Rattle.csi_adoption.specs.declared.attachments.AttachmentsSeen.{AttachmentsSeen}
 use Rattle.csi_adoption.specs.declared.volumes.VolumesSeen.{VolumesSeen}

@@ -1,4 +1,4 @@
--- Tables that pass every rule have the rows of a State, which meets every rule; and the rows of such a State pass.
+-- Tables that pass every constraint have the rows of a State, which meets every constraint; and the rows of such a State pass.
 use Rattle.std.proofs.Common.{◌≡◌, ◌∙◌, inl, inr, refl, sym, ap, ap₂, subst, arith, ℕ, ◌-◌, ◌^◌, ◌≤◌, ◌<◌, ℤ, pos, negsuc, int_lt, nat_lt, ◌==◌, ◌<ℤ◌, Bool, true, false, true≢false, cond, not, ◌||◌, List, [], ◌∷◌, length, map, sum, Option, Some, None, Result, Ok, Err, IsPermutation, slice_index_or}
 use Rattle.std.specs.List.{AllByRecursion}
 use Rattle.std.proofs.lemmas.Bool.Decides.{nat_tests}
@@ -22,15 +22,15 @@ use Rattle.csi_keeper.specs.Invariant.{IsInvariant}
 use Rattle.csi_keeper.specs.State.{State}
 use Rattle.csi_types.specs.Maps.{same_text}
 use Rattle.csi_keeper.specs.Totals.{the_total}
-use Rattle.csi_layout.specs.Rows.{meta_row, seen_meta, seen_volume}
-use Rattle.csi_layout.specs.Tables.{schema}
-use Rattle.csi_layout.specs.declared.formats.TheConstants.{FIRST_FORMAT, LATEST_FORMAT}
-use Rattle.csi_looks.specs.Folds.{as_integer, sum_after}
-use Rattle.csi_looks.specs.Looks.{IsInOrder}
-use Rattle.csi_looks.specs.declared.sums.Weight.TheVariants.{Number, One}
-use Rattle.csi_rules.specs.Coded.{has_cap, has_caps, has_params}
-use Rattle.csi_rules.specs.Apart.{apart_named}
-use Rattle.csi_rules.specs.Joins.{is_owned}
+use Rattle.csi_schema.specs.Rows.{meta_row, seen_meta, seen_volume}
+use Rattle.csi_schema.specs.Tables.{schema}
+use Rattle.csi_schema.specs.declared.formats.TheConstants.{FIRST_FORMAT, LATEST_FORMAT}
+use Rattle.csi_scans.specs.Folds.{as_integer, sum_after}
+use Rattle.csi_scans.specs.Scans.{IsInOrder}
+use Rattle.csi_scans.specs.declared.sums.Weight.TheVariants.{Number, One}
+use Rattle.csi_constraints.specs.Coded.{has_cap, has_caps, has_params}
+use Rattle.csi_constraints.specs.Apart.{apart_named}
+use Rattle.csi_constraints.specs.Joins.{is_owned}
 use Rattle.csi_tables.specs.Holding.{IsEitherRows, IsFormat, IsRowsIn, IsRowsOf}
 use Rattle.csi_adoption.specs.Adopting.{FoundState}
 use Rattle.csi_adoption.specs.Found.{sizes_of, told_total, FoundVolumes}
@@ -65,7 +65,7 @@ TotalsAreFound =
 
 -- ---- the State that was found
 
--- the totals of the sums that a look tells
+-- the totals of the sums that a scan tells
 totals_told : (rows : List Row) (pools : List Pool) (name : List ℕ) → total_in pools (map (λ p. sum_after 3 p.name One 0 rows) pools) (map (λ p. sum_after 3 p.name (Number 2) 0 rows) pools) name ≡ told_total pools rows name
 totals_told rows [] name = refl
 totals_told rows (p ∷ pools) name = ap (λ t. cond (same_text p.name name) (the_total (sum_after 3 p.name One 0 rows) (sum_after 3 p.name (Number 2) 0 rows)) t) (totals_told rows pools name)
@@ -206,7 +206,7 @@ module _ (config : Config) (small : IsSmall config) (bounded : (p : Pool) → Ha
             ∙ totals_told j.volume_rows config.pools pool ∙ totals_found config m j.volume_rows it.volumes bounded fv pool;
       }
 
--- ---- a State that meets every rule is not refused
+-- ---- a State that meets every constraint is not refused
 
 -- the one row of meta is judged as it stands
 judged_one : (format next : ℕ) → IsFormat format → next ≤ MAX_NUMBER → meta_judged (with_rows meta.None (meta_row format next ∷ [])) ≡ Ok (record { format = format; next = next })

@@ -13,9 +13,9 @@ use Rattle.csi_keeper.specs.Invariant.{IsInvariant}
 use Rattle.csi_keeper.specs.State.{State}
 use Rattle.csi_keeper.specs.Totals.{AreTotals}
 use Rattle.csi_keeper.specs.declared.totals.Totals.{Totals}
-use Rattle.csi_layout.specs.Tables.{schema}
-use Rattle.csi_layout.specs.declared.formats.TheConstants.{FIRST_FORMAT}
-use Rattle.csi_statements.specs.Rows.{Changes, Leaves, SetsFormat}
+use Rattle.csi_schema.specs.Tables.{schema}
+use Rattle.csi_schema.specs.declared.formats.TheConstants.{FIRST_FORMAT}
+use Rattle.csi_transactions.specs.Rows.{Changes, Leaves, SetsFormat}
 use Rattle.csi_tables.specs.Holding.{IsEitherRows, IsFirstRows, IsRows, IsRowsIn, IsRowsOf}
 use Rattle.csi_adoption.specs.Adopting.{IsFound, IsTaken, LeavesLatest}
 
@@ -24,7 +24,7 @@ abbrev pub Latest : Type 0
 Latest = (format : ℕ) (s : State) (old new : Database) → old.schema ≡ schema → IsRowsOf format s old.trees → SetsFormat old new → IsRows s new.trees
 
 module _ {S : Type 0} (g : Ghosts S) (config : Config) (two three four : Held S) (format : ℕ) (totals : Totals)
-    (same : HasCleanDisk (state g three) → IsUnchanged (state g two) (state g three)) (looked : Survives (state g two) (state g three) (λ _. ⊥))
+    (same : HasCleanDisk (state g three) → IsUnchanged (state g two) (state g three)) (scanned : Survives (state g two) (state g three) (λ _. ⊥))
     (found : HasCleanDisk (state g three) → IsFound config (state g two).now format totals) (latest : Latest)
     (survives : Survives (state g three) (state g four) (λ db. (format ≡ FIRST_FORMAT) × Leaves SetsFormat (state g three) db)) where
   before : HasCleanDisk (state g four) → HasCleanDisk (state g three)
@@ -33,7 +33,7 @@ module _ {S : Type 0} (g : Ghosts S) (config : Config) (two three four : Held S)
   ours : HasCleanDisk (state g three) → (state g three).now.schema ≡ schema
   ours clean = ap (λ (d : Database). d.schema) (same clean).0.now_is ∙ (found clean).schema_is
 
-  -- the rows that were judged, as they stand behind the looks
+  -- the rows that were judged, as they stand behind the scans
   stand : HasCleanDisk (state g three) → (s : State) → IsRowsOf format s (state g two).now.trees → IsRowsOf format s (state g three).now.trees
   stand clean s rows = subst (λ (d : Database). IsRowsOf format s d.trees) (sym (same clean).0.now_is) rows
 
@@ -93,4 +93,4 @@ module _ {S : Type 0} (g : Ghosts S) (config : Config) (two three four : Held S)
             let made = left.1.1 in
             let rows : IsRows it.1 made.trees = latest format it.1 (state g three).now made (ours past) (stand past it.1 it.2.0) (left.1.2 (ours past)) in
             (it.1, first it.1 (state g two).now.trees left.0 it.2, subst (IsRows it.1) (sym left.1.3) rows);
-      }) looked survives
+      }) scanned survives

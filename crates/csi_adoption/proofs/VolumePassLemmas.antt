@@ -15,16 +15,16 @@ use Rattle.csi_keeper.specs.Invariant.{IsInvariant, IsVolume}
 use Rattle.csi_keeper.specs.State.{State}
 use Rattle.csi_keeper.specs.declared.volume.Volume.{Volume}
 use Rattle.csi_keeper.specs.facts.Finite.{all_entries}
-use Rattle.csi_layout.specs.Rows.{seen_volume}
-use Rattle.csi_layout.specs.declared.formats.TheConstants.{FIRST_FORMAT}
-use Rattle.csi_looks.specs.Folds.{added_by}
-use Rattle.csi_looks.specs.Looks.{IsInOrder}
-use Rattle.csi_looks.specs.declared.sums.Weight.TheVariants.{Number}
+use Rattle.csi_schema.specs.Rows.{seen_volume}
+use Rattle.csi_schema.specs.declared.formats.TheConstants.{FIRST_FORMAT}
+use Rattle.csi_scans.specs.Folds.{added_by}
+use Rattle.csi_scans.specs.Scans.{IsInOrder}
+use Rattle.csi_scans.specs.declared.sums.Weight.TheVariants.{Number}
 use Rattle.csi_tables.specs.Holding.{IsRowsIn, IsStored, volume_entry}
-use Rattle.csi_rules.specs.Agreement.{VolumeAgrees}
-use Rattle.csi_rules.specs.Coded.{has_caps, has_params}
-use Rattle.csi_rules.specs.Kinds.{has_volume_kinds}
-use Rattle.csi_rules.specs.Volumes.{is_in_pools, is_named, is_numbered, is_sized}
+use Rattle.csi_constraints.specs.Agreement.{VolumeAgrees}
+use Rattle.csi_constraints.specs.Coded.{has_caps, has_params}
+use Rattle.csi_constraints.specs.Kinds.{has_volume_kinds}
+use Rattle.csi_constraints.specs.Volumes.{is_in_pools, is_named, is_numbered, is_sized}
 use Rattle.csi_adoption.specs.Passing.{VolumesPass}
 use Rattle.csi_adoption.proofs.VolumeSumLemmas.{sum_of}
 

@@ -14,15 +14,15 @@ use Rattle.csi_types.specs.declared.limits.TheConstants.{MAX_NUMBER}
 use Rattle.csi_config.specs.Faults.{is_whole}
 use Rattle.csi_keeper.specs.declared.capability.CapKey.{CapKey}
 use Rattle.csi_keeper.specs.declared.volume.Volume.{Volume}
-use Rattle.csi_layout.specs.Rows.{number_value, seen_volume}
-use Rattle.csi_statements.specs.Cells.{as_blob, as_number}
+use Rattle.csi_schema.specs.Rows.{number_value, seen_volume}
+use Rattle.csi_transactions.specs.Cells.{as_blob, as_number}
 use Rattle.csi_tables.specs.Encoding.{caps_bytes, params_bytes, FitCaps, FitParams}
 use Rattle.csi_tables.specs.Holding.{IsStored, volume_entry}
-use Rattle.csi_rules.specs.Coded.{has_caps, has_params, keys_at, params_at}
-use Rattle.csi_rules.specs.Coding.{are_keys, are_params, keys_in, params_in}
-use Rattle.csi_rules.specs.Kinds.{has_volume_kinds, is_text}
-use Rattle.csi_rules.specs.Values.{if_passes, is_some_and}
-use Rattle.csi_rules.specs.Volumes.{is_numbered, is_sized}
+use Rattle.csi_constraints.specs.Coded.{has_caps, has_params, keys_at, params_at}
+use Rattle.csi_constraints.specs.Coding.{are_keys, are_params, keys_in, params_in}
+use Rattle.csi_constraints.specs.Kinds.{has_volume_kinds, is_text}
+use Rattle.csi_constraints.specs.Values.{if_passes, is_some_and}
+use Rattle.csi_constraints.specs.Volumes.{is_numbered, is_sized}
 
 -- ---- cells
 

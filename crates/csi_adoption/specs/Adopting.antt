@@ -13,10 +13,10 @@ use Rattle.csi_keeper.specs.Memory.{first_state}
 use Rattle.csi_keeper.specs.State.{State, sizes}
 use Rattle.csi_keeper.specs.Totals.{the_total, AreTotals}
 use Rattle.csi_keeper.specs.declared.totals.Totals.{Totals}
-use Rattle.csi_layout.specs.Making.{MakesTables}
-use Rattle.csi_layout.specs.Tables.{no_schema, schema}
-use Rattle.csi_tables.specs.Holding.{IsEitherRows, IsFirstRows, IsFormat, IsRows, IsRowsIn, conn_doubt, store_doubt, store_holds, store_survivors, store_tied}
-use Rattle.csi_tables.specs.Keeping.{is_down, refusals, store_of}
+use Rattle.csi_schema.specs.Making.{MakesTables}
+use Rattle.csi_schema.specs.Tables.{no_schema, schema}
+use Rattle.csi_tables.specs.Holding.{IsEitherRows, IsFirstRows, IsFormat, IsRows, IsRowsIn, conn_doubt}
+use Rattle.csi_tables.specs.Keeping.{is_down, refusals, tables_model}
 use Rattle.csi_tables.specs.declared.tables.Tables.{Tables}
 use Rattle.csi_adoption.specs.Judging.{is_failure, sums_of, total_in, IsFaultOf}
 use Rattle.csi_adoption.specs.declared.fault.AdoptFault.{AdoptFault}
@@ -28,7 +28,7 @@ use Rattle.csi_adoption.specs.declared.volumes.VolumesSeen.{VolumesSeen}
 abbrev pub IsStateOf : Database → State → Type 0
 IsStateOf db s = ((db.schema ≡ schema) × IsEitherRows s db.trees) ⊎ ((db.schema ≡ no_schema) × (s ≡ first_state 1))
 
--- a State of the rows, which meets every rule, and its totals as the sums of the look tell them
+-- a State of the rows, which meets every constraint, and its totals as the sums of the scan tell them
 pub record FoundState (config : Config) (db : Trees) (seen : VolumesSeen) : Type 0 where
   pub known : IsFormat seen.format
   pub state : State
@@ -36,12 +36,12 @@ pub record FoundState (config : Config) (db : Trees) (seen : VolumesSeen) : Type
   pub invariant : IsInvariant config state
   pub totals : (pool : List ℕ) → total_in config.pools (sums_of seen.pool_volumes.items) (sums_of seen.pool_bytes.items) pool ≡ the_total (length (sizes state pool)) (sum (sizes state pool))
 
--- a State of a database with our tables of a format, which meets every rule, and its totals
+-- a State of a database with our tables of a format, which meets every constraint, and its totals
 pub record IsFound (config : Config) (db : Database) (format : ℕ) (totals : Totals) : Type 0 where
   pub schema_is : db.schema ≡ schema
   pub found : IsSound schema db.trees → IsFormat format × (s : State) × IsRowsIn format s db.trees × IsInvariant config s × AreTotals totals s
 
--- Tables that were taken: they stand for the State that they stood for, which meets every rule, and are of the latest format.
+-- Tables that were taken: they stand for the State that they stood for, which meets every constraint, and are of the latest format.
 pub record IsTaken (config : Config) (old new : sql.State) (totals : Totals) : Type 0 where
   pub was_open : IsTrue old.is_open
   pub is_open : IsTrue new.is_open
@@ -67,13 +67,13 @@ module _ {S : Type 0} (g : Ghosts S) (config : Config) (conn : Held S) where
 
   -- a keeper of the State of what was committed
   pub record IsAdopted (t : Tables S g) : Type 0 where
-    pub clean : conn_doubt g conn ≤ store_doubt g (store_of g t)
-    pub was_open : store_doubt g (store_of g t) ≡ 0 → IsTrue (state g conn).is_open
-    -- there is such a State, it meets every rule, and the keeper has it
-    pub held : store_doubt g (store_of g t) ≡ 0 → (s : State) × IsStateOf committed s × IsInvariant config s × store_holds g (store_of g t) s
+    pub clean : conn_doubt g conn ≤ (tables_model g t).doubt
+    pub was_open : (tables_model g t).doubt ≡ 0 → IsTrue (state g conn).is_open
+    -- there is such a State, it meets every constraint, and the keeper has it
+    pub held : (tables_model g t).doubt ≡ 0 → (s : State) × IsStateOf committed s × IsInvariant config s × (tables_model g t).holds s
     -- a stop leaves that State, and nothing else
-    pub settled : store_doubt g (store_of g t) ≡ 0 → (s : State) → store_survivors g (store_of g t) s → IsStateOf committed s
-    pub ties : store_doubt g (store_of g t) ≡ 0 → store_tied g (store_of g t)
+    pub settled : (tables_model g t).doubt ≡ 0 → (s : State) → (tables_model g t).survivors s → IsStateOf committed s
+    pub ties : (tables_model g t).doubt ≡ 0 → (tables_model g t).tied
     pub up : is_down g t ≡ false
     pub uncounted : refusals g t ≡ 0
 
@@ -92,5 +92,5 @@ module _ {S : Type 0} (g : Ghosts S) (config : Config) (conn : Held S) where
     pub other : HasCleanDisk (state g back) → IsTrue (state g back).is_open → committed.schema ≢ schema → committed.schema ≢ no_schema → fault ≡ Foreign foreign.Schema
     -- a database without a table is refused only if something failed
     pub blank : HasCleanDisk (state g back) → IsTrue (state g back).is_open → committed.schema ≡ no_schema → is_failure fault ≡ true
-    -- and so are rows of a State that meets every rule
+    -- and so are rows of a State that meets every constraint
     pub sound : HasCleanDisk (state g back) → IsTrue (state g back).is_open → IsNotRefused config committed fault

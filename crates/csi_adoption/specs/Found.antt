@@ -13,9 +13,9 @@ use Rattle.csi_keeper.specs.Invariant.{IsVolume}
 use Rattle.csi_keeper.specs.Totals.{the_total, zero_total}
 use Rattle.csi_keeper.specs.declared.totals.Total.{Total}
 use Rattle.csi_keeper.specs.declared.volume.Volume.{Volume}
-use Rattle.csi_layout.specs.declared.formats.TheConstants.{FIRST_FORMAT}
-use Rattle.csi_looks.specs.Folds.{added_by, sum_after}
-use Rattle.csi_looks.specs.declared.sums.Weight.TheVariants.{Number, One}
+use Rattle.csi_schema.specs.declared.formats.TheConstants.{FIRST_FORMAT}
+use Rattle.csi_scans.specs.Folds.{added_by, sum_after}
+use Rattle.csi_scans.specs.declared.sums.Weight.TheVariants.{Number, One}
 use Rattle.csi_tables.specs.Holding.{IsStored, volume_entry}
 use Rattle.csi_adoption.specs.declared.meta.Meta.{Meta}
 

@@ -17,12 +17,12 @@ use Rattle.csi_keeper.specs.State.{State, place_cmp}
 use Rattle.csi_keeper.specs.Texts.{Text}
 use Rattle.csi_keeper.specs.declared.volume.Attachment.{Attachment}
 use Rattle.csi_keeper.specs.declared.volume.Volume.{Volume}
-use Rattle.csi_layout.specs.Rows.{seen_attachment, seen_volume}
-use Rattle.csi_layout.specs.Tables.{schema}
-use Rattle.csi_looks.specs.Looks.{IsInOrder, keyed_attachment, owners}
-use Rattle.csi_rules.specs.Apart.{NoneApart}
-use Rattle.csi_rules.specs.Joins.{is_owned}
-use Rattle.csi_statements.specs.Rows.{AreKeyed}
+use Rattle.csi_schema.specs.Rows.{seen_attachment, seen_volume}
+use Rattle.csi_schema.specs.Tables.{schema}
+use Rattle.csi_scans.specs.Scans.{IsInOrder, keyed_attachment, owners}
+use Rattle.csi_constraints.specs.Apart.{NoneApart}
+use Rattle.csi_constraints.specs.Joins.{is_owned}
+use Rattle.csi_transactions.specs.Rows.{AreKeyed}
 use Rattle.csi_tables.specs.Holding.{attachment_entry, volume_entry, IsPlaced, IsRowsOf, IsStored}
 use Rattle.csi_adoption.specs.Passing.{AttachmentsAreKnown, AttachmentsPass}
 
@@ -48,7 +48,7 @@ pub record FoundAttachments (config : Config) (volumes : FinMap nat_cmp Volume) 
 
 -- ---- laws
 
--- tables that pass every rule have attachments, where the rows of volumes stand for these volumes
+-- tables that pass every constraint have attachments, where the rows of volumes stand for these volumes
 abbrev pub AttachmentsAreFound : Type 0
 AttachmentsAreFound =
     (config : Config) (next : ℕ) (db : Trees) (volumes : FinMap nat_cmp Volume) (standing rows owned places : List Row)
@@ -60,7 +60,7 @@ AttachmentsAreFound =
     → IsPermutation (map seen_attachment (db 3)) places → NoneApart places
     → FoundAttachments config volumes db
 
--- the rows of a State's attachments pass every rule of theirs
+-- the rows of a State's attachments pass every constraint of theirs
 abbrev pub AttachmentsDoPass : Type 0
 AttachmentsDoPass =
     (config : Config) (format : ℕ) (s : State) (db : Trees) (rows : List Row)

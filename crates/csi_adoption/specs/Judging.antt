@@ -1,4 +1,4 @@
--- Why tables are not adopted: the first rule that their rows break, and the row that breaks it.
+-- Why tables are not adopted: the first constraint that their rows break, and the row that breaks it.
 use Rattle.std.specs.Prelude.{◌≡◌, ◌≢◌, ◌⊎◌, ℕ, ◌-◌, ◌^◌, min, nat_lt, nat_le, ℤ, pos, negsuc, int_lt, Bool, true, false, not, ◌||◌, if◌then◌else◌, List, [], ◌∷◌, length, map, Option, Some, None, Result, Ok, Err, IfSome, IsPermutation, unwrap_or}
 use Rattle.std.specs.List.{AllByRecursion}
 use Rattle.std.specs.Option.{option_map}
@@ -16,27 +16,27 @@ use Rattle.csi_config.specs.declared.pools.Pool.{Pool}
 use Rattle.csi_types.specs.Maps.{same_text}
 use Rattle.csi_keeper.specs.Totals.{the_total, zero_total}
 use Rattle.csi_keeper.specs.declared.totals.Total.{Total}
-use Rattle.csi_layout.specs.Rows.{seen_meta, seen_volume}
-use Rattle.csi_layout.specs.Tables.{schema}
-use Rattle.csi_layout.specs.declared.formats.TheConstants.{FIRST_FORMAT, LATEST_FORMAT}
-use Rattle.csi_looks.specs.Folds.{IsRising, as_integer, sum_after}
-use Rattle.csi_looks.specs.Looks.{IsInOrder, keyed_attachment}
-use Rattle.csi_looks.specs.declared.sums.TextSum.{TextSum}
-use Rattle.csi_looks.specs.declared.sums.Weight.TheVariants.{Number, One}
+use Rattle.csi_schema.specs.Rows.{seen_meta, seen_volume}
+use Rattle.csi_schema.specs.Tables.{schema}
+use Rattle.csi_schema.specs.declared.formats.TheConstants.{FIRST_FORMAT, LATEST_FORMAT}
+use Rattle.csi_scans.specs.Folds.{IsRising, as_integer, sum_after}
+use Rattle.csi_scans.specs.Scans.{IsInOrder, keyed_attachment}
+use Rattle.csi_scans.specs.declared.sums.TextSum.{TextSum}
+use Rattle.csi_scans.specs.declared.sums.Weight.TheVariants.{Number, One}
 use Rattle.csi_tables.specs.Encoding.{FitCaps, FitParams}
-use Rattle.csi_rules.specs.Apart.{apart_named}
-use Rattle.csi_rules.specs.Attachments.{has_flag, is_at_node}
-use Rattle.csi_rules.specs.Coded.{has_cap, has_caps, has_params, key_at, keys_at, params_at}
-use Rattle.csi_rules.specs.Joins.{is_owned}
-use Rattle.csi_rules.specs.Kinds.{has_attachment_kinds, has_volume_kinds}
-use Rattle.csi_rules.specs.Named.{named_out}
-use Rattle.csi_rules.specs.Volumes.{is_in_pools, is_named, is_numbered, is_sized}
-use Rattle.csi_rules.specs.declared.broken.AttachmentRule.{AttachmentRule}
-use Rattle.csi_rules.specs.declared.broken.AttachmentRule.TheVariants as attachment_rule
-use Rattle.csi_rules.specs.declared.broken.BrokenRule.TheVariants as broken
-use Rattle.csi_rules.specs.declared.broken.VolumeRule.{VolumeRule}
-use Rattle.csi_rules.specs.declared.broken.VolumeRule.TheVariants as volume_rule
-use Rattle.csi_rules.specs.declared.named.RowName.{RowName}
+use Rattle.csi_constraints.specs.Apart.{apart_named}
+use Rattle.csi_constraints.specs.Attachments.{has_flag, is_at_node}
+use Rattle.csi_constraints.specs.Coded.{has_cap, has_caps, has_params, key_at, keys_at, params_at}
+use Rattle.csi_constraints.specs.Joins.{is_owned}
+use Rattle.csi_constraints.specs.Kinds.{has_attachment_kinds, has_volume_kinds}
+use Rattle.csi_constraints.specs.Named.{named_out}
+use Rattle.csi_constraints.specs.Volumes.{is_in_pools, is_named, is_numbered, is_sized}
+use Rattle.csi_constraints.specs.declared.broken.AttachmentConstraint.{AttachmentConstraint}
+use Rattle.csi_constraints.specs.declared.broken.AttachmentConstraint.TheVariants as attachment_constraint
+use Rattle.csi_constraints.specs.declared.broken.BrokenConstraint.TheVariants as broken
+use Rattle.csi_constraints.specs.declared.broken.VolumeConstraint.{VolumeConstraint}
+use Rattle.csi_constraints.specs.declared.broken.VolumeConstraint.TheVariants as volume_constraint
+use Rattle.csi_constraints.specs.declared.named.RowName.{RowName}
 use Rattle.csi_adoption.specs.Passing.{Seen}
 use Rattle.csi_adoption.specs.declared.adopting.TablesSeen.{TablesSeen}
 use Rattle.csi_adoption.specs.declared.attachments.AttachmentsSeen.{AttachmentsSeen}
@@ -96,13 +96,13 @@ meta_judged meta.Many = no_meta
 abbrev pub next_fault : ℕ → Option AdoptFault
 next_fault next = if nat_lt 0 next then None else Some (Broken broken.Next)
 
--- ---- what the looks show
+-- ---- what the scans show
 
 -- the first row that does not pass, by the integer and the text of two columns
 abbrev pub first_named : ℕ → ℕ → (Row → Bool) → List Row → Option RowName
 first_named number text test rows = named_out number text test None rows
 
--- the first volume that breaks each rule, the bytes and the number of each pool's volumes, and the number of all
+-- the first volume that breaks each constraint, the bytes and the number of each pool's volumes, and the number of all
 pub record VolumesFound : Type 0 where
   pub kinds : Option RowName
   pub number : Option RowName
@@ -129,7 +129,7 @@ in_volumes config m rows = record {
   rows = min (length rows) (2 ^ 64 - 1);
 }
 
--- the first attachment that breaks each rule, and the number of each node's
+-- the first attachment that breaks each constraint, and the number of each node's
 pub record AttachmentsFound : Type 0 where
   pub kinds : Option RowName
   pub cap : Option RowName
@@ -166,7 +166,7 @@ told_volumes seen = record {
 abbrev pub told_attachments : AttachmentsSeen → AttachmentsFound
 told_attachments seen = record { kinds = seen.kinds; cap = seen.cap; readonly = seen.readonly; node = seen.node; node_volumes = sums_of seen.node_volumes.items }
 
--- a look over rows whose numbers rise; what was read of bytes can be written again
+-- a scan over rows whose numbers rise; what was read of bytes can be written again
 pub record SeesVolumes (config : Config) (m : Meta) (rows : List Row) (seen : VolumesSeen) : Type 0 where
   pub format : seen.format ≡ m.format
   pub found : told_volumes seen ≡ in_volumes config m rows
@@ -179,15 +179,15 @@ pub record SeesAttachments (config : Config) (rows : List Row) (seen : Attachmen
   pub rising : IsRising 0 None rows
   pub cap : seen.cap ≡ None → AllByRecursion (λ r. IfSome (key_at 3 r) (λ key. FitCaps (key ∷ []))) rows
 
--- ---- the fault of a rule
+-- ---- the fault of a constraint
 
 abbrev pub number_of : RowName → ℤ
 number_of name = unwrap_or name.number (pos 0)
 
-abbrev pub volume_fault : VolumeRule → Option RowName → Option AdoptFault
+abbrev pub volume_fault : VolumeConstraint → Option RowName → Option AdoptFault
 volume_fault rule found = option_map (λ name. Broken (broken.Volume (number_of name) rule)) found
 
-abbrev pub attachment_fault : AttachmentRule → Option RowName → Option AdoptFault
+abbrev pub attachment_fault : AttachmentConstraint → Option RowName → Option AdoptFault
 attachment_fault rule found = option_map (λ name. Broken (broken.Attachment (number_of name) (unwrap_or name.text []) rule)) found
 
 abbrev pub volume_kinds_fault : Option RowName → Option AdoptFault
@@ -217,7 +217,7 @@ node_fault nodes sums = option_map (λ m. Broken (broken.Node m.id)) (full_node 
 abbrev pub count_fault : ℕ → Option AdoptFault
 count_fault rows = if nat_lt MAX_VOLUMES rows then Some (Broken broken.TooManyVolumes) else None
 
--- ---- the rules in their order
+-- ---- the constraints in their order
 
 abbrev pub first_fault : List (Option AdoptFault) → Option AdoptFault
 first_fault [] = None
@@ -228,22 +228,22 @@ abbrev pub kinds_faults : VolumesFound → AttachmentsFound → Option AdoptFaul
 kinds_faults volumes attachments = first_fault (volume_kinds_fault volumes.kinds ∷ attachment_kinds_fault attachments.kinds ∷ [])
 
 abbrev pub number_faults : ℕ → VolumesFound → Option AdoptFault
-number_faults next volumes = first_fault (next_fault next ∷ volume_fault volume_rule.Number volumes.number ∷ volume_fault volume_rule.Name volumes.name ∷ [])
+number_faults next volumes = first_fault (next_fault next ∷ volume_fault volume_constraint.Number volumes.number ∷ volume_fault volume_constraint.Name volumes.name ∷ [])
 
 abbrev pub size_faults : Config → VolumesFound → Option AdoptFault
-size_faults config volumes = first_fault (volume_fault volume_rule.Pool volumes.pool ∷ volume_fault volume_rule.Bytes volumes.bytes ∷ pool_fault config.pools volumes.pool_bytes ∷ [])
+size_faults config volumes = first_fault (volume_fault volume_constraint.Pool volumes.pool ∷ volume_fault volume_constraint.Bytes volumes.bytes ∷ pool_fault config.pools volumes.pool_bytes ∷ [])
 
 abbrev pub code_faults : VolumesFound → AttachmentsFound → Option AdoptFault
 code_faults volumes attachments =
-    first_fault (volume_fault volume_rule.Caps volumes.caps ∷ volume_fault volume_rule.Params volumes.params ∷ attachment_fault attachment_rule.Cap attachments.cap ∷ attachment_fault attachment_rule.Readonly attachments.readonly ∷ attachment_fault attachment_rule.Node attachments.node ∷ [])
+    first_fault (volume_fault volume_constraint.Caps volumes.caps ∷ volume_fault volume_constraint.Params volumes.params ∷ attachment_fault attachment_constraint.Cap attachments.cap ∷ attachment_fault attachment_constraint.Readonly attachments.readonly ∷ attachment_fault attachment_constraint.Node attachments.node ∷ [])
 
 -- a volume stands and has the capability
 abbrev pub owner_fault : Option RowName → Option AdoptFault
-owner_fault unowned = attachment_fault attachment_rule.Owner unowned
+owner_fault unowned = attachment_fault attachment_constraint.Owner unowned
 
 abbrev pub count_faults : Config → Option RowName → AttachmentsFound → VolumesFound → Option AdoptFault
 count_faults config apart attachments volumes =
-    first_fault (attachment_fault attachment_rule.Beside apart ∷ node_fault config.nodes attachments.node_volumes ∷ count_fault volumes.rows ∷ [])
+    first_fault (attachment_fault attachment_constraint.Beside apart ∷ node_fault config.nodes attachments.node_volumes ∷ count_fault volumes.rows ∷ [])
 
 -- those that the rows of volumes and of attachments tell by themselves
 abbrev pub table_faults : Config → ℕ → VolumesFound → AttachmentsFound → Option AdoptFault
@@ -296,7 +296,7 @@ Says fault (Err e) = is_no_memory e ≡ false → fault ≡ Some e
 abbrev pub IsMetaFault : Trees → AdoptFault → Type 0
 IsMetaFault db fault = (rows : List Row) × IsPermutation (map seen_meta (db 0)) rows × (meta_judged (with_rows meta.None rows) ≡ Err fault)
 
--- the rows of all tables, and the first rule that they break, if they break one
+-- the rows of all tables, and the first constraint that they break, if they break one
 pub record AreJudged (config : Config) (db : Trees) (fault : Option AdoptFault) : Type 0 where
   pub row : Meta
   pub meta_rows : List Row
@@ -308,11 +308,11 @@ pub record AreJudged (config : Config) (db : Trees) (fault : Option AdoptFault) 
   pub meta_is : meta_judged (with_rows meta.None meta_rows) ≡ Ok row
   pub fault_is : all_faults config row.next (in_volumes config row volume_rows) (in_attachments config attachment_rows) (first_named 0 1 is_owned owner_rows) (apart_named place_rows) ≡ fault
 
--- the fault is that of a database: it has other tables, or its rows break this rule first
+-- the fault is that of a database: it has other tables, or its rows break this constraint first
 abbrev pub IsFaultOf : Config → Database → AdoptFault → Type 0
 IsFaultOf config db fault = ((db.schema ≢ schema) × (fault ≡ Foreign foreign.Schema)) ⊎ ((db.schema ≡ schema) × (IsMetaFault db.trees fault ⊎ AreJudged config db.trees (Some fault)))
 
--- the rows of volumes and attachments break no rule
+-- the rows of volumes and attachments break no constraint
 pub record ArePassed (config : Config) (db : Trees) (seen : VolumesSeen) : Type 0 where
   pub judged : AreJudged config db None
   pub volumes : SeesVolumes config judged.row judged.volume_rows seen
@@ -337,12 +337,12 @@ pub record TablesAreSeen (config : Config) (m : Meta) (db : Trees) (tables : Tab
   pub sees : SeesVolumes config m volume_rows tables.volumes
   pub placed : SeesAttachments config attachment_rows tables.attachments
 
--- the volumes that were seen, unless a rule is broken
+-- the volumes that were seen, unless a constraint is broken
 abbrev pub volumes_unless : TablesSeen → Result (Unit {0}) AdoptFault → Result VolumesSeen AdoptFault
 volumes_unless tables (Ok fine) = Ok tables.volumes
 volumes_unless tables (Err e) = Err e
 
--- where the rows of each table by themselves break no rule, and this is what meta tells
+-- where the rows of each table by themselves break no constraint, and this is what meta tells
 abbrev pub JudgesJoined : Config → Trees → Meta → TablesSeen → Result (Unit {0}) AdoptFault → Type 0
 JudgesJoined config db m tables result = TablesAreSeen config m db tables → table_faults config m.next (told_volumes tables.volumes) (told_attachments tables.attachments) ≡ None
     → (rows : List Row) → IsPermutation (map seen_meta (db 0)) rows → meta_judged (with_rows meta.None rows) ≡ Ok m → JudgesRows config db (volumes_unless tables result)

@@ -3,5 +3,5 @@ pub mod Again
 pub mod Found
 pub mod FoundAttachments
 pub mod Judging
-pub mod Looking
+pub mod Scanning
 pub mod Passing

@@ -1,24 +1,24 @@
--- What looks over the tables have to show for adoption.
+-- What scans over the tables have to show for adoption.
 use Rattle.std.specs.Prelude.{◌≡◌, ℕ, ◌≤◌, true, List, None, IfSome, IsPermutation, [], ◌∷◌, length, map, sum_by}
 use Rattle.std.specs.List.{AllByRecursion, list_all}
 use Rattle.sqlite.specs.Order.{Row}
 use Rattle.sqlite.specs.Tree.{Trees}
 use Rattle.csi_types.specs.declared.limits.TheConstants.{MAX_NUMBER, MAX_VOLUMES}
 use Rattle.csi_config.specs.declared.config.Config.{Config}
-use Rattle.csi_layout.specs.Rows.{meta_row, seen_attachment, seen_meta, seen_volume}
-use Rattle.csi_looks.specs.Folds.{IsRising, added_by}
-use Rattle.csi_looks.specs.Looks.{IsInOrder, keyed_attachment, owners}
-use Rattle.csi_looks.specs.declared.sums.Weight.TheVariants.{Number, One}
+use Rattle.csi_schema.specs.Rows.{meta_row, seen_attachment, seen_meta, seen_volume}
+use Rattle.csi_scans.specs.Folds.{IsRising, added_by}
+use Rattle.csi_scans.specs.Scans.{IsInOrder, keyed_attachment, owners}
+use Rattle.csi_scans.specs.declared.sums.Weight.TheVariants.{Number, One}
 use Rattle.csi_tables.specs.Encoding.{FitCaps, FitParams}
-use Rattle.csi_rules.specs.Apart.{NoneApart}
-use Rattle.csi_rules.specs.Attachments.{has_flag, is_at_node}
-use Rattle.csi_rules.specs.Coded.{has_cap, has_caps, has_params, key_at, keys_at, params_at}
-use Rattle.csi_rules.specs.Joins.{is_owned}
-use Rattle.csi_rules.specs.Kinds.{has_attachment_kinds, has_volume_kinds}
-use Rattle.csi_rules.specs.Volumes.{is_in_pools, is_named, is_numbered, is_sized}
+use Rattle.csi_constraints.specs.Apart.{NoneApart}
+use Rattle.csi_constraints.specs.Attachments.{has_flag, is_at_node}
+use Rattle.csi_constraints.specs.Coded.{has_cap, has_caps, has_params, key_at, keys_at, params_at}
+use Rattle.csi_constraints.specs.Joins.{is_owned}
+use Rattle.csi_constraints.specs.Kinds.{has_attachment_kinds, has_volume_kinds}
+use Rattle.csi_constraints.specs.Volumes.{is_in_pools, is_named, is_numbered, is_sized}
 use Rattle.csi_adoption.specs.declared.meta.Meta.{Meta}
 
--- the rows of volumes meet each rule of their own
+-- the rows of volumes meet each constraint of their own
 pub record VolumesPass (config : Config) (m : Meta) (rows : List Row) : Type 0 where
   pub kinds : list_all has_volume_kinds rows ≡ true
   pub numbers : list_all (is_numbered m.next) rows ≡ true
@@ -37,7 +37,7 @@ pub record VolumesAreKnown (rows : List Row) : Type 0 where
   pub caps : AllByRecursion (λ r. IfSome (keys_at 4 r) FitCaps) rows
   pub params : AllByRecursion (λ r. IfSome (params_at 5 r) (λ ms. FitParams ms.0 ms.1)) rows
 
--- the rows of attachments, behind their rowids, meet each rule of their own
+-- the rows of attachments, behind their rowids, meet each constraint of their own
 pub record AttachmentsPass (config : Config) (rows : List Row) : Type 0 where
   pub kinds : list_all has_attachment_kinds rows ≡ true
   pub caps : list_all has_cap rows ≡ true
@@ -51,7 +51,7 @@ pub record AttachmentsAreKnown (rows : List Row) : Type 0 where
   pub rising : IsRising 0 None rows
   pub caps : AllByRecursion (λ r. IfSome (key_at 3 r) (λ key. FitCaps (key ∷ []))) rows
 
--- what five looks over the tables show
+-- what five scans over the tables show
 pub record Seen (db : Trees) (meta_rows volume_rows attachment_rows owner_rows place_rows : List Row) : Type 0 where
   pub meta : IsPermutation (map seen_meta (db 0)) meta_rows
   pub volumes : IsInOrder (map seen_volume (db 1)) volume_rows
@@ -59,7 +59,7 @@ pub record Seen (db : Trees) (meta_rows volume_rows attachment_rows owner_rows p
   pub owned : IsPermutation (owners (db 3) (db 1)) owner_rows
   pub places : IsPermutation (map seen_attachment (db 3)) place_rows
 
--- the rows meet every rule
+-- the rows meet every constraint
 pub record Pass (config : Config) (m : Meta) (meta_rows volume_rows attachment_rows owner_rows place_rows : List Row) : Type 0 where
   pub meta : meta_rows ≡ meta_row m.format m.next ∷ []
   pub next : (1 ≤ m.next) × (m.next ≤ MAX_NUMBER)

@@ -3,9 +3,9 @@
 ghost use Rattle.std.specs.Prelude.{◌≡◌, ◌≢◌, ℕ, false, Some, IfErr, IfOk, IsTrue, OnErr, OnOk};
 ghost use Rattle.sqlite.specs.Held.{state};
 ghost use Rattle.sqlite.specs.State.{HasCleanDisk, KeepsCommit, Survives};
-ghost use Rattle.csi_layout.specs.Tables.{no_schema, schema as our_schema};
-ghost use Rattle.csi_layout.specs.declared.formats.TheConstants.{FIRST_FORMAT};
-ghost use Rattle.csi_statements.specs.Rows.{Changes, IsUndone, Leaves, SetsFormat};
+ghost use Rattle.csi_schema.specs.Tables.{no_schema, schema as our_schema};
+ghost use Rattle.csi_schema.specs.declared.formats.TheConstants.{FIRST_FORMAT};
+ghost use Rattle.csi_transactions.specs.Rows.{Changes, IsUndone, Leaves, SetsFormat};
 ghost use Rattle.sqlite.specs.Tree.{Trees};
 ghost use Rattle.sqlite_catalog.specs.Listing.{IsSound};
 ghost use Rattle.csi_keeper.specs.Invariant.{IsInvariant};
@@ -13,7 +13,7 @@ ghost use Rattle.csi_keeper.specs.Memory.{first_state};
 ghost use Rattle.csi_keeper.specs.State.{State};
 ghost use Rattle.csi_tables.specs.Holding.{IsEitherRows};
 ghost use Rattle.csi_adoption.specs.Adopting.{FoundState, IsAdopted, IsFound, IsNotRefused, IsTaken, IsUnadopted, LeavesLatest};
-ghost use Rattle.csi_adoption.specs.Looking.{Looks};
+ghost use Rattle.csi_adoption.specs.Scanning.{Scans};
 ghost use Rattle.csi_adoption.specs.declared.meta.Meta.{Meta as Row};
 ghost use Rattle.csi_adoption.specs.Judging.{is_failure, AreJudged, ArePassed, IsFaultOf, IsMetaFault, JudgesBehind, JudgesJoined, JudgesRows, JudgesSeen, SeesRow, Says, TablesAreSeen, Tells, code_faults, count_fault, count_faults, kinds_faults, table_faults, told_attachments, told_volumes};
 
@@ -29,13 +29,13 @@ use crate::volumes::{
 };
 use csi_config::Config;
 use csi_config::laws::{node_volumes_few, pool_bytes_whole};
+use csi_constraints::{AttachmentConstraint, BrokenConstraint, RowName, VolumeConstraint};
 use csi_keeper::Totals;
 use csi_keeper::laws::first;
-use csi_layout::{FIRST_FORMAT, is_our_schema};
-use csi_rules::{AttachmentRule, BrokenRule, RowName, VolumeRule};
-use csi_statements::changes::set_format;
+use csi_schema::{FIRST_FORMAT, is_our_schema};
 use csi_tables::laws::{latest, one_state};
 use csi_tables::{MakeFault, Tables};
+use csi_transactions::changes::set_format;
 use csi_types::MAX_VOLUMES;
 use sqlite::{Alter, Connection, Error};
 use sqlite_schema::schema::Schema;
@@ -79,14 +79,14 @@ fn check_codes(
 ) -> Result<(), AdoptFault>
     ensures { Says (code_faults (told_volumes volumes.now) (told_attachments attachments.now)) result }
 {
-    check_volume(&volumes.caps, VolumeRule::Caps)?;
-    check_volume(&volumes.params, VolumeRule::Params)?;
-    check_attachment(alloc, &attachments.cap, AttachmentRule::Cap)?;
-    check_attachment(alloc, &attachments.readonly, AttachmentRule::Readonly)?;
-    check_attachment(alloc, &attachments.node, AttachmentRule::Node)
+    check_volume(&volumes.caps, VolumeConstraint::Caps)?;
+    check_volume(&volumes.params, VolumeConstraint::Params)?;
+    check_attachment(alloc, &attachments.cap, AttachmentConstraint::Cap)?;
+    check_attachment(alloc, &attachments.readonly, AttachmentConstraint::Readonly)?;
+    check_attachment(alloc, &attachments.node, AttachmentConstraint::Node)
 }
 
-// The rules of one table alone.
+// The constraints of one table alone.
 fn check_tables(
     alloc: Global,
     config: &Config,
@@ -106,12 +106,12 @@ fn check_count(rows: u64) -> Result<(), AdoptFault>
     ensures { Tells (count_fault rows) result }
 {
     if rows > MAX_VOLUMES {
-        return Err(AdoptFault::Broken(BrokenRule::TooManyVolumes));
+        return Err(AdoptFault::Broken(BrokenConstraint::TooManyVolumes));
     }
     Ok(())
 }
 
-// The rules of the attachments of a volume and of a node, and of all volumes.
+// The constraints of the attachments of a volume and of a node, and of all volumes.
 fn check_counts(
     alloc: Global,
     config: &Config,
@@ -121,12 +121,12 @@ fn check_counts(
 ) -> Result<(), AdoptFault>
     ensures { Says (count_faults config.now apart.now (told_attachments attachments.now) (told_volumes volumes.now)) result }
 {
-    check_attachment(alloc, apart, AttachmentRule::Beside)?;
+    check_attachment(alloc, apart, AttachmentConstraint::Beside)?;
     check_nodes(alloc, config.nodes(), attachments.node_volumes.as_slice())?;
     check_count(volumes.rows)
 }
 
-/// What the looks over volumes and attachments show.
+/// What the scans over volumes and attachments show.
 #[derive(Drop)]
 pub(crate) struct TablesSeen {
     pub(crate) volumes: VolumesSeen,
@@ -141,7 +141,7 @@ fn see_tables<S: Alter>(
 ) -> Result<TablesSeen, Error>
     requires idle { conn.old.in_transaction ≡ false }
     requires ours { HasCleanDisk (state S.Store conn.old) → conn.old.schema ≡ our_schema }
-    ensures looks { Looks S.Store conn.old conn.new result }
+    ensures scans { Scans S.Store conn.old conn.new result }
     ensures seen { HasCleanDisk (state S.Store conn.new) → IfOk result (λ tables. TablesAreSeen config.now meta (state S.Store conn.old).now.trees tables) }
 {
     let volumes = see_volumes(alloc, conn, config, meta)?;
@@ -162,11 +162,11 @@ fn judge_joined<S: Alter>(
 ) -> Result<(), AdoptFault>
     requires idle { conn.old.in_transaction ≡ false }
     requires ours { HasCleanDisk (state S.Store conn.old) → conn.old.schema ≡ our_schema }
-    ensures looks { Looks S.Store conn.old conn.new result }
+    ensures scans { Scans S.Store conn.old conn.new result }
     ensures judged { HasCleanDisk (state S.Store conn.new) → (row : Row) → JudgesJoined config.now (state S.Store conn.old).now.trees row tables.now result }
 {
     let unowned = see_owners(alloc, conn)?;
-    check_attachment(alloc, &unowned, AttachmentRule::Owner)?;
+    check_attachment(alloc, &unowned, AttachmentConstraint::Owner)?;
     let apart = see_apart(alloc, conn)?;
     check_counts(alloc, config, &apart, &tables.attachments, &tables.volumes)?;
     Ok(())
@@ -182,7 +182,7 @@ fn judge_seen<S: Alter>(
 ) -> Result<(), AdoptFault>
     requires idle { conn.old.in_transaction ≡ false }
     requires ours { HasCleanDisk (state S.Store conn.old) → conn.old.schema ≡ our_schema }
-    ensures looks { Looks S.Store conn.old conn.new result }
+    ensures scans { Scans S.Store conn.old conn.new result }
     ensures judged { HasCleanDisk (state S.Store conn.new) → JudgesSeen config.now (state S.Store conn.old).now.trees meta tables.now result }
 {
     check_tables(
@@ -195,7 +195,7 @@ fn judge_seen<S: Alter>(
     judge_joined(alloc, conn, config, tables)
 }
 
-// Judges the rows behind that of meta by the rules in their order. What is seen of the tables is large, and
+// Judges the rows behind that of meta by the constraints in their order. What is seen of the tables is large, and
 // so is lent to what may fail.
 fn judge_behind<S: Alter>(
     alloc: Global,
@@ -205,7 +205,7 @@ fn judge_behind<S: Alter>(
 ) -> Result<VolumesSeen, AdoptFault>
     requires idle { conn.old.in_transaction ≡ false }
     requires ours { HasCleanDisk (state S.Store conn.old) → conn.old.schema ≡ our_schema }
-    ensures looks { Looks S.Store conn.old conn.new result }
+    ensures scans { Scans S.Store conn.old conn.new result }
     ensures judged { HasCleanDisk (state S.Store conn.new) → JudgesBehind config.now (state S.Store conn.old).now.trees meta result }
 {
     let tables = see_tables(alloc, conn, config, meta)?;
@@ -218,7 +218,7 @@ fn judge_behind<S: Alter>(
 fn see_row<S: Alter>(conn: &mut Connection<S>) -> Result<Meta, AdoptFault>
     requires idle { conn.old.in_transaction ≡ false }
     requires ours { HasCleanDisk (state S.Store conn.old) → conn.old.schema ≡ our_schema }
-    ensures looks { Looks S.Store conn.old conn.new result }
+    ensures scans { Scans S.Store conn.old conn.new result }
     ensures seen { HasCleanDisk (state S.Store conn.new) → SeesRow (state S.Store conn.old).now.trees result }
 {
     let rows = see_meta(conn)?;
@@ -233,20 +233,21 @@ fn judge_rows<S: Alter>(
 ) -> Result<VolumesSeen, AdoptFault>
     requires idle { conn.old.in_transaction ≡ false }
     requires ours { HasCleanDisk (state S.Store conn.old) → conn.old.schema ≡ our_schema }
-    ensures looks { Looks S.Store conn.old conn.new result }
+    ensures scans { Scans S.Store conn.old conn.new result }
     ensures judged { HasCleanDisk (state S.Store conn.new) → JudgesRows config.now (state S.Store conn.old).now.trees result }
 {
     let meta = see_row(conn)?;
     judge_behind(alloc, conn, config, meta)
 }
 
-// What the laws of the rows tell: rows that break no rule are those of a State that meets every rule,
+// What the laws of the rows tell: rows that break no constraint are those of a State that meets every constraint,
 // and the rows of such a State break none.
 #[inline(always)]
 fn rows_tell(config: &Config)
     ensures found { (db : Trees) (seen : VolumesSeen) → IsSound our_schema db → ArePassed config.now db seen → FoundState config.now db seen }
     ensures no_meta_fault { (db : Trees) (s : State) → IsEitherRows s db → IsInvariant config.now s → (fault : AdoptFault) → IsMetaFault db fault → ⊥ }
-    ensures no_fault { (db : Trees) (s : State) → IsEitherRows s db → IsInvariant config.now s → (fault : AdoptFault) → AreJudged config.now db (Some fault) → ⊥ }
+    ensures no_fault { (db : Trees) (s : State) → IsEitherRows s db → IsInvariant config.now s → (fault : AdoptFault)
+        → AreJudged config.now db (Some fault) → ⊥ }
     ensures new { IsInvariant config.now (first_state 1) }
 {
     volumes_found();
@@ -262,24 +263,27 @@ fn rows_tell(config: &Config)
     first(config);
 }
 
-/// Tables that break no rule: their format, and the totals of the pools.
+/// Tables that break no constraint: their format, and the totals of the pools.
 #[derive(Drop)]
 struct Judged {
     format: u32,
     totals: Totals,
 }
 
-// The format and the totals, where the tables have our schema and their rows break no rule.
+// The format and the totals, where the tables have our schema and their rows break no constraint.
 fn judge<S: Alter>(
     alloc: Global,
     conn: &mut Connection<S>,
     config: &Config,
 ) -> Result<Judged, AdoptFault>
     requires idle { conn.old.in_transaction ≡ false }
-    ensures looks { Looks S.Store conn.old conn.new result }
-    ensures found { HasCleanDisk (state S.Store conn.new) → IfOk result (λ judged. IsFound config.now (state S.Store conn.old).now judged.format judged.totals) }
-    ensures first { HasCleanDisk (state S.Store conn.new) → IfErr result (λ fault. is_failure fault ≡ false → IsFaultOf config.now (state S.Store conn.old).now fault) }
-    ensures other { HasCleanDisk (state S.Store conn.new) → (state S.Store conn.old).now.schema ≢ our_schema → IfErr result (λ fault. fault ≡ AdoptFault.Foreign Foreign.Schema) }
+    ensures scans { Scans S.Store conn.old conn.new result }
+    ensures found { HasCleanDisk (state S.Store conn.new) → IfOk result
+        (λ judged. IsFound config.now (state S.Store conn.old).now judged.format judged.totals) }
+    ensures first { HasCleanDisk (state S.Store conn.new) → IfErr result
+        (λ fault. is_failure fault ≡ false → IsFaultOf config.now (state S.Store conn.old).now fault) }
+    ensures other { HasCleanDisk (state S.Store conn.new) → (state S.Store conn.old).now.schema ≢ our_schema → IfErr result
+        (λ fault. fault ≡ AdoptFault.Foreign Foreign.Schema) }
     ensures sound { HasCleanDisk (state S.Store conn.new) → IfErr result (IsNotRefused config.now (state S.Store conn.old).now) }
 {
     rows_tell(config);
@@ -305,9 +309,11 @@ fn upgrade<S: Alter>(conn: &mut Connection<S>, format: u32) -> Result<(), Error>
     ensures idle { conn.new.in_transaction ≡ false }
     ensures stays { format ≢ FIRST_FORMAT → conn.new ≡ conn.old }
     ensures sure { format ≢ FIRST_FORMAT → OnErr result ⊥ }
-    ensures ok { HasCleanDisk (state S.Store conn.new) → OnOk result (format ≡ FIRST_FORMAT → Changes SetsFormat (state S.Store conn.old) (state S.Store conn.new)) }
+    ensures ok { HasCleanDisk (state S.Store conn.new)
+        → OnOk result (format ≡ FIRST_FORMAT → Changes SetsFormat (state S.Store conn.old) (state S.Store conn.new)) }
     ensures err { HasCleanDisk (state S.Store conn.new) → OnErr result (IsUndone (state S.Store conn.old) (state S.Store conn.new)) }
-    ensures survives { Survives (state S.Store conn.old) (state S.Store conn.new) (λ db. (format ≡ FIRST_FORMAT) × Leaves SetsFormat (state S.Store conn.old) db) }
+    ensures survives { Survives (state S.Store conn.old) (state S.Store conn.new)
+        (λ db. (format ≡ FIRST_FORMAT) × Leaves SetsFormat (state S.Store conn.old) db) }
 {
     if format != FIRST_FORMAT {
         return Ok(());
@@ -315,7 +321,7 @@ fn upgrade<S: Alter>(conn: &mut Connection<S>, format: u32) -> Result<(), Error>
     set_format(conn)
 }
 
-// Takes tables that break no rule. That they are made ones of the latest format is the last step that can
+// Takes tables that break no constraint. That they are made ones of the latest format is the last step that can
 // fail.
 fn take<S: Alter>(
     alloc: Global,
@@ -326,8 +332,10 @@ fn take<S: Alter>(
     ensures idle { conn.new.in_transaction ≡ false }
     ensures taken { HasCleanDisk (state S.Store conn.new) → IfOk result (IsTaken config.now (state S.Store conn.old) (state S.Store conn.new)) }
     ensures kept { HasCleanDisk (state S.Store conn.new) → OnErr result (KeepsCommit (state S.Store conn.old) (state S.Store conn.new)) }
-    ensures first { HasCleanDisk (state S.Store conn.new) → IfErr result (λ fault. is_failure fault ≡ false → IsFaultOf config.now (state S.Store conn.old).now fault) }
-    ensures other { HasCleanDisk (state S.Store conn.new) → (state S.Store conn.old).now.schema ≢ our_schema → IfErr result (λ fault. fault ≡ AdoptFault.Foreign Foreign.Schema) }
+    ensures first { HasCleanDisk (state S.Store conn.new) → IfErr result
+        (λ fault. is_failure fault ≡ false → IsFaultOf config.now (state S.Store conn.old).now fault) }
+    ensures other { HasCleanDisk (state S.Store conn.new) → (state S.Store conn.old).now.schema ≢ our_schema → IfErr result
+        (λ fault. fault ≡ AdoptFault.Foreign Foreign.Schema) }
     ensures sound { HasCleanDisk (state S.Store conn.new) → IfErr result (IsNotRefused config.now (state S.Store conn.old).now) }
     ensures survives { Survives (state S.Store conn.old) (state S.Store conn.new) (LeavesLatest (state S.Store conn.old)) }
 {
@@ -351,16 +359,16 @@ fn settle<S: Alter>(conn: &mut Connection<S>)
 /// gets new ones, with no volume and 1 as the next number.
 ///
 /// What was committed is judged: the tables have to be exactly those that are made here, each value of
-/// the kind of its column, and the rows have to meet every rule of the configuration (docs/TABLES.md,
+/// the kind of its column, and the rows have to meet every constraint of the configuration (docs/TABLES.md,
 /// "What is judged when a file is opened"). After `Ok` there is one State whose rows were committed; it
-/// meets the rules, the keeper has it, and a stop leaves it and nothing else. Rows are looked at one by
+/// meets the constraints, the keeper has it, and a stop leaves it and nothing else. Rows are looked at one by
 /// one and none is kept, so memory does not grow with them. A limit on the connection's steps is taken
 /// away.
 ///
 /// # Errors
 ///
-/// The first rule that is broken, with the row that a look finds first; or that the database or memory
-/// failed, which says nothing of the rows: those of a State that meets every rule are refused for
+/// The first constraint that is broken, with the row that a scan finds first; or that the database or memory
+/// failed, which says nothing of the rows: those of a State that meets every constraint are refused for
 /// nothing else. What was committed stays, and the connection is given back.
 pub fn adopt<S: Alter>(
     alloc: Global,

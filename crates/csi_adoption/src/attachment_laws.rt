@@ -2,9 +2,9 @@
 
 ghost use Rattle.csi_adoption.specs.FoundAttachments.{AttachmentsAreFound, AttachmentsDoPass, OwnersDoPass, PlacesDoPass};
 
-use csi_rules::laws::{attachments, owners, pairs};
+use csi_constraints::laws::{attachments, owners, pairs};
 
-/// Rows of attachments that pass every rule are the attachments of a State with the volumes.
+/// Rows of attachments that pass every constraint are the attachments of a State with the volumes.
 pub fn attachments_found()
     ensures { AttachmentsAreFound }
 {
@@ -13,7 +13,7 @@ pub fn attachments_found()
     pairs();
 }
 
-/// The rows of a State's attachments pass the rules of one row.
+/// The rows of a State's attachments pass the constraints of one row.
 pub fn attachments_pass()
     ensures { AttachmentsDoPass }
 {

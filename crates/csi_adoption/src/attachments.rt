@@ -1,36 +1,34 @@
-//! What looks over attachments show, and the rules that their rows break.
+//! What scans over attachments show, and the constraints that their rows break.
 
 ghost use Rattle.std.specs.Prelude.{◌≡◌, ℕ, List, None, IsPermutation, IfOk, true, false, map, option_copied, unwrap_or, []};
 ghost use Rattle.std.specs.List.{AllZip};
 ghost use Rattle.sqlite.specs.Held.{state};
 ghost use Rattle.sqlite.specs.State.{HasCleanDisk};
-ghost use Rattle.csi_layout.specs.Tables.{schema as our_schema};
-ghost use Rattle.csi_layout.specs.Rows.{seen_attachment};
-ghost use Rattle.csi_looks.specs.Looks.{IsInOrder, keyed_attachment, owners};
-ghost use Rattle.csi_looks.specs.declared.sums.Weight.TheVariants.{One as Ones};
-ghost use Rattle.csi_rules.specs.Apart.{apart_named};
-ghost use Rattle.csi_rules.specs.Joins.{is_owned};
+ghost use Rattle.csi_schema.specs.Tables.{schema as our_schema};
+ghost use Rattle.csi_schema.specs.Rows.{seen_attachment};
+ghost use Rattle.csi_scans.specs.Scans.{IsInOrder, keyed_attachment, owners};
+ghost use Rattle.csi_scans.specs.declared.sums.Weight.TheVariants.{One as Ones};
+ghost use Rattle.csi_constraints.specs.Apart.{apart_named};
+ghost use Rattle.csi_constraints.specs.Joins.{is_owned};
 ghost use Rattle.csi_adoption.specs.Judging.{Says, SeesAttachments, attachment_fault, first_named, full_node, node_fault, sums_of};
-ghost use Rattle.csi_adoption.specs.Looking.{IsBegun, Looks, SeenBy};
+ghost use Rattle.csi_adoption.specs.Scanning.{IsBegun, Scans, SeenBy};
 
 use crate::fault::AdoptFault;
 use crate::sums::node_sums;
 use csi_config::{Config, Node};
-use csi_looks::{
-    Both, Each, Rising, TextSum, look_over_attachments, look_over_owners, look_over_places,
+use csi_constraints::{
+    AttachmentConstraint, BrokenConstraint, FirstApart, FirstBroken, FirstUnowned,
+    HasAttachmentKinds, HasCap, HasFlag, IsAtNode, RowName, Sure,
 };
-use csi_rules::{
-    AttachmentRule, BrokenRule, FirstApart, FirstBroken, FirstUnowned, HasAttachmentKinds, HasCap,
-    HasFlag, IsAtNode, RowName, Sure,
-};
+use csi_scans::{Both, Each, Rising, TextSum, scan_attachments, scan_owners, scan_places};
 use csi_types::{Text, copy_text};
 use sqlite::{Alter, Connection, Error, ErrorCode};
 use std::alloc::{AllocError, Global};
 
-/// What a look over attachments shows, whose rowids rise.
+/// What a scan over attachments shows, whose rowids rise.
 #[derive(Drop)]
 pub(crate) struct AttachmentsSeen {
-    // The first row that breaks each rule; of the first rule it is named by its rowid.
+    // The first row that breaks each constraint; of the first constraint it is named by its rowid.
     pub(crate) kinds: Option<RowName>,
     pub(crate) cap: Option<RowName>,
     pub(crate) readonly: Option<RowName>,
@@ -47,7 +45,7 @@ type Nodes<'a> = Both<FirstBroken<Sure<IsAtNode<'a>>>, Each<TextSum>>;
 
 type AttachmentsFold<'a> = Both<Both<Kinds, Codes>, Nodes<'a>>;
 
-// A rule that no row has broken yet, which is named by the integer and the text in these columns.
+// A constraint that no row has broken yet, which is named by the integer and the text in these columns.
 fn unbroken<T>(alloc: Global, test: T, number: usize, text: usize) -> FirstBroken<T>
     ensures test { result.test ≡ test }
     ensures number { result.number ≡ number }
@@ -116,7 +114,13 @@ fn nodes(alloc: Global, config: &Config) -> Result<Nodes<'_>, AllocError>
 
 // What the fold has found. It owns much, and nothing fails here.
 fn seen_by(fold: AttachmentsFold<'_>) -> AttachmentsSeen
-    ensures { result ≡ record { kinds = fold.entry.first.first.first.found; cap = fold.entry.first.second.first.found; readonly = fold.entry.first.second.second.found; node = fold.entry.second.first.found; node_volumes = fold.entry.second.second.parts } }
+    ensures { result ≡ record {
+      kinds = fold.entry.first.first.first.found;
+      cap = fold.entry.first.second.first.found;
+      readonly = fold.entry.first.second.second.found;
+      node = fold.entry.second.first.found;
+      node_volumes = fold.entry.second.second.parts;
+    } }
 {
     let Both {
         first: Both {
@@ -134,7 +138,7 @@ fn seen_by(fold: AttachmentsFold<'_>) -> AttachmentsSeen
     }
 }
 
-/// Looks over attachments, each behind its rowid.
+/// Scans attachments, each behind its rowid.
 pub(crate) fn see_attachments<S: Alter>(
     alloc: Global,
     conn: &mut Connection<S>,
@@ -142,8 +146,9 @@ pub(crate) fn see_attachments<S: Alter>(
 ) -> Result<AttachmentsSeen, Error>
     requires idle { conn.old.in_transaction ≡ false }
     requires ours { HasCleanDisk (state S.Store conn.old) → conn.old.schema ≡ our_schema }
-    ensures looks { Looks S.Store conn.old conn.new result }
-    ensures seen { SeenBy S.Store conn.old conn.new result (λ db rows. IsInOrder (map keyed_attachment (db 3)) rows) (λ rows seen. SeesAttachments config.now rows seen) }
+    ensures scans { Scans S.Store conn.old conn.new result }
+    ensures seen { SeenBy S.Store conn.old conn.new result (λ db rows. IsInOrder (map keyed_attachment (db 3)) rows)
+        (λ rows seen. SeesAttachments config.now rows seen) }
 {
     let nodes = nodes(alloc, config)?;
     let mut fold: AttachmentsFold<'_> = Both {
@@ -153,7 +158,7 @@ pub(crate) fn see_attachments<S: Alter>(
         },
         second: nodes,
     };
-    look_over_attachments(conn, &mut fold)?;
+    scan_attachments(conn, &mut fold)?;
     if !fold.first.first.second.good {
         return Err(Error::SqliteFailure(ErrorCode::DatabaseCorrupt));
     }
@@ -167,15 +172,16 @@ pub(crate) fn see_owners<S: Alter>(
 ) -> Result<Option<RowName>, Error>
     requires idle { conn.old.in_transaction ≡ false }
     requires ours { HasCleanDisk (state S.Store conn.old) → conn.old.schema ≡ our_schema }
-    ensures looks { Looks S.Store conn.old conn.new result }
-    ensures seen { SeenBy S.Store conn.old conn.new result (λ db rows. IsPermutation (owners (db 3) (db 1)) rows) (λ rows found. found ≡ first_named 0 1 is_owned rows) }
+    ensures scans { Scans S.Store conn.old conn.new result }
+    ensures seen { SeenBy S.Store conn.old conn.new result (λ db rows. IsPermutation (owners (db 3) (db 1)) rows)
+        (λ rows found. found ≡ first_named 0 1 is_owned rows) }
 {
     let mut fold = FirstUnowned {
         alloc,
         last: None,
         found: None,
     };
-    look_over_owners(conn, &mut fold)?;
+    scan_owners(conn, &mut fold)?;
     Ok(fold.found)
 }
 
@@ -186,15 +192,16 @@ pub(crate) fn see_apart<S: Alter>(
 ) -> Result<Option<RowName>, Error>
     requires idle { conn.old.in_transaction ≡ false }
     requires ours { HasCleanDisk (state S.Store conn.old) → conn.old.schema ≡ our_schema }
-    ensures looks { Looks S.Store conn.old conn.new result }
-    ensures seen { SeenBy S.Store conn.old conn.new result (λ db rows. IsPermutation (map seen_attachment (db 3)) rows) (λ rows found. found ≡ apart_named rows) }
+    ensures scans { Scans S.Store conn.old conn.new result }
+    ensures seen { SeenBy S.Store conn.old conn.new result (λ db rows. IsPermutation (map seen_attachment (db 3)) rows)
+        (λ rows found. found ≡ apart_named rows) }
 {
     let mut fold = FirstApart {
         alloc,
         last: None,
         found: None,
     };
-    look_over_places(conn, &mut fold)?;
+    scan_places(conn, &mut fold)?;
     Ok(fold.found)
 }
 
@@ -208,21 +215,21 @@ fn text_of(alloc: Global, text: &Option<Text>) -> Result<Text, AllocError>
     }
 }
 
-/// The fault of an attachment that breaks a rule.
+/// The fault of an attachment that breaks a constraint.
 pub(crate) fn check_attachment(
     alloc: Global,
     found: &Option<RowName>,
-    rule: AttachmentRule,
+    constraint: AttachmentConstraint,
 ) -> Result<(), AdoptFault>
-    ensures { Says (attachment_fault rule found.now) result }
+    ensures { Says (attachment_fault constraint found.now) result }
 {
     let Some(name) = found else {
         return Ok(());
     };
-    Err(AdoptFault::Broken(BrokenRule::Attachment {
+    Err(AdoptFault::Broken(BrokenConstraint::Attachment {
         number: name.number.unwrap_or(0),
         node: text_of(alloc, &name.text)?,
-        rule,
+        constraint,
     }))
 }
 
@@ -247,7 +254,7 @@ pub(crate) fn check_nodes(
     ensures { Says (node_fault nodes.now (sums_of volumes.now)) result }
 {
     match full_node(nodes, volumes) {
-        Some(node) => Err(AdoptFault::Broken(BrokenRule::Node {
+        Some(node) => Err(AdoptFault::Broken(BrokenConstraint::Node {
             id: copy_text(alloc, node.id.as_str())?,
         })),
         None => Ok(()),

@@ -4,7 +4,7 @@ ghost use Rattle.std.specs.Prelude.{◌≡◌};
 ghost use Rattle.csi_adoption.specs.Judging.{failure_of};
 ghost use Rattle.csi_adoption.specs.declared.fault.AdoptFault.TheVariants.{NoMemory};
 
-use csi_rules::BrokenRule;
+use csi_constraints::BrokenConstraint;
 use sqlite::{Error as SqlError, ErrorCode};
 use std::alloc::{AllocError, AllocFailed};
 use thiserror::Error;
@@ -44,9 +44,9 @@ pub enum AdoptFault {
         /// The number of their format.
         format: i64,
     },
-    /// The rows break a rule.
+    /// The rows break a constraint.
     #[error("{0}")]
-    Broken(BrokenRule),
+    Broken(BrokenConstraint),
     /// The database failed.
     #[error("the database failed: {0}")]
     Store(SqlError),

@@ -3,16 +3,16 @@
 ghost use Rattle.std.specs.Prelude.{◌≡◌, false, refl, IsPermutation, OnOk, IfOk, map};
 ghost use Rattle.sqlite.specs.Held.{state};
 ghost use Rattle.sqlite.specs.State.{HasCleanDisk};
-ghost use Rattle.csi_layout.specs.Rows.{seen_meta};
-ghost use Rattle.csi_layout.specs.Tables.{schema as our_schema};
+ghost use Rattle.csi_schema.specs.Rows.{seen_meta};
+ghost use Rattle.csi_schema.specs.Tables.{schema as our_schema};
 ghost use Rattle.csi_adoption.specs.Judging.{Tells, integers_judged, meta_judged, next_fault, valid_format, valid_next, with_row, with_rows};
-ghost use Rattle.csi_adoption.specs.Looking.{Looks, SeenBy};
+ghost use Rattle.csi_adoption.specs.Scanning.{Scans, SeenBy};
 ghost use Rattle.csi_adoption.specs.declared.meta.MetaRows.TheVariants as meta;
 
 use crate::fault::{AdoptFault, Foreign};
-use csi_layout::{FIRST_FORMAT, LATEST_FORMAT};
-use csi_looks::{Fold, integer_at, look_over_meta};
-use csi_rules::BrokenRule;
+use csi_constraints::BrokenConstraint;
+use csi_scans::{Fold, integer_at, scan_meta};
+use csi_schema::{FIRST_FORMAT, LATEST_FORMAT};
 use csi_types::MAX_NUMBER;
 use sqlite::{Alter, Connection, Error, Row};
 
@@ -64,7 +64,7 @@ impl Fold for MetaFold {
 
     ghost starts = { λ first. refl };
 
-    #[tactic(auto, using(crate::proofs::LookLemmas::one_more))]
+    #[tactic(auto, using(crate::proofs::ScanLemmas::one_more))]
     fn take(&mut self, row: &Row) -> Result<(), Error> {
         self.rows = with_row(self.rows, row);
         Ok(())
@@ -128,21 +128,22 @@ pub(crate) fn check_next(next: u64) -> Result<(), AdoptFault>
     ensures { Tells (next_fault next) result }
 {
     if next == 0 {
-        return Err(AdoptFault::Broken(BrokenRule::Next));
+        return Err(AdoptFault::Broken(BrokenConstraint::Next));
     }
     Ok(())
 }
 
-/// Looks over meta.
+/// Scans meta.
 pub(crate) fn see_meta<S: Alter>(conn: &mut Connection<S>) -> Result<MetaRows, Error>
     requires idle { conn.old.in_transaction ≡ false }
     requires ours { HasCleanDisk (state S.Store conn.old) → conn.old.schema ≡ our_schema }
-    ensures looks { Looks S.Store conn.old conn.new result }
-    ensures seen { SeenBy S.Store conn.old conn.new result (λ db rows. IsPermutation (map seen_meta (db 0)) rows) (λ rows seen. seen ≡ with_rows meta.None rows) }
+    ensures scans { Scans S.Store conn.old conn.new result }
+    ensures seen { SeenBy S.Store conn.old conn.new result (λ db rows. IsPermutation (map seen_meta (db 0)) rows)
+        (λ rows seen. seen ≡ with_rows meta.None rows) }
 {
     let mut fold = MetaFold {
         rows: MetaRows::None,
     };
-    look_over_meta(conn, &mut fold)?;
+    scan_meta(conn, &mut fold)?;
     Ok(fold.rows)
 }

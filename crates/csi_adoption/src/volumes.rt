@@ -1,37 +1,37 @@
-//! What a look over volumes shows, and the rules that their rows break.
+//! What a scan over volumes shows, and the constraints that their rows break.
 
 ghost use Rattle.std.specs.Prelude.{◌≡◌, ℕ, List, None, IfOk, true, false, map, option_copied};
 ghost use Rattle.sqlite.specs.Held.{state};
 ghost use Rattle.sqlite.specs.State.{HasCleanDisk};
-ghost use Rattle.csi_layout.specs.Rows.{seen_volume};
-ghost use Rattle.csi_layout.specs.Tables.{schema as our_schema};
+ghost use Rattle.csi_schema.specs.Rows.{seen_volume};
+ghost use Rattle.csi_schema.specs.Tables.{schema as our_schema};
 ghost use Rattle.std.specs.List.{AllZip};
-ghost use Rattle.csi_looks.specs.Looks.{IsInOrder};
-ghost use Rattle.csi_looks.specs.declared.sums.Weight.TheVariants as weight;
+ghost use Rattle.csi_scans.specs.Scans.{IsInOrder};
+ghost use Rattle.csi_scans.specs.declared.sums.Weight.TheVariants as weight;
 ghost use Rattle.csi_keeper.specs.Totals.{total_of};
 ghost use Rattle.csi_adoption.specs.Judging.{Says, SeesVolumes, Tells, full_pool, number_faults, pool_fault, size_faults, sums_of, told_volumes, total_in, volume_fault};
-ghost use Rattle.csi_adoption.specs.Looking.{IsBegun, Looks, SeenBy};
+ghost use Rattle.csi_adoption.specs.Scanning.{IsBegun, Scans, SeenBy};
 
 use crate::fault::AdoptFault;
 use crate::meta::{Meta, check_next};
 use crate::sums::pool_sums;
 use csi_config::{Config, Pool};
-use csi_keeper::{Total, Totals};
-use csi_looks::{Both, Each, Rising, RowCount, TextSum, Weight, look_over_volumes};
-use csi_rules::{
-    BrokenRule, FirstBroken, HasCaps, HasParams, HasVolumeKinds, IsInPools, IsNamed, IsNumbered,
-    IsSized, RowName, Sure, VolumeRule,
+use csi_constraints::{
+    BrokenConstraint, FirstBroken, HasCaps, HasParams, HasVolumeKinds, IsInPools, IsNamed,
+    IsNumbered, IsSized, RowName, Sure, VolumeConstraint,
 };
+use csi_keeper::{Total, Totals};
+use csi_scans::{Both, Each, Rising, RowCount, TextSum, Weight, scan_volumes};
 use csi_types::copy_text;
 use sqlite::{Alter, Connection, Error, ErrorCode};
 use std::alloc::{AllocError, Global};
 
-/// What a look over volumes shows, whose numbers rise.
+/// What a scan over volumes shows, whose numbers rise.
 #[derive(Drop)]
 pub(crate) struct VolumesSeen {
     // The format of the tables, by which the rows were judged.
     pub(crate) format: u32,
-    // The first row that breaks each rule.
+    // The first row that breaks each constraint.
     pub(crate) kinds: Option<RowName>,
     pub(crate) number: Option<RowName>,
     pub(crate) name: Option<RowName>,
@@ -57,7 +57,7 @@ type Sums = Both<Both<Each<TextSum>, Each<TextSum>>, RowCount>;
 
 type VolumesFold<'a> = Both<Both<Both<Kinds, Names>, Both<Sizes<'a>, Codes>>, Sums>;
 
-// A rule that no volume has broken yet.
+// A constraint that no volume has broken yet.
 fn unbroken<T>(alloc: Global, test: T) -> FirstBroken<T>
     ensures test { result.test ≡ test }
     ensures number { result.number ≡ 0 }
@@ -167,7 +167,19 @@ fn sums(alloc: Global, config: &Config) -> Result<Sums, AllocError>
 
 // What the fold has found. It owns much, and nothing fails here.
 fn seen_by(fold: VolumesFold<'_>, format: u32) -> VolumesSeen
-    ensures { result ≡ record { format = format; kinds = fold.entry.first.first.first.first.found; number = fold.entry.first.first.second.first.found; name = fold.entry.first.first.second.second.found; pool = fold.entry.first.second.first.first.found; bytes = fold.entry.first.second.first.second.found; caps = fold.entry.first.second.second.first.found; params = fold.entry.first.second.second.second.found; pool_bytes = fold.entry.second.first.first.parts; pool_volumes = fold.entry.second.first.second.parts; rows = fold.entry.second.second.rows } }
+    ensures { result ≡ record {
+      format = format;
+      kinds = fold.entry.first.first.first.first.found;
+      number = fold.entry.first.first.second.first.found;
+      name = fold.entry.first.first.second.second.found;
+      pool = fold.entry.first.second.first.first.found;
+      bytes = fold.entry.first.second.first.second.found;
+      caps = fold.entry.first.second.second.first.found;
+      params = fold.entry.first.second.second.second.found;
+      pool_bytes = fold.entry.second.first.first.parts;
+      pool_volumes = fold.entry.second.first.second.parts;
+      rows = fold.entry.second.second.rows;
+    } }
 {
     let Both {
         first: Both {
@@ -197,7 +209,7 @@ fn seen_by(fold: VolumesFold<'_>, format: u32) -> VolumesSeen
     }
 }
 
-/// Looks over volumes.
+/// Scans volumes.
 pub(crate) fn see_volumes<S: Alter>(
     alloc: Global,
     conn: &mut Connection<S>,
@@ -206,8 +218,9 @@ pub(crate) fn see_volumes<S: Alter>(
 ) -> Result<VolumesSeen, Error>
     requires idle { conn.old.in_transaction ≡ false }
     requires ours { HasCleanDisk (state S.Store conn.old) → conn.old.schema ≡ our_schema }
-    ensures looks { Looks S.Store conn.old conn.new result }
-    ensures seen { SeenBy S.Store conn.old conn.new result (λ db rows. IsInOrder (map seen_volume (db 1)) rows) (λ rows seen. SeesVolumes config.now meta rows seen) }
+    ensures scans { Scans S.Store conn.old conn.new result }
+    ensures seen { SeenBy S.Store conn.old conn.new result (λ db rows. IsInOrder (map seen_volume (db 1)) rows)
+        (λ rows seen. SeesVolumes config.now meta rows seen) }
 {
     let sums = sums(alloc, config)?;
     let mut fold: VolumesFold<'_> = Both {
@@ -223,21 +236,24 @@ pub(crate) fn see_volumes<S: Alter>(
         },
         second: sums,
     };
-    look_over_volumes(conn, &mut fold)?;
+    scan_volumes(conn, &mut fold)?;
     if !fold.first.first.first.second.good {
         return Err(Error::SqliteFailure(ErrorCode::DatabaseCorrupt));
     }
     Ok(seen_by(fold, meta.format))
 }
 
-/// The fault of a volume that breaks a rule.
-pub(crate) fn check_volume(found: &Option<RowName>, rule: VolumeRule) -> Result<(), AdoptFault>
-    ensures { Tells (volume_fault rule found.now) result }
+/// The fault of a volume that breaks a constraint.
+pub(crate) fn check_volume(
+    found: &Option<RowName>,
+    constraint: VolumeConstraint,
+) -> Result<(), AdoptFault>
+    ensures { Tells (volume_fault constraint found.now) result }
 {
     match found {
-        Some(name) => Err(AdoptFault::Broken(BrokenRule::Volume {
+        Some(name) => Err(AdoptFault::Broken(BrokenConstraint::Volume {
             number: name.number.unwrap_or(0),
-            rule,
+            constraint,
         })),
         None => Ok(()),
     }
@@ -260,7 +276,7 @@ fn check_pools(alloc: Global, pools: &[Pool], bytes: &[TextSum]) -> Result<(), A
     ensures { Says (pool_fault pools.now (sums_of bytes.now)) result }
 {
     match full_pool(pools, bytes) {
-        Some(pool) => Err(AdoptFault::Broken(BrokenRule::Pool {
+        Some(pool) => Err(AdoptFault::Broken(BrokenConstraint::Pool {
             name: copy_text(alloc, pool.name.as_str())?,
         })),
         None => Ok(()),
@@ -272,8 +288,8 @@ pub(crate) fn check_numbers(next: u64, seen: &VolumesSeen) -> Result<(), AdoptFa
     ensures { Tells (number_faults next (told_volumes seen.now)) result }
 {
     check_next(next)?;
-    check_volume(&seen.number, VolumeRule::Number)?;
-    check_volume(&seen.name, VolumeRule::Name)
+    check_volume(&seen.number, VolumeConstraint::Number)?;
+    check_volume(&seen.name, VolumeConstraint::Name)
 }
 
 /// The fault of a volume's pool or size, or of a pool.
@@ -284,8 +300,8 @@ pub(crate) fn check_sizes(
 ) -> Result<(), AdoptFault>
     ensures { Says (size_faults config.now (told_volumes seen.now)) result }
 {
-    check_volume(&seen.pool, VolumeRule::Pool)?;
-    check_volume(&seen.bytes, VolumeRule::Bytes)?;
+    check_volume(&seen.pool, VolumeConstraint::Pool)?;
+    check_volume(&seen.bytes, VolumeConstraint::Bytes)?;
     check_pools(alloc, config.pools(), seen.pool_bytes.as_slice())
 }
 

@@ -1,12 +1,21 @@
 //! How much a part of a request holds, in bytes.
 
-ghost use Rattle.std.specs.Prelude.{◌≡◌, ◌^◌, ◌-◌, ◌||◌, min, nat_lt, length, sum_by};
-ghost use Rattle.csi_types.specs.Checks.{map_bytes, is_negative_range};
-ghost use Rattle.csi_types.specs.Names.{longer_than};
+ghost use Rattle.std.specs.Prelude.{◌≡◌, ◌^◌, ◌-◌, ◌==◌, min, nat_lt, length, sum_by};
+ghost use Rattle.std.specs.FinMap.{len};
+ghost use Rattle.csi_types.specs.Checks.{map_bytes, is_negative, is_negative_range};
+ghost use Rattle.std.specs.List.{list_any};
+ghost use Rattle.csi_types.specs.Names.{is_empty, longer_than};
 
 use csi_types::{
     CapacityRange, Items, MAX_MAP_BYTES, MAX_NODE_ID_BYTES, MAX_TEXT_BYTES, Map, Text, map_bytes,
 };
+
+/// Whether one of the texts is empty.
+pub(crate) fn is_any_empty(texts: &[Text]) -> bool
+    ensures { result ≡ list_any is_empty texts.now }
+{
+    texts.iter().any(Text::is_empty)
+}
 
 /// Whether a text has more than 128 bytes.
 pub(crate) fn is_long_text(text: &Text) -> bool
@@ -15,11 +24,18 @@ pub(crate) fn is_long_text(text: &Text) -> bool
     text.len() > MAX_TEXT_BYTES
 }
 
-/// Whether a node id has more than 256 bytes.
-pub(crate) fn is_long_node_id(text: &Text) -> bool
-    ensures { result ≡ longer_than MAX_NODE_ID_BYTES text.now }
+/// Whether one of the texts has more than 128 bytes.
+pub(crate) fn is_any_long(texts: &[Text]) -> bool
+    ensures { result ≡ list_any (longer_than MAX_TEXT_BYTES) texts.now }
 {
-    text.len() > MAX_NODE_ID_BYTES
+    texts.iter().any(is_long_text)
+}
+
+/// Whether one of the node ids has more than 256 bytes.
+pub(crate) fn is_any_long_node_id(ids: &[Text]) -> bool
+    ensures { result ≡ list_any (longer_than MAX_NODE_ID_BYTES) ids.now }
+{
+    ids.iter().any(|id| id.len() > MAX_NODE_ID_BYTES)
 }
 
 /// Whether the keys and values of a map have more than 4,096 bytes.
@@ -40,9 +56,25 @@ pub(crate) fn bytes_of_texts(texts: &Items<Text>) -> usize
     bytes
 }
 
-/// Whether a part of a capacity range is below 0.
-pub(crate) fn is_negative_range(range: &CapacityRange) -> bool
-    ensures { result ≡ is_negative_range range.now }
+/// Whether a part of one of the capacity ranges is below 0.
+pub(crate) fn is_any_negative(ranges: &[CapacityRange]) -> bool
+    ensures { result ≡ list_any is_negative_range ranges.now }
 {
-    range.required < 0 || range.limit < 0
+    ranges
+        .iter()
+        .any(|range| range.required < 0 || range.limit < 0)
+}
+
+/// Whether one of the numbers is below 0.
+pub(crate) fn is_any_below_zero(numbers: &[i32]) -> bool
+    ensures { result ≡ list_any is_negative numbers.now }
+{
+    numbers.iter().any(|number| *number < 0)
+}
+
+/// Whether one of the maps has no entry.
+pub(crate) fn is_any_without_entry(maps: &[Map]) -> bool
+    ensures { result ≡ list_any (λ m. len m == 0) maps.now }
+{
+    maps.iter().any(Map::is_empty)
 }

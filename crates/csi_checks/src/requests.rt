@@ -1,231 +1,147 @@
 //! The checks of each request, in the order in which they are answered.
 
-ghost use Rattle.std.specs.Prelude.{◌≡◌, OnOk, IfErr};
-ghost use Rattle.csi_types.specs.Checks.{checked};
-ghost use Rattle.csi_checks.specs.Requirements.{refused_requirement};
+ghost use Rattle.std.specs.Prelude.{◌≡◌, ◌++◌, ◌||◌, OnOk, IfErr, false, nat_lt};
+ghost use Rattle.std.specs.List.{list_any};
+ghost use Rattle.csi_types.specs.Checks.{checked, is_long_access, lines, map_bytes, prefers_another};
+ghost use Rattle.csi_types.specs.Lines.{first_line};
+ghost use Rattle.csi_types.specs.declared.limits.TheConstants.{MAX_MAP_BYTES, MAX_NODE_ID_BYTES, MAX_TEXT_BYTES};
+ghost use Rattle.csi_types.specs.Names.{longer_than};
+ghost use Rattle.csi_types.specs.Topology.{has_alike_keys};
+ghost use Rattle.csi_checks.specs.Parts.{kind_lines, parts_in, size_lines, term_lines};
 
 use crate::capabilities::{has_long_text, has_missing_access, has_unknown_mode, has_unsupported};
-use crate::measures::{is_large_map, is_long_node_id, is_long_text, is_negative_range};
-use crate::topologies::{has_ambiguous_term, has_large_term, prefers_another};
-use csi_types::{
-    CreateVolume, DeleteVolume, GetCapacity, ListVolumes, Modify, Publish, Reason, Request,
-    Requirement, Unpublish, Validate, has_alike_keys, name_reason,
+use crate::measures::{
+    is_any_below_zero, is_any_empty, is_any_long, is_any_long_node_id, is_any_negative,
+    is_any_without_entry, is_large_map,
 };
+use crate::parts::{Parts, parts_of};
+use crate::topologies::{has_ambiguous_term, has_large_term, is_any_large, prefers_another};
+use csi_types::{Reason, Request, Text, has_alike_keys, name_reason};
 
 /// The reason of the first check that a request doesn't pass, in the order of the checks; `Ok`
 /// where it passes them all. It takes no memory.
 ///
 /// Every refusal has the code `InvalidArgument`.
+#[tactic(auto, unfolding(csi_types::specs::Checks::checked))]
 pub fn check(request: &Request) -> Result<(), Reason>
     ensures passed { OnOk result (checked request.now ≡ None) }
     ensures refused { IfErr result (λ reason. checked request.now ≡ Some reason) }
 {
-    match first_reason(request) {
+    match first_reason(&parts_of(request)) {
         Some(reason) => Err(reason),
         None => Ok(()),
     }
 }
 
-#[tactic(auto, unfolding(csi_types::specs::Checks::checked))]
-fn first_reason(request: &Request) -> Option<Reason>
-    ensures { result ≡ checked request.now }
+// The table has one ladder, a rung a line, in three functions: the first rung that holds is answered.
+fn first_reason(parts: &Parts<'_>) -> Option<Reason>
+    ensures { result ≡ first_line lines (parts_in parts.now) }
 {
-    match request {
-        Request::PluginInfo
-        | Request::PluginCapabilities
-        | Request::Probe
-        | Request::ControllerCapabilities => None,
-        Request::Create(create) => create_reason(create),
-        Request::Delete(delete) => delete_reason(delete),
-        Request::Publish(publish) => publish_reason(publish),
-        Request::Unpublish(unpublish) => unpublish_reason(unpublish),
-        Request::Validate(validate) => validate_reason(validate),
-        Request::List(list) => list_reason(list),
-        Request::Capacity(capacity) => capacity_reason(capacity),
-        Request::Modify(modify) => modify_reason(modify),
+    if let Some(reason) = reason_of_kind(parts) {
+        return Some(reason);
     }
+    if let Some(reason) = reason_of_size(parts) {
+        return Some(reason);
+    }
+    reason_of_term(parts)
 }
 
-#[tactic(auto, unfolding(csi_types::specs::Checks::checked))]
-fn create_reason(request: &CreateVolume) -> Option<Reason>
-    ensures { result ≡ checked (Request.Create request.now) }
+fn reason_of_kind(parts: &Parts<'_>) -> Option<Reason>
+    ensures { result ≡ first_line kind_lines (parts_in parts.now) }
 {
-    let capabilities = request.capabilities.as_slice();
-    if let Some(reason) = name_reason(request.name.as_str()) {
+    if let Some(reason) = parts.name.and_then(|name| name_reason(name.as_str())) {
         Some(reason)
-    } else if request.capabilities.is_empty() {
+    } else if parts.wants_capability && parts.capabilities.is_empty() {
         Some(Reason::CapabilityMissing)
-    } else if has_missing_access(capabilities) {
+    } else if has_missing_access(parts.capabilities) {
         Some(Reason::AccessTypeMissing)
-    } else if has_unknown_mode(capabilities) {
+    } else if has_unknown_mode(parts.capabilities) {
         Some(Reason::AccessModeUnknown)
-    } else if has_unsupported(capabilities) {
+    } else if parts.is_create && has_unsupported(parts.capabilities) {
         Some(Reason::CapabilityNotSupported)
-    } else if request.range.as_ref().is_some_and(is_negative_range) {
+    } else {
+        None
+    }
+}
+
+fn reason_of_size(parts: &Parts<'_>) -> Option<Reason>
+    ensures { result ≡ first_line size_lines (parts_in parts.now) }
+{
+    if is_any_negative(parts.ranges) {
         Some(Reason::CapacityNegative)
-    } else if is_large_map(&request.parameters)
-        || is_large_map(&request.secrets)
-        || is_large_map(&request.mutable)
-        || request.topology.as_ref().is_some_and(has_large_term)
-    {
+    } else if has_large_map(parts) {
         Some(Reason::MapTooLarge)
-    } else if has_long_text(capabilities) {
+    } else if has_long_part(parts) {
         Some(Reason::TextTooLong)
-    } else if request.source {
+    } else if parts.has_source {
         Some(Reason::SourceNotSupported)
-    } else if let Some(requirement) = &request.topology {
-        requirement_reason(requirement)
     } else {
         None
     }
 }
 
-fn requirement_reason(requirement: &Requirement) -> Option<Reason>
-    ensures { result ≡ refused_requirement requirement.now }
+fn reason_of_term(parts: &Parts<'_>) -> Option<Reason>
+    ensures { result ≡ first_line term_lines (parts_in parts.now) }
 {
-    if has_ambiguous_term(requirement) {
+    if has_alike_segments(parts) {
         Some(Reason::TopologyKeysAlike)
-    } else if prefers_another(requirement) {
+    } else if has_other_preference(parts) {
         Some(Reason::PreferredNotRequisite)
-    } else {
-        None
-    }
-}
-
-#[tactic(auto, unfolding(csi_types::specs::Checks::checked))]
-fn capacity_reason(request: &GetCapacity) -> Option<Reason>
-    ensures { result ≡ checked (Request.Capacity request.now) }
-{
-    let capabilities = request.capabilities.as_slice();
-    if has_missing_access(capabilities) {
-        Some(Reason::AccessTypeMissing)
-    } else if has_unknown_mode(capabilities) {
-        Some(Reason::AccessModeUnknown)
-    } else if is_large_map(&request.parameters)
-        || request.topology.as_ref().is_some_and(is_large_map)
-    {
-        Some(Reason::MapTooLarge)
-    } else if has_long_text(capabilities) {
-        Some(Reason::TextTooLong)
-    } else if request
-        .topology
-        .as_ref()
-        .is_some_and(|topology| has_alike_keys(topology))
-    {
-        Some(Reason::TopologyKeysAlike)
-    } else {
-        None
-    }
-}
-
-#[tactic(auto, unfolding(csi_types::specs::Checks::checked))]
-fn delete_reason(request: &DeleteVolume) -> Option<Reason>
-    ensures { result ≡ checked (Request.Delete request.now) }
-{
-    if is_large_map(&request.secrets) {
-        Some(Reason::MapTooLarge)
-    } else if is_long_text(&request.volume_id) {
-        Some(Reason::TextTooLong)
-    } else if request.volume_id.is_empty() {
+    } else if is_any_empty(parts.volume_ids) {
         Some(Reason::VolumeIdMissing)
-    } else {
-        None
-    }
-}
-
-#[tactic(auto, unfolding(csi_types::specs::Checks::checked))]
-fn unpublish_reason(request: &Unpublish) -> Option<Reason>
-    ensures { result ≡ checked (Request.Unpublish request.now) }
-{
-    if is_large_map(&request.secrets) {
-        Some(Reason::MapTooLarge)
-    } else if is_long_text(&request.volume_id) || is_long_node_id(&request.node_id) {
-        Some(Reason::TextTooLong)
-    } else if request.volume_id.is_empty() {
-        Some(Reason::VolumeIdMissing)
-    } else {
-        None
-    }
-}
-
-#[tactic(auto, unfolding(csi_types::specs::Checks::checked))]
-fn list_reason(request: &ListVolumes) -> Option<Reason>
-    ensures { result ≡ checked (Request.List request.now) }
-{
-    if is_long_text(&request.token) {
-        Some(Reason::TextTooLong)
-    } else if request.max_entries < 0 {
-        Some(Reason::MaxEntriesNegative)
-    } else {
-        None
-    }
-}
-
-#[tactic(auto, unfolding(csi_types::specs::Checks::checked))]
-fn publish_reason(request: &Publish) -> Option<Reason>
-    ensures { result ≡ checked (Request.Publish request.now) }
-{
-    let capabilities = request.capability.as_slice();
-    if request.capability.is_none() {
-        Some(Reason::CapabilityMissing)
-    } else if has_missing_access(capabilities) {
-        Some(Reason::AccessTypeMissing)
-    } else if has_unknown_mode(capabilities) {
-        Some(Reason::AccessModeUnknown)
-    } else if is_large_map(&request.secrets) || is_large_map(&request.context) {
-        Some(Reason::MapTooLarge)
-    } else if is_long_text(&request.volume_id)
-        || is_long_node_id(&request.node_id)
-        || has_long_text(capabilities)
-    {
-        Some(Reason::TextTooLong)
-    } else if request.volume_id.is_empty() {
-        Some(Reason::VolumeIdMissing)
-    } else if request.node_id.is_empty() {
+    } else if is_any_empty(parts.required_node_ids) {
         Some(Reason::NodeIdMissing)
-    } else {
-        None
-    }
-}
-
-#[tactic(auto, unfolding(csi_types::specs::Checks::checked))]
-fn validate_reason(request: &Validate) -> Option<Reason>
-    ensures { result ≡ checked (Request.Validate request.now) }
-{
-    let capabilities = request.capabilities.as_slice();
-    if request.capabilities.is_empty() {
-        Some(Reason::CapabilityMissing)
-    } else if has_missing_access(capabilities) {
-        Some(Reason::AccessTypeMissing)
-    } else if has_unknown_mode(capabilities) {
-        Some(Reason::AccessModeUnknown)
-    } else if is_large_map(&request.context)
-        || is_large_map(&request.parameters)
-        || is_large_map(&request.secrets)
-    {
-        Some(Reason::MapTooLarge)
-    } else if is_long_text(&request.volume_id) || has_long_text(capabilities) {
-        Some(Reason::TextTooLong)
-    } else if request.volume_id.is_empty() {
-        Some(Reason::VolumeIdMissing)
-    } else {
-        None
-    }
-}
-
-#[tactic(auto, unfolding(csi_types::specs::Checks::checked))]
-fn modify_reason(request: &Modify) -> Option<Reason>
-    ensures { result ≡ checked (Request.Modify request.now) }
-{
-    if is_large_map(&request.secrets) || is_large_map(&request.mutable) {
-        Some(Reason::MapTooLarge)
-    } else if is_long_text(&request.volume_id) {
-        Some(Reason::TextTooLong)
-    } else if request.volume_id.is_empty() {
-        Some(Reason::VolumeIdMissing)
-    } else if request.mutable.is_empty() {
+    } else if is_any_below_zero(parts.most_entries) {
+        Some(Reason::MaxEntriesNegative)
+    } else if is_any_without_entry(parts.required_maps) {
         Some(Reason::MutableMissing)
     } else {
         None
+    }
+}
+
+fn has_large_map(parts: &Parts<'_>) -> bool
+    ensures { result ≡ list_any (λ m. nat_lt MAX_MAP_BYTES (map_bytes m)) (parts_in parts.now).maps }
+{
+    is_any_large(parts.first_map)
+        || is_any_large(parts.second_map)
+        || is_any_large(parts.third_map)
+        || parts.topology.is_some_and(is_large_map)
+        || parts.requirement.is_some_and(has_large_term)
+}
+
+fn has_long_part(parts: &Parts<'_>) -> bool
+    ensures { result ≡ (list_any (longer_than MAX_TEXT_BYTES) (parts.now.volume_ids.now ++ parts.now.tokens.now)
+        || list_any (longer_than MAX_NODE_ID_BYTES) parts.now.node_ids.now
+        || list_any (λ c. is_long_access c.access) parts.now.capabilities.now) }
+{
+    has_long_text_of(parts.volume_ids, parts.tokens)
+        || is_any_long_node_id(parts.node_ids)
+        || has_long_text(parts.capabilities)
+}
+
+fn has_long_text_of(ids: &[Text], tokens: &[Text]) -> bool
+    ensures { result ≡ list_any (longer_than MAX_TEXT_BYTES) (ids.now ++ tokens.now) }
+{
+    is_any_long(ids) || is_any_long(tokens)
+}
+
+fn has_alike_segments(parts: &Parts<'_>) -> bool
+    ensures { result ≡ list_any has_alike_keys (parts_in parts.now).topologies }
+{
+    parts
+        .topology
+        .is_some_and(|topology| has_alike_keys(topology))
+        || parts.requirement.is_some_and(has_ambiguous_term)
+}
+
+// Whether a preferred topology is none of the requisite ones.
+fn has_other_preference(parts: &Parts<'_>) -> bool
+    requires { list_any has_alike_keys (parts_in parts.now).topologies ≡ false }
+    ensures { result ≡ list_any prefers_another (parts_in parts.now).requirements }
+{
+    match parts.requirement {
+        Some(requirement) => prefers_another(requirement),
+        None => false,
     }
 }

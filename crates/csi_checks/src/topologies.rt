@@ -18,13 +18,14 @@ const FEW_PAIRS: usize = 64;
 pub(crate) fn has_large_term(requirement: &Requirement) -> bool
     ensures { result ≡ list_any (λ m. nat_lt MAX_MAP_BYTES (map_bytes m)) (requirement.now.requisite ++ requirement.now.preferred) }
 {
-    is_any_large(&requirement.requisite) || is_any_large(&requirement.preferred)
+    is_any_large(requirement.requisite.as_slice()) || is_any_large(requirement.preferred.as_slice())
 }
 
-fn is_any_large(topologies: &Items<Map>) -> bool
-    ensures { result ≡ list_any (λ m. nat_lt MAX_MAP_BYTES (map_bytes m)) topologies.now }
+/// Whether one of the maps has more than 4,096 bytes.
+pub(crate) fn is_any_large(maps: &[Map]) -> bool
+    ensures { result ≡ list_any (λ m. nat_lt MAX_MAP_BYTES (map_bytes m)) maps.now }
 {
-    topologies.iter().any(is_large_map)
+    maps.iter().any(is_large_map)
 }
 
 /// Whether a topology of a requirement has two keys that are alike.
@@ -43,8 +44,7 @@ fn is_any_ambiguous(topologies: &Items<Map>) -> bool
 /// Whether there is a requisite topology, and some preferred one is none of them. No topology has
 /// two keys that are alike.
 pub(crate) fn prefers_another(requirement: &Requirement) -> bool
-    requires requisite { All (λ m. has_alike_keys m ≡ false) requirement.now.requisite }
-    requires preferred { All (λ m. has_alike_keys m ≡ false) requirement.now.preferred }
+    requires { list_any has_alike_keys (requirement.now.requisite ++ requirement.now.preferred) ≡ false }
     ensures { result ≡ prefers_another requirement.now }
 {
     let requisite = requirement.requisite.as_slice();

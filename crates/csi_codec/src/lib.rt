@@ -1,4 +1,22 @@
 //! Messages of the Container Storage Interface to and from bytes (Protocol Buffers, proto3).
+//!
+//! What bytes mean is a function of *views*: what stands under each field number of a list of fields, as the last text, all payloads, the
+//! joined fields of an embedded message, the last entry of each key, the member of a oneof. A message is three short definitions: which view
+//! gives each part of its value, its *schema* (under which numbers stand texts and embedded messages), and how the value is written. They stand in
+//! `specs/messages/`, the code in `src/messages/` and the round trips in `proofs/`, a file a subject under one name. The trait `Message` carries the
+//! reading of any message and the trait `Written` its writing.
+//!
+//! `MeansRequest` and `IsNoRequest` say what bytes mean with no order of reading; `specs/Reading.antt` says it as a function, for layers above that
+//! have to compute with it, and the law [`laws::reading`] ties the two. Reading takes two passes: one looks for faults and takes no memory, so a malformed
+//! message is never answered as want of memory; the other builds. Embedded messages are merged in place and written in place.
+//!
+//! ```rust
+//! match decode(alloc, method, message) {
+//!     Ok(request) => take(&request),
+//!     Err(DecodeFault::Malformed { at }) => refuse(at),
+//!     Err(DecodeFault::NoMemory) => give_up(),
+//! }
+//! ```
 #![tactic(auto)]
 
 pub mod laws;

@@ -1,9 +1,8 @@
 -- A keeper that refuses one call.
 use Rattle.std.specs.Prelude.{◌≡◌, ◌≢◌, ℕ, ◌-◌, ◌==◌, Bool, false, Option, Some, None, Result, Ok, Err, if◌then◌else◌, ⊤}
 use Rattle.csi_keeper.specs.Holding.{Holds}
-use Rattle.csi_keeper.specs.Keeper.{Applies, IsQuiet, Tells}
+use Rattle.csi_keeper.specs.Model.{Model}
 use Rattle.csi_keeper.specs.State.{State}
-use Rattle.csi_keeper.specs.declared.change.Change.{Change}
 use Rattle.csi_keeper.specs.declared.change.StoreFault.{StoreFault}
 use Rattle.csi_keeper.specs.declared.change.StoreFault.TheVariants.{Refused}
 use Rattle.csi_keeper.specs.declared.fakes.FusedMem.{FusedMem}
@@ -34,13 +33,6 @@ pub record Burns {X : Type 0} (old new : FusedMem) (result : Result X StoreFault
   pub refused : is_shut old ≡ false → (burnt (calls_left old)).0 ≡ Err Refused → result ≡ Err Refused
   pub goes_by : is_shut old ≡ false → (burnt (calls_left old)).0 ≡ Ok tt → result ≢ Err Refused
 
--- what a keeper's read is, at one that refuses a call
-abbrev pub FusedTells : FusedMem → FusedMem → (State → Type 0) → Type 0
-FusedTells old new P = Tells (λ k s. Holds (kept k) s) (λ k. 0) old new P
-
-abbrev pub FusedIsQuiet : FusedMem → FusedMem → Type 0
-FusedIsQuiet old new = IsQuiet (λ k s. Holds (kept k) s) (λ k. 0) (λ k s. ⊥) (λ k. ⊤) is_shut old new
-
--- what a keeper does with a change, at one that refuses a call
-abbrev pub FusedApplies : FusedMem → FusedMem → Change → Result (Unit {0}) StoreFault → Type 0
-FusedApplies old new change result = Applies (λ k s. Holds (kept k) s) (λ k. 0) (λ k s. ⊥) (λ k. ⊤) is_shut old new change result
+-- what contracts see of it
+abbrev pub fused_model : FusedMem → Model State
+fused_model fused = record { holds = Holds (kept fused); doubt = 0; refusals = refusals_of fused; survivors = λ s. ⊥; tied = ⊤; is_down = is_shut fused }

@@ -1,5 +1,6 @@
--- What a call of a keeper does, by the keeper's State, its doubt and its survivors.
-use Rattle.std.specs.Prelude.{◌≡◌, Bool, ◌⊎◌, ℕ, ◌+◌, ◌-◌, ◌^◌, ◌≤◌, min, Result, Ok, Err}
+-- What a call of a keeper does, by what is seen of the keeper before it and after it.
+use Rattle.std.specs.Prelude.{◌≡◌, ◌↔◌, IsTrue, IfOk, ◌⊎◌, ℕ, ◌+◌, ◌-◌, ◌^◌, ◌≤◌, min, Result, Ok, Err}
+use Rattle.csi_keeper.specs.Model.{Model}
 use Rattle.csi_keeper.specs.State.{State, changed, Allows}
 use Rattle.csi_keeper.specs.declared.change.Change.{Change}
 use Rattle.csi_keeper.specs.declared.change.StoreFault.{StoreFault}
@@ -12,41 +13,50 @@ count_after n (Err NoMemory) = n
 count_after n (Err Refused) = min (n + 1) (2 ^ 64 - 1)
 count_after n (Err Down) = min (n + 1) (2 ^ 64 - 1)
 
-module _ {K : Type 0} (holds : K → State → Type 0) (doubt : K → ℕ) (survivors : K → State → Type 0) (tied : K → Type 0) (is_down : K → Bool) (old new : K) where
+module _ (old new : Model State) where
   -- the State is kept, no survivor is new, and doubt does not go away
   pub record IsQuiet : Type 0 where
-    pub clean : doubt old ≤ doubt new
-    pub state : doubt new ≡ 0 → (s : State) → holds old s → holds new s
-    pub crash : doubt new ≡ 0 → (t : State) → survivors new t → survivors old t
-    pub ties : doubt new ≡ 0 → tied old → tied new
-    pub down : is_down new ≡ is_down old
+    pub clean : old.doubt ≤ new.doubt
+    pub state : new.doubt ≡ 0 → (s : State) → old.holds s → new.holds s
+    pub crash : new.doubt ≡ 0 → (t : State) → new.survivors t → old.survivors t
+    pub ties : new.doubt ≡ 0 → old.tied → new.tied
+    pub down : new.is_down ≡ old.is_down
 
-module _ {K : Type 0} (holds : K → State → Type 0) (doubt : K → ℕ) (old new : K) where
   -- what a read answers is so of each State that the keeper may have
   abbrev pub Tells : (State → Type 0) → Type 0
-  Tells P = doubt new ≡ 0 → (s : State) → holds old s → P s
+  Tells P = new.doubt ≡ 0 → (s : State) → old.holds s → P s
 
-module _ {K : Type 0} (holds : K → State → Type 0) (doubt : K → ℕ) (survivors : K → State → Type 0) (tied : K → Type 0) (is_down : K → Bool) (old new : K) where
   -- the change is made, every survivor is the State, and the keeper goes on
   pub record Makes (change : Change) : Type 0 where
-    pub clean : doubt old ≤ doubt new
-    pub state : doubt new ≡ 0 → (s : State) → holds old s → Allows s change → holds new (changed s change)
-    pub settled : doubt new ≡ 0 → (s : State) → holds old s → Allows s change → (t : State) → survivors new t → t ≡ changed s change
-    pub ties : doubt new ≡ 0 → (s : State) → holds old s → Allows s change → tied old → tied new
-    pub down : is_down new ≡ is_down old
+    pub clean : old.doubt ≤ new.doubt
+    pub state : new.doubt ≡ 0 → (s : State) → old.holds s → Allows s change → new.holds (changed s change)
+    pub settled : new.doubt ≡ 0 → (s : State) → old.holds s → Allows s change → (t : State) → new.survivors t → t ≡ changed s change
+    pub ties : new.doubt ≡ 0 → (s : State) → old.holds s → Allows s change → old.tied → new.tied
+    pub down : new.is_down ≡ old.is_down
 
-module _ {K : Type 0} (holds : K → State → Type 0) (doubt : K → ℕ) (survivors : K → State → Type 0) (tied : K → Type 0) (old new : K) where
   -- the State is kept, and a survivor is an old one, or the State with the change
   pub record Fails (change : Change) : Type 0 where
-    pub clean : doubt old ≤ doubt new
-    pub state : doubt new ≡ 0 → (s : State) → holds old s → Allows s change → holds new s
-    pub crash : doubt new ≡ 0 → (s : State) → holds old s → Allows s change → (t : State) → survivors new t → survivors old t ⊎ (t ≡ changed s change)
-    pub ties : doubt new ≡ 0 → (s : State) → holds old s → Allows s change → tied old → tied new
+    pub clean : old.doubt ≤ new.doubt
+    pub state : new.doubt ≡ 0 → (s : State) → old.holds s → Allows s change → new.holds s
+    pub crash : new.doubt ≡ 0 → (s : State) → old.holds s → Allows s change → (t : State) → new.survivors t → old.survivors t ⊎ (t ≡ changed s change)
+    pub ties : new.doubt ≡ 0 → (s : State) → old.holds s → Allows s change → old.tied → new.tied
 
-module _ {K : Type 0} (holds : K → State → Type 0) (doubt : K → ℕ) (survivors : K → State → Type 0) (tied : K → Type 0) (is_down : K → Bool) (old new : K) where
-  -- the change is made, or it fails; a keeper that is down does nothing
-  abbrev pub Applies : {X : Type 0} → Change → Result X StoreFault → Type 0
-  Applies change (Ok x) = Makes holds doubt survivors tied is_down old new change
-  Applies change (Err NoMemory) = Fails holds doubt survivors tied old new change
-  Applies change (Err Refused) = Fails holds doubt survivors tied old new change
-  Applies change (Err Down) = IsQuiet holds doubt survivors tied is_down old new
+-- the change is made, or it fails; a keeper that is down does nothing
+abbrev pub Changes : {X : Type 0} → Model State → Model State → Change → Result X StoreFault → Type 0
+Changes old new change (Ok x) = Makes old new change
+Changes old new change (Err NoMemory) = Fails old new change
+Changes old new change (Err Refused) = Fails old new change
+Changes old new change (Err Down) = IsQuiet old new
+
+-- A read: what it answers is so of each State, nothing moves, a refusal is counted, and that the keeper is down is told where it is, and nowhere else.
+pub record Reads {X : Type 0} (old new : Model State) (result : Result X StoreFault) (IsSo : State → X → Type 0) : Type 0 where
+  pub value : IfOk result (λ x. Tells old new (λ s. IsSo s x))
+  pub quiet : IsQuiet old new
+  pub count : new.refusals ≡ count_after old.refusals result
+  pub down : (result ≡ Err Down) ↔ IsTrue old.is_down
+
+-- A change: it is made or fails, a refusal is counted, and that the keeper is down is told where it is, and nowhere else.
+pub record Applies {X : Type 0} (old new : Model State) (change : Change) (result : Result X StoreFault) : Type 0 where
+  pub changes : Changes old new change result
+  pub count : new.refusals ≡ count_after old.refusals result
+  pub down : (result ≡ Err Down) ↔ IsTrue old.is_down

@@ -6,6 +6,7 @@ pub mod Invariant
 pub mod Keeper
 pub mod Lookup
 pub mod Memory
+pub mod Model
 pub mod Order
 pub mod State
 pub mod Texts

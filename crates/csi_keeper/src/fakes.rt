@@ -3,8 +3,8 @@
 ghost use Rattle.std.specs.Prelude.{◌≡◌, ◌≤◌, ◌+◌, ◌-◌, ◌^◌, ◌↔◌, min, false, Some, Err, IfOk, IsTrue};
 ghost use Rattle.std.specs.FinMap.{get};
 ghost use Rattle.csi_keeper.specs.Holding.{Holds};
-ghost use Rattle.csi_keeper.specs.Fakes.{burnt, calls_left, is_shut, kept, refusals_of, Burns, FusedApplies, FusedIsQuiet, FusedTells};
-ghost use Rattle.csi_keeper.specs.Keeper.{count_after};
+ghost use Rattle.csi_keeper.specs.Fakes.{burnt, calls_left, is_shut, kept, refusals_of, Burns, fused_model};
+ghost use Rattle.csi_keeper.specs.Keeper.{Applies, Reads, count_after};
 ghost use Rattle.csi_keeper.specs.Memory.{first_state};
 ghost use Rattle.csi_keeper.specs.State.{IsBounded, attached, attached_at, named, page, published_of_page, sizes, used};
 ghost use Rattle.csi_keeper.specs.declared.change.StoreFault.TheVariants.{Down, Refused};
@@ -111,31 +111,16 @@ impl FusedMem {
 }
 
 impl Keeper for FusedMem {
-    ghost use Rattle.std.specs.Prelude.{ℕ, Bool, ⊤};
-    ghost use Rattle.csi_keeper.specs.State.{State};
-    ghost use Rattle.csi_keeper.specs.Holding.{Holds};
+    ghost use Rattle.csi_keeper.specs.Fakes.{fused_model};
 
-    ghost holds = { λ fused s. Holds (kept fused) s };
-
-    ghost doubt = { λ _. 0 };
-
-    ghost refused = { refusals_of };
-
-    ghost is_down = { is_shut };
-
-    ghost survivors = { λ _ _. ⊥ };
-
-    ghost tied = { λ _. ⊤ };
+    ghost model = { fused_model };
 
     fn refusals(&self) -> u64 {
         self.fuse.refusals
     }
 
     fn next_number(&mut self) -> Result<u64, StoreFault>
-        ensures value { IfOk result (λ n. FusedTells self.old self.new (λ s. n ≡ s.next)) }
-        ensures quiet { FusedIsQuiet self.old self.new }
-        ensures count { refusals_of self.new ≡ count_after (refusals_of self.old) result }
-        ensures down { (result ≡ Err Down) ↔ IsTrue (is_shut self.old) }
+        ensures reads { Reads (fused_model self.old) (fused_model self.new) result (λ s n. n ≡ s.next) }
         ensures turn { Burns self.old self.new result }
     {
         self.fuse.burn()?;
@@ -143,10 +128,7 @@ impl Keeper for FusedMem {
     }
 
     fn by_name(&mut self, alloc: Global, name: &str) -> Result<Option<Volume>, StoreFault>
-        ensures value { IfOk result (λ v. FusedTells self.old self.new (λ s. v ≡ named s name.now)) }
-        ensures quiet { FusedIsQuiet self.old self.new }
-        ensures count { refusals_of self.new ≡ count_after (refusals_of self.old) result }
-        ensures down { (result ≡ Err Down) ↔ IsTrue (is_shut self.old) }
+        ensures reads { Reads (fused_model self.old) (fused_model self.new) result (λ s v. v ≡ named s name.now) }
         ensures turn { Burns self.old self.new result }
     {
         self.fuse.burn()?;
@@ -154,10 +136,7 @@ impl Keeper for FusedMem {
     }
 
     fn by_number(&mut self, alloc: Global, number: u64) -> Result<Option<Volume>, StoreFault>
-        ensures value { IfOk result (λ v. FusedTells self.old self.new (λ s. v ≡ get s.volumes number)) }
-        ensures quiet { FusedIsQuiet self.old self.new }
-        ensures count { refusals_of self.new ≡ count_after (refusals_of self.old) result }
-        ensures down { (result ≡ Err Down) ↔ IsTrue (is_shut self.old) }
+        ensures reads { Reads (fused_model self.old) (fused_model self.new) result (λ s v. v ≡ get s.volumes number) }
         ensures turn { Burns self.old self.new result }
     {
         self.fuse.burn()?;
@@ -165,10 +144,7 @@ impl Keeper for FusedMem {
     }
 
     fn attachments(&mut self, alloc: Global, number: u64) -> Result<Items<Attachment>, StoreFault>
-        ensures value { IfOk result (λ xs. FusedTells self.old self.new (λ s. xs ≡ attached s number)) }
-        ensures quiet { FusedIsQuiet self.old self.new }
-        ensures count { refusals_of self.new ≡ count_after (refusals_of self.old) result }
-        ensures down { (result ≡ Err Down) ↔ IsTrue (is_shut self.old) }
+        ensures reads { Reads (fused_model self.old) (fused_model self.new) result (λ s xs. xs ≡ attached s number) }
         ensures turn { Burns self.old self.new result }
     {
         self.fuse.burn()?;
@@ -176,10 +152,7 @@ impl Keeper for FusedMem {
     }
 
     fn attached_at(&mut self, alloc: Global, node: &str) -> Result<Items<u64>, StoreFault>
-        ensures value { IfOk result (λ xs. FusedTells self.old self.new (λ s. xs ≡ attached_at s node.now)) }
-        ensures quiet { FusedIsQuiet self.old self.new }
-        ensures count { refusals_of self.new ≡ count_after (refusals_of self.old) result }
-        ensures down { (result ≡ Err Down) ↔ IsTrue (is_shut self.old) }
+        ensures reads { Reads (fused_model self.old) (fused_model self.new) result (λ s xs. xs ≡ attached_at s node.now) }
         ensures turn { Burns self.old self.new result }
     {
         self.fuse.burn()?;
@@ -187,10 +160,7 @@ impl Keeper for FusedMem {
     }
 
     fn sizes_in(&mut self, alloc: Global, pool: &str) -> Result<Items<u64>, StoreFault>
-        ensures value { IfOk result (λ xs. FusedTells self.old self.new (λ s. xs ≡ sizes s pool.now)) }
-        ensures quiet { FusedIsQuiet self.old self.new }
-        ensures count { refusals_of self.new ≡ count_after (refusals_of self.old) result }
-        ensures down { (result ≡ Err Down) ↔ IsTrue (is_shut self.old) }
+        ensures reads { Reads (fused_model self.old) (fused_model self.new) result (λ s xs. xs ≡ sizes s pool.now) }
         ensures turn { Burns self.old self.new result }
     {
         self.fuse.burn()?;
@@ -198,10 +168,7 @@ impl Keeper for FusedMem {
     }
 
     fn used_in(&mut self, pool: &Text) -> Result<Usage, StoreFault>
-        ensures value { IfOk result (λ u. FusedTells self.old self.new (λ s. u ≡ used s pool.now)) }
-        ensures quiet { FusedIsQuiet self.old self.new }
-        ensures count { refusals_of self.new ≡ count_after (refusals_of self.old) result }
-        ensures down { (result ≡ Err Down) ↔ IsTrue (is_shut self.old) }
+        ensures reads { Reads (fused_model self.old) (fused_model self.new) result (λ s u. u ≡ used s pool.now) }
         ensures turn { Burns self.old self.new result }
     {
         self.fuse.burn()?;
@@ -209,10 +176,7 @@ impl Keeper for FusedMem {
     }
 
     fn page(&mut self, alloc: Global, after: u64, count: u32) -> Result<Items<Volume>, StoreFault>
-        ensures value { IfOk result (λ xs. FusedTells self.old self.new (λ s. xs ≡ page s after count)) }
-        ensures quiet { FusedIsQuiet self.old self.new }
-        ensures count { refusals_of self.new ≡ count_after (refusals_of self.old) result }
-        ensures down { (result ≡ Err Down) ↔ IsTrue (is_shut self.old) }
+        ensures reads { Reads (fused_model self.old) (fused_model self.new) result (λ s xs. xs ≡ page s after count) }
         ensures turn { Burns self.old self.new result }
     {
         self.fuse.burn()?;
@@ -225,10 +189,7 @@ impl Keeper for FusedMem {
         after: u64,
         count: u32,
     ) -> Result<Items<Items<Text>>, StoreFault>
-        ensures value { IfOk result (λ xs. FusedTells self.old self.new (λ s. xs ≡ published_of_page s after count)) }
-        ensures quiet { FusedIsQuiet self.old self.new }
-        ensures count { refusals_of self.new ≡ count_after (refusals_of self.old) result }
-        ensures down { (result ≡ Err Down) ↔ IsTrue (is_shut self.old) }
+        ensures reads { Reads (fused_model self.old) (fused_model self.new) result (λ s xs. xs ≡ published_of_page s after count) }
         ensures turn { Burns self.old self.new result }
     {
         self.fuse.burn()?;
@@ -237,9 +198,7 @@ impl Keeper for FusedMem {
 
     fn apply(&mut self, alloc: Global, change: &Change) -> Result<(), StoreFault>
         requires { IsBounded change.now }
-        ensures applies { FusedApplies self.old self.new change.now result }
-        ensures count { refusals_of self.new ≡ count_after (refusals_of self.old) result }
-        ensures down { (result ≡ Err Down) ↔ IsTrue (is_shut self.old) }
+        ensures applies { Applies (fused_model self.old) (fused_model self.new) change.now result }
         ensures turn { Burns self.old self.new result }
         ensures stops { result ≡ Err Refused → IsTrue (is_shut self.new) }
     {

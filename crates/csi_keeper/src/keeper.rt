@@ -1,10 +1,10 @@
 //! What keeps the State.
 
-ghost use Rattle.std.specs.Prelude.{◌≡◌, ℕ, Bool, Some, None, Err, IfOk, IsTrue, ◌↔◌};
+ghost use Rattle.std.specs.Prelude.{◌≡◌};
 ghost use Rattle.std.specs.FinMap.{get};
 ghost use Rattle.csi_keeper.specs.State.{State, IsBounded, named, used, sizes, attached, attached_at, page, published_of_page};
-ghost use Rattle.csi_keeper.specs.Keeper.{count_after, IsQuiet, Tells, Applies};
-ghost use Rattle.csi_keeper.specs.declared.change.StoreFault.TheVariants.{Down};
+ghost use Rattle.csi_keeper.specs.Keeper.{Applies, Reads};
+ghost use Rattle.csi_keeper.specs.Model.{Model};
 
 use crate::change::{Change, StoreFault, Usage};
 use crate::volume::{Attachment, Volume};
@@ -26,91 +26,52 @@ use std::alloc::Global;
 /// Any call but `refusals` may be answered `NoMemory` or `Refused`; the State stays then. What is
 /// answered belongs to the caller.
 pub trait Keeper {
-    // The States that it may have.
-    ghost holds: { Self → State → Type 0 };
-
-    // 0 while what it stands on has answered what was written.
-    ghost doubt: { Self → ℕ };
-
-    // How many calls were answered `Refused` or `Down`, up to 2^64 - 1.
-    ghost refused: { Self → ℕ };
-
-    // It answers nothing until it is opened again.
-    ghost is_down: { Self → Bool };
-
-    // The States that a stop at this moment may leave.
-    ghost survivors: { Self → State → Type 0 };
-
-    // What a stop at this moment leaves is one of the survivors.
-    ghost tied: { Self → Type 0 };
+    // What contracts see of it.
+    ghost model: { Self → Model State };
 
     /// How many calls were answered `Refused` or `Down` since the keeper was opened, up to the
     /// greatest `u64`. It costs O(1), and is answered also while the keeper is down.
     fn refusals(&self) -> u64
-        ensures { result ≡ refused self.now };
+        ensures { result ≡ (model self.now).refusals };
 
     /// The number that the next volume gets. A volume that is added takes it and raises it by 1; no
     /// other change moves it, so no number is given twice.
     fn next_number(&mut self) -> Result<u64, StoreFault>
-        ensures value { IfOk result (λ n. Tells holds doubt self.old self.new (λ s. n ≡ s.next)) }
-        ensures quiet { IsQuiet holds doubt survivors tied is_down self.old self.new }
-        ensures count { refused self.new ≡ count_after (refused self.old) result }
-        ensures down { (result ≡ Err Down) ↔ IsTrue (is_down self.old) };
+        ensures { Reads (model self.old) (model self.new) result (λ s n. n ≡ s.next) };
 
     /// The volume that stands under a name, byte for byte; `None` where there is none.
     fn by_name(&mut self, alloc: Global, name: &str) -> Result<Option<Volume>, StoreFault>
-        ensures value { IfOk result (λ v. Tells holds doubt self.old self.new (λ s. v ≡ named s name.now)) }
-        ensures quiet { IsQuiet holds doubt survivors tied is_down self.old self.new }
-        ensures count { refused self.new ≡ count_after (refused self.old) result }
-        ensures down { (result ≡ Err Down) ↔ IsTrue (is_down self.old) };
+        ensures { Reads (model self.old) (model self.new) result (λ s v. v ≡ named s name.now) };
 
     /// The volume of a number; `None` where none stands.
     fn by_number(&mut self, alloc: Global, number: u64) -> Result<Option<Volume>, StoreFault>
-        ensures value { IfOk result (λ v. Tells holds doubt self.old self.new (λ s. v ≡ get s.volumes number)) }
-        ensures quiet { IsQuiet holds doubt survivors tied is_down self.old self.new }
-        ensures count { refused self.new ≡ count_after (refused self.old) result }
-        ensures down { (result ≡ Err Down) ↔ IsTrue (is_down self.old) };
+        ensures { Reads (model self.old) (model self.new) result (λ s v. v ≡ get s.volumes number) };
 
     /// The attachments of the volume of a number, in byte order of their nodes' ids.
     fn attachments(&mut self, alloc: Global, number: u64) -> Result<Items<Attachment>, StoreFault>
-        ensures value { IfOk result (λ xs. Tells holds doubt self.old self.new (λ s. xs ≡ attached s number)) }
-        ensures quiet { IsQuiet holds doubt survivors tied is_down self.old self.new }
-        ensures count { refused self.new ≡ count_after (refused self.old) result }
-        ensures down { (result ≡ Err Down) ↔ IsTrue (is_down self.old) };
+        ensures { Reads (model self.old) (model self.new) result (λ s xs. xs ≡ attached s number) };
 
     /// The numbers of the volumes that are attached at a node, in rising order. It may look through
     /// all attachments.
     fn attached_at(&mut self, alloc: Global, node: &str) -> Result<Items<u64>, StoreFault>
-        ensures value { IfOk result (λ xs. Tells holds doubt self.old self.new (λ s. xs ≡ attached_at s node.now)) }
-        ensures quiet { IsQuiet holds doubt survivors tied is_down self.old self.new }
-        ensures count { refused self.new ≡ count_after (refused self.old) result }
-        ensures down { (result ≡ Err Down) ↔ IsTrue (is_down self.old) };
+        ensures { Reads (model self.old) (model self.new) result (λ s xs. xs ≡ attached_at s node.now) };
 
     /// The sizes in bytes of a pool's volumes, in rising order of their numbers. It may look through
     /// all volumes; `used_in` tells their count and sum without that.
     fn sizes_in(&mut self, alloc: Global, pool: &str) -> Result<Items<u64>, StoreFault>
-        ensures value { IfOk result (λ xs. Tells holds doubt self.old self.new (λ s. xs ≡ sizes s pool.now)) }
-        ensures quiet { IsQuiet holds doubt survivors tied is_down self.old self.new }
-        ensures count { refused self.new ≡ count_after (refused self.old) result }
-        ensures down { (result ≡ Err Down) ↔ IsTrue (is_down self.old) };
+        ensures { Reads (model self.old) (model self.new) result (λ s xs. xs ≡ sizes s pool.now) };
 
     /// How many volumes a pool has, and the sum of their bytes, each up to the greatest `u64`: the
     /// count and the sum of what `sizes_in` lists. A keeper has them at hand, so that a create costs
     /// no more where a pool has many volumes.
     fn used_in(&mut self, pool: &Text) -> Result<Usage, StoreFault>
-        ensures value { IfOk result (λ u. Tells holds doubt self.old self.new (λ s. u ≡ used s pool.now)) }
-        ensures quiet { IsQuiet holds doubt survivors tied is_down self.old self.new }
-        ensures count { refused self.new ≡ count_after (refused self.old) result }
-        ensures down { (result ≡ Err Down) ↔ IsTrue (is_down self.old) };
+        ensures { Reads (model self.old) (model self.new) result (λ s u. u ≡ used s pool.now) };
 
     /// The volumes with numbers greater than `after`, in rising order, and of these the first
     /// `count`: one page of a listing (CSI 1.x, `ListVolumes`). It costs the search for the first of
     /// them, and then what it answers.
     fn page(&mut self, alloc: Global, after: u64, count: u32) -> Result<Items<Volume>, StoreFault>
-        ensures value { IfOk result (λ xs. Tells holds doubt self.old self.new (λ s. xs ≡ page s after count)) }
-        ensures quiet { IsQuiet holds doubt survivors tied is_down self.old self.new }
-        ensures count { refused self.new ≡ count_after (refused self.old) result }
-        ensures down { (result ≡ Err Down) ↔ IsTrue (is_down self.old) };
+        ensures { Reads (model self.old) (model self.new) result (λ s xs. xs ≡ page s after count) };
 
     /// The nodes that each volume of a page is published at, in byte order of their ids: the page of
     /// `page`, volume by volume (CSI 1.x, `ListVolumesResponse.VolumeStatus.published_node_ids`). It
@@ -121,10 +82,7 @@ pub trait Keeper {
         after: u64,
         count: u32,
     ) -> Result<Items<Items<Text>>, StoreFault>
-        ensures value { IfOk result (λ xs. Tells holds doubt self.old self.new (λ s. xs ≡ published_of_page s after count)) }
-        ensures quiet { IsQuiet holds doubt survivors tied is_down self.old self.new }
-        ensures count { refused self.new ≡ count_after (refused self.old) result }
-        ensures down { (result ≡ Err Down) ↔ IsTrue (is_down self.old) };
+        ensures { Reads (model self.old) (model self.new) result (λ s xs. xs ≡ published_of_page s after count) };
 
     /// Makes a change, which the State has to allow: the items of `Change` say when it does. A
     /// volume that is added has a number below 2^62, at most 2^62 bytes, and capabilities in order
@@ -136,7 +94,5 @@ pub trait Keeper {
     /// not allow the change, nothing is promised of the State from then on.
     fn apply(&mut self, alloc: Global, change: &Change) -> Result<(), StoreFault>
         requires { IsBounded change.now }
-        ensures applies { Applies holds doubt survivors tied is_down self.old self.new change.now result }
-        ensures count { refused self.new ≡ count_after (refused self.old) result }
-        ensures down { (result ≡ Err Down) ↔ IsTrue (is_down self.old) };
+        ensures { Applies (model self.old) (model self.new) change.now result };
 }

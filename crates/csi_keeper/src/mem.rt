@@ -142,21 +142,9 @@ impl MemKeeper {
 }
 
 impl Keeper for MemKeeper {
-    ghost use Rattle.std.specs.Prelude.{ℕ, Bool, false, ⊤};
-    ghost use Rattle.csi_keeper.specs.State.{State};
-    ghost use Rattle.csi_keeper.specs.Holding.{Holds};
+    ghost use Rattle.csi_keeper.specs.Holding.{mem_model};
 
-    ghost holds = { Holds };
-
-    ghost doubt = { λ _. 0 };
-
-    ghost refused = { λ _. 0 };
-
-    ghost is_down = { λ _. false };
-
-    ghost survivors = { λ _ _. ⊥ };
-
-    ghost tied = { λ _. ⊤ };
+    ghost model = { λ keeper. mem_model keeper };
 
     fn refusals(&self) -> u64 {
         0

@@ -21,7 +21,7 @@ use Rattle.csi_machine.specs.declared.plan.Outcome.{Outcome}
 use Rattle.csi_machine.specs.declared.plan.Outcome.TheVariants as outcome
 use Rattle.csi_machine.specs.declared.plan.Plan.{Plan}
 use Rattle.csi_keeper.specs.declared.volume.Volume.{Volume}
-use Rattle.csi_machine.specs.Answering.{Answered, Carries, IsOfAll, state_after, Leaves, Promises, verdict_of, body_of}
+use Rattle.csi_machine.specs.Answering.{Answered, Carries, IsOfAll, Performs, state_after, Leaves, Promises, verdict_of, body_of}
 use Rattle.csi_keeper.specs.Capability.{have_keys}
 use Rattle.csi_machine.specs.Choice.{Room, rooms, free}
 use Rattle.csi_machine.specs.Configured.{IsConfigured}
@@ -29,6 +29,7 @@ use Rattle.csi_machine.specs.Down.{TellsDown}
 use Rattle.csi_machine.specs.Ids.{number_of_id}
 use Rattle.csi_keeper.specs.Invariant.{IsInvariant}
 use Rattle.csi_keeper.specs.Keeper.{IsQuiet, Tells, count_after}
+use Rattle.csi_keeper.specs.Model.{Model}
 use Rattle.csi_machine.specs.Plan.{after, refuse}
 use Rattle.csi_machine.specs.Size.{whole}
 use Rattle.csi_keeper.specs.State.{State, Allows}
@@ -44,7 +45,6 @@ use Rattle.csi_machine.proofs.CheckedLemmas.{asked}
 use Rattle.csi_machine.proofs.CreateLemmas.{create_sound}
 use Rattle.csi_machine.proofs.DeleteLemmas.{delete_sound}
 use Rattle.csi_keeper.specs.facts.Finite.{none_some}
-use Rattle.csi_keeper.specs.facts.Reads.{if_ok}
 use Rattle.csi_machine.proofs.ModifyLemmas.{modify_fits}
 use Rattle.csi_machine.proofs.PlanLemmas.{IsSound, sound_by, sound_still}
 use Rattle.csi_machine.proofs.PublishLemmas.{publish_fits}
@@ -65,84 +65,59 @@ appended_by x y (outcome.Refused q) (verdict.Refused p) e b l = b ∙ no_more x
 left_of : (p q : Plan) (s t : State) (Old : Type 0) → p ≡ q → Old ⊎ (IsSome p.change × (t ≡ after s p.change)) → Old ⊎ (IsSome q.change × (t ≡ after s q.change))
 left_of p q s t Old e = subst (λ (x : Plan). Old ⊎ (IsSome p.change × (t ≡ after s p.change)) → Old ⊎ (IsSome x.change × (t ≡ after s x.change))) e (λ h. h)
 
--- what is told of a keeper that is down, where an answer tells more
-pub told_more : {X : Type 0} {P Q : X → Type 0} {is_down : Bool} (result : Result X StoreFault) → ((x : X) → P x → Q x) → TellsDown is_down P result → TellsDown is_down Q result
-told_more result f told = record { down = told.down; refused = told.refused; unasked = λ is. if_ok f result (told.unasked is) }
-
-module _ {K : Type 0} {holds : K → State → Type 0} {doubt : K → ℕ} {refused : K → ℕ} {survivors : K → State → Type 0} {tied : K → Type 0} {is_down : K → Bool} where
-  -- it was given up before the change
-  pub gave_up : (config : Config) (plan : State → Plan) (a b : K) (x y : List ℕ) (e : StoreFault) → IsQuiet holds doubt survivors tied is_down a b → y ≡ x → refused b ≡ count_after {X = Verdict} (refused a) (Err e)
-      → (◌≡◌ {A = Result Verdict StoreFault} (Err e) (Err Down) → is_down a ≡ true) → (◌≡◌ {A = Result Verdict StoreFault} (Err e) (Err Refused) → is_down a ≡ false)
-      → Answered holds doubt refused survivors tied is_down config plan a b x y (Err e)
-  gave_up config plan a b x y e q empty count was_down was_up = record {
-    clean = q.clean;
-    verdict = tt;
-    appended = empty;
-    state = tt;
-    kept = tt;
-    settled = tt;
-    count = count;
-    same = λ d s h inv. q.state d s h;
-    crash = λ d s h inv t u. inl (q.crash d t u);
-    idle = λ is d. q.crash d;
-    ties = λ d s h inv t. q.ties d t;
-    down = record { down = was_down; refused = was_up; unasked = λ is. tt };
-    stays = λ is. q.down ∙ is;
-  }
-
-  pub carried : (config : Config) (plan : State → Plan) (a b c : K) (p : Plan) (x y : List ℕ) (result : Result Verdict StoreFault) → IsSound config plan
-      → IsQuiet holds doubt survivors tied is_down a b → Tells holds doubt a b (λ s. p ≡ plan s) → (is_down a ≡ true → (s : State) → p ≡ plan s) → Carries holds doubt survivors tied is_down p b c result
-      → refused b ≡ refused a → refused c ≡ count_after (refused b) result → OnOk result (y ≡ x ++ body_of p.outcome) → OnErr result (y ≡ x) → OnOk result (length (body_of p.outcome) ≤ MAX_BODY_BYTES)
-      → Answered holds doubt refused survivors tied is_down config plan a c x y result
-  carried config plan a b c p x y (Err e) sound q tells alone k before count ok err small =
-      let mid : doubt c ≡ 0 → doubt b ≡ 0 = λ d. omega (arith, k.clean) in
-      let may : (d : doubt c ≡ 0) (s : State) → holds a s → IsInvariant config s → IfSome p.change (Allows s) = λ d s h inv. subst (λ (x : Plan). IfSome x.change (Allows s)) (sym (tells (mid d) s h)) (sound.allows s inv) in
-      record {
-        clean = omega (arith, q.clean, k.clean);
-        verdict = tt;
-        appended = err;
-        state = tt;
-        kept = tt;
-        settled = tt;
-        count = subst (λ n. refused c ≡ count_after {X = Verdict} n (Err e)) before count;
-        same = λ d s h inv. k.same d s (q.state (mid d) s h) (may d s h inv);
-        crash = λ d s h inv t u. left_of p (plan s) s t (survivors a t) (tells (mid d) s h) (elim (k.crash d s (q.state (mid d) s h) (may d s h inv) t u) as (λ _. survivors a t ⊎ (IsSome p.change × (t ≡ after s p.change))) [
-          | inl v ↦ inl (q.crash (mid d) t v)
-          | inr e ↦ inr e
-        ]);
-        idle = λ is d t u. q.crash (mid d) t (k.idle is d t u);
-        stays = λ is. k.stays (q.down ∙ is);
-        ties = λ d s h inv t. k.ties d s (q.state (mid d) s h) (may d s h inv) (q.ties (mid d) t);
-        down = record { down = λ is. sym q.down ∙ k.down.down is; refused = λ is. sym q.down ∙ k.down.refused is; unasked = λ is. tt };
-      }
-  carried config plan a b c p x y (Ok v) sound q tells alone k before count ok err small =
-      let mid : doubt c ≡ 0 → doubt b ≡ 0 = λ d. omega (arith, k.clean) in
-      let may : (d : doubt c ≡ 0) (s : State) → holds a s → IsInvariant config s → IfSome p.change (Allows s) = λ d s h inv. subst (λ (x : Plan). IfSome x.change (Allows s)) (sym (tells (mid d) s h)) (sound.allows s inv) in
-      record {
-        clean = omega (arith, q.clean, k.clean);
-        verdict = λ d s h inv. (k.verdict ∙ ap (λ (x : Plan). verdict_of x.outcome) (tells (mid d) s h), ok ∙ ap (λ (w : Plan). x ++ body_of w.outcome) (tells (mid d) s h));
-        appended = appended_by x y p.outcome v k.verdict ok small;
-        state = λ d s h inv. subst (λ (x : Plan). holds c (after s x.change)) (tells (mid d) s h) (k.state d s (q.state (mid d) s h) (may d s h inv));
-        kept = λ s inv. sound.keeps s inv;
-        same = tt;
-        count = count ∙ before;
-        crash = λ d s h inv t u. left_of p (plan s) s t (survivors a t) (tells (mid d) s h) (elim (k.crash d s (q.state (mid d) s h) (may d s h inv) t u) as (λ _. survivors a t ⊎ (IsSome p.change × (t ≡ after s p.change))) [
-          | inl v ↦ inl (q.crash (mid d) t v)
-          | inr e ↦ inr e
-        ]);
-        idle = λ is d t u. q.crash (mid d) t (k.idle is d t u);
-        stays = λ is. k.stays (q.down ∙ is);
-        settled = λ d s h inv some t u. k.settled d s (q.state (mid d) s h) (may d s h inv) (subst (λ (x : Plan). IsSome x.change) (sym (tells (mid d) s h)) some) t u ∙ ap (λ (x : Plan). after s x.change) (tells (mid d) s h);
-        ties = λ d s h inv t. k.ties d s (q.state (mid d) s h) (may d s h inv) (q.ties (mid d) t);
-        down = record {
-          down = λ is. absurd (cc);
-          refused = λ is. absurd (cc);
-          unasked = λ is s.
-              let same = alone is s in
-              let none : p.change ≡ None = k.down.unasked (q.down ∙ is) in
-              (k.verdict ∙ ap (λ (x : Plan). verdict_of x.outcome) same, ok ∙ ap (λ (w : Plan). x ++ body_of w.outcome) same, sym (ap (λ (w : Plan). w.change) same) ∙ none);
-        };
-      }
+pub carried : (config : Config) (plan : State → Plan) (a b c : Model State) (p : Plan) (x y : List ℕ) (result : Result Verdict StoreFault) → IsSound config plan
+    → IsQuiet a b → Tells a b (λ s. p ≡ plan s) → (a.is_down ≡ true → (s : State) → p ≡ plan s) → Carries p b c result
+    → b.refusals ≡ a.refusals → OnOk result (y ≡ x ++ body_of p.outcome) → OnErr result (y ≡ x) → OnOk result (length (body_of p.outcome) ≤ MAX_BODY_BYTES)
+    → Answered config plan a c x y result
+carried config plan a b c p x y (Err e) sound q tells alone k before ok err small =
+    let mid : c.doubt ≡ 0 → b.doubt ≡ 0 = λ d. omega (arith, k.clean) in
+    let may : (d : c.doubt ≡ 0) (s : State) → a.holds s → IsInvariant config s → IfSome p.change (Allows s) = λ d s h inv. subst (λ (x : Plan). IfSome x.change (Allows s)) (sym (tells (mid d) s h)) (sound.allows s inv) in
+    record {
+      clean = omega (arith, q.clean, k.clean);
+      verdict = tt;
+      appended = err;
+      state = tt;
+      kept = tt;
+      settled = tt;
+      count = subst (λ n. c.refusals ≡ count_after {X = Verdict} n (Err e)) before k.count;
+      same = λ d s h inv. k.same d s (q.state (mid d) s h) (may d s h inv);
+      crash = λ d s h inv t u. left_of p (plan s) s t (a.survivors t) (tells (mid d) s h) (elim (k.crash d s (q.state (mid d) s h) (may d s h inv) t u) as (λ _. a.survivors t ⊎ (IsSome p.change × (t ≡ after s p.change))) [
+        | inl v ↦ inl (q.crash (mid d) t v)
+        | inr e ↦ inr e
+      ]);
+      idle = λ is d t u. q.crash (mid d) t (k.idle is d t u);
+      stays = λ is. k.stays (q.down ∙ is);
+      ties = λ d s h inv t. k.ties d s (q.state (mid d) s h) (may d s h inv) (q.ties (mid d) t);
+      down = record { down = λ is. sym q.down ∙ k.down.down is; refused = λ is. sym q.down ∙ k.down.refused is; unasked = λ is. tt };
+    }
+carried config plan a b c p x y (Ok v) sound q tells alone k before ok err small =
+    let mid : c.doubt ≡ 0 → b.doubt ≡ 0 = λ d. omega (arith, k.clean) in
+    let may : (d : c.doubt ≡ 0) (s : State) → a.holds s → IsInvariant config s → IfSome p.change (Allows s) = λ d s h inv. subst (λ (x : Plan). IfSome x.change (Allows s)) (sym (tells (mid d) s h)) (sound.allows s inv) in
+    record {
+      clean = omega (arith, q.clean, k.clean);
+      verdict = λ d s h inv. (k.verdict ∙ ap (λ (x : Plan). verdict_of x.outcome) (tells (mid d) s h), ok ∙ ap (λ (w : Plan). x ++ body_of w.outcome) (tells (mid d) s h));
+      appended = appended_by x y p.outcome v k.verdict ok small;
+      state = λ d s h inv. subst (λ (x : Plan). c.holds (after s x.change)) (tells (mid d) s h) (k.state d s (q.state (mid d) s h) (may d s h inv));
+      kept = λ s inv. sound.keeps s inv;
+      same = tt;
+      count = k.count ∙ before;
+      crash = λ d s h inv t u. left_of p (plan s) s t (a.survivors t) (tells (mid d) s h) (elim (k.crash d s (q.state (mid d) s h) (may d s h inv) t u) as (λ _. a.survivors t ⊎ (IsSome p.change × (t ≡ after s p.change))) [
+        | inl v ↦ inl (q.crash (mid d) t v)
+        | inr e ↦ inr e
+      ]);
+      idle = λ is d t u. q.crash (mid d) t (k.idle is d t u);
+      stays = λ is. k.stays (q.down ∙ is);
+      settled = λ d s h inv some t u. k.settled d s (q.state (mid d) s h) (may d s h inv) (subst (λ (x : Plan). IsSome x.change) (sym (tells (mid d) s h)) some) t u ∙ ap (λ (x : Plan). after s x.change) (tells (mid d) s h);
+      ties = λ d s h inv t. k.ties d s (q.state (mid d) s h) (may d s h inv) (q.ties (mid d) t);
+      down = record {
+        down = λ is. absurd (cc);
+        refused = λ is. absurd (cc);
+        unasked = λ is s.
+            let same = alone is s in
+            let none : p.change ≡ None = k.down.unasked (q.down ∙ is) in
+            (k.verdict ∙ ap (λ (x : Plan). verdict_of x.outcome) same, ok ∙ ap (λ (w : Plan). x ++ body_of w.outcome) same, sym (ap (λ (w : Plan). w.change) same) ∙ none);
+      };
+    }
 
 -- a plan whose body may be too large changes no more
 limited_change : (p : Plan) (o : Outcome) (c : Change) → (limited_by p o).change ≡ Some c → p.change ≡ Some c
@@ -201,41 +176,54 @@ leaves_by : (old new : State → Type 0) (s : State) (c : Option Change) → ((u
 leaves_by old new s None crash settled = inl (refl, λ u k. elim (crash u k) as (λ _. old u) [ inl o ↦ o | inr n ↦ absurd (cc (n.0)) ])
 leaves_by old new s (Some c) crash settled = inr (settled refl)
 
-module _ {K : Type 0} {holds : K → State → Type 0} {doubt : K → ℕ} {refused : K → ℕ} {survivors : K → State → Type 0} {tied : K → Type 0} {is_down : K → Bool} where
-  pub tells : (config : Config) (r : Request) (a b : K) (x y : List ℕ) (result : Result Verdict StoreFault) → Answered holds doubt refused survivors tied is_down config (λ s. settled_plan config s r) a b x y result
-      → Promises holds doubt config a b (λ s. IsTold (step config s r).0 x y result)
-  tells config r a b x y (Err e) did d s h inv = tt
-  tells config r a b x y (Ok v) did d s h inv = let is = did.verdict d s h inv in told_by (settled_plan config s r).outcome (step config s r).0 v x y (said_is config s r) is.0 is.1
+tells : (config : Config) (r : Request) (a b : Model State) (x y : List ℕ) (result : Result Verdict StoreFault) → Answered config (λ s. settled_plan config s r) a b x y result
+    → Promises config a b (λ s. IsTold (step config s r).0 x y result)
+tells config r a b x y (Err e) did d s h inv = tt
+tells config r a b x y (Ok v) did d s h inv = let is = did.verdict d s h inv in told_by (settled_plan config s r).outcome (step config s r).0 v x y (said_is config s r) is.0 is.1
 
-  pub state : (config : Config) (r : Request) (a b : K) (x y : List ℕ) (result : Result Verdict StoreFault) → Answered holds doubt refused survivors tied is_down config (λ s. settled_plan config s r) a b x y result
-      → Promises holds doubt config a b (λ s. holds b (state_after s (step config s r).1 result))
-  state config r a b x y (Err e) did d s h inv = did.same d s h inv
-  state config r a b x y (Ok v) did d s h inv = subst (holds b) (moved_is config s r) (did.state d s h inv)
+state : (config : Config) (r : Request) (a b : Model State) (x y : List ℕ) (result : Result Verdict StoreFault) → Answered config (λ s. settled_plan config s r) a b x y result
+    → Promises config a b (λ s. b.holds (state_after s (step config s r).1 result))
+state config r a b x y (Err e) did d s h inv = did.same d s h inv
+state config r a b x y (Ok v) did d s h inv = subst b.holds (moved_is config s r) (did.state d s h inv)
 
-  refused_by : (config : Config) (r : Request) (a b : K) (x y : List ℕ) (e : StoreFault) → Answered holds doubt refused survivors tied is_down config (λ s. settled_plan config s r) a b x y (Err e)
-      → Promises holds doubt config a b (λ s. (u : State) → survivors b u → survivors a u ⊎ (u ≡ (step config s r).1))
-  refused_by config r a b x y e did d s h inv = λ u v. elim (did.crash d s h inv u v) as (λ _. survivors a u ⊎ (u ≡ (step config s r).1)) [ inl o ↦ inl o | inr n ↦ inr (n.1 ∙ moved_is config s r) ]
+refused_by : (config : Config) (r : Request) (a b : Model State) (x y : List ℕ) (e : StoreFault) → Answered config (λ s. settled_plan config s r) a b x y (Err e)
+    → Promises config a b (λ s. (u : State) → b.survivors u → a.survivors u ⊎ (u ≡ (step config s r).1))
+refused_by config r a b x y e did d s h inv = λ u v. elim (did.crash d s h inv u v) as (λ _. a.survivors u ⊎ (u ≡ (step config s r).1)) [ inl o ↦ inl o | inr n ↦ inr (n.1 ∙ moved_is config s r) ]
 
-  pub left : (config : Config) (r : Request) (a b : K) (x y : List ℕ) (result : Result Verdict StoreFault) → Answered holds doubt refused survivors tied is_down config (λ s. settled_plan config s r) a b x y result
-      → Promises holds doubt config a b (λ s. Leaves (survivors a) (survivors b) s (step config s r).1 result)
-  left config r a b x y (Err NoMemory) did d s h inv = refused_by config r a b x y NoMemory did d s h inv
-  left config r a b x y (Err Refused) did d s h inv = refused_by config r a b x y Refused did d s h inv
-  left config r a b x y (Err Down) did d s h inv = did.idle refl d
-  left config r a b x y (Ok w) did d s h inv =
-      subst (λ (t : State). ((t ≡ s) × ((u : State) → survivors b u → survivors a u)) ⊎ ((u : State) → survivors b u → u ≡ t)) (moved_is config s r)
-      (leaves_by (survivors a) (survivors b) s (settled_plan config s r).change (did.crash d s h inv) (did.settled d s h inv))
+left : (config : Config) (r : Request) (a b : Model State) (x y : List ℕ) (result : Result Verdict StoreFault) → Answered config (λ s. settled_plan config s r) a b x y result
+    → Promises config a b (λ s. Leaves (a.survivors) (b.survivors) s (step config s r).1 result)
+left config r a b x y (Err NoMemory) did d s h inv = refused_by config r a b x y NoMemory did d s h inv
+left config r a b x y (Err Refused) did d s h inv = refused_by config r a b x y Refused did d s h inv
+left config r a b x y (Err Down) did d s h inv = did.idle refl d
+left config r a b x y (Ok w) did d s h inv =
+    subst (λ (t : State). ((t ≡ s) × ((u : State) → b.survivors u → a.survivors u)) ⊎ ((u : State) → b.survivors u → u ≡ t)) (moved_is config s r)
+    (leaves_by (a.survivors) (b.survivors) s (settled_plan config s r).change (did.crash d s h inv) (did.settled d s h inv))
 
-  -- over a keeper that is down
-  pub alone : (config : Config) (r : Request) (a b : K) (x y : List ℕ) (result : Result Verdict StoreFault) → Answered holds doubt refused survivors tied is_down config (λ s. settled_plan config s r) a b x y result
-      → TellsDown (is_down a) (IsOfAll config r x y) result
-  alone config r a b x y (Err e) did = record { down = did.down.down; refused = did.down.refused; unasked = λ is. tt }
-  alone config r a b x y (Ok v) did = record {
-    down = did.down.down;
-    refused = did.down.refused;
-    unasked = λ is s.
-        let so = did.down.unasked is s in
-        (told_by (settled_plan config s r).outcome (step config s r).0 v x y (said_is config s r) so.0 so.1, sym (moved_is config s r) ∙ ap (after s) so.2);
-  }
+-- over a keeper that is down
+alone : (config : Config) (r : Request) (a b : Model State) (x y : List ℕ) (result : Result Verdict StoreFault) → Answered config (λ s. settled_plan config s r) a b x y result
+    → TellsDown (a.is_down) (IsOfAll config r x y) result
+alone config r a b x y (Err e) did = record { down = did.down.down; refused = did.down.refused; unasked = λ is. tt }
+alone config r a b x y (Ok v) did = record {
+  down = did.down.down;
+  refused = did.down.refused;
+  unasked = λ is s.
+      let so = did.down.unasked is s in
+      (told_by (settled_plan config s r).outcome (step config s r).0 v x y (said_is config s r) so.0 so.1, sym (moved_is config s r) ∙ ap (after s) so.2);
+}
+
+-- what is answered by the plan of a request performs it
+pub performed : (config : Config) (r : Request) (a b : Model State) (x y : List ℕ) (result : Result Verdict StoreFault) → Answered config (λ s. settled_plan config s r) a b x y result → Performs config r a b x y result
+performed config r a b x y result did = record {
+  clean = did.clean;
+  appended = did.appended;
+  told = tells config r a b x y result did;
+  state = state config r a b x y result did;
+  counted = did.count;
+  left = left config r a b x y result did;
+  ties = did.ties;
+  down = alone config r a b x y result did;
+  stays = did.stays;
+}
 
 pub keeps : (config : Config) (r : Request) → IsSound config (λ s. settled_plan config s r) → (s : State) → IsInvariant config s → IsInvariant config (step config s r).1
 keeps config r sound s inv = subst (IsInvariant config) (moved_is config s r) (sound.keeps s inv)

@@ -1,5 +1,5 @@
 -- What a request does to a keeper, by the plan that the State gives it.
-use Rattle.std.specs.Prelude.{◌≡◌, ◌⊎◌, Bool, true, ℕ, ◌≤◌, ◌++◌, List, [], Result, Ok, Err, None, IsSome, IfSome, IfOk, OnOk, OnErr}
+use Rattle.std.specs.Prelude.{◌≡◌, ◌⊎◌, true, ℕ, ◌≤◌, ◌++◌, List, [], Result, Ok, Err, None, IsSome, IfSome, IfOk, OnOk, OnErr}
 use Rattle.csi_codec.specs.Methods.{response_bytes}
 use Rattle.csi_config.specs.declared.config.Config.{Config}
 use Rattle.csi_types.specs.declared.requests.Request.{Request}
@@ -12,6 +12,7 @@ use Rattle.csi_machine.specs.declared.body.Verdict.TheVariants as verdict
 use Rattle.csi_machine.specs.declared.plan.Plan.{Plan}
 use Rattle.csi_keeper.specs.Invariant.{IsInvariant}
 use Rattle.csi_keeper.specs.Keeper.{count_after}
+use Rattle.csi_keeper.specs.Model.{Model}
 use Rattle.csi_machine.specs.Down.{TellsDown}
 use Rattle.csi_machine.specs.Plan.{after}
 use Rattle.csi_keeper.specs.State.{State, Allows}
@@ -44,41 +45,56 @@ Leaves old new s t (Err Down) = (u : State) → new u → old u
 abbrev pub IsOfAll : Config → Request → List ℕ → List ℕ → Verdict → Type 0
 IsOfAll config r out now v = (s : State) → IsTold {E = StoreFault} (step config s r).0 out now (Ok v) × ((step config s r).1 ≡ s)
 
-module _ {K : Type 0} (holds : K → State → Type 0) (doubt : K → ℕ) (config : Config) (old new : K) where
-  -- it is so from each State of the invariant that the keeper may have had, where nothing is in doubt
-  abbrev pub Promises : (State → Type 0) → Type 0
-  Promises P = doubt new ≡ 0 → (s : State) → holds old s → IsInvariant config s → P s
+-- it is so from each State of the invariant that the keeper may have had, where nothing is in doubt
+abbrev pub Promises : Config → Model State → Model State → (State → Type 0) → Type 0
+Promises config old new P = new.doubt ≡ 0 → (s : State) → old.holds s → IsInvariant config s → P s
 
-module _ {K : Type 0} (holds : K → State → Type 0) (doubt : K → ℕ) (refused : K → ℕ) (survivors : K → State → Type 0) (tied : K → Type 0) (is_down : K → Bool) where
-  -- a request is answered by the plan that the State gives it
-  pub record Answered (config : Config) (plan : State → Plan) (old new : K) (out now : List ℕ) (result : Result Verdict StoreFault) : Type 0 where
-    pub clean : doubt old ≤ doubt new
-    pub verdict : IfOk result (λ v. doubt new ≡ 0 → (s : State) → holds old s → IsInvariant config s → (v ≡ verdict_of (plan s).outcome) × (now ≡ out ++ body_of (plan s).outcome))
-    pub appended : Appended out now result
-    pub state : OnOk result (doubt new ≡ 0 → (s : State) → holds old s → IsInvariant config s → holds new (after s (plan s).change))
-    pub kept : OnOk result ((s : State) → IsInvariant config s → IsInvariant config (after s (plan s).change))
-    pub same : OnErr result (doubt new ≡ 0 → (s : State) → holds old s → IsInvariant config s → holds new s)
-    -- a fault of the keeper is counted
-    pub count : refused new ≡ count_after (refused old) result
-    -- a survivor is an old one, or the State with the change, where there is one
-    pub crash : doubt new ≡ 0 → (s : State) → holds old s → IsInvariant config s → (t : State) → survivors new t → survivors old t ⊎ (IsSome (plan s).change × (t ≡ after s (plan s).change))
-    pub idle : result ≡ Err Down → doubt new ≡ 0 → (t : State) → survivors new t → survivors old t
-    pub settled : OnOk result (doubt new ≡ 0 → (s : State) → holds old s → IsInvariant config s → IsSome (plan s).change → (t : State) → survivors new t → t ≡ after s (plan s).change)
-    pub ties : doubt new ≡ 0 → (s : State) → holds old s → IsInvariant config s → tied old → tied new
-    -- over a keeper that is down nothing is answered but what is so of each State
-    pub down : TellsDown (is_down old) (λ v. (s : State) → (v ≡ verdict_of (plan s).outcome) × (now ≡ out ++ body_of (plan s).outcome) × ((plan s).change ≡ None)) result
-    pub stays : is_down old ≡ true → is_down new ≡ true
+-- a request is answered by the plan that the State gives it
+pub record Answered (config : Config) (plan : State → Plan) (old new : Model State) (out now : List ℕ) (result : Result Verdict StoreFault) : Type 0 where
+  pub clean : old.doubt ≤ new.doubt
+  pub verdict : IfOk result (λ v. Promises config old new (λ s. (v ≡ verdict_of (plan s).outcome) × (now ≡ out ++ body_of (plan s).outcome)))
+  pub appended : Appended out now result
+  pub state : OnOk result (Promises config old new (λ s. new.holds (after s (plan s).change)))
+  pub kept : OnOk result ((s : State) → IsInvariant config s → IsInvariant config (after s (plan s).change))
+  pub same : OnErr result (Promises config old new (λ s. new.holds s))
+  -- a fault of the keeper is counted
+  pub count : new.refusals ≡ count_after old.refusals result
+  -- a survivor is an old one, or the State with the change, where there is one
+  pub crash : Promises config old new (λ s. (t : State) → new.survivors t → old.survivors t ⊎ (IsSome (plan s).change × (t ≡ after s (plan s).change)))
+  pub idle : result ≡ Err Down → new.doubt ≡ 0 → (t : State) → new.survivors t → old.survivors t
+  pub settled : OnOk result (Promises config old new (λ s. IsSome (plan s).change → (t : State) → new.survivors t → t ≡ after s (plan s).change))
+  pub ties : Promises config old new (λ s. old.tied → new.tied)
+  -- over a keeper that is down nothing is answered but what is so of each State
+  pub down : TellsDown old.is_down (λ v. (s : State) → (v ≡ verdict_of (plan s).outcome) × (now ≡ out ++ body_of (plan s).outcome) × ((plan s).change ≡ None)) result
+  pub stays : old.is_down ≡ true → new.is_down ≡ true
 
-module _ {K : Type 0} (holds : K → State → Type 0) (doubt : K → ℕ) (survivors : K → State → Type 0) (tied : K → Type 0) (is_down : K → Bool) where
-  -- a plan is carried out: its change is made, if the State allows it, and its answer is given
-  pub record Carries (plan : Plan) (old new : K) (result : Result Verdict StoreFault) : Type 0 where
-    pub clean : doubt old ≤ doubt new
-    pub verdict : IfOk result (λ v. v ≡ verdict_of plan.outcome)
-    pub state : doubt new ≡ 0 → OnOk result ((s : State) → holds old s → IfSome plan.change (Allows s) → holds new (after s plan.change))
-    pub same : doubt new ≡ 0 → OnErr result ((s : State) → holds old s → IfSome plan.change (Allows s) → holds new s)
-    pub crash : doubt new ≡ 0 → (s : State) → holds old s → IfSome plan.change (Allows s) → (t : State) → survivors new t → survivors old t ⊎ (IsSome plan.change × (t ≡ after s plan.change))
-    pub idle : result ≡ Err Down → doubt new ≡ 0 → (t : State) → survivors new t → survivors old t
-    pub settled : doubt new ≡ 0 → OnOk result ((s : State) → holds old s → IfSome plan.change (Allows s) → IsSome plan.change → (t : State) → survivors new t → t ≡ after s plan.change)
-    pub ties : doubt new ≡ 0 → (s : State) → holds old s → IfSome plan.change (Allows s) → tied old → tied new
-    pub down : TellsDown (is_down old) (λ v. plan.change ≡ None) result
-    pub stays : is_down old ≡ true → is_down new ≡ true
+-- it is so of each State that allows the plan's change and that the keeper may have had, where nothing is in doubt
+abbrev pub Allowed : Plan → Model State → Model State → (State → Type 0) → Type 0
+Allowed plan old new P = new.doubt ≡ 0 → (s : State) → old.holds s → IfSome plan.change (Allows s) → P s
+
+-- a plan is carried out: its change is made, if the State allows it, and its answer is given
+pub record Carries (plan : Plan) (old new : Model State) (result : Result Verdict StoreFault) : Type 0 where
+  pub clean : old.doubt ≤ new.doubt
+  pub verdict : IfOk result (λ v. v ≡ verdict_of plan.outcome)
+  pub state : OnOk result (Allowed plan old new (λ s. new.holds (after s plan.change)))
+  pub same : OnErr result (Allowed plan old new (λ s. new.holds s))
+  pub count : new.refusals ≡ count_after old.refusals result
+  pub crash : Allowed plan old new (λ s. (t : State) → new.survivors t → old.survivors t ⊎ (IsSome plan.change × (t ≡ after s plan.change)))
+  pub idle : result ≡ Err Down → new.doubt ≡ 0 → (t : State) → new.survivors t → old.survivors t
+  pub settled : OnOk result (Allowed plan old new (λ s. IsSome plan.change → (t : State) → new.survivors t → t ≡ after s plan.change))
+  pub ties : Allowed plan old new (λ s. old.tied → new.tied)
+  pub down : TellsDown old.is_down (λ v. plan.change ≡ None) result
+  pub stays : old.is_down ≡ true → new.is_down ≡ true
+
+-- A request is performed: its body is appended, what is told and the State behind it are those of one step of the machine, and a fault of the keeper is counted
+-- and leaves the State.
+pub record Performs (config : Config) (request : Request) (old new : Model State) (out now : List ℕ) (result : Result Verdict StoreFault) : Type 0 where
+  pub clean : old.doubt ≤ new.doubt
+  pub appended : Appended out now result
+  pub told : Promises config old new (λ s. IsTold (step config s request).0 out now result)
+  pub state : Promises config old new (λ s. new.holds (state_after s (step config s request).1 result))
+  pub counted : new.refusals ≡ count_after old.refusals result
+  pub left : Promises config old new (λ s. Leaves old.survivors new.survivors s (step config s request).1 result)
+  pub ties : Promises config old new (λ s. old.tied → new.tied)
+  pub down : TellsDown old.is_down (IsOfAll config request out now) result
+  pub stays : old.is_down ≡ true → new.is_down ≡ true

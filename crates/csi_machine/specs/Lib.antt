@@ -3,6 +3,7 @@ pub mod Answering
 pub mod Choice
 pub mod Configured
 pub mod Down
+pub mod Finding
 pub mod Ids
 pub mod Info
 pub mod Offer

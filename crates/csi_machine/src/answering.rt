@@ -1,16 +1,13 @@
 //! Requests over any keeper.
 
-ghost use Rattle.std.specs.Prelude.{◌≡◌, ◌⊎◌, ◌≤◌, ◌++◌, length, [], true, Err, IfOk, OnOk, OnErr, IfSome, IsSome, None};
+ghost use Rattle.std.specs.Prelude.{◌≡◌, ◌≤◌, ◌++◌, length, [], IfOk, OnOk, OnErr, IfSome, None};
 ghost use Rattle.csi_types.specs.Checks.{checked};
 ghost use Rattle.frames_core.specs.declared.limits.TheConstants.{MAX_BODY_BYTES};
-ghost use Rattle.csi_machine.specs.Down.{TellsDown};
-ghost use Rattle.csi_keeper.specs.declared.change.StoreFault.TheVariants.{Down};
-ghost use Rattle.csi_machine.specs.Answering.{Answered, Carries, IsOfAll, Leaves, Promises, body_of, state_after, verdict_of};
+ghost use Rattle.csi_machine.specs.Finding.{Finds};
+ghost use Rattle.csi_machine.specs.Answering.{Carries, Performs, body_of, verdict_of};
 ghost use Rattle.csi_keeper.specs.Invariant.{IsInvariant};
-ghost use Rattle.csi_keeper.specs.Keeper.{IsQuiet, Tells, count_after};
-ghost use Rattle.csi_machine.specs.Plan.{after};
-ghost use Rattle.csi_keeper.specs.State.{State, Allows, IsBounded};
-ghost use Rattle.csi_machine.specs.Step.{by_verdict, plan, limited, settled_plan, step};
+ghost use Rattle.csi_keeper.specs.State.{State, IsBounded};
+ghost use Rattle.csi_machine.specs.Step.{by_verdict, plan, limited, step};
 ghost use Rattle.csi_machine.specs.Verdicts.{Appended, IsTold, told_of};
 
 use crate::body::{Verdict, append_body};
@@ -41,10 +38,7 @@ fn plan_of<K: Keeper>(
     request: &Request,
 ) -> Result<Plan, StoreFault>
     ensures bounded { IfOk result (λ p. IfSome p.change IsBounded) }
-    ensures value { IfOk result (λ p. Tells K.holds K.doubt keeper.old keeper.new (λ s. p ≡ plan config.now s request.now)) }
-    ensures quiet { IsQuiet K.holds K.doubt K.survivors K.tied K.is_down keeper.old keeper.new }
-    ensures down { TellsDown (K.is_down keeper.old) (λ p. (s : State) → p ≡ plan config.now s request.now) result }
-    ensures count { K.refused keeper.new ≡ count_after (K.refused keeper.old) result }
+    ensures finds { Finds (K.model keeper.old) (K.model keeper.new) result (λ s p. p ≡ plan config.now s request.now) }
 {
     match request {
         Request::PluginInfo => Ok(plan_plugin_info(alloc, config)?),
@@ -95,17 +89,7 @@ fn verdict_of(outcome: &Outcome) -> Verdict
 // Makes the plan's change, if it has one, and gives its verdict.
 fn carry_out<K: Keeper>(alloc: Global, keeper: &mut K, plan: &Plan) -> Result<Verdict, StoreFault>
     requires { IfSome plan.now.change IsBounded }
-    ensures clean { K.doubt keeper.old ≤ K.doubt keeper.new }
-    ensures verdict { IfOk result (λ v. v ≡ verdict_of plan.now.outcome) }
-    ensures state { K.doubt keeper.new ≡ 0 → OnOk result ((s : State) → K.holds keeper.old s → IfSome plan.now.change (Allows s) → K.holds keeper.new (after s plan.now.change)) }
-    ensures same { K.doubt keeper.new ≡ 0 → OnErr result ((s : State) → K.holds keeper.old s → IfSome plan.now.change (Allows s) → K.holds keeper.new s) }
-    ensures count { K.refused keeper.new ≡ count_after (K.refused keeper.old) result }
-    ensures crash { K.doubt keeper.new ≡ 0 → (s : State) → K.holds keeper.old s → IfSome plan.now.change (Allows s) → (t : State) → K.survivors keeper.new t → K.survivors keeper.old t ⊎ (IsSome plan.now.change × (t ≡ after s plan.now.change)) }
-    ensures idle { result ≡ Err Down → K.doubt keeper.new ≡ 0 → (t : State) → K.survivors keeper.new t → K.survivors keeper.old t }
-    ensures settled { K.doubt keeper.new ≡ 0 → OnOk result ((s : State) → K.holds keeper.old s → IfSome plan.now.change (Allows s) → IsSome plan.now.change → (t : State) → K.survivors keeper.new t → t ≡ after s plan.now.change) }
-    ensures ties { K.doubt keeper.new ≡ 0 → (s : State) → K.holds keeper.old s → IfSome plan.now.change (Allows s) → K.tied keeper.old → K.tied keeper.new }
-    ensures down { TellsDown (K.is_down keeper.old) (λ v. plan.now.change ≡ None) result }
-    ensures stays { K.is_down keeper.old ≡ true → K.is_down keeper.new ≡ true }
+    ensures { Carries plan.now (K.model keeper.old) (K.model keeper.new) result }
 {
     if let Some(change) = &plan.change {
         keeper.apply(alloc, change)?;
@@ -122,8 +106,7 @@ fn finish<K: Keeper>(
     out: &mut Vec<u8>,
 ) -> Result<Verdict, StoreFault>
     requires { IfSome plan.now.change IsBounded }
-    ensures carries { Carries K.holds K.doubt K.survivors K.tied K.is_down (limited plan.now) keeper.old keeper.new result }
-    ensures count { K.refused keeper.new ≡ count_after (K.refused keeper.old) result }
+    ensures carries { Carries (limited plan.now) (K.model keeper.old) (K.model keeper.new) result }
     ensures body { OnOk result (out.new.items ≡ out.old.items ++ body_of (limited plan.now).outcome) }
     ensures small { OnOk result (length (body_of (limited plan.now).outcome) ≤ MAX_BODY_BYTES) }
     ensures err { OnErr result (out.new.items ≡ out.old.items) }
@@ -139,21 +122,6 @@ fn finish<K: Keeper>(
             Err(fault)
         }
     }
-}
-
-fn answer_by_plan<K: Keeper>(
-    alloc: Global,
-    config: &Config,
-    keeper: &mut K,
-    request: &Request,
-    out: &mut Vec<u8>,
-) -> Result<Verdict, StoreFault>
-    requires { checked request.now ≡ None }
-    ensures { Answered K.holds K.doubt K.refused K.survivors K.tied K.is_down config.now (λ s. settled_plan config.now s request.now) keeper.old keeper.new out.old.items out.new.items result }
-{
-    configured(config);
-    let plan = plan_of(alloc, config, keeper, request)?;
-    finish(alloc, keeper, &plan, out)
 }
 
 /// Answers a request over any keeper by one step of the machine: the plan that the keeper's State
@@ -174,19 +142,12 @@ pub fn append_answer<K: Keeper>(
     out: &mut Vec<u8>,
 ) -> Result<Verdict, StoreFault>
     requires { checked request.now ≡ None }
-    ensures clean { K.doubt keeper.old ≤ K.doubt keeper.new }
-    ensures appended { Appended out.old.items out.new.items result }
-    ensures told { Promises K.holds K.doubt config.now keeper.old keeper.new (λ s. IsTold (step config.now s request.now).0 out.old.items out.new.items result) }
-    ensures state { Promises K.holds K.doubt config.now keeper.old keeper.new (λ s. K.holds keeper.new (state_after s (step config.now s request.now).1 result)) }
+    ensures performs { Performs config.now request.now (K.model keeper.old) (K.model keeper.new) out.old.items out.new.items result }
     ensures invariant { (s : State) → IsInvariant config.now s → IsInvariant config.now (step config.now s request.now).1 }
-    ensures counted { K.refused keeper.new ≡ count_after (K.refused keeper.old) result }
-    ensures left { Promises K.holds K.doubt config.now keeper.old keeper.new (λ s. Leaves (K.survivors keeper.old) (K.survivors keeper.new) s (step config.now s request.now).1 result) }
-    ensures ties { Promises K.holds K.doubt config.now keeper.old keeper.new (λ s. K.tied keeper.old → K.tied keeper.new) }
-    ensures down { TellsDown (K.is_down keeper.old) (IsOfAll config.now request.now out.old.items out.new.items) result }
-    ensures stays { K.is_down keeper.old ≡ true → K.is_down keeper.new ≡ true }
 {
     configured(config);
-    answer_by_plan(alloc, config, keeper, request, out)
+    let plan = plan_of(alloc, config, keeper, request)?;
+    finish(alloc, keeper, &plan, out)
 }
 
 /// Answers a request as [`append_answer`] does, and empties `out` first.
@@ -202,16 +163,8 @@ pub fn answer<K: Keeper>(
     out: &mut Vec<u8>,
 ) -> Result<Verdict, StoreFault>
     requires { checked request.now ≡ None }
-    ensures clean { K.doubt keeper.old ≤ K.doubt keeper.new }
-    ensures appended { Appended [] out.new.items result }
-    ensures told { Promises K.holds K.doubt config.now keeper.old keeper.new (λ s. IsTold (step config.now s request.now).0 [] out.new.items result) }
-    ensures state { Promises K.holds K.doubt config.now keeper.old keeper.new (λ s. K.holds keeper.new (state_after s (step config.now s request.now).1 result)) }
+    ensures performs { Performs config.now request.now (K.model keeper.old) (K.model keeper.new) [] out.new.items result }
     ensures invariant { (s : State) → IsInvariant config.now s → IsInvariant config.now (step config.now s request.now).1 }
-    ensures counted { K.refused keeper.new ≡ count_after (K.refused keeper.old) result }
-    ensures left { Promises K.holds K.doubt config.now keeper.old keeper.new (λ s. Leaves (K.survivors keeper.old) (K.survivors keeper.new) s (step config.now s request.now).1 result) }
-    ensures ties { Promises K.holds K.doubt config.now keeper.old keeper.new (λ s. K.tied keeper.old → K.tied keeper.new) }
-    ensures down { TellsDown (K.is_down keeper.old) (IsOfAll config.now request.now [] out.new.items) result }
-    ensures stays { K.is_down keeper.old ≡ true → K.is_down keeper.new ≡ true }
 {
     out.clear();
     append_answer(alloc, config, keeper, request, out)

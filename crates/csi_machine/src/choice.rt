@@ -3,10 +3,9 @@
 ghost use Rattle.std.specs.Prelude.{◌≡◌, ◌&&◌, nat_le, Some, [], ◌∷◌, find, map, IfOk};
 ghost use Rattle.std.specs.FinMap.{empty};
 ghost use Rattle.std.specs.Option.{option_map};
-ghost use Rattle.csi_machine.specs.Down.{TellsDown};
+ghost use Rattle.csi_machine.specs.Finding.{Finds};
 ghost use Rattle.csi_machine.specs.Choice.{room_value, free, rooms, choice, count};
-ghost use Rattle.csi_keeper.specs.Keeper.{IsQuiet, Tells, count_after};
-ghost use Rattle.csi_keeper.specs.State.{State, up_to_u64};
+ghost use Rattle.csi_keeper.specs.State.{up_to_u64};
 ghost use Rattle.csi_machine.specs.Topology.{serves, or_empty, terms};
 
 use crate::topology::serves;
@@ -39,10 +38,7 @@ pub(crate) fn read_rooms<'a, K: Keeper>(
     keeper: &mut K,
 ) -> Result<Vec<Room<'a>>, StoreFault>
     ensures pools { IfOk result (λ rs. map (λ r. r.pool.now) rs.items ≡ config.now.pools) }
-    ensures value { IfOk result (λ rs. Tells K.holds K.doubt keeper.old keeper.new (λ s. map room_value rs.items ≡ rooms config.now s)) }
-    ensures quiet { IsQuiet K.holds K.doubt K.survivors K.tied K.is_down keeper.old keeper.new }
-    ensures down { TellsDown (K.is_down keeper.old) (λ rs. (s : State) → map room_value rs.items ≡ rooms config.now s) result }
-    ensures count { K.refused keeper.new ≡ count_after (K.refused keeper.old) result }
+    ensures finds { Finds (K.model keeper.old) (K.model keeper.new) result (λ s rs. map room_value rs.items ≡ rooms config.now s) }
 {
     let mut rooms = Vec::new(alloc);
     for pool in config.pools() {

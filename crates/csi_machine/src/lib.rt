@@ -1,4 +1,17 @@
 //! The volume machine: what a request makes of the volumes that a keeper keeps.
+//!
+//! A request is answered by its *plan*: a response or a refusal, and at most one change. `calls/` has a file a request: its plan, by reads of the
+//! keeper and by the rules in `capability.rt`, `size.rt`, `topology.rt`, `choice.rt`, `ids.rt` and `info.rt`, each beside its definitions in `specs/`.
+//! `answering.rt` makes of a plan an answer: it appends the body (`body.rt`), makes the change, and cuts the body off again where that fails.
+//! That each plan is sound is proved over the definitions, in `proofs/CreateLemmas.antt` and its like, and put together in `proofs/AnsweringLemmas.antt`.
+//! [`laws`] has what follows for whole sequences of requests: the invariant, walks over pages, requests that are sent again.
+//!
+//! ```rust
+//! match append_answer(alloc, config, &mut keeper, &request, &mut reply)? {
+//!     Verdict::Done => send(&reply),
+//!     Verdict::Refused(reason) => refuse(reason),
+//! }
+//! ```
 #![tactic(auto)]
 
 mod answering;
@@ -16,8 +29,4 @@ mod topology;
 
 pub use answering::{answer, append_answer};
 pub use body::{Verdict, append_body};
-pub use csi_keeper::{
-    Attachment, CapKey, Change, Keeper, Kind, MemKeeper, StoreFault, Total, Totals, Usage, Volume,
-    cap_key, capability_of, coexist, fakes, supported,
-};
 pub use plan::{Outcome, Plan};

@@ -9,7 +9,8 @@ use Rattle.frames_core.specs.Envelope.{CallBytes, IsCall, frame}
 use Rattle.frames_core.specs.Grammar as grammar
 use Rattle.frames_core.specs.Stream.{Breaks, BreaksFirst, FaultAt, IsUnfinished, BeginsFrame}
 use Rattle.frames_core.specs.Framer.{FramerState, IsSettled, IsBreakOf, start}
-use Rattle.csi_server.specs.Machine.{Machine, Sight, Runs}
+use Rattle.csi_keeper.specs.Model.{Model}
+use Rattle.csi_server.specs.Machine.{Machine, Runs}
 use Rattle.csi_server.specs.Serving.{Answered, CutOff, HasFault, AnswersCall}
 use Rattle.frames_core.specs.declared.fault.FrameWhy.TheVariants.{BadPathLength, BadPath, BadFlag, TooLong, EndOfInput}
 use Rattle.frames_core.specs.Stream.{Stream, Ends, Clean, Open}
@@ -82,7 +83,7 @@ fault_of_break rest BadFlag at h = h
 fault_of_break rest TooLong at h = h
 fault_of_break rest EndOfInput at h = absurd (no_break_at_end rest at h.breaks)
 
-pub fed_fault : {S : Type 0} (m : Machine S) (begin now : Sight S) (s : S) (read : List ℕ) (old new : FramerState) (rest : List ℕ) (n : ℕ) (held holds : Option (List ℕ)) (f : FrameFault) → Live m begin now s read old held holds → Fed old new rest n → new.fault ≡ Some f
+pub fed_fault : {S : Type 0} (m : Machine S) (begin now : Model S) (s : S) (read : List ℕ) (old new : FramerState) (rest : List ℕ) (n : ℕ) (held holds : Option (List ℕ)) (f : FrameFault) → Live m begin now s read old held holds → Fed old new rest n → new.fault ≡ Some f
     → (f.why ≢ EndOfInput) × Answered m begin now s (read ++ rest) held holds (λ calls. HasFault (read ++ rest) calls f.why f.at) []
 fed_fault m begin now s read old new rest n held holds f h fed is =
     let k : IsBreakOf new.past new.held f = subst (λ (o : Option FrameFault). IfSome o (IsBreakOf new.past new.held)) is (fed.known h.unknown) in
@@ -93,12 +94,12 @@ fed_fault m begin now s read old new rest n held holds f h fed is =
           (answered_fault m begin now s h.given (new.held ++ drop n rest) (read ++ rest) held holds h.so_far (all_of read h.given old new rest n h.whole fed) f.why (f.at - new.past) longer),
     )
 
-pub fed_cut : {S : Type 0} (m : Machine S) (begin mid now : Sight S) (s : S) (read : List ℕ) (old new : FramerState) (rest : List ℕ) (n : ℕ) (call : CallBytes) (held holds then_ : Option (List ℕ)) (Whole : Type 0) → Live m begin mid s read old held holds → Fed old new rest n → IsCall call → new.held ≡ frame call → ((t : S) → mid.holds t → AnswersCall m mid now t call holds then_ Whole)
+pub fed_cut : {S : Type 0} (m : Machine S) (begin mid now : Model S) (s : S) (read : List ℕ) (old new : FramerState) (rest : List ℕ) (n : ℕ) (call : CallBytes) (held holds then_ : Option (List ℕ)) (Whole : Type 0) → Live m begin mid s read old held holds → Fed old new rest n → IsCall call → new.held ≡ frame call → ((t : S) → mid.holds t → AnswersCall m mid now t call holds then_ Whole)
     → CutOff m begin now s (read ++ rest) ⊥ held then_
 fed_cut m begin mid now s read old new rest n call held holds then_ Whole h fed good is a =
     cut_call m begin mid now s h.given new.held (drop n rest) (read ++ rest) call held holds then_ Whole h.so_far good is (all_of read h.given old new rest n h.whole fed) a
 
-pub fed_answered : {S : Type 0} (m : Machine S) (begin mid now : Sight S) (s : S) (read : List ℕ) (old new next : FramerState) (rest : List ℕ) (n : ℕ) (call : CallBytes) (held holds then_ : Option (List ℕ)) → Live m begin mid s read old held holds → Fed old new rest n → IsCall call → new.held ≡ frame call → (Whole : Type 0) → Whole → ((t : S) → mid.holds t → AnswersCall m mid now t call holds then_ Whole)
+pub fed_answered : {S : Type 0} (m : Machine S) (begin mid now : Model S) (s : S) (read : List ℕ) (old new next : FramerState) (rest : List ℕ) (n : ℕ) (call : CallBytes) (held holds then_ : Option (List ℕ)) → Live m begin mid s read old held holds → Fed old new rest n → IsCall call → new.held ≡ frame call → (Whole : Type 0) → Whole → ((t : S) → mid.holds t → AnswersCall m mid now t call holds then_ Whole)
     → next ≡ record { past = new.past + length new.held; held = []; fault = None } → IsUnfinished next.held → Live m begin now s (read ++ take n rest) next held then_
 fed_answered {S} m begin mid now s read old new next rest n call held holds then_ h fed good is Whole done a e open_ =
     subst (λ (fr : FramerState). Live m begin now s (read ++ take n rest) fr held then_) (sym e) (record {
@@ -124,14 +125,14 @@ open_or_clean : (m : List ℕ) → IsUnfinished m → Ends 0 m Clean ⊎ Ends 0 
 open_or_clean [] u = inl refl
 open_or_clean (b ∷ bs) u = inr ((λ e. absurd cc), u)
 
-pub live_ends : {S : Type 0} (m : Machine S) (begin now : Sight S) (s : S) (read : List ℕ) (fr : FramerState) (held holds : Option (List ℕ)) → Live m begin now s read fr held holds → Answered m begin now s read held holds (HasNoFault read) []
+pub live_ends : {S : Type 0} (m : Machine S) (begin now : Model S) (s : S) (read : List ℕ) (fr : FramerState) (held holds : Option (List ℕ)) → Live m begin now s read fr held holds → Answered m begin now s read held holds (HasNoFault read) []
 live_ends m begin now s read fr held holds h =
     elim (open_or_clean fr.held h.unfinished) [
       | inl none ↦ answered m begin now s h.given read held holds (HasNoFault read) h.so_far (inl (stream_ends m begin now s h.given fr.held read held holds h.so_far Clean h.whole none))
       | inr some ↦ answered m begin now s h.given read held holds (HasNoFault read) h.so_far (inr (stream_ends m begin now s h.given fr.held read held holds h.so_far Open h.whole some))
     ]
 
-pub refuse_ends : {S : Type 0} (m : Machine S) (begin now : Sight S) (s : S) (read : List ℕ) (AtEnd : Type 0) (f : FrameFault) (held holds then_ : Option (List ℕ)) (end : RunEnd) → Answered m begin now s read held holds (λ calls. HasFault read calls f.why f.at) [] → (f.why ≡ EndOfInput → AtEnd) → Refuses f holds then_ end → Ended m begin now s read AtEnd held then_ end
+pub refuse_ends : {S : Type 0} (m : Machine S) (begin now : Model S) (s : S) (read : List ℕ) (AtEnd : Type 0) (f : FrameFault) (held holds then_ : Option (List ℕ)) (end : RunEnd) → Answered m begin now s read held holds (λ calls. HasFault read calls f.why f.at) [] → (f.why ≡ EndOfInput → AtEnd) → Refuses f holds then_ end → Ended m begin now s read AtEnd held then_ end
 refuse_ends m begin now s read AtEnd f held holds then_ (Malformed g) h at_end r =
     subst (λ (k : FrameFault). Answered m begin now s read held then_ (λ calls. HasFault read calls k.why k.at) (fault_frame k) × (k.why ≡ EndOfInput → AtEnd)) (sym r.0) (answered_then m begin now s read held holds then_ (λ calls. HasFault read calls f.why f.at) (fault_frame f) h r.1, at_end)
 refuse_ends m begin now s read AtEnd f held holds then_ WriteFailed h at_end r = cut_fault m begin now s read held holds then_ AtEnd f h at_end r
@@ -140,7 +141,7 @@ refuse_ends m begin now s read AtEnd f held holds then_ ReadFailed h at_end r = 
 refuse_ends m begin now s read AtEnd f held holds then_ TurnsSpent h at_end r = absurd r
 refuse_ends m begin now s read AtEnd f held holds then_ NoMemory h at_end r = absurd r
 
-finish_at : {S : Type 0} (m : Machine S) (begin now : Sight S) (s : S) (read : List ℕ) (AtEnd : Type 0) (fr : FramerState) (left : List ℕ) (held holds then_ : Option (List ℕ)) (end : RunEnd) → fr.held ≡ left → Live m begin now s read fr held holds → AtEnd → Finishes fr holds then_ end → Ended m begin now s read AtEnd held then_ end
+finish_at : {S : Type 0} (m : Machine S) (begin now : Model S) (s : S) (read : List ℕ) (AtEnd : Type 0) (fr : FramerState) (left : List ℕ) (held holds then_ : Option (List ℕ)) (end : RunEnd) → fr.held ≡ left → Live m begin now s read fr held holds → AtEnd → Finishes fr holds then_ end → Ended m begin now s read AtEnd held then_ end
 finish_at m begin now s read AtEnd fr [] held holds then_ end e h at_end f =
     let d = f.0 h.unfinished h.unknown e in
     let a = answered m begin now s h.given read held holds (λ calls. Stream read calls Clean) h.so_far (stream_ends m begin now s h.given fr.held read held holds h.so_far Clean h.whole e) in
@@ -152,17 +153,17 @@ finish_at m begin now s read AtEnd fr (b ∷ bs) held holds then_ end e h at_end
     let place : fr.past + length fr.held ≡ length read = omega (arith, h.past, ap length h.whole, length-append h.given fr.held) in
     refuse_ends m begin now s read AtEnd fault held holds then_ end (answered m begin now s h.given read held holds (λ calls. HasFault read calls EndOfInput (fr.past + length fr.held)) h.so_far (stream, place)) (λ e. at_end) (f.1 h.unfinished h.unknown some)
 
-pub finish_ends : {S : Type 0} (m : Machine S) (begin now : Sight S) (s : S) (read : List ℕ) (AtEnd : Type 0) (fr : FramerState) (held holds then_ : Option (List ℕ)) (end : RunEnd) → Live m begin now s read fr held holds → AtEnd → Finishes fr holds then_ end → Ended m begin now s read AtEnd held then_ end
+pub finish_ends : {S : Type 0} (m : Machine S) (begin now : Model S) (s : S) (read : List ℕ) (AtEnd : Type 0) (fr : FramerState) (held holds then_ : Option (List ℕ)) (end : RunEnd) → Live m begin now s read fr held holds → AtEnd → Finishes fr holds then_ end → Ended m begin now s read AtEnd held then_ end
 finish_ends m begin now s read AtEnd fr held holds then_ end h at_end f = finish_at m begin now s read AtEnd fr fr.held held holds then_ end refl h at_end f
 
 Keeps-refl : (a : Option (List ℕ)) → Keeps a a
 Keeps-refl None = tt
 Keeps-refl (Some xs) = refl
 
-pub nothing_ends : {S : Type 0} (m : Machine S) (now : Sight S) (s : S) (held : Option (List ℕ)) → now.holds s → Runs m now now s [] × Keeps held held
+pub nothing_ends : {S : Type 0} (m : Machine S) (now : Model S) (s : S) (held : Option (List ℕ)) → now.holds s → Runs m now now s [] × Keeps held held
 nothing_ends m now s held h = (runs_start m now s h, Keeps-refl held)
 
-pub live_start : {S : Type 0} (m : Machine S) (now : Sight S) (s : S) (f : FramerState) (held : Option (List ℕ)) → now.holds s → f ≡ start → IsUnfinished f.held → Live m now now s [] f held held
+pub live_start : {S : Type 0} (m : Machine S) (now : Model S) (s : S) (f : FramerState) (held : Option (List ℕ)) → now.holds s → f ≡ start → IsUnfinished f.held → Live m now now s [] f held held
 live_start m now s f held h e open_ = subst (λ (x : FramerState). Live m now now s [] x held held) (sym e) (record {
   given = [];
   so_far = so_far_start m now s held h;
@@ -181,5 +182,5 @@ consumes_none a b buf n e h = subst (λ (x : List ℕ). Consumes a b x) (ap (λ 
 pub consumes_same : (a b c : Option (List ℕ)) (read : List ℕ) → Consumes a b read → Consumes b c [] → Consumes a c read
 consumes_same a b c read h k = subst (λ (x : List ℕ). Consumes a c x) (append-nil read) (Consumes-trans a b c read [] h k)
 
-pub live_whole : {S : Type 0} (m : Machine S) (begin now : Sight S) (s : S) (read piece : List ℕ) (n : ℕ) (fr : FramerState) (held holds : Option (List ℕ)) → n ≡ length piece → Live m begin now s (read ++ take n piece) fr held holds → Live m begin now s (read ++ piece) fr held holds
+pub live_whole : {S : Type 0} (m : Machine S) (begin now : Model S) (s : S) (read piece : List ℕ) (n : ℕ) (fr : FramerState) (held holds : Option (List ℕ)) → n ≡ length piece → Live m begin now s (read ++ take n piece) fr held holds → Live m begin now s (read ++ piece) fr held holds
 live_whole m begin now s read piece n fr held holds e h = subst (λ (x : List ℕ). Live m begin now s (read ++ x) fr held holds) (take_all n piece (omega arith)) h

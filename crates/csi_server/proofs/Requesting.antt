@@ -11,7 +11,8 @@ use Rattle.csi_codec.specs.Reading.{read_request}
 use Rattle.csi_machine.specs.declared.body.Verdict.{Verdict}
 use Rattle.csi_machine.specs.declared.body.Verdict.TheVariants as verdict
 use Rattle.csi_machine.specs.Verdicts.{Told, told_of, IsTold}
-use Rattle.csi_server.specs.Machine.{Machine, Mark, Unmarked, OutOfMemory, StoreRefused, StoreDown, Sight, Answers, Leaves, KnowsDown, marked, refused}
+use Rattle.csi_keeper.specs.Model.{Model}
+use Rattle.csi_server.specs.Machine.{Machine, Mark, Unmarked, OutOfMemory, StoreRefused, StoreDown, Answers, Leaves, KnowsDown, marked, refused}
 use Rattle.csi_server.specs.Requests.{AnswersBy, LeavesBy, IsUnread, IsRequest, requests, after_check, after_read, after_path, told}
 use Rattle.csi_server.specs.Identity.{said, still}
 use Rattle.csi_server.specs.Service.{room}
@@ -24,11 +25,11 @@ leaves_by m old new s call OutOfMemory l = l
 leaves_by m old new s call StoreRefused l = l
 leaves_by m old new s call StoreDown l = l
 
-knows_same : {S : Type 0} {f g : S → ReplyBytes × S} {old new : Sight S} {r : ReplyBytes} {mark : Mark} → ((t : S) → f t ≡ g t) → KnowsDown f old new r mark → KnowsDown g old new r mark
+knows_same : {S : Type 0} {f g : S → ReplyBytes × S} {old new : Model S} {r : ReplyBytes} {mark : Mark} → ((t : S) → f t ≡ g t) → KnowsDown f old new r mark → KnowsDown g old new r mark
 knows_same e k = record { down = k.down; refused = k.refused; unasked = λ is unmarked t. sym (e t) ∙ k.unasked is unmarked t; stays = k.stays }
 
 -- an answer to what responds as the machine does is an answer of the machine
-pub answers_by : {S : Type 0} (m : Machine S) (f : S → ReplyBytes × S) (May : Type 0) (old new : Sight S) (s : S) (call : CallBytes) (r : ReplyBytes) → ((t : S) → m.respond t call ≡ f t) → (May → m.may_fail call) → AnswersBy f May old new s r → Answers m old new s call r
+pub answers_by : {S : Type 0} (m : Machine S) (f : S → ReplyBytes × S) (May : Type 0) (old new : Model S) (s : S) (call : CallBytes) (r : ReplyBytes) → ((t : S) → m.respond t call ≡ f t) → (May → m.may_fail call) → AnswersBy f May old new s r → Answers m old new s call r
 answers_by {S} m f May old new s call r e may a = record {
   mark = a.mark;
   allowed = λ is_marked. may (a.allowed is_marked);
@@ -41,7 +42,7 @@ answers_by {S} m f May old new s call r e may a = record {
 }
 
 -- an answer that asks nothing of the service
-pub kept_by : {S : Type 0} (f : S → ReplyBytes × S) (May : Type 0) (now : Sight S) (s : S) (r : ReplyBytes) → ((t : S) → f t ≡ (r, t)) → now.holds s → AnswersBy f May now now s r
+pub kept_by : {S : Type 0} (f : S → ReplyBytes × S) (May : Type 0) (now : Model S) (s : S) (r : ReplyBytes) → ((t : S) → f t ≡ (r, t)) → now.holds s → AnswersBy f May now now s r
 kept_by {S} f May now s r e h = record {
   mark = Unmarked;
   allowed = λ is_marked. absurd (is_marked refl);
@@ -54,7 +55,7 @@ kept_by {S} f May now s r e h = record {
 }
 
 -- memory was refused before the service was asked
-pub memory_by : {S : Type 0} (f : S → ReplyBytes × S) (May : Type 0) (now : Sight S) (s : S) (r : ReplyBytes) → r ≡ refused reason.OutOfMemory → May → now.holds s → AnswersBy f May now now s r
+pub memory_by : {S : Type 0} (f : S → ReplyBytes × S) (May : Type 0) (now : Model S) (s : S) (r : ReplyBytes) → r ≡ refused reason.OutOfMemory → May → now.holds s → AnswersBy f May now now s r
 memory_by f May now s r e may h = record {
   mark = OutOfMemory;
   allowed = λ is_marked. may;
@@ -66,10 +67,10 @@ memory_by f May now s r e may h = record {
   knows = record { down = λ is. absurd (cc); refused = λ is. absurd (cc); unasked = λ is unmarked. absurd (cc); stays = λ is. is };
 }
 
-pub may_by : {S : Type 0} {f : S → ReplyBytes × S} {May Might : Type 0} {old new : Sight S} {s : S} {r : ReplyBytes} → (May → Might) → AnswersBy f May old new s r → AnswersBy f Might old new s r
+pub may_by : {S : Type 0} {f : S → ReplyBytes × S} {May Might : Type 0} {old new : Model S} {s : S} {r : ReplyBytes} → (May → Might) → AnswersBy f May old new s r → AnswersBy f Might old new s r
 may_by g a = record { mark = a.mark; allowed = λ is_marked. g (a.allowed is_marked); reply = a.reply; held = a.held; counted = a.counted; left = a.left; ties = a.ties; knows = a.knows }
 
-pub same_by : {S : Type 0} (f g : S → ReplyBytes × S) {May : Type 0} {old new : Sight S} {s : S} {r : ReplyBytes} → ((t : S) → f t ≡ g t) → AnswersBy f May old new s r → AnswersBy g May old new s r
+pub same_by : {S : Type 0} (f g : S → ReplyBytes × S) {May : Type 0} {old new : Model S} {s : S} {r : ReplyBytes} → ((t : S) → f t ≡ g t) → AnswersBy f May old new s r → AnswersBy g May old new s r
 same_by {S} f g {old = old} {new = new} {s = s} e a = record {
   mark = a.mark;
   allowed = a.allowed;
@@ -87,23 +88,23 @@ module _ {S : Type 0} (answer : S → Request → Told × S) (m : Method) (messa
   to_message t = after_read answer t (read_request m message)
 
   -- a message that is not answered
-  pub unread_by : (now : Sight S) (s : S) (r : ReplyBytes) → IsUnread m message r → now.holds s → AnswersBy to_message ((q : Request) × (read_request m message ≡ Ok q)) now now s r
+  pub unread_by : (now : Model S) (s : S) (r : ReplyBytes) → IsUnread m message r → now.holds s → AnswersBy to_message ((q : Request) × (read_request m message ≡ Ok q)) now now s r
   unread_by now s r (inl un) h = kept_by to_message _ now s r (λ t. ap (after_read answer t) un.1 ∙ ap (λ (b : ReplyBytes). (b, t)) (sym un.2)) h
   unread_by now s r (inr (inl un)) h = kept_by to_message _ now s r (λ t. ap (after_read answer t) un.2 ∙ ap (after_check answer t un.0) un.3 ∙ ap (λ (b : ReplyBytes). (b, t)) (sym un.4)) h
   unread_by now s r (inr (inr un)) h = memory_by to_message _ now s r un.2 (un.0, un.1) h
 
   -- a message whose request is answered
-  pub read_by : (old new : Sight S) (s : S) (r : ReplyBytes) (q : Request) → read_request m message ≡ Ok q → checked q ≡ None → AnswersBy (λ t. after_check answer t q None) ⊤ old new s r → AnswersBy to_message ((q : Request) × (read_request m message ≡ Ok q)) old new s r
+  pub read_by : (old new : Model S) (s : S) (r : ReplyBytes) (q : Request) → read_request m message ≡ Ok q → checked q ≡ None → AnswersBy (λ t. after_check answer t q None) ⊤ old new s r → AnswersBy to_message ((q : Request) × (read_request m message ≡ Ok q)) old new s r
   read_by old new s r q is passed a = same_by (λ t. after_check answer t q None) to_message (λ t. sym (ap (after_read answer t) is ∙ ap (after_check answer t q) passed)) (may_by (λ _. (q, is)) a)
 
 module _ {S : Type 0} (method : List ℕ → Option Method) (answer : S → Request → Told × S) (call : CallBytes) where
   -- a call whose path names no method
-  pub unknown_by : (now : Sight S) (s : S) (r : ReplyBytes) → method call.path ≡ None → r ≡ refused reason.UnknownMethod → now.holds s → Answers (requests method answer) now now s call r
+  pub unknown_by : (now : Model S) (s : S) (r : ReplyBytes) → method call.path ≡ None → r ≡ refused reason.UnknownMethod → now.holds s → Answers (requests method answer) now now s call r
   unknown_by now s r none e h =
       answers_by (requests method answer) (λ t. (refused reason.UnknownMethod, t)) ⊥ now now s call r (λ t. ap (λ (o : Option Method). after_path answer t o call.message) none) (λ un. absurd un)
       (kept_by (λ t. (refused reason.UnknownMethod, t)) ⊥ now s r (λ t. ap (λ (b : ReplyBytes). (b, t)) (sym e)) h)
 
-  pub call_by : (old new : Sight S) (s : S) (r : ReplyBytes) (m : Method) → method call.path ≡ Some m → AnswersBy (to_message answer m call.message) ((q : Request) × (read_request m call.message ≡ Ok q)) old new s r → Answers (requests method answer) old new s call r
+  pub call_by : (old new : Model S) (s : S) (r : ReplyBytes) (m : Method) → method call.path ≡ Some m → AnswersBy (to_message answer m call.message) ((q : Request) × (read_request m call.message ≡ Ok q)) old new s r → Answers (requests method answer) old new s call r
   call_by old new s r m is a =
       answers_by (requests method answer) (to_message answer m call.message) ((q : Request) × (read_request m call.message ≡ Ok q)) old new s call r
       (λ t. ap (λ (o : Option Method). after_path answer t o call.message) is)

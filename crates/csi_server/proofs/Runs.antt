@@ -10,7 +10,8 @@ use Rattle.frames_core.specs.declared.fault.FrameWhy.TheVariants.{BadPathLength,
 use Rattle.frames_core.specs.declared.fault.FrameFault.{FrameFault}
 use Rattle.frames_core.specs.Envelope.{CallBytes, ReplyBytes, IsCall, IsReply, frame, reply}
 use Rattle.frames_core.specs.Stream.{Stream, End, Ends, Fault, Open, frames, FaultAt}
-use Rattle.csi_server.specs.Machine.{Machine, Mark, Unmarked, OutOfMemory, StoreRefused, StoreDown, Event, Sight, Runs, Answers, IsDue, Leaves, RoseBy, IsAllowed, IsIdle, KnowsDown, StaysDown, is_down_after, told_down, done, replies, state_after, store_mark, store_marks, step, calls_of, AreReplies}
+use Rattle.csi_keeper.specs.Model.{Model}
+use Rattle.csi_server.specs.Machine.{Machine, Mark, Unmarked, OutOfMemory, StoreRefused, StoreDown, Event, Runs, Answers, IsDue, Leaves, RoseBy, IsAllowed, IsIdle, KnowsDown, StaysDown, is_down_after, told_down, done, replies, state_after, store_mark, store_marks, step, calls_of, AreReplies}
 use Rattle.csi_server.proofs.Written.{Appends-kept}
 use Rattle.csi_server.specs.Live.{SoFar}
 use Rattle.csi_server.specs.Serving.{IsPrefix, WrotePrefix, Answered, CutOff, HasFault, BeginsWithCalls, AnswersCall, fault_frame}
@@ -133,20 +134,20 @@ down_after_push down [] e = refl
 down_after_push down (x ∷ xs) e = down_after_push (down || told_down x.mark) xs e
 
 -- a call over a store that is down
-idle_by : {S : Type 0} (m : Machine S) (old new : Sight S) (call : CallBytes) (r : ReplyBytes) (mark : Mark) → KnowsDown (λ t. m.respond t call) old new r mark → old.is_down ≡ true → IsIdle m call mark
+idle_by : {S : Type 0} (m : Machine S) (old new : Model S) (call : CallBytes) (r : ReplyBytes) (mark : Mark) → KnowsDown (λ t. m.respond t call) old new r mark → old.is_down ≡ true → IsIdle m call mark
 idle_by m old new call r Unmarked k is = (r, k.unasked is refl)
 idle_by m old new call r OutOfMemory k is = tt
 idle_by m old new call r StoreRefused k is = absurd (cc (k.refused refl, is))
 idle_by m old new call r StoreDown k is = tt
 
-shut_by : {S : Type 0} (f : S → ReplyBytes × S) (old new : Sight S) (r : ReplyBytes) (mark : Mark) (b : Bool) → KnowsDown f old new r mark → (b ≡ true → old.is_down ≡ true) → (b || told_down mark) ≡ true → new.is_down ≡ true
+shut_by : {S : Type 0} (f : S → ReplyBytes × S) (old new : Model S) (r : ReplyBytes) (mark : Mark) (b : Bool) → KnowsDown f old new r mark → (b ≡ true → old.is_down ≡ true) → (b || told_down mark) ≡ true → new.is_down ≡ true
 shut_by f old new r mark true k was is = k.stays (was refl)
 shut_by f old new r Unmarked false k was is = absurd (cc)
 shut_by f old new r OutOfMemory false k was is = absurd (cc)
 shut_by f old new r StoreRefused false k was is = absurd (cc)
 shut_by f old new r StoreDown false k was is = k.stays (k.down refl)
 
-pub runs_start : {S : Type 0} (m : Machine S) (now : Sight S) (s : S) → now.holds s → Runs m now now s []
+pub runs_start : {S : Type 0} (m : Machine S) (now : Model S) (s : S) → now.holds s → Runs m now now s []
 unfolding state_after store_marks AreReplies StaysDown is_down_after
 runs_start m now s h = record {
   allowed = tt;
@@ -160,7 +161,7 @@ runs_start m now s h = record {
 }
 
 -- the run with one call more
-runs_push : {S : Type 0} (m : Machine S) (start mid new : Sight S) (s : S) (es : List Event) (call : CallBytes) (r : ReplyBytes) → Runs m start mid s es → (a : Answers m mid new (state_after m s es) call r) → IsReply r → Runs m start new s (es ++ record { call = call; mark = a.mark } ∷ [])
+runs_push : {S : Type 0} (m : Machine S) (start mid new : Model S) (s : S) (es : List Event) (call : CallBytes) (r : ReplyBytes) → Runs m start mid s es → (a : Answers m mid new (state_after m s es) call r) → IsReply r → Runs m start new s (es ++ record { call = call; mark = a.mark } ∷ [])
 runs_push {S} m start mid new s es call r run a good =
     let e : Event = record { call = call; mark = a.mark } in
     record {
@@ -174,7 +175,7 @@ runs_push {S} m start mid new s es call r run a good =
       shut = λ is. shut_by (λ t. m.respond t call) mid new r a.mark (is_down_after start.is_down es) a.knows run.shut (sym (down_after_push start.is_down es e) ∙ is);
     }
 
-pub so_far_start : {S : Type 0} (m : Machine S) (now : Sight S) (s : S) (held : Option (List ℕ)) → now.holds s → SoFar m now now s [] held held
+pub so_far_start : {S : Type 0} (m : Machine S) (now : Model S) (s : S) (held : Option (List ℕ)) → now.holds s → SoFar m now now s [] held held
 unfolding replies
 so_far_start m now s held h = record {
   events = [];
@@ -193,7 +194,7 @@ frames_push es e = ap frames (calls_push es e) ∙ (frames-append (calls_of es) 
 calls_push_good : (es : List Event) (e : Event) → All IsCall (calls_of es) → IsCall e.call → All IsCall (calls_of (es ++ e ∷ []))
 calls_push_good es e each good = subst (λ (cs : List CallBytes). All IsCall cs) (sym (calls_push es e)) (All-push IsCall (calls_of es) e.call each good)
 
-pub so_far_push : {S : Type 0} (m : Machine S) (start mid new : Sight S) (s : S) (bytes more : List ℕ) (call : CallBytes) (held holds then_ : Option (List ℕ)) → SoFar m start mid s bytes held holds → IsCall call → more ≡ frame call
+pub so_far_push : {S : Type 0} (m : Machine S) (start mid new : Model S) (s : S) (bytes more : List ℕ) (call : CallBytes) (held holds then_ : Option (List ℕ)) → SoFar m start mid s bytes held holds → IsCall call → more ≡ frame call
     → (Whole : Type 0) → Whole → ((t : S) → mid.holds t → AnswersCall m mid new t call holds then_ Whole) → SoFar m start new s (bytes ++ more) held then_
 so_far_push {S} m start mid new s bytes more call held holds then_ h good is Whole done from =
     let a = from (state_after m s h.events) h.run.held in
@@ -206,7 +207,7 @@ so_far_push {S} m start mid new s bytes more call held holds then_ h good is Who
       written = subst (λ (x : List ℕ). Appends held then_ x) (ap (λ (r : ReplyBytes). replies m s h.events ++ reply r) a.answers.reply ∙ sym (replies-push m s h.events e)) (Appends-trans held holds then_ (replies m s h.events) (reply a.r) h.written (a.all done));
     }
 
-pub cut_call : {S : Type 0} (m : Machine S) (start mid new : Sight S) (s : S) (bytes more rest read : List ℕ) (call : CallBytes) (held holds then_ : Option (List ℕ)) (Whole : Type 0) → SoFar m start mid s bytes held holds → IsCall call → more ≡ frame call → read ≡ bytes ++ (more ++ rest)
+pub cut_call : {S : Type 0} (m : Machine S) (start mid new : Model S) (s : S) (bytes more rest read : List ℕ) (call : CallBytes) (held holds then_ : Option (List ℕ)) (Whole : Type 0) → SoFar m start mid s bytes held holds → IsCall call → more ≡ frame call → read ≡ bytes ++ (more ++ rest)
     → ((t : S) → mid.holds t → AnswersCall m mid new t call holds then_ Whole) → CutOff m start new s read ⊥ held then_
 cut_call {S} m start mid new s bytes more rest read call held holds then_ Whole h good is e from =
     let a = from (state_after m s h.events) h.run.held in
@@ -223,7 +224,7 @@ cut_call {S} m start mid new s bytes more rest read call held holds then_ Whole 
     }
 
 -- how what is left of the stream ends it
-pub stream_ends : {S : Type 0} (m : Machine S) (start now : Sight S) (s : S) (bytes rest read : List ℕ) (held holds : Option (List ℕ)) (h : SoFar m start now s bytes held holds) (end : End) → read ≡ bytes ++ rest → Ends (length bytes) rest end → Stream read (calls_of h.events) end
+pub stream_ends : {S : Type 0} (m : Machine S) (start now : Model S) (s : S) (bytes rest read : List ℕ) (held holds : Option (List ℕ)) (h : SoFar m start now s bytes held holds) (end : End) → read ≡ bytes ++ rest → Ends (length bytes) rest end → Stream read (calls_of h.events) end
 stream_ends m start now s bytes rest read held holds h end e ends = record {
   rest = rest;
   whole = e ∙ ap (λ (x : List ℕ). x ++ rest) h.whole;
@@ -231,7 +232,7 @@ stream_ends m start now s bytes rest read held holds h end e ends = record {
   ends = subst (λ (x : List ℕ). Ends (length x) rest end) h.whole ends;
 }
 
-pub answered : {S : Type 0} (m : Machine S) (start now : Sight S) (s : S) (bytes read : List ℕ) (held holds : Option (List ℕ)) (IsEnd : List CallBytes → Type 0) (h : SoFar m start now s bytes held holds) → IsEnd (calls_of h.events) → Answered m start now s read held holds IsEnd []
+pub answered : {S : Type 0} (m : Machine S) (start now : Model S) (s : S) (bytes read : List ℕ) (held holds : Option (List ℕ)) (IsEnd : List CallBytes → Type 0) (h : SoFar m start now s bytes held holds) → IsEnd (calls_of h.events) → Answered m start now s read held holds IsEnd []
 answered m start now s bytes read held holds IsEnd h end = record {
   events = h.events;
   ended = end;
@@ -239,7 +240,7 @@ answered m start now s bytes read held holds IsEnd h end = record {
   written = subst (λ (x : List ℕ). Appends held holds x) (sym (append-nil (replies m s h.events))) h.written;
 }
 
-fault_ends : {S : Type 0} (m : Machine S) (start now : Sight S) (s : S) (bytes rest read : List ℕ) (held holds : Option (List ℕ)) (h : SoFar m start now s bytes held holds) → read ≡ bytes ++ rest → (why : FrameWhy) (at : ℕ) → FaultAt rest why at → HasFault read (calls_of h.events) why (length bytes + at)
+fault_ends : {S : Type 0} (m : Machine S) (start now : Model S) (s : S) (bytes rest read : List ℕ) (held holds : Option (List ℕ)) (h : SoFar m start now s bytes held holds) → read ≡ bytes ++ rest → (why : FrameWhy) (at : ℕ) → FaultAt rest why at → HasFault read (calls_of h.events) why (length bytes + at)
 fault_ends m start now s bytes rest read held holds h e EndOfInput at f =
     (stream_ends m start now s bytes rest read held holds h Open e f.1, omega (arith, f.0, ap length e, length-append bytes rest))
 fault_ends m start now s bytes rest read held holds h e BadPathLength at f = stream_ends m start now s bytes rest read held holds h (Fault BadPathLength (length bytes + at)) e (at, f, refl)
@@ -247,7 +248,7 @@ fault_ends m start now s bytes rest read held holds h e BadPath at f = stream_en
 fault_ends m start now s bytes rest read held holds h e BadFlag at f = stream_ends m start now s bytes rest read held holds h (Fault BadFlag (length bytes + at)) e (at, f, refl)
 fault_ends m start now s bytes rest read held holds h e TooLong at f = stream_ends m start now s bytes rest read held holds h (Fault TooLong (length bytes + at)) e (at, f, refl)
 
-pub answered_fault : {S : Type 0} (m : Machine S) (start now : Sight S) (s : S) (bytes rest read : List ℕ) (held holds : Option (List ℕ)) → SoFar m start now s bytes held holds → read ≡ bytes ++ rest → (why : FrameWhy) (at : ℕ) → FaultAt rest why at → Answered m start now s read held holds (λ calls. HasFault read calls why (length bytes + at)) []
+pub answered_fault : {S : Type 0} (m : Machine S) (start now : Model S) (s : S) (bytes rest read : List ℕ) (held holds : Option (List ℕ)) → SoFar m start now s bytes held holds → read ≡ bytes ++ rest → (why : FrameWhy) (at : ℕ) → FaultAt rest why at → Answered m start now s read held holds (λ calls. HasFault read calls why (length bytes + at)) []
 answered_fault m start now s bytes rest read held holds h e why at f = answered m start now s bytes read held holds (λ calls. HasFault read calls why (length bytes + at)) h (fault_ends m start now s bytes rest read held holds h e why at f)
 
 -- ---- the end of a run
@@ -259,7 +260,7 @@ fault_begins read calls BadPath at h = record { rest = h.rest; whole = h.whole; 
 fault_begins read calls BadFlag at h = record { rest = h.rest; whole = h.whole; each = h.each }
 fault_begins read calls TooLong at h = record { rest = h.rest; whole = h.whole; each = h.each }
 
-pub cut_fault : {S : Type 0} (m : Machine S) (start now : Sight S) (s : S) (read : List ℕ) (held holds then_ : Option (List ℕ)) (AtEnd : Type 0) (f : FrameFault) → Answered m start now s read held holds (λ calls. HasFault read calls f.why f.at) [] → (f.why ≡ EndOfInput → AtEnd) → WrotePrefix holds then_ (fault_frame f) → CutOff m start now s read AtEnd held then_
+pub cut_fault : {S : Type 0} (m : Machine S) (start now : Model S) (s : S) (read : List ℕ) (held holds then_ : Option (List ℕ)) (AtEnd : Type 0) (f : FrameFault) → Answered m start now s read held holds (λ calls. HasFault read calls f.why f.at) [] → (f.why ≡ EndOfInput → AtEnd) → WrotePrefix holds then_ (fault_frame f) → CutOff m start now s read AtEnd held then_
 cut_fault m start now s read held holds then_ AtEnd f h at_end w = record {
   events = h.events;
   begins = fault_begins read (calls_of h.events) f.why f.at h.ended;
@@ -271,7 +272,7 @@ cut_fault m start now s read held holds then_ AtEnd f h at_end w = record {
 }
 
 -- what a cut says of the end of the input says less where the end is no more known
-pub cut_at : {S : Type 0} (m : Machine S) (start now : Sight S) (s : S) (read : List ℕ) (held holds : Option (List ℕ)) (AtEnd : Type 0) → CutOff m start now s read ⊥ held holds → CutOff m start now s read AtEnd held holds
+pub cut_at : {S : Type 0} (m : Machine S) (start now : Model S) (s : S) (read : List ℕ) (held holds : Option (List ℕ)) (AtEnd : Type 0) → CutOff m start now s read ⊥ held holds → CutOff m start now s read AtEnd held holds
 cut_at m start now s read held holds AtEnd h = record {
   events = h.events;
   begins = h.begins;
@@ -282,7 +283,7 @@ cut_at m start now s read held holds AtEnd h = record {
   written = h.written;
 }
 
-pub answered_then : {S : Type 0} (m : Machine S) (start now : Sight S) (s : S) (read : List ℕ) (held holds then_ : Option (List ℕ)) (IsEnd : List CallBytes → Type 0) (last : List ℕ) → Answered m start now s read held holds IsEnd [] → Appends holds then_ last → Answered m start now s read held then_ IsEnd last
+pub answered_then : {S : Type 0} (m : Machine S) (start now : Model S) (s : S) (read : List ℕ) (held holds then_ : Option (List ℕ)) (IsEnd : List CallBytes → Type 0) (last : List ℕ) → Answered m start now s read held holds IsEnd [] → Appends holds then_ last → Answered m start now s read held then_ IsEnd last
 answered_then m start now s read held holds then_ IsEnd last h w = record {
   events = h.events;
   ended = h.ended;
@@ -290,7 +291,7 @@ answered_then m start now s read held holds then_ IsEnd last h w = record {
   written = subst (λ (x : List ℕ). Appends held then_ x) (ap (λ (x : List ℕ). x ++ last) (append-nil (replies m s h.events))) (Appends-trans held holds then_ (replies m s h.events ++ []) last h.written w);
 }
 
-pub answered_kept : {S : Type 0} (m : Machine S) (start now : Sight S) (s : S) (read : List ℕ) (held holds then_ : Option (List ℕ)) (IsEnd : List CallBytes → Type 0) (last : List ℕ) → Answered m start now s read held holds IsEnd last → Keeps holds then_ → Answered m start now s read held then_ IsEnd last
+pub answered_kept : {S : Type 0} (m : Machine S) (start now : Model S) (s : S) (read : List ℕ) (held holds then_ : Option (List ℕ)) (IsEnd : List CallBytes → Type 0) (last : List ℕ) → Answered m start now s read held holds IsEnd last → Keeps holds then_ → Answered m start now s read held then_ IsEnd last
 answered_kept m start now s read held holds then_ IsEnd last h k = record {
   events = h.events;
   ended = h.ended;
@@ -306,5 +307,5 @@ left_settled : {S : Type 0} (m : Machine S) (s : S) (es : List Event) (t : S) �
 left_settled m s es t (inl is) none = is
 left_settled m s es t (inr due) none = absurd (due.is_marked (unmarked_at due.before due.after due.refused (subst (λ (xs : List Event). AllByRecursion (λ x. x.mark ≡ Unmarked) xs) due.whole none)))
 
-pub run_settled : {S : Type 0} (m : Machine S) (old new : Sight S) (s : S) (es : List Event) → Runs m old new s es → AllByRecursion (λ x. x.mark ≡ Unmarked) es → ((t : S) → old.survivors t → t ≡ s) → (t : S) → new.survivors t → t ≡ state_after m s es
+pub run_settled : {S : Type 0} (m : Machine S) (old new : Model S) (s : S) (es : List Event) → Runs m old new s es → AllByRecursion (λ x. x.mark ≡ Unmarked) es → ((t : S) → old.survivors t → t ≡ s) → (t : S) → new.survivors t → t ≡ state_after m s es
 run_settled m old new s es run none only t h = left_settled m s es t (run.survive only t h) none

@@ -1,23 +1,21 @@
 -- A keeper's answers, as the volume machine responds.
-use Rattle.std.proofs.Common.{◌≡◌, ◌⊎◌, Bool, true, ℕ, List, [], ◌++◌, ◌+◌, drop, length, length-append, None, Result, Ok, Err, refl, sym, ap, subst, ◌∙◌, inl, inr, arith}
+use Rattle.std.proofs.Common.{◌≡◌, ◌⊎◌, true, ℕ, List, [], ◌++◌, ◌+◌, drop, length, length-append, None, Result, Ok, Err, refl, sym, ap, subst, ◌∙◌, inl, inr, arith}
 use Rattle.std.specs.Prelude.{⊤}
-use Rattle.csi_types.specs.declared.reason.Reason.TheVariants as reason
 use Rattle.csi_types.specs.declared.requests.Request.{Request}
 use Rattle.frames_core.specs.Envelope.{ReplyBytes}
 use Rattle.frames_core.specs.declared.limits.TheConstants.{REPLY_HEAD_BYTES}
 use Rattle.csi_config.specs.declared.config.Config.{Config}
 use Rattle.csi_machine.specs.declared.body.Verdict.{Verdict}
 use Rattle.csi_machine.specs.declared.body.Verdict.TheVariants as verdict
+use Rattle.csi_keeper.specs.Model.{Model}
 use Rattle.csi_keeper.specs.declared.change.StoreFault.{StoreFault}
 use Rattle.csi_keeper.specs.declared.change.StoreFault.TheVariants as fault
-use Rattle.csi_machine.specs.Answering.{state_after, IsOfAll, Leaves}
-use Rattle.csi_machine.specs.Down.{TellsDown}
+use Rattle.csi_machine.specs.Answering.{IsOfAll, Performs}
 use Rattle.csi_keeper.specs.Invariant.{IsInvariant}
-use Rattle.csi_keeper.specs.Keeper.{count_after}
 use Rattle.csi_keeper.specs.State.{State}
 use Rattle.csi_machine.specs.Step.{step}
-use Rattle.csi_machine.specs.Verdicts.{Appended, IsTold}
-use Rattle.csi_server.specs.Machine.{Mark, Unmarked, OutOfMemory, StoreRefused, StoreDown, Sight, KnowsDown, RoseBy, marked, store_mark, refused}
+use Rattle.csi_machine.specs.Verdicts.{Appended}
+use Rattle.csi_server.specs.Machine.{Mark, Unmarked, OutOfMemory, StoreRefused, StoreDown, KnowsDown, RoseBy, marked, store_mark, refused}
 use Rattle.csi_server.specs.Requests.{AnswersBy, LeavesBy, after_check, told}
 use Rattle.csi_server.specs.Service.{HoldsBody, room}
 use Rattle.csi_server.specs.declared.service.Answer.TheVariants as answer
@@ -37,22 +35,22 @@ mark_of fault.NoMemory = OutOfMemory
 mark_of fault.Refused = StoreRefused
 mark_of fault.Down = StoreDown
 
-module _ {K : Type 0} (holds : K → State → Type 0) (doubt refusals : K → ℕ) (survivors : K → State → Type 0) (tied : K → Type 0) (is_down : K → Bool) (config : Config) (request : Request) (a b : K) where
+module _ (config : Config) (request : Request) (a b : Model State) where
   -- a keeper before and after, and what is responded from each State
-  abbrev before : Sight State
-  before = seen holds doubt refusals survivors tied is_down config a
+  abbrev before : Model State
+  before = seen config a
 
-  abbrev behind : Sight State
-  behind = seen holds doubt refusals survivors tied is_down config b
+  abbrev behind : Model State
+  behind = seen config b
 
   abbrev to_request : State → ReplyBytes × State
   to_request t = after_check (step config) t request None
 
   done_by : (s : State) (r : ReplyBytes) → r ≡ told (step config s request).0
-      → holds b (step config s request).1 → IsInvariant config (step config s request).1 → refusals b ≡ refusals a
-      → ((((step config s request).1 ≡ s) × ((u : State) → survivors b u → survivors a u)) ⊎ ((u : State) → survivors b u → u ≡ (step config s request).1))
-      → (tied a → tied b)
-      → (is_down a ≡ true → (t : State) → to_request t ≡ (r, t)) → (is_down a ≡ true → is_down b ≡ true)
+      → b.holds (step config s request).1 → IsInvariant config (step config s request).1 → b.refusals ≡ a.refusals
+      → ((((step config s request).1 ≡ s) × ((u : State) → b.survivors u → a.survivors u)) ⊎ ((u : State) → b.survivors u → u ≡ (step config s request).1))
+      → (a.tied → b.tied)
+      → (a.is_down ≡ true → (t : State) → to_request t ≡ (r, t)) → (a.is_down ≡ true → b.is_down ≡ true)
       → AnswersBy to_request ⊤ before behind s r
   done_by s r e held inv count left ties alone stays = record {
     mark = Unmarked;
@@ -75,16 +73,16 @@ module _ {K : Type 0} (holds : K → State → Type 0) (doubt refusals : K → �
       ap (λ (x : ReplyBytes). (x, (step config t request).1)) (ap told (all t).0 ∙ sym e) ∙ ap (λ (u : State). (r, u)) (all t).1
 
   -- a fault of the keeper
-  failed_by : (s : State) (r : ReplyBytes) (e : StoreFault) → r ≡ (marked s (to_request s) (mark_of e)).0 → (marked s (to_request s) (mark_of e)).1 ≡ s → holds b s → IsInvariant config s
-      → RoseBy (refusals a) (refusals b) (store_mark (mark_of e))
-      → LeavesBy (to_request s) (survivors a) (survivors b) s (mark_of e)
-      → (tied a → tied b) → KnowsDown to_request before behind r (mark_of e)
+  failed_by : (s : State) (r : ReplyBytes) (e : StoreFault) → r ≡ (marked s (to_request s) (mark_of e)).0 → (marked s (to_request s) (mark_of e)).1 ≡ s → b.holds s → IsInvariant config s
+      → RoseBy (a.refusals) (b.refusals) (store_mark (mark_of e))
+      → LeavesBy (to_request s) (a.survivors) (b.survivors) s (mark_of e)
+      → (a.tied → b.tied) → KnowsDown to_request before behind r (mark_of e)
       → AnswersBy to_request ⊤ before behind s r
   failed_by s r e reply kept held inv counted left ties knows = record {
     mark = mark_of e;
     allowed = λ is_marked. tt;
     reply = reply;
-    held = subst (λ (u : State). holds b u × IsInvariant config u) (sym kept) (held, inv);
+    held = subst (λ (u : State). b.holds u × IsInvariant config u) (sym kept) (held, inv);
     counted = counted;
     left = left;
     ties = ties;
@@ -92,30 +90,21 @@ module _ {K : Type 0} (holds : K → State → Type 0) (doubt refusals : K → �
   }
 
   -- an answer from a State of the invariant is one of the machine's
-  pub answered_by : (v : Result Verdict StoreFault) (old out : List ℕ) (s : State) (r : ReplyBytes)
-      → old ≡ room
-      → IsTold (step config s request).0 old out v
-      → holds b (state_after s (step config s request).1 v)
-      → IsInvariant config s
-      → IsInvariant config (step config s request).1
-      → refusals b ≡ count_after (refusals a) v
-      → Leaves (survivors a) (survivors b) s (step config s request).1 v
-      → (tied a → tied b)
-      → TellsDown (is_down a) (IsOfAll config request old out) v
-      → (is_down a ≡ true → is_down b ≡ true)
-      → RepliesTo out r v
-      → AnswersBy to_request ⊤ before behind s r
-  answered_by (Ok verdict.Done) old out s r begun tells held inv next count left ties down stays e =
-      done_by s r (e ∙ ap (λ (o : List ℕ). record { status = 0; text = []; body = drop REPLY_HEAD_BYTES o }) (tells.2 ∙ ap (λ (o : List ℕ). o ++ tells.0) begun) ∙ ap told (sym tells.1)) held next count left ties
-      (λ is. told_all verdict.Done old out r begun e (down.unasked is)) stays
-  answered_by (Ok (verdict.Refused q)) old out s r begun tells held inv next count left ties down stays e =
-      done_by s r (e ∙ ap told (sym tells)) held next count left ties (λ is. told_all (verdict.Refused q) old out r begun e (down.unasked is)) stays
-  answered_by (Err fault.NoMemory) old out s r begun tells held inv next count left ties down stays e =
-      failed_by s r fault.NoMemory e refl held inv (inl (refl, count)) left ties
-      (record { down = λ is. absurd (cc); refused = λ is. absurd (cc); unasked = λ is unmarked. absurd (cc); stays = stays })
-  answered_by (Err fault.Refused) old out s r begun tells held inv next count left ties down stays e =
-      failed_by s r fault.Refused e refl held inv (inr (omega arith, count)) left ties
-      (record { down = λ is. absurd (cc); refused = λ is. down.refused refl; unasked = λ is unmarked. absurd (cc); stays = stays })
-  answered_by (Err fault.Down) old out s r begun tells held inv next count left ties down stays e =
-      failed_by s r fault.Down e refl held inv (inr (omega arith, count)) left ties
-      (record { down = λ is. down.down refl; refused = λ is. absurd (cc); unasked = λ is unmarked. absurd (cc); stays = stays })
+  pub answered_by : (v : Result Verdict StoreFault) (old out : List ℕ) (s : State) (r : ReplyBytes) → old ≡ room → Performs config request a b old out v → b.doubt ≡ 0 → a.holds s → IsInvariant config s
+      → IsInvariant config (step config s request).1 → RepliesTo out r v → AnswersBy to_request ⊤ before behind s r
+  answered_by (Ok verdict.Done) old out s r begun did d h inv next e =
+      let tells = did.told d s h inv in
+      done_by s r (e ∙ ap (λ (o : List ℕ). record { status = 0; text = []; body = drop REPLY_HEAD_BYTES o }) (tells.2 ∙ ap (λ (o : List ℕ). o ++ tells.0) begun) ∙ ap told (sym tells.1))
+      (did.state d s h inv) next did.counted (did.left d s h inv) (did.ties d s h inv) (λ is. told_all verdict.Done old out r begun e (did.down.unasked is)) did.stays
+  answered_by (Ok (verdict.Refused q)) old out s r begun did d h inv next e =
+      done_by s r (e ∙ ap told (sym (did.told d s h inv))) (did.state d s h inv) next did.counted (did.left d s h inv) (did.ties d s h inv)
+      (λ is. told_all (verdict.Refused q) old out r begun e (did.down.unasked is)) did.stays
+  answered_by (Err fault.NoMemory) old out s r begun did d h inv next e =
+      failed_by s r fault.NoMemory e refl (did.state d s h inv) inv (inl (refl, did.counted)) (did.left d s h inv) (did.ties d s h inv)
+      (record { down = λ is. absurd (cc); refused = λ is. absurd (cc); unasked = λ is unmarked. absurd (cc); stays = did.stays })
+  answered_by (Err fault.Refused) old out s r begun did d h inv next e =
+      failed_by s r fault.Refused e refl (did.state d s h inv) inv (inr (omega arith, did.counted)) (did.left d s h inv) (did.ties d s h inv)
+      (record { down = λ is. absurd (cc); refused = λ is. did.down.refused refl; unasked = λ is unmarked. absurd (cc); stays = did.stays })
+  answered_by (Err fault.Down) old out s r begun did d h inv next e =
+      failed_by s r fault.Down e refl (did.state d s h inv) inv (inr (omega arith, did.counted)) (did.left d s h inv) (did.ties d s h inv)
+      (record { down = λ is. did.down.down refl; refused = λ is. absurd (cc); unasked = λ is unmarked. absurd (cc); stays = did.stays })

@@ -11,7 +11,8 @@ use Rattle.csi_types.specs.Methods.{method_at}
 use Rattle.csi_machine.specs.declared.plan.Outcome.{Outcome}
 use Rattle.csi_machine.specs.declared.plan.Outcome.TheVariants.{Done, Refused}
 use Rattle.csi_machine.specs.Verdicts.{told_of}
-use Rattle.csi_server.specs.Machine.{Machine, Sight}
+use Rattle.csi_keeper.specs.Model.{Model}
+use Rattle.csi_server.specs.Machine.{Machine}
 use Rattle.csi_server.specs.Requests.{requests}
 
 -- only two methods are known
@@ -53,5 +54,5 @@ outcome_of (Some r) = Done r
 abbrev pub identity : List ℕ → List ℕ → Machine ⊤
 identity name version = requests (λ path. known (method_at path)) (λ s r. (told_of (said name version r), s))
 
-abbrev pub still : Sight ⊤
+abbrev pub still : Model ⊤
 still = record { holds = λ s. ⊤; doubt = 0; refusals = 0; survivors = λ s. ⊤; tied = ⊤; is_down = false }

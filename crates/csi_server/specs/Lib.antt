@@ -6,4 +6,3 @@ pub mod Requests
 pub mod Identity
 pub mod Volumes
 pub mod Tries
-pub mod ConfigFile

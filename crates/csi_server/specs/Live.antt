@@ -3,18 +3,19 @@ use Rattle.std.specs.Prelude.{◌≡◌, ◌≢◌, ℕ, ◌+◌, ◌≤◌, ◌
 use Rattle.std.specs.Io.KnownBytes.{Appends, Keeps}
 use Rattle.frames_core.specs.declared.fault.FrameFault.{FrameFault}
 use Rattle.frames_core.specs.declared.fault.FrameWhy.TheVariants.{EndOfInput}
+use Rattle.csi_keeper.specs.Model.{Model}
 use Rattle.csi_server.specs.declared.end.RunEnd.{RunEnd}
 use Rattle.csi_server.specs.declared.end.RunEnd.TheVariants.{Done, Malformed, ReadFailed, TurnsSpent, WriteFailed, NoMemory}
 use Rattle.frames_core.specs.Envelope.{IsCall}
 use Rattle.frames_core.specs.Stream.{frames, IsUnfinished}
 use Rattle.frames_core.specs.Framer.{FramerState}
-use Rattle.csi_server.specs.Machine.{Machine, Sight, Runs, Event, replies, calls_of}
+use Rattle.csi_server.specs.Machine.{Machine, Runs, Event, replies, calls_of}
 use Rattle.csi_server.specs.Serving.{Answered, CutOff, HasFault, WrotePrefix, fault_frame}
 use Rattle.csi_server.specs.declared.running.Step.{Step}
 use Rattle.csi_server.specs.declared.running.Step.TheVariants.{Fed, Faulty, Cut}
 
 -- What was answered so far, of the stream whose first bytes are these.
-pub record SoFar {S : Type 0} (m : Machine S) (start now : Sight S) (s : S) (bytes : List ℕ) (held holds : Option (List ℕ)) : Type 0 where
+pub record SoFar {S : Type 0} (m : Machine S) (start now : Model S) (s : S) (bytes : List ℕ) (held holds : Option (List ℕ)) : Type 0 where
   pub events : List Event
   pub run : Runs m start now s events
   pub each : All IsCall (calls_of events)
@@ -22,7 +23,7 @@ pub record SoFar {S : Type 0} (m : Machine S) (start now : Sight S) (s : S) (byt
   pub written : Appends held holds (replies m s events)
 
 -- All that was read is given up and answered, or held and no frame yet.
-pub record Live {S : Type 0} (m : Machine S) (start now : Sight S) (s : S) (read : List ℕ) (framer : FramerState) (held holds : Option (List ℕ)) : Type 0 where
+pub record Live {S : Type 0} (m : Machine S) (start now : Model S) (s : S) (read : List ℕ) (framer : FramerState) (held holds : Option (List ℕ)) : Type 0 where
   pub given : List ℕ
   pub so_far : SoFar m start now s given held holds
   pub whole : read ≡ given ++ framer.held
@@ -31,11 +32,11 @@ pub record Live {S : Type 0} (m : Machine S) (start now : Sight S) (s : S) (read
   pub unfinished : IsUnfinished framer.held
 
 -- it is so while nothing is in doubt
-abbrev pub IsLive : {S : Type 0} → Machine S → Sight S → Sight S → S → List ℕ → FramerState → Option (List ℕ) → Option (List ℕ) → Type 0
+abbrev pub IsLive : {S : Type 0} → Machine S → Model S → Model S → S → List ℕ → FramerState → Option (List ℕ) → Option (List ℕ) → Type 0
 IsLive m start now s read framer held holds = now.doubt ≡ 0 → Live m start now s read framer held holds
 
 -- one step over bytes that come behind what was read
-abbrev pub Steps : {S : Type 0} → Machine S → Sight S → Sight S → S → List ℕ → List ℕ → FramerState → Option (List ℕ) → Option (List ℕ) → Step → Type 0
+abbrev pub Steps : {S : Type 0} → Machine S → Model S → Model S → S → List ℕ → List ℕ → FramerState → Option (List ℕ) → Option (List ℕ) → Step → Type 0
 Steps m start now s read rest framer held holds (Fed n) = Live m start now s (read ++ take n rest) framer held holds
 Steps m start now s read rest framer held holds (Faulty f) = (f.why ≢ EndOfInput) × Answered m start now s (read ++ rest) held holds (λ calls. HasFault (read ++ rest) calls f.why f.at) []
 Steps m start now s read rest framer held holds Cut = CutOff m start now s (read ++ rest) ⊥ held holds

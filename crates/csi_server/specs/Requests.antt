@@ -10,7 +10,8 @@ use Rattle.csi_types.specs.Codes.{number_of}
 use Rattle.frames_core.specs.Envelope.{ReplyBytes}
 use Rattle.csi_codec.specs.Reading.{read_request}
 use Rattle.csi_machine.specs.Verdicts.{Told, Says, Denies}
-use Rattle.csi_server.specs.Machine.{Machine, Mark, Unmarked, OutOfMemory, StoreRefused, StoreDown, Sight, KnowsDown, RoseBy, refusal, refused, marked, store_mark}
+use Rattle.csi_keeper.specs.Model.{Model}
+use Rattle.csi_server.specs.Machine.{Machine, Mark, Unmarked, OutOfMemory, StoreRefused, StoreDown, KnowsDown, RoseBy, refusal, refused, marked, store_mark}
 
 -- the reply to a message that is refused at this place
 abbrev pub malformed : ℕ → ReplyBytes
@@ -58,7 +59,7 @@ LeavesBy {S} x old new s StoreRefused = (t : S) → new t → old t ⊎ (t ≡ x
 LeavesBy {S} x old new s StoreDown = (t : S) → new t → old t
 
 -- One answer from the state s, with the reply r, to what responds so to each state.
-pub record AnswersBy {S : Type 0} (respond : S → ReplyBytes × S) (MayFail : Type 0) (old new : Sight S) (s : S) (r : ReplyBytes) : Type 0 where
+pub record AnswersBy {S : Type 0} (respond : S → ReplyBytes × S) (MayFail : Type 0) (old new : Model S) (s : S) (r : ReplyBytes) : Type 0 where
   pub mark : Mark
   pub allowed : mark ≢ Unmarked → MayFail
   pub reply : r ≡ (marked s (respond s) mark).0

@@ -1,5 +1,5 @@
 -- The volume machine over calls, and what is seen of a keeper.
-use Rattle.std.specs.Prelude.{◌≡◌, ◌≢◌, Bool, ℕ, List, [], ◌∷◌, ◌++◌, drop, Some, None, Result, Ok, Err}
+use Rattle.std.specs.Prelude.{◌≡◌, ◌≢◌, ℕ, List, [], ◌∷◌, ◌++◌, drop, Some, None, Result, Ok, Err}
 use Rattle.std.specs.List.{AllByRecursion}
 use Rattle.frames_core.specs.Envelope.{ReplyBytes}
 use Rattle.frames_core.specs.declared.limits.TheConstants.{REPLY_HEAD_BYTES}
@@ -11,13 +11,14 @@ use Rattle.csi_types.specs.Methods.{method_at}
 use Rattle.csi_codec.specs.Reading.{read_request}
 use Rattle.csi_config.specs.declared.config.Config.{Config}
 use Rattle.csi_keeper.specs.Invariant.{IsInvariant}
+use Rattle.csi_keeper.specs.Model.{Model}
 use Rattle.csi_keeper.specs.State.{State}
 use Rattle.csi_keeper.specs.declared.change.StoreFault.{StoreFault}
 use Rattle.csi_keeper.specs.declared.change.StoreFault.TheVariants as fault
 use Rattle.csi_machine.specs.Step.{step}
 use Rattle.csi_machine.specs.declared.body.Verdict.{Verdict}
 use Rattle.csi_machine.specs.declared.body.Verdict.TheVariants as verdict
-use Rattle.csi_server.specs.Machine.{Machine, Sight, Event, Unmarked, refused, state_after}
+use Rattle.csi_server.specs.Machine.{Machine, Event, Unmarked, refused, state_after}
 use Rattle.csi_server.specs.Machine.{step as call_step}
 use Rattle.csi_server.specs.Requests.{requests}
 
@@ -25,10 +26,9 @@ use Rattle.csi_server.specs.Requests.{requests}
 abbrev pub volumes : Config → Machine State
 volumes config = requests method_at (step config)
 
-module _ {K : Type 0} (holds : K → State → Type 0) (doubt : K → ℕ) (refused : K → ℕ) (survivors : K → State → Type 0) (tied : K → Type 0) (is_down : K → Bool) where
-  -- a keeper as a run sees it: of the States that it may have those of the invariant, and the rest as the keeper has it
-  abbrev pub seen : Config → K → Sight State
-  seen config k = record { holds = λ s. holds k s × IsInvariant config s; doubt = doubt k; refusals = refused k; survivors = survivors k; tied = tied k; is_down = is_down k }
+-- a keeper as a run sees it: of the States that it may have those of the invariant, and the rest as the keeper has it
+abbrev pub seen : Config → Model State → Model State
+seen config m = record m { holds = λ s. m.holds s × IsInvariant config s }
 
 -- the reply to a call of which the machine answered this, where the body stands behind room for the head
 abbrev pub RepliesTo : List ℕ → ReplyBytes → Result Verdict StoreFault → Type 0

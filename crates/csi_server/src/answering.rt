@@ -19,9 +19,10 @@ pub(crate) fn answer_call<C, S: Service<C>, W: Write>(
     reply: &mut Vec<u8>,
     writer: &mut W,
 ) -> io::Result<()>
-    ensures clean { (S.sight config.now service.old).doubt ≤ (S.sight config.now service.new).doubt }
-    ensures answers { (S.sight config.now service.new).doubt ≡ 0 → (s : S.State) → (S.sight config.now service.old).holds s
-        → AnswersCall (S.machine config.now) (S.sight config.now service.old) (S.sight config.now service.new) s (bytes_of call.now) (W.contents writer.old) (W.contents writer.new) (IsOk result) }
+    ensures clean { (S.model config.now service.old).doubt ≤ (S.model config.now service.new).doubt }
+    ensures answers { (S.model config.now service.new).doubt ≡ 0 → (s : S.State) → (S.model config.now service.old).holds s
+        → AnswersCall (S.machine config.now) (S.model config.now service.old) (S.model config.now service.new) s (bytes_of call.now)
+        (W.contents writer.old) (W.contents writer.new) (IsOk result) }
 {
     let answer = service.answer(config, alloc, call, reply);
     put_reply(writer, &answer, reply)

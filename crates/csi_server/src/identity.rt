@@ -118,7 +118,7 @@ impl<'a> Service<PluginNames<'a>> for Identity {
 
     ghost machine = { λ c. identity c.name.now c.version.now };
 
-    ghost sight = { λ c i. still };
+    ghost model = { λ c i. still };
 
     fn answer(
         &mut self,

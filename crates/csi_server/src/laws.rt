@@ -24,7 +24,7 @@ ghost use Rattle.csi_keeper.specs.State.{State as MachineState};
 use crate::service::Service;
 use csi_codec::laws::reading;
 use csi_config::Config;
-use csi_machine::Keeper;
+use csi_keeper::Keeper;
 use csi_machine::laws::{
     kept as kept_by_answers, repeat as repeat_request, retry as retry_requests,
 };
@@ -32,16 +32,16 @@ use frames_core::laws::decimal_is_text;
 
 /// After a run in which no call is marked, what a stop may leave is the state after the run.
 pub fn settled<C, S: Service<C>>(config: &C)
-    ensures { (old new : S) (s : S.State) (events : List Event) → Runs (S.machine config.now) (S.sight config.now old) (S.sight config.now new) s events
+    ensures { (old new : S) (s : S.State) (events : List Event) → Runs (S.machine config.now) (S.model config.now old) (S.model config.now new) s events
         → AllByRecursion (λ e. e.mark ≡ Unmarked) events
-        → ((t : S.State) → (S.sight config.now old).survivors t → t ≡ s)
-        → (t : S.State) → (S.sight config.now new).survivors t → t ≡ state_after (S.machine config.now) s events }
+        → ((t : S.State) → (S.model config.now old).survivors t → t ≡ s)
+        → (t : S.State) → (S.model config.now new).survivors t → t ≡ state_after (S.machine config.now) s events }
 {}
 
 /// Each reply of a run of any service is one of the envelope's table: one of its status codes, with a text and no body or, with
 /// status 0, with a body and no text. So are the refusals of the calls that are marked.
 pub fn formed<C, S: Service<C>>(config: &C)
-    ensures { (old new : S) (s : S.State) (events : List Event) → Runs (S.machine config.now) (S.sight config.now old) (S.sight config.now new) s events
+    ensures { (old new : S) (s : S.State) (events : List Event) → Runs (S.machine config.now) (S.model config.now old) (S.model config.now new) s events
         → AreReplies (S.machine config.now) s events }
 {}
 
@@ -82,9 +82,10 @@ pub fn kept(config: &Config)
 /// the State after the run, or what a call would have made that was refused for memory or by the store, whose
 /// request was read and passed the checks, and after which no call moved the State.
 pub fn pending<K: Keeper>(config: &Config)
-    ensures { (old new : K) (s : MachineState) (events : List Event) → Runs (volumes config.now) (seen K.holds K.doubt K.refused K.survivors K.tied K.is_down config.now old) (seen K.holds K.doubt K.refused K.survivors K.tied K.is_down config.now new) s events
-        → ((t : MachineState) → K.survivors old t → t ≡ s)
-        → (t : MachineState) → K.survivors new t → (t ≡ state_after (volumes config.now) s events) ⊎ IsPending config.now s events t }
+    ensures { (old new : K) (s : MachineState) (events : List Event)
+        → Runs (volumes config.now) (seen config.now (K.model old)) (seen config.now (K.model new)) s events
+        → ((t : MachineState) → (K.model old).survivors t → t ≡ s)
+        → (t : MachineState) → (K.model new).survivors t → (t ≡ state_after (volumes config.now) s events) ⊎ IsPending config.now s events t }
 {}
 
 /// A call asks for a request exactly where its path names a method, its message is read as that request, and the
@@ -104,9 +105,10 @@ pub fn tries<K: Keeper>(config: &Config)
     ensures after { (s : MachineState) (session : List Exchange) → state_after (volumes config.now) s (events_of session) ≡ after_tries config.now s (tries_of session) }
     ensures heard { (s : MachineState) (session : List Exchange) → heard_of config.now s session ≡ map told (told_of config.now s (tries_of session)) }
     ensures left { (s t : MachineState) (session : List Exchange) → IsLeft config.now s (events_of session) t ↔ Leaves config.now s (tries_of session) t }
-    ensures stopped { (old new : K) (s : MachineState) (session : List Exchange) → Runs (volumes config.now) (seen K.holds K.doubt K.refused K.survivors K.tied K.is_down config.now old) (seen K.holds K.doubt K.refused K.survivors K.tied K.is_down config.now new) s (events_of session)
-        → ((t : MachineState) → K.survivors old t → t ≡ s)
-        → (t : MachineState) → K.survivors new t → Leaves config.now s (tries_of session) t }
+    ensures stopped { (old new : K) (s : MachineState) (session : List Exchange)
+        → Runs (volumes config.now) (seen config.now (K.model old)) (seen config.now (K.model new)) s (events_of session)
+        → ((t : MachineState) → (K.model old).survivors t → t ≡ s)
+        → (t : MachineState) → (K.model new).survivors t → Leaves config.now s (tries_of session) t }
 {}
 
 /// Requests that a lone client asks for over and over, each until it hears the reply, are each taken once (CSI

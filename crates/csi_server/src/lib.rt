@@ -1,11 +1,21 @@
 //! The server: it reads frames of calls and writes the frames of their replies.
 //!
-//! `specs/Machine.antt` says what a run over calls replies and leaves, `specs/Serving.antt` what is read and written by each end of
-//! a run. The engine, [`run_service`], is proved once for every [`Service`], reader and writer.
+//! The engine, [`run_service`], knows nothing of methods: it feeds a `Framer`, hands each call to a [`Service`], and writes what the service answers. Its
+//! proof is over any service, reader and writer, by the public clauses of `frames_core` alone. `specs/Machine.antt` says what a run over calls replies and
+//! leaves, `specs/Serving.antt` what is read and written by each end of a run.
+//!
+//! A service writes a body behind room for the reply's head into one buffer that is kept from call to call, so a reply goes out as one write. `message.rt`
+//! decodes and checks the message of a call. [`serve_identity`] is the engine over a service without a state; [`serve`] is the engine over a keeper: each keeper is
+//! a service (`volumes.rt`), which answers a request by `csi_machine::append_answer`. `specs/Requests.antt` says what a machine over requests responds, and
+//! only the step of a request is its own. [`laws`] says what follows for runs and for calls that are made again.
+//!
+//! ```rust
+//! let mut keeper = MemKeeper::new(alloc, 1)?;
+//! let end = serve(alloc, &config, &mut keeper, &mut reader, &mut writer);
+//! ```
 #![tactic(auto)]
 
 mod answering;
-mod config_file;
 mod end;
 mod identity;
 pub mod laws;
@@ -13,15 +23,12 @@ mod message;
 mod refused;
 mod running;
 mod service;
-mod unknown;
 mod volumes;
 mod writing;
 
-pub use config_file::{ConfigError, Key, KeyRule, Section, read_config};
 pub use end::RunEnd;
 pub use identity::serve_identity;
 pub use refused::Refusal;
 pub use running::run_service;
 pub use service::{Answer, Service, begin_body};
-pub use unknown::{UnknownKey, unknown_keys};
 pub use volumes::serve;

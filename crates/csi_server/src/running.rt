@@ -37,11 +37,12 @@ fn answer_next<C, S: Service<C>, W: Write>(
 ) -> Step
     requires room { framer.old.past + length framer.old.held + length rest.now < 2 ^ 63 }
     requires ready { IsReady framer.old }
-    ensures clean { (S.sight config.now service.old).doubt ≤ (S.sight config.now service.new).doubt }
+    ensures clean { (S.model config.now service.old).doubt ≤ (S.model config.now service.new).doubt }
     ensures steps { (start : S) (s : S.State) (read : List ℕ) (held : Option (List ℕ))
-        → IsLive (S.machine config.now) (S.sight config.now start) (S.sight config.now service.old) s read framer.old held (W.contents writer.old)
-        → (S.sight config.now service.new).doubt ≡ 0
-        → Steps (S.machine config.now) (S.sight config.now start) (S.sight config.now service.new) s read rest.now framer.new held (W.contents writer.new) result }
+        → IsLive (S.machine config.now) (S.model config.now start) (S.model config.now service.old) s read framer.old held (W.contents writer.old)
+        → (S.model config.now service.new).doubt ≡ 0
+        → Steps (S.machine config.now) (S.model config.now start) (S.model config.now service.new) s read rest.now framer.new held
+        (W.contents writer.new) result }
     ensures count { AdvancesBy framer.old framer.new (length rest.now) result }
 {
     let count = framer.feed(rest);
@@ -72,11 +73,12 @@ fn answer_piece<C, S: Service<C>, W: Write>(
 ) -> Step
     requires room { framer.old.past + length framer.old.held + length piece.now < 2 ^ 63 }
     requires ready { IsReady framer.old }
-    ensures clean { (S.sight config.now service.old).doubt ≤ (S.sight config.now service.new).doubt }
+    ensures clean { (S.model config.now service.old).doubt ≤ (S.model config.now service.new).doubt }
     ensures steps { (start : S) (s : S.State) (read : List ℕ) (held : Option (List ℕ))
-        → IsLive (S.machine config.now) (S.sight config.now start) (S.sight config.now service.old) s read framer.old held (W.contents writer.old)
-        → (S.sight config.now service.new).doubt ≡ 0
-        → Steps (S.machine config.now) (S.sight config.now start) (S.sight config.now service.new) s read piece.now framer.new held (W.contents writer.new) result }
+        → IsLive (S.machine config.now) (S.model config.now start) (S.model config.now service.old) s read framer.old held (W.contents writer.old)
+        → (S.model config.now service.new).doubt ≡ 0
+        → Steps (S.machine config.now) (S.model config.now start) (S.model config.now service.new) s read piece.now framer.new held
+        (W.contents writer.new) result }
     ensures count { AdvancesBy framer.old framer.new (length piece.now) result }
     ensures all { IsAllFed (length piece.now) result }
 {
@@ -104,8 +106,9 @@ pub fn run_service<C, S: Service<C>, R: Read, W: Write>(
     reader: &mut R,
     writer: &mut W,
 ) -> RunEnd
-    ensures serves { Serves (S.machine config.now) (S.sight config.now service.old) (S.sight config.now service.new) (R.remaining reader.old) (R.remaining reader.new) (W.contents writer.old) (W.contents writer.new) result }
-    ensures clean { (S.sight config.now service.old).doubt ≤ (S.sight config.now service.new).doubt }
+    ensures serves { Serves (S.machine config.now) (S.model config.now service.old) (S.model config.now service.new)
+        (R.remaining reader.old) (R.remaining reader.new) (W.contents writer.old) (W.contents writer.new) result }
+    ensures clean { (S.model config.now service.old).doubt ≤ (S.model config.now service.new).doubt }
     ensures unread { result ≡ RunEnd.NoMemory → Keeps (R.remaining reader.old) (R.remaining reader.new) }
     ensures unwritten { result ≡ RunEnd.NoMemory → Keeps (W.contents writer.old) (W.contents writer.new) }
 {

@@ -1,6 +1,7 @@
 ghost use Rattle.std.specs.Prelude.{◌≡◌, ◌≤◌, [], OnOk, OnErr};
 ghost use Rattle.frames_core.specs.Envelope.{bytes_of};
-ghost use Rattle.csi_server.specs.Machine.{Machine, Sight, Answers};
+ghost use Rattle.csi_keeper.specs.Model.{Model};
+ghost use Rattle.csi_server.specs.Machine.{Machine, Answers};
 ghost use Rattle.csi_server.specs.Service.{room};
 
 use crate::refused::Refusal;
@@ -25,16 +26,16 @@ pub trait Service<C> {
     ghost machine: { C → Machine State };
 
     /// What contracts see of it.
-    ghost sight: { C → Self → Sight State };
+    ghost model: { C → Self → Model State };
 
     ghost use Rattle.csi_server.specs.Service.{reply_of, HoldsBody};
 
     /// Answers one call. With [`Answer::Body`] `reply` has room for a reply's head, [`REPLY_HEAD_BYTES`], and then the body, of
     /// at most [`MAX_BODY_BYTES`](frames_core::MAX_BODY_BYTES).
     fn answer(&mut self, config: &C, alloc: Global, call: &Call<'_>, reply: &mut Vec<u8>) -> Answer
-        ensures clean { (sight config.now self.old).doubt ≤ (sight config.now self.new).doubt }
-        ensures step { (sight config.now self.new).doubt ≡ 0 → (s : State) → (sight config.now self.old).holds s
-            → Answers (machine config.now) (sight config.now self.old) (sight config.now self.new) s (bytes_of call.now) (reply_of result reply.new.items) }
+        ensures clean { (model config.now self.old).doubt ≤ (model config.now self.new).doubt }
+        ensures step { (model config.now self.new).doubt ≡ 0 → (s : State) → (model config.now self.old).holds s
+            → Answers (machine config.now) (model config.now self.old) (model config.now self.new) s (bytes_of call.now) (reply_of result reply.new.items) }
         ensures room { HoldsBody result reply.new.items };
 }
 

@@ -17,7 +17,8 @@ use crate::message::{read_message, refuse};
 use crate::running::run_service;
 use crate::service::{Answer, Service, begin_body};
 use csi_config::Config;
-use csi_machine::{Keeper, StoreFault, Verdict, append_answer};
+use csi_keeper::{Keeper, StoreFault};
+use csi_machine::{Verdict, append_answer};
 use csi_types::{Method, Reason, Request, method_of};
 use frames_core::Call;
 use std::alloc::Global;
@@ -37,24 +38,6 @@ fn answer_of(verdict: Result<Verdict, StoreFault>) -> Answer
     }
 }
 
-// Answers a request that passes the checks, behind the room for a head.
-fn answer_begun<K: Keeper>(
-    alloc: Global,
-    config: &Config,
-    keeper: &mut K,
-    request: &Request,
-    reply: &mut Vec<u8>,
-) -> Answer
-    requires passed { checked request.now ≡ None }
-    requires begun { reply.old.items ≡ room }
-    ensures clean { K.doubt keeper.old ≤ K.doubt keeper.new }
-    ensures step { K.doubt keeper.new ≡ 0 → (s : MachineState) → (seen K.holds K.doubt K.refused K.survivors K.tied K.is_down config.now keeper.old).holds s
-        → AnswersBy (λ t. after_check (step config.now) t request.now None) ⊤ (seen K.holds K.doubt K.refused K.survivors K.tied K.is_down config.now keeper.old) (seen K.holds K.doubt K.refused K.survivors K.tied K.is_down config.now keeper.new) s (reply_of result reply.new.items) }
-    ensures room { HoldsBody result reply.new.items }
-{
-    answer_of(append_answer(alloc, config, keeper, request, reply))
-}
-
 // Answers a request that passes the checks.
 fn answer_request<K: Keeper>(
     alloc: Global,
@@ -64,13 +47,14 @@ fn answer_request<K: Keeper>(
     reply: &mut Vec<u8>,
 ) -> Answer
     requires passed { checked request.now ≡ None }
-    ensures clean { K.doubt keeper.old ≤ K.doubt keeper.new }
-    ensures step { K.doubt keeper.new ≡ 0 → (s : MachineState) → (seen K.holds K.doubt K.refused K.survivors K.tied K.is_down config.now keeper.old).holds s
-        → AnswersBy (λ t. after_check (step config.now) t request.now None) ⊤ (seen K.holds K.doubt K.refused K.survivors K.tied K.is_down config.now keeper.old) (seen K.holds K.doubt K.refused K.survivors K.tied K.is_down config.now keeper.new) s (reply_of result reply.new.items) }
+    ensures clean { (K.model keeper.old).doubt ≤ (K.model keeper.new).doubt }
+    ensures step { (K.model keeper.new).doubt ≡ 0 → (s : MachineState) → (seen config.now (K.model keeper.old)).holds s
+        → AnswersBy (λ t. after_check (step config.now) t request.now None) ⊤
+        (seen config.now (K.model keeper.old)) (seen config.now (K.model keeper.new)) s (reply_of result reply.new.items) }
     ensures room { HoldsBody result reply.new.items }
 {
     match begin_body(reply) {
-        Ok(()) => answer_begun(alloc, config, keeper, request, reply),
+        Ok(()) => answer_of(append_answer(alloc, config, keeper, request, reply)),
         Err(_) => refuse(Reason::OutOfMemory),
     }
 }
@@ -84,9 +68,10 @@ fn answer_message<K: Keeper>(
     message: &[u8],
     reply: &mut Vec<u8>,
 ) -> Answer
-    ensures clean { K.doubt keeper.old ≤ K.doubt keeper.new }
-    ensures step { K.doubt keeper.new ≡ 0 → (s : MachineState) → (seen K.holds K.doubt K.refused K.survivors K.tied K.is_down config.now keeper.old).holds s
-        → AnswersBy (λ t. after_read (step config.now) t (read_request method message.now)) ((r : AnyRequest) × (read_request method message.now ≡ Ok r)) (seen K.holds K.doubt K.refused K.survivors K.tied K.is_down config.now keeper.old) (seen K.holds K.doubt K.refused K.survivors K.tied K.is_down config.now keeper.new) s (reply_of result reply.new.items) }
+    ensures clean { (K.model keeper.old).doubt ≤ (K.model keeper.new).doubt }
+    ensures step { (K.model keeper.new).doubt ≡ 0 → (s : MachineState) → (seen config.now (K.model keeper.old)).holds s
+        → AnswersBy (λ t. after_read (step config.now) t (read_request method message.now)) ((r : AnyRequest) × (read_request method message.now ≡ Ok r))
+        (seen config.now (K.model keeper.old)) (seen config.now (K.model keeper.new)) s (reply_of result reply.new.items) }
     ensures room { HoldsBody result reply.new.items }
 {
     match read_message(alloc, method, message) {
@@ -104,7 +89,7 @@ impl<K: Keeper> Service<Config> for K {
 
     ghost machine = { λ c. volumes c };
 
-    ghost sight = { λ c k. seen K.holds K.doubt K.refused K.survivors K.tied K.is_down c k };
+    ghost model = { λ c k. seen c (K.model k) };
 
     fn answer(
         &mut self,
@@ -139,8 +124,9 @@ pub fn serve<K: Keeper, R: Read, W: Write>(
     reader: &mut R,
     writer: &mut W,
 ) -> RunEnd
-    ensures serves { Serves (volumes config.now) (seen K.holds K.doubt K.refused K.survivors K.tied K.is_down config.now keeper.old) (seen K.holds K.doubt K.refused K.survivors K.tied K.is_down config.now keeper.new) (R.remaining reader.old) (R.remaining reader.new) (W.contents writer.old) (W.contents writer.new) result }
-    ensures clean { K.doubt keeper.old ≤ K.doubt keeper.new }
+    ensures serves { Serves (volumes config.now) (seen config.now (K.model keeper.old)) (seen config.now (K.model keeper.new))
+        (R.remaining reader.old) (R.remaining reader.new) (W.contents writer.old) (W.contents writer.new) result }
+    ensures clean { (K.model keeper.old).doubt ≤ (K.model keeper.new).doubt }
     ensures unread { result ≡ RunEnd.NoMemory → Keeps (R.remaining reader.old) (R.remaining reader.new) }
     ensures unwritten { result ≡ RunEnd.NoMemory → Keeps (W.contents writer.old) (W.contents writer.new) }
 {

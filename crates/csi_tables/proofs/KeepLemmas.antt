@@ -10,8 +10,8 @@ use Rattle.csi_keeper.specs.State.{State, changed, Allows}
 use Rattle.csi_keeper.specs.Totals.{AreTotals, total_of}
 use Rattle.csi_keeper.specs.Texts.{Text}
 use Rattle.csi_keeper.specs.declared.change.Change.{Change}
-use Rattle.csi_layout.specs.Tables.{schema}
-use Rattle.csi_statements.specs.Rows.{Changes, IsUndone, Leaves}
+use Rattle.csi_schema.specs.Tables.{schema}
+use Rattle.csi_transactions.specs.Rows.{Changes, IsUndone, Leaves}
 use Rattle.csi_tables.specs.Encoding.{ReadsBack}
 use Rattle.csi_tables.specs.Holding.{IsRows, IsStorable, Holds, Shows, Store, conn_holds, conn_doubt, ConnIsQuiet, ConnMakes, ConnFails, StoreMakes, StoreFails}
 use Rattle.csi_tables.proofs.StateLemmas.{same_state}
@@ -39,7 +39,7 @@ module _ {S : Type 0} (g : Ghosts S) where
   }
 
   -- no call
-  stays_quiet : (h : Held S) → ConnIsQuiet g h h
+  pub stays_quiet : (h : Held S) → ConnIsQuiet g h h
   stays_quiet h = record { clean = omega arith; state = λ clean s held. held; crash = λ clean t it. it; ties = λ clean tied. tied; down = refl }
 
   -- a change by one transaction, behind a call that kept the State
@@ -163,10 +163,6 @@ on_err (Err e) p = p
 pub on_ok_so : {X E : Type 0} {P Q : Type 0} → (P → Q) → (r : Result X E) → OnOk r P → OnOk r Q
 on_ok_so f (Ok x) p = f p
 on_ok_so f (Err e) p = tt
-
-pub on_ok_both : {X E : Type 0} {P Q R : Type 0} → (P → Q → R) → (r : Result X E) → OnOk r P → OnOk r Q → OnOk r R
-on_ok_both f (Ok x) p q = f p q
-on_ok_both f (Err e) p q = tt
 
 pub on_err_so : {X E : Type 0} {P Q : Type 0} → (P → Q) → (r : Result X E) → OnErr r P → OnErr r Q
 on_err_so f (Ok x) p = tt

@@ -1,4 +1,5 @@
 mod CellLemmas
+mod ChangeLemmas
 mod EncodingLemmas
 mod EntryLemmas
 mod KeepLemmas

@@ -19,10 +19,10 @@ use Rattle.csi_keeper.specs.declared.volume.Attachment.{Attachment}
 use Rattle.csi_keeper.specs.declared.volume.Volume.{Volume}
 use Rattle.csi_keeper.specs.facts.Finite.{none_listed}
 use Rattle.csi_keeper.specs.facts.Sums.{in_order}
-use Rattle.csi_layout.specs.Making.{MakesTables}
-use Rattle.csi_layout.specs.Tables.{no_schema}
-use Rattle.csi_layout.specs.Transactions.{ChangesFrom, LeavesFrom}
-use Rattle.csi_statements.specs.Rows.{seen_volume, seen_attachment, AreKeyed}
+use Rattle.csi_schema.specs.Making.{MakesTables}
+use Rattle.csi_schema.specs.Tables.{no_schema}
+use Rattle.csi_schema.specs.Transactions.{ChangesFrom, LeavesFrom}
+use Rattle.csi_transactions.specs.Rows.{seen_volume, seen_attachment, AreKeyed}
 use Rattle.csi_tables.specs.Encoding.{ReadsBack}
 use Rattle.csi_tables.specs.Holding.{IsRows, IsStorable, IsStored, IsPlaced, volume_entry, attachment_entry}
 use Rattle.csi_tables.specs.Keeping.{IsNewOver}
@@ -64,7 +64,7 @@ module _ {S : Type 0} (g : Ghosts S) (back : ReadsBack) (settled : (s : S) (db :
   -- tables that were made and committed, and totals of nothing
   pub is_new_over : (HasCleanDisk (state g new.conn) → ChangesFrom no_schema MakesTables (state g old) (state g new.conn))
       → Survives (state g old) (state g new.conn) (LeavesFrom no_schema MakesTables (state g old)) → ((q : Text) → total_of new.totals q ≡ zero_total)
-      → new.turns.is_down ≡ false → new.turns.refusals ≡ 0 → IsNewOver g old new
+      → new.health.is_down ≡ false → new.health.refusals ≡ 0 → IsNewOver g old new
   is_new_over made survives none up uncounted =
       let rows = λ (clean : HasCleanDisk (state g new.conn)) (blank : (state g old).now.schema ≡ no_schema). first_rows (state g old).now (state g new.conn).now ((made clean).effect blank) in
       let left = λ (clean : HasCleanDisk (state g new.conn)) (db : Trees) (may : (state g new.conn).may_leave db).

@@ -1,5 +1,5 @@
 -- Why a call over the tables was refused.
-use Rattle.std.proofs.Common.{◌≡◌, ◌∙◌, inl, inr, refl, sym, ap, subst, arith, ℕ, ◌≤◌, Bool, true, false, List, [], ◌∷◌, map, Option, IsTrue, IsSome, Result, Ok, Err}
+use Rattle.std.proofs.Common.{◌≡◌, ◌∙◌, inl, inr, refl, sym, ap, subst, arith, ℕ, ◌≤◌, Bool, true, false, List, [], ◌∷◌, map, Option, IfOk, IsTrue, IsSome, Result, Ok, Err}
 use Rattle.std.specs.Result.{IsErrAnd}
 use Rattle.sqlite.specs.Effect.{Database}
 use Rattle.sqlite.specs.Held.{Held, state}
@@ -11,15 +11,15 @@ use Rattle.sqlite.specs.declared.error.Error.{Error}
 use Rattle.csi_keeper.specs.State.{State}
 use Rattle.csi_keeper.specs.declared.change.StoreFault.{StoreFault}
 use Rattle.csi_keeper.specs.declared.change.StoreFault.TheVariants as store
-use Rattle.csi_layout.specs.Failing as fails
-use Rattle.csi_layout.specs.Failing.{SqlRefuses}
-use Rattle.csi_layout.specs.Tables.{schema}
-use Rattle.csi_layout.specs.declared.formats.TheConstants.{LATEST_FORMAT}
-use Rattle.csi_statements.specs.Failing.{FailsFor, HasNoNext, Unrefused}
-use Rattle.csi_statements.specs.Rows.{IsUndone, meta_row, seen_meta}
+use Rattle.csi_schema.specs.Failing as fails
+use Rattle.csi_schema.specs.Failing.{SqlRefuses}
+use Rattle.csi_schema.specs.Tables.{schema}
+use Rattle.csi_schema.specs.declared.formats.TheConstants.{LATEST_FORMAT}
+use Rattle.csi_transactions.specs.Failing.{FailsFor, HasNoNext}
+use Rattle.csi_transactions.specs.Rows.{IsUndone, ReadsOnly, meta_row, seen_meta}
 use Rattle.csi_tables.specs.Answers.{answered, of_database}
-use Rattle.csi_tables.specs.Holding.{Shows, conn_holds}
-use Rattle.csi_tables.specs.Refusing.{IsRefusal, by_disk, as_shut, at_limit, as_refused}
+use Rattle.csi_tables.specs.Holding.{Shows, conn_doubt, conn_holds}
+use Rattle.csi_tables.specs.Refusing.{ConnReads, HasKnownModes, IsRefusal, by_disk, as_shut, at_limit, as_refused}
 use Rattle.csi_tables.specs.declared.fault.Fault.{Fault}
 use Rattle.csi_tables.specs.declared.fault.Fault.TheVariants.{NoMemory, Refused}
 use Rattle.csi_tables.proofs.CellLemmas.{handed_on}
@@ -46,6 +46,10 @@ open_or_shut : (b : Bool) → (P : Type 0) → (b ≡ true → P) → (b ≡ fal
 open_or_shut true P f h = f refl
 open_or_shut false P f h = h refl
 
+-- meta has a row
+pub has_next : {now : sql.State} {e : Error} (s : State) → Shows now s → HasNoNext now e → ⊥
+has_next s shows none = let is : [] ≡ meta_row LATEST_FORMAT s.next ∷ [] = sym (ap (map seen_meta) none.1) ∙ shows.rows.meta in absurd cc
+
 module _ {S : Type 0} (g : Ghosts S) (old new : Held S) where
   -- a statement or a transaction over a State failed
   pub call_refused : (R : sql.State → Error → Type 0) (Why : Type 0) (e : Error) (s : State) → (Shows (state g old) s → R (state g old) e → Why) → of_database e ≡ Refused
@@ -55,12 +59,39 @@ module _ {S : Type 0} (g : Ghosts S) (old new : Held S) where
       (λ is_open. let shows = held is_open in refusal (R (state g old)) Why (state g old) (state g new) e (f shows) told (failed shows.schema))
       (λ shut. as_shut shut)
 
-  pub read_refused : (e : Error) (s : State) → of_database e ≡ Refused → (old.schema ≡ schema → FailsFor Unrefused (state g old) (state g new) e) → conn_holds g old s → IsRefusal ⊥ (state g old) (state g new)
-  read_refused e s told failed held = call_refused (λ _. Unrefused) ⊥ e s (λ _ none. none) told failed held
+-- a read that the database failed
+pub unread : {S X Y : Type 0} {g : Ghosts S} {old new : Held S} {Shown : X → Database → Type 0} {Refuses : sql.State → Error → Type 0} {What : Y → State → Type 0}
+    → (r : Result Y Fault) (e : Error) → ((s : State) → Shows (state g old) s → Refuses (state g old) e → ⊥) → ReadsOnly g old new Shown Refuses (Err e) → IsErrAnd r (λ y. y ≡ of_database e) → ConnReads g old new What r
+unread (Ok y) e never h is = absurd is
+unread {Y = Y} {g = g} {old = old} {new = new} {Refuses = Refuses} (Err fault) e never h is = record {
+  idle = h.idle;
+  value = tt;
+  refused = λ clean told s held known. call_refused g old new Refuses ⊥ e s (never s) (told_as {X = Y} (Err fault) e is told) (h.failed clean) held;
+  undone = h.undone;
+  survives = h.survives;
+}
 
-  -- meta has a row
-  pub next_refused : (e : Error) (s : State) → of_database e ≡ Refused → (old.schema ≡ schema → FailsFor (HasNoNext (state g old)) (state g old) (state g new) e) → conn_holds g old s → IsRefusal ⊥ (state g old) (state g new)
-  next_refused e s told failed held = call_refused HasNoNext ⊥ e s (λ shows none. let is : [] ≡ meta_row LATEST_FORMAT s.next ∷ [] = sym (ap (map seen_meta) none.1) ∙ shows.rows.meta in absurd cc) told failed held
+each_told : {Y : Type 0} (C : Type 0) (H : State → Type 0) (What : Y → State → Type 0) (r : Result Y Fault) → (C → (s : State) → H s → IfOk r (λ y. What y s)) → IfOk r (λ y. C → (s : State) → H s → What y s)
+each_told C H What (Ok y) f = f
+each_told C H What (Err fault) f = tt
+
+-- a read whose rows are read again
+pub read_as : {S X Y : Type 0} {g : Ghosts S} {old new : Held S} {Shown : X → Database → Type 0} {Refuses : sql.State → Error → Type 0} {What : Y → State → Type 0} {x : X}
+    → (r : Result Y Fault) → ReadsOnly g old new Shown Refuses (Ok x) → ((s : State) → Shows (state g old) s → Shown x (state g old).now → IfOk r (λ y. What y s))
+    → ((s : State) → Shows (state g old) s → HasKnownModes s → Shown x (state g old).now → r ≡ Err Refused → ⊥) → ConnReads g old new What r
+read_as {g = g} {old = old} {new = new} {What = What} r h tells never = record {
+  idle = h.idle;
+  value = each_told (conn_doubt g new ≡ 0) (conn_holds g old) What r (λ clean s held.
+      let told = h.ok clean in
+      let shows = held told.was_open in
+      tells s shows (told.what shows.schema));
+  refused = λ clean is s held known.
+      let told = h.ok clean in
+      let shows = held told.was_open in
+      absurd (never s shows known (told.what shows.schema) is);
+  undone = h.undone;
+  survives = h.survives;
+}
 
 -- ---- a change behind a read
 

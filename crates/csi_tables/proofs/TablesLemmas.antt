@@ -1,10 +1,10 @@
 -- A keeper whose parts are a connection and the totals beside it.
-use Rattle.std.proofs.Common.{◌≡◌, ◌∙◌, refl, sym, ap, subst, arith, ℕ, zero, suc, ◌≤◌, ◌^◌, ◌==◌, nat_lt, List, [], ◌∷◌, map, filter, take, Bool, false, cond, Result, Ok, Err, OnOk, OnErr}
+use Rattle.std.proofs.Common.{◌≡◌, ◌∙◌, ◌↔◌, refl, sym, ap, subst, arith, ℕ, zero, suc, ◌≤◌, ◌^◌, ◌==◌, nat_lt, List, [], ◌∷◌, map, filter, take, false, cond, IsTrue, Result, Ok, Err, IfOk, OnOk, OnErr}
 use Rattle.std.specs.FinMap.{entries}
 use Rattle.std.specs.List.{AllByRecursion}
 use Rattle.std.proofs.lemmas.Bool.Decides.{nat_tests}
 use Rattle.sqlite.specs.Store.{Ghosts}
-use Rattle.csi_keeper.specs.Keeper.{Applies, IsQuiet}
+use Rattle.csi_keeper.specs.Keeper.{Changes, Reads, Tells, count_after}
 use Rattle.csi_keeper.specs.State.{State, Place, attached, page, published_of_page, published}
 use Rattle.csi_keeper.specs.Totals.{AreTotals}
 use Rattle.csi_keeper.specs.declared.change.Change.{Change}
@@ -14,48 +14,48 @@ use Rattle.csi_keeper.specs.declared.totals.Totals.{Totals}
 use Rattle.csi_keeper.specs.declared.volume.Attachment.{Attachment}
 use Rattle.csi_keeper.specs.declared.volume.Volume.{Volume}
 use Rattle.csi_tables.specs.Answers.{answered}
-use Rattle.csi_tables.specs.Holding.{IsStorable, IsStored, IsPlaced, Store, ConnIsQuiet, StoreMakes, StoreFails, store_holds, store_doubt, store_survivors, store_tied}
+use Rattle.csi_tables.specs.Holding.{IsStorable, IsStored, IsPlaced, Store, ConnIsQuiet, StoreMakes, StoreFails, model_with}
+use Rattle.csi_tables.specs.declared.health.Health.{Health}
 use Rattle.csi_tables.specs.declared.fault.Fault.{Fault}
 use Rattle.csi_tables.specs.declared.fault.Fault.TheVariants.{NoMemory, Refused}
 
-module _ {S K : Type 0} (g : Ghosts S) (part : K → Store S) (is_down : K → Bool) (old new : K) where
+module _ {S : Type 0} (g : Ghosts S) (old new : Store S) (before behind : Health) where
   -- a read
-  pub keeps_quiet : (part new).1 ≡ (part old).1 → is_down new ≡ is_down old → ConnIsQuiet g (part old).0 (part new).0
-      → IsQuiet (λ t. store_holds g (part t)) (λ t. store_doubt g (part t)) (λ t. store_survivors g (part t)) (λ t. store_tied g (part t)) is_down old new
-  keeps_quiet same down q = record {
-    clean = q.clean;
-    state = λ z s held. (q.state z s held.0, subst (λ (t : Totals). AreTotals t s) (sym same) held.1, held.2);
-    crash = q.crash;
-    ties = q.ties;
+  pub keeps_read : {X : Type 0} {IsSo : State → X → Type 0} (r : Result X StoreFault) → new.1 ≡ old.1 → behind.is_down ≡ before.is_down → ConnIsQuiet g old.0 new.0
+      → IfOk r (λ x. Tells (model_with g old before) (model_with g new behind) (λ s. IsSo s x)) → behind.refusals ≡ count_after before.refusals r → (r ≡ Err Down) ↔ IsTrue before.is_down
+      → Reads (model_with g old before) (model_with g new behind) r IsSo
+  keeps_read r same stays q told count down = record {
+    value = told;
+    quiet = record {
+      clean = q.clean;
+      state = λ z s held. (q.state z s held.0, subst (λ (t : Totals). AreTotals t s) (sym same) held.1, held.2);
+      crash = q.crash;
+      ties = q.ties;
+      down = stays;
+    };
+    count = count;
     down = down;
   }
 
-  -- a call that is not begun
-  pub stays_down : (change : Change) (r : Result (Unit {0}) StoreFault) → r ≡ Err Down → part new ≡ part old → is_down new ≡ is_down old
-      → Applies (λ t. store_holds g (part t)) (λ t. store_doubt g (part t)) (λ t. store_survivors g (part t)) (λ t. store_tied g (part t)) is_down old new change r
-  stays_down change r is same down =
-      let doubts : store_doubt g (part new) ≡ store_doubt g (part old) = ap (store_doubt g) same in
-      subst (λ (x : Result (Unit {0}) StoreFault). Applies (λ t. store_holds g (part t)) (λ t. store_doubt g (part t)) (λ t. store_survivors g (part t)) (λ t. store_tied g (part t)) is_down old new change x) (sym is) (record {
-        clean = omega (arith, doubts);
-        state = λ z s held. subst (λ (t : Store S). store_holds g t s) (sym same) held;
-        crash = λ z t it. subst (λ (x : Store S). store_survivors g x t) same it;
-        ties = λ z. subst (λ (x : Store S). store_tied g x) (sym same);
-        down = down;
-      })
-
   -- a change that was made, or that failed
-  pub keeps_applied : (change : Change) (answer : Result (Unit {0}) Fault) (r : Result (Unit {0}) StoreFault) → r ≡ answered answer → OnOk answer (StoreMakes g (part old) (part new) change)
-      → OnErr answer (StoreFails g (part old) (part new) change) → OnOk r (is_down new ≡ is_down old)
-      → Applies (λ t. store_holds g (part t)) (λ t. store_doubt g (part t)) (λ t. store_survivors g (part t)) (λ t. store_tied g (part t)) is_down old new change r
+  pub keeps_applied : (change : Change) (answer : Result (Unit {0}) Fault) (r : Result (Unit {0}) StoreFault) → r ≡ answered answer → OnOk answer (StoreMakes g old new change) → OnErr answer (StoreFails g old new change)
+      → OnOk r (behind.is_down ≡ before.is_down) → Changes (model_with g old before) (model_with g new behind) change r
   keeps_applied change answer r is made failed down =
-      subst (λ (x : Result (Unit {0}) StoreFault). Applies (λ t. store_holds g (part t)) (λ t. store_doubt g (part t)) (λ t. store_survivors g (part t)) (λ t. store_tied g (part t)) is_down old new change x) (sym is)
-      (go answer made failed (subst (λ (x : Result (Unit {0}) StoreFault). OnOk x (is_down new ≡ is_down old)) is down))
+      subst (λ (x : Result (Unit {0}) StoreFault). Changes (model_with g old before) (model_with g new behind) change x) (sym is)
+      (go answer made failed (subst (λ (x : Result (Unit {0}) StoreFault). OnOk x (behind.is_down ≡ before.is_down)) is down))
     where
-      go : (a : Result (Unit {0}) Fault) → OnOk a (StoreMakes g (part old) (part new) change) → OnErr a (StoreFails g (part old) (part new) change) → OnOk (answered a) (is_down new ≡ is_down old)
-          → Applies (λ t. store_holds g (part t)) (λ t. store_doubt g (part t)) (λ t. store_survivors g (part t)) (λ t. store_tied g (part t)) is_down old new change (answered a)
+      go : (a : Result (Unit {0}) Fault) → OnOk a (StoreMakes g old new change) → OnErr a (StoreFails g old new change) → OnOk (answered a) (behind.is_down ≡ before.is_down)
+          → Changes (model_with g old before) (model_with g new behind) change (answered a)
       go (Ok x) made failed down = record { clean = made.clean; state = made.state; settled = made.settled; ties = made.ties; down = down }
       go (Err NoMemory) made failed down = record { clean = failed.clean; state = failed.state; crash = failed.crash; ties = failed.ties }
       go (Err Refused) made failed down = record { clean = failed.clean; state = failed.state; crash = failed.crash; ties = failed.ties }
+
+module _ {S : Type 0} (g : Ghosts S) (t : Store S) (before behind : Health) where
+  -- a change that is not begun
+  pub stays_down : (change : Change) (r : Result (Unit {0}) StoreFault) → r ≡ Err Down → behind.is_down ≡ before.is_down → Changes (model_with g t before) (model_with g t behind) change r
+  stays_down change r is down =
+      subst (λ (x : Result (Unit {0}) StoreFault). Changes (model_with g t before) (model_with g t behind) change x) (sym is)
+      (record { clean = omega arith; state = λ z s held. held; crash = λ z u it. it; ties = λ z tied. tied; down = down })
 
 -- ---- a number that no row has
 

@@ -1,5 +1,5 @@
 -- The rows that stand for a State, and what a connection over them holds.
-use Rattle.std.specs.Prelude.{◌≡◌, ◌⊎◌, ℕ, ◌<◌, ◌^◌, Bool, false, [], ◌∷◌, map, IsPermutation, IsTrue, IsUtf8}
+use Rattle.std.specs.Prelude.{◌≡◌, ◌⊎◌, ℕ, ◌<◌, ◌^◌, false, [], ◌∷◌, map, IsPermutation, IsTrue, IsUtf8}
 use Rattle.std.specs.List.{AllByRecursion}
 use Rattle.std.specs.FinMap.{empty, entries}
 use Rattle.sqlite.specs.Held.{Held, state}
@@ -12,16 +12,18 @@ use Rattle.sqlite.specs.View.{doubt}
 use Rattle.sqlite.specs.declared.types.Value.TheVariants.{Text, Blob}
 use Rattle.sqlite_catalog.specs.Listing.{IsSound}
 use Rattle.csi_keeper.specs.Keeper.{Fails, IsQuiet, Makes, Tells}
+use Rattle.csi_keeper.specs.Model.{Model}
 use Rattle.csi_keeper.specs.State.{State, Place}
 use Rattle.csi_keeper.specs.Totals.{AreTotals}
 use Rattle.csi_keeper.specs.declared.change.Change.{Change}
 use Rattle.csi_keeper.specs.declared.totals.Totals.{Totals}
 use Rattle.csi_keeper.specs.declared.volume.Attachment.{Attachment}
 use Rattle.csi_keeper.specs.declared.volume.Volume.{Volume}
-use Rattle.csi_layout.specs.Tables.{schema}
-use Rattle.csi_layout.specs.declared.formats.TheConstants.{FIRST_FORMAT, LATEST_FORMAT}
-use Rattle.csi_statements.specs.Rows.{number_value, bool_value, meta_row, seen_meta, seen_volume, seen_attachment, AreKeyed}
+use Rattle.csi_schema.specs.Tables.{schema}
+use Rattle.csi_schema.specs.declared.formats.TheConstants.{FIRST_FORMAT, LATEST_FORMAT}
+use Rattle.csi_transactions.specs.Rows.{number_value, bool_value, meta_row, seen_meta, seen_volume, seen_attachment, AreKeyed}
 use Rattle.csi_tables.specs.Encoding.{caps_bytes, params_bytes, AreKnown, FitCaps, FitParams}
+use Rattle.csi_tables.specs.declared.health.Health.{Health}
 
 -- ---- rows
 
@@ -137,9 +139,9 @@ module _ {S : Type 0} (g : Ghosts S) where
   abbrev pub conn_tied : Held S → Type 0
   conn_tied h = Ties (state g h)
 
--- a connection is never down: what stands over it is
-abbrev pub never_down : {K : Type 0} → K → Bool
-never_down k = false
+  -- what contracts see of it: what stands over it counts refusals, and is down
+  abbrev pub conn_model : Held S → Model State
+  conn_model h = record { holds = conn_holds h; doubt = conn_doubt h; refusals = 0; survivors = conn_survivors h; tied = conn_tied h; is_down = false }
 
 -- ---- a connection, and the totals that are kept beside it
 
@@ -160,23 +162,30 @@ module _ {S : Type 0} (g : Ghosts S) where
   abbrev pub store_tied : Store S → Type 0
   store_tied t = conn_tied g t.0
 
+  abbrev pub store_model : Store S → Model State
+  store_model t = record { holds = store_holds t; doubt = store_doubt t; refusals = 0; survivors = store_survivors t; tied = store_tied t; is_down = false }
+
+  -- with what is counted of the calls
+  abbrev pub model_with : Store S → Health → Model State
+  model_with t health = record { holds = store_holds t; doubt = store_doubt t; refusals = health.refusals; survivors = store_survivors t; tied = store_tied t; is_down = health.is_down }
+
 module _ {S : Type 0} (g : Ghosts S) (old new : Held S) where
   -- what a read answers is so of each State that the connection may have
   abbrev pub ConnTells : (State → Type 0) → Type 0
-  ConnTells P = Tells (conn_holds g) (conn_doubt g) old new P
+  ConnTells P = Tells (conn_model g old) (conn_model g new) P
 
   abbrev pub ConnIsQuiet : Type 0
-  ConnIsQuiet = IsQuiet (conn_holds g) (conn_doubt g) (conn_survivors g) (conn_tied g) never_down old new
+  ConnIsQuiet = IsQuiet (conn_model g old) (conn_model g new)
 
   abbrev pub ConnMakes : Change → Type 0
-  ConnMakes change = Makes (conn_holds g) (conn_doubt g) (conn_survivors g) (conn_tied g) never_down old new change
+  ConnMakes change = Makes (conn_model g old) (conn_model g new) change
 
   abbrev pub ConnFails : Change → Type 0
-  ConnFails change = Fails (conn_holds g) (conn_doubt g) (conn_survivors g) (conn_tied g) old new change
+  ConnFails change = Fails (conn_model g old) (conn_model g new) change
 
 module _ {S : Type 0} (g : Ghosts S) (old new : Store S) where
   abbrev pub StoreMakes : Change → Type 0
-  StoreMakes change = Makes (store_holds g) (store_doubt g) (store_survivors g) (store_tied g) never_down old new change
+  StoreMakes change = Makes (store_model g old) (store_model g new) change
 
   abbrev pub StoreFails : Change → Type 0
-  StoreFails change = Fails (store_holds g) (store_doubt g) (store_survivors g) (store_tied g) old new change
+  StoreFails change = Fails (store_model g old) (store_model g new) change

@@ -1,24 +1,26 @@
 -- Why a call over the tables is refused: want of memory is no reason.
-use Rattle.std.specs.Prelude.{◌≡◌, ◌⊎◌, ℕ, ◌≤◌, ◌^◌, ◌+◌, false, [], ◌∷◌, List, IsErrOf, IsSome, Result}
+use Rattle.std.specs.Prelude.{◌≡◌, ◌⊎◌, ℕ, ◌≤◌, ◌^◌, ◌+◌, false, [], ◌∷◌, List, IfOk, IsErrOf, IsSome, OnErr, OnOk, Result}
 use Rattle.std.specs.FinMap.{entries}
 use Rattle.std.specs.List.{AllByRecursion}
 use Rattle.sqlite.specs.Held.{Held, state}
 use Rattle.sqlite.specs.State as sql
+use Rattle.sqlite.specs.State.{HasCleanDisk}
 use Rattle.sqlite.specs.Store.{Ghosts}
 use Rattle.sqlite.specs.declared.error.Error.{Error}
 use Rattle.sqlite_disk.specs.Disk.{MoreFaults}
 use Rattle.csi_types.specs.Maps.{TextMap}
-use Rattle.csi_keeper.specs.State.{State}
+use Rattle.csi_keeper.specs.State.{State, changed}
 use Rattle.csi_keeper.specs.Totals.{HasRoom, total_of}
 use Rattle.csi_keeper.specs.declared.change.Change.{Change}
 use Rattle.csi_keeper.specs.declared.change.Change.TheVariants.{AddVolume, RemoveVolume, Attach, Detach, DetachAll, SetMutable}
 use Rattle.csi_keeper.specs.declared.totals.Totals.{Totals}
 use Rattle.csi_keeper.specs.declared.volume.Attachment.{Attachment}
 use Rattle.csi_keeper.specs.declared.volume.Volume.{Volume}
-use Rattle.csi_statements.specs.Failing.{RefusesAttachment, RefusesDetaching, RefusesDetachingAll, RefusesNumbered, RefusesParams, RefusesRemoval}
-use Rattle.csi_statements.specs.Rows.{attachment_row, volume_row}
+use Rattle.csi_transactions.specs.Failing.{RefusesAttachment, RefusesDetaching, RefusesDetachingAll, RefusesNumbered, RefusesParams, RefusesRemoval}
+use Rattle.csi_schema.specs.Transactions.{LeavesNothingNew}
+use Rattle.csi_transactions.specs.Rows.{IsUndone, attachment_row, volume_row}
 use Rattle.csi_tables.specs.Encoding.{caps_bytes, params_bytes, AreKnown}
-use Rattle.csi_tables.specs.Holding.{Store, conn_doubt, conn_holds, store_doubt, store_holds}
+use Rattle.csi_tables.specs.Holding.{IsStorable, Store, conn_doubt, conn_holds, store_doubt, store_holds, ConnFails, ConnMakes, ConnTells, StoreFails, StoreMakes}
 use Rattle.csi_tables.specs.declared.fault.Fault.{Fault}
 use Rattle.csi_tables.specs.declared.fault.Fault.TheVariants.{Refused}
 
@@ -78,7 +80,36 @@ module _ {S : Type 0} (g : Ghosts S) (old new : Held S) where
   abbrev pub ConnRefuses : {X : Type 0} → Type 0 → Result X Fault → Type 0
   ConnRefuses Why r = conn_doubt g new ≡ 0 → IsErrOf r Refused → (s : State) → conn_holds g old s → HasKnownModes s → IsRefusal Why (state g old) (state g new)
 
+  -- A read: what it answers of the State, and that nothing refuses it. What was committed stays, and a stop leaves what it could leave before.
+  pub record ConnReads {X : Type 0} (What : X → State → Type 0) (r : Result X Fault) : Type 0 where
+    pub idle : new.in_transaction ≡ false
+    pub value : IfOk r (λ x. ConnTells g old new (What x))
+    pub refused : ConnRefuses ⊥ r
+    pub undone : HasCleanDisk (state g new) → IsUndone (state g old) (state g new)
+    pub survives : LeavesNothingNew g old new
+
+  -- A change: it is made, or it fails and may be left by a stop; and why it is refused.
+  pub record ConnChanges {X : Type 0} (change : Change) (Why : Type 0) (r : Result X Fault) : Type 0 where
+    pub idle : new.in_transaction ≡ false
+    pub made : OnOk r (ConnMakes g old new change)
+    pub failed : OnErr r (ConnFails g old new change)
+    pub refused : ConnRefuses Why r
+
+  -- a call that makes any change that changes nothing
+  pub record ConnStays {X : Type 0} (r : Result X Fault) : Type 0 where
+    pub idle : new.in_transaction ≡ false
+    pub made : OnOk r ((change : Change) → ((s : State) → IsStorable s → changed s change ≡ s) → ConnMakes g old new change)
+    pub failed : OnErr r ((change : Change) → ConnFails g old new change)
+    pub refused : ConnRefuses ⊥ r
+
 module _ {S : Type 0} (g : Ghosts S) (old new : Store S) where
   -- and beside it the totals
   abbrev pub StoreRefuses : {X E : Type 0} → E → Type 0 → Result X E → Type 0
   StoreRefuses refused Why r = store_doubt g new ≡ 0 → IsErrOf r refused → (s : State) → store_holds g old s → HasKnownModes s → IsRefusal Why (state g old.0) (state g new.0)
+
+  -- a change, with the totals
+  pub record StoreChanges {X : Type 0} (change : Change) (Why : Type 0) (r : Result X Fault) : Type 0 where
+    pub idle : new.0.in_transaction ≡ false
+    pub made : OnOk r (StoreMakes g old new change)
+    pub failed : OnErr r (StoreFails g old new change)
+    pub refused : StoreRefuses Refused Why r

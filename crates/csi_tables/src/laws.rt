@@ -6,8 +6,8 @@ ghost use Rattle.sqlite.specs.Tree.{Trees};
 ghost use Rattle.csi_config.specs.declared.config.Config.{Config};
 ghost use Rattle.csi_keeper.specs.Invariant.{IsInvariant};
 ghost use Rattle.csi_keeper.specs.State.{State};
-ghost use Rattle.csi_layout.specs.Tables.{schema};
-ghost use Rattle.csi_statements.specs.Rows.{SetsFormat};
+ghost use Rattle.csi_schema.specs.Tables.{schema};
+ghost use Rattle.csi_transactions.specs.Rows.{SetsFormat};
 ghost use Rattle.csi_tables.specs.Holding.{IsEitherRows, IsRows, IsRowsOf};
 ghost use Rattle.csi_tables.specs.Refusing.{HasKnownModes};
 

@@ -14,7 +14,8 @@ use std::alloc::Global;
 // The nodes of a number, and how many places have no greater one. The places rise by number.
 fn nodes_of(alloc: Global, places: &[Row], number: u64) -> Result<(Items<Text>, usize), Fault>
     ensures nodes { IfOk result (λ found. (ps : List Place) → IsRisen ps → places.now ≡ map place_row ps → found.0 ≡ nodes_at ps number) }
-    ensures passed { IfOk result (λ found. (ps : List Place) → IsRisen ps → places.now ≡ map place_row ps → drop found.1 ps ≡ filter (λ p. nat_lt number p.0) ps) }
+    ensures passed { IfOk result (λ found. (ps : List Place) → IsRisen ps → places.now ≡ map place_row ps
+        → drop found.1 ps ≡ filter (λ p. nat_lt number p.0) ps) }
     ensures within { IfOk result (λ found. found.1 ≤ length places.now) }
     ensures refused { IsErrOf result Refused → (ps : List Place) → AreTexts ps → places.now ≢ map place_row ps }
 {
@@ -38,7 +39,8 @@ pub(crate) fn nodes_of_each(
     numbers: &[u64],
     places: &[Row],
 ) -> Result<Items<Items<Text>>, Fault>
-    ensures nodes { IfOk result (λ all. (ps : List Place) → IsRisen ps → AreRising numbers.now → places.now ≡ map place_row ps → all ≡ map (nodes_at ps) numbers.now) }
+    ensures nodes { IfOk result (λ all. (ps : List Place) → IsRisen ps → AreRising numbers.now → places.now ≡ map place_row ps
+        → all ≡ map (nodes_at ps) numbers.now) }
     ensures refused { IsErrOf result Refused → (ps : List Place) → IsRisen ps → AreRising numbers.now → AreTexts ps → places.now ≢ map place_row ps }
 {
     let mut all = Items::new(alloc);

@@ -3,11 +3,11 @@
 ghost use Rattle.std.specs.Prelude.{◌≡◌, false, IfErr, IfOk, IsTrue};
 ghost use Rattle.sqlite.specs.Held.{state};
 ghost use Rattle.sqlite.specs.State.{HasCleanDisk, Survives};
-ghost use Rattle.csi_layout.specs.Failing.{FailsFor};
-ghost use Rattle.csi_layout.specs.Making.{MakesTables, RefusesTables};
-ghost use Rattle.csi_layout.specs.Tables.{no_schema};
-ghost use Rattle.csi_layout.specs.Transactions.{LeavesFrom};
-ghost use Rattle.csi_statements.specs.Rows.{IsUndone};
+ghost use Rattle.csi_schema.specs.Failing.{FailsFor};
+ghost use Rattle.csi_schema.specs.Making.{MakesTables, RefusesTables};
+ghost use Rattle.csi_schema.specs.Tables.{no_schema};
+ghost use Rattle.csi_schema.specs.Transactions.{LeavesFrom};
+ghost use Rattle.csi_transactions.specs.Rows.{IsUndone};
 ghost use Rattle.csi_keeper.specs.State.{State};
 ghost use Rattle.csi_tables.specs.Holding.{conn_doubt, store_doubt, store_holds};
 ghost use Rattle.csi_tables.specs.Keeping.{connection_of, is_down, refusals, store_of, IsNewOver};
@@ -15,7 +15,7 @@ ghost use Rattle.csi_tables.specs.Keeping.{connection_of, is_down, refusals, sto
 use crate::encoding::read_back;
 use crate::tables::Tables;
 use csi_keeper::Totals;
-use csi_layout::make_tables;
+use csi_schema::make_tables;
 use sqlite::{Alter, Connection, Error};
 use std::alloc::Global;
 
@@ -45,8 +45,10 @@ impl<S: Alter> Tables<S> {
         ensures made { IfOk result (λ tables. IsNewOver S.Store conn tables) }
         ensures was_open { IfOk result (λ tables. store_doubt S.Store (store_of S.Store tables) ≡ 0 → IsTrue (state S.Store conn).is_open) }
         ensures undone { IfErr result (λ fault. HasCleanDisk (state S.Store fault.conn) → IsUndone (state S.Store conn) (state S.Store fault.conn)) }
-        ensures failed { IfErr result (λ fault. HasCleanDisk (state S.Store fault.conn) → conn.schema ≡ no_schema → FailsFor (RefusesTables (state S.Store conn)) (state S.Store conn) (state S.Store fault.conn) fault.error) }
-        ensures survives { IfErr result (λ fault. Survives (state S.Store conn) (state S.Store fault.conn) (LeavesFrom no_schema MakesTables (state S.Store conn))) }
+        ensures failed { IfErr result (λ fault. HasCleanDisk (state S.Store fault.conn) → conn.schema ≡ no_schema
+            → FailsFor (RefusesTables (state S.Store conn)) (state S.Store conn) (state S.Store fault.conn) fault.error) }
+        ensures survives { IfErr result (λ fault. Survives (state S.Store conn) (state S.Store fault.conn)
+            (LeavesFrom no_schema MakesTables (state S.Store conn))) }
         ensures idle { IfErr result (λ fault. fault.conn.in_transaction ≡ false) }
     {
         read_back();

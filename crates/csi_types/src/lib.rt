@@ -1,4 +1,19 @@
 //! The values of the Container Storage Interface (CSI 1.x, Identity and Controller services).
+//!
+//! Plain structs and enums, a module a subject, over three small types: [`Text`], [`Items`] and [`Map`]. Contracts see a `Text` as its bytes, an
+//! `Items` as a list and a `Map` as a finite map in byte order of its keys, so the declared type of a message is itself the record that the
+//! definitions speak of: there is no second set of types for proofs.
+//!
+//! `specs/` also has what layers above need as facts about values: the table of argument checks (`Checks`), keys folded in ASCII, which
+//! capabilities are supported, the code and the text of each refusal. `topology.rt` compares topologies for all layers; `topology/segments.rt`
+//! puts the segments of one in the order of their folded keys, on the stack. A `Map` has its entries in a list as long as their keys rise,
+//! and then in a tree (`map/entering.rt`), so that no order of keys makes it slow; `map/entries.rt` goes over both.
+//!
+//! ```rust
+//! let mut parameters = Map::new(alloc);
+//! parameters.insert(Text::from_str(alloc, "tier")?, Text::from_str(alloc, "fast")?)?;
+//! let method = method_of(b"/csi.v1.Controller/CreateVolume");
+//! ```
 #![tactic(auto)]
 
 mod capability;

@@ -1,43 +1,11 @@
-//! The fields of a message, as the words give them.
+//! The fields of a message, as the arguments give them.
 
 use crate::command::{FIELDS, Field};
+use crate::failure::Failure;
 use clap::ArgMatches;
 use command_line::is_decimal;
 use csi_types::{Access, Capability, CapacityRange, Items, Map, Method, Mount, Requirement, Text};
-use std::alloc::{AllocError, AllocFailed, Global};
-
-/// Why words are no call.
-#[derive(Clone, Copy, Debug, PartialEq, Eq)]
-pub(crate) enum WordsFault {
-    /// No method has the name.
-    NoMethod,
-    /// The method has no field for this option.
-    NoField(&'static str),
-    /// The message is given beside this option.
-    BesideMessage(&'static str),
-    /// The message is not an even number of hexadecimal digits.
-    NotHex,
-    /// The value of this option is no number in decimal digits alone.
-    NotDecimal(&'static str),
-    /// A pair has no `=`.
-    NotPair,
-    /// The message has more than 1,048,576 bytes.
-    TooLong,
-    /// Memory was refused.
-    NoMemory,
-}
-
-impl From<AllocError> for WordsFault {
-    fn from(_error: AllocError) -> WordsFault {
-        WordsFault::NoMemory
-    }
-}
-
-impl<T: Drop> From<AllocFailed<T>> for WordsFault {
-    fn from(_error: AllocFailed<T>) -> WordsFault {
-        WordsFault::NoMemory
-    }
-}
+use std::alloc::Global;
 
 // The options that a method has fields for.
 fn fields_of(method: Method) -> &'static [&'static str] {
@@ -66,46 +34,46 @@ fn fields_of(method: Method) -> &'static [&'static str] {
     }
 }
 
-// Whether an option is among the words.
-fn is_given(words: &ArgMatches<'_>, name: &str) -> bool {
+// Whether an option is among the arguments.
+fn is_given(arguments: &ArgMatches<'_>, name: &str) -> bool {
     if name == "readonly" {
-        words.get_flag(name)
+        arguments.get_flag(name)
     } else {
-        words.get_str(name).is_some()
+        arguments.get_str(name).is_some()
     }
 }
 
 // Whether an option takes a number, and is given otherwise than in decimal digits alone: `clap` takes a sign.
-fn is_odd(words: &ArgMatches<'_>, field: &Field) -> bool {
-    match words.get_str(field.name) {
-        Some(word) => field.is_number() && !is_decimal(word),
+fn is_odd(arguments: &ArgMatches<'_>, field: &Field) -> bool {
+    match arguments.get_str(field.name) {
+        Some(text) => field.is_number() && !is_decimal(text),
         None => false,
     }
 }
 
-/// Whether the words give no field.
+/// Whether the arguments give no field.
 ///
 /// # Errors
 ///
 /// Where they give one.
-pub(crate) fn give_none(words: &ArgMatches<'_>) -> Result<(), WordsFault> {
+pub(crate) fn give_none(arguments: &ArgMatches<'_>) -> Result<(), Failure> {
     for Field { name, .. } in FIELDS {
-        if is_given(words, name) {
-            return Err(WordsFault::BesideMessage(name));
+        if is_given(arguments, name) {
+            return Err(Failure::BesideMessage(name));
         }
     }
     Ok(())
 }
 
-/// The fields of a message, as the words of a command give them.
+/// The fields of a message, as the arguments of a command give them.
 #[derive(Clone, Copy)]
-pub(crate) struct Fields<'m, 'w> {
+pub(crate) struct Fields<'m, 'a> {
     alloc: Global,
-    words: &'m ArgMatches<'w>,
+    arguments: &'m ArgMatches<'a>,
 }
 
-impl<'m, 'w> Fields<'m, 'w> {
-    /// The fields that the words give.
+impl<'m, 'a> Fields<'m, 'a> {
+    /// The fields that the arguments give.
     ///
     /// # Errors
     ///
@@ -113,39 +81,42 @@ impl<'m, 'w> Fields<'m, 'w> {
     pub(crate) fn new(
         alloc: Global,
         method: Method,
-        words: &'m ArgMatches<'w>,
-    ) -> Result<Fields<'m, 'w>, WordsFault> {
+        arguments: &'m ArgMatches<'a>,
+    ) -> Result<Fields<'m, 'a>, Failure> {
         let known = fields_of(method);
         for field in &FIELDS {
-            if is_given(words, field.name) && !known.contains(&field.name) {
-                return Err(WordsFault::NoField(field.name));
+            if is_given(arguments, field.name) && !known.contains(&field.name) {
+                return Err(Failure::NoField {
+                    method,
+                    option: field.name,
+                });
             }
-            if is_odd(words, field) {
-                return Err(WordsFault::NotDecimal(field.name));
+            if is_odd(arguments, field) {
+                return Err(Failure::NotDecimal(field.name));
             }
         }
-        Ok(Fields { alloc, words })
+        Ok(Fields { alloc, arguments })
     }
 
     /// The text of an option, or the empty text.
-    pub(crate) fn text(&self, name: &str) -> Result<Text, WordsFault> {
-        Ok(Text::from_str(self.alloc, self.words.get_str(name).unwrap_or(""))?)
+    pub(crate) fn text(&self, name: &str) -> Result<Text, Failure> {
+        Ok(Text::from_str(self.alloc, self.arguments.get_str(name).unwrap_or(""))?)
     }
 
     /// Whether the volume is attached for reading only.
     pub(crate) fn readonly(&self) -> bool {
-        self.words.get_flag("readonly")
+        self.arguments.get_flag("readonly")
     }
 
     /// The most entries of a page.
     pub(crate) fn max(&self) -> i32 {
-        self.words.get_one::<i32>("max").unwrap_or(0)
+        self.arguments.get_one::<i32>("max").unwrap_or(0)
     }
 
     /// The range of sizes, where a bound is given.
     pub(crate) fn range(&self) -> Option<CapacityRange> {
-        let required = self.words.get_one::<i64>("required");
-        let limit = self.words.get_one::<i64>("limit");
+        let required = self.arguments.get_one::<i64>("required");
+        let limit = self.arguments.get_one::<i64>("limit");
         if required.is_none() && limit.is_none() {
             return None;
         }
@@ -156,8 +127,8 @@ impl<'m, 'w> Fields<'m, 'w> {
     }
 
     // A mount of the file system that is given, or else a block device.
-    fn access(&self) -> Result<Access, WordsFault> {
-        let Some(fs) = self.words.get_str("fs") else {
+    fn access(&self) -> Result<Access, Failure> {
+        let Some(fs) = self.arguments.get_str("fs") else {
             return Ok(Access::Block);
         };
         Ok(Access::Mount(Mount {
@@ -168,8 +139,8 @@ impl<'m, 'w> Fields<'m, 'w> {
     }
 
     /// The one capability, where a mode is given.
-    pub(crate) fn capability(&self) -> Result<Option<Capability>, WordsFault> {
-        let Some(mode) = self.words.get_one::<i32>("mode") else {
+    pub(crate) fn capability(&self) -> Result<Option<Capability>, Failure> {
+        let Some(mode) = self.arguments.get_one::<i32>("mode") else {
             return Ok(None);
         };
         Ok(Some(Capability {
@@ -179,7 +150,7 @@ impl<'m, 'w> Fields<'m, 'w> {
     }
 
     /// The same as a list.
-    pub(crate) fn capabilities(&self) -> Result<Items<Capability>, WordsFault> {
+    pub(crate) fn capabilities(&self) -> Result<Items<Capability>, Failure> {
         let mut all = Items::new(self.alloc);
         if let Some(capability) = self.capability()? {
             all.push(capability)?;
@@ -189,13 +160,13 @@ impl<'m, 'w> Fields<'m, 'w> {
 
     /// The pairs of an option, where it is given: between commas, each cut at its first `=`; of equal
     /// keys the last.
-    pub(crate) fn pairs(&self, name: &str) -> Result<Option<Map>, WordsFault> {
-        let Some(text) = self.words.get_str(name) else {
+    pub(crate) fn pairs(&self, name: &str) -> Result<Option<Map>, Failure> {
+        let Some(text) = self.arguments.get_str(name) else {
             return Ok(None);
         };
         let mut map = Map::new(self.alloc);
         for pair in text.split(',') {
-            let (key, value) = pair.split_once('=').ok_or(WordsFault::NotPair)?;
+            let (key, value) = pair.split_once('=').ok_or(Failure::NotPair)?;
             let key = Text::from_str(self.alloc, key)?;
             let value = Text::from_str(self.alloc, value)?;
             map.insert(key, value)?;
@@ -204,12 +175,12 @@ impl<'m, 'w> Fields<'m, 'w> {
     }
 
     /// The same, or no pairs.
-    pub(crate) fn map(&self, name: &str) -> Result<Map, WordsFault> {
+    pub(crate) fn map(&self, name: &str) -> Result<Map, Failure> {
         Ok(self.pairs(name)?.unwrap_or(Map::new(self.alloc)))
     }
 
     /// One requisite topology, where it is given.
-    pub(crate) fn requirement(&self) -> Result<Option<Requirement>, WordsFault> {
+    pub(crate) fn requirement(&self) -> Result<Option<Requirement>, Failure> {
         let Some(segments) = self.pairs("topology")? else {
             return Ok(None);
         };

@@ -3,7 +3,8 @@
 ghost use Rattle.std.specs.Prelude.{◌≡◌};
 
 use crate::connection::Connection;
-use crate::say::{DONE, INPUT_OUTPUT, no_memory, say_of};
+use crate::failure::Failure;
+use crate::say::say;
 use csi_client::{Exchanges, Line, Received, pause_millis, receive, send};
 use frames_core::ReplyFault;
 use std::io::{self, ErrorKind};
@@ -59,11 +60,12 @@ impl<'a> SocketLine<'a> {
         }
     }
 
-    /// Says why the last try was not answered, and gives the exit status.
-    pub(crate) fn say_unanswered(&self) -> u8 {
+    /// Why the last try was not answered.
+    pub(crate) fn failure(&self) -> Failure {
+        let alloc = self.rt.alloc();
         match &self.unanswered {
-            Some(why) => say_of(self.rt, self.path, why, INPUT_OUTPUT),
-            None => INPUT_OUTPUT,
+            Some(why) => Failure::of_name(alloc, self.path, why),
+            None => Failure::of_name(alloc, self.path, &Unanswered::Closed),
         }
     }
 
@@ -72,10 +74,10 @@ impl<'a> SocketLine<'a> {
         let rt = self.rt;
         let tried = u32::try_from(self.exchanges.made).unwrap_or(u32::MAX);
         let turn = tried.saturating_add(1);
-        match format!(in rt.alloc(); "{why}: try {turn} of {}", self.tries) {
-            Ok(text) => say_of(rt, self.path, text.as_str(), DONE),
-            Err(_) => no_memory(rt),
-        };
+        match format!(in rt.alloc(); "{}: {why}: try {turn} of {}", self.path, self.tries) {
+            Ok(text) => say(rt, text.as_str()),
+            Err(_) => say(rt, "out of memory"),
+        }
         let chance = rt.monotonic().map_or(0, |time| time.subsec_nanos());
         thread::sleep(rt, Duration::from_millis(pause_millis(tried, chance)));
     }

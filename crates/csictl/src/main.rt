@@ -4,6 +4,7 @@
 mod call;
 mod command;
 mod connection;
+mod failure;
 mod fields;
 mod frame;
 mod line;
@@ -14,9 +15,16 @@ mod show;
 mod vectors;
 
 use command_line::take_closed;
+use say::say_failure;
 use std::process::ExitCode;
 
 fn main(rt: HostRuntime) -> ExitCode {
     let _standard = take_closed(&rt);
-    ExitCode::from(run::run(&rt))
+    match run::run(&rt) {
+        Ok(ended) => ExitCode::from(ended.status()),
+        Err(failure) => {
+            say_failure(&rt, &failure);
+            ExitCode::from(failure.status())
+        }
+    }
 }

@@ -1,6 +1,7 @@
-//! The frame of the call that the words ask for.
+//! The frame of the call that the arguments ask for.
 
-use crate::fields::{Fields, WordsFault, give_none};
+use crate::failure::Failure;
+use crate::fields::{Fields, give_none};
 use clap::ArgMatches;
 use csi_client::put_call;
 use csi_codec::encode_request;
@@ -12,7 +13,7 @@ use frames_core::MAX_MESSAGE_BYTES;
 use hex::FromHexError;
 use std::alloc::Global;
 
-fn create(fields: Fields<'_, '_>) -> Result<Request, WordsFault> {
+fn create(fields: Fields<'_, '_>) -> Result<Request, Failure> {
     Ok(Request::Create(CreateVolume {
         name: fields.text("name")?,
         range: fields.range(),
@@ -25,7 +26,7 @@ fn create(fields: Fields<'_, '_>) -> Result<Request, WordsFault> {
     }))
 }
 
-fn publish(fields: Fields<'_, '_>) -> Result<Request, WordsFault> {
+fn publish(fields: Fields<'_, '_>) -> Result<Request, Failure> {
     Ok(Request::Publish(Publish {
         volume_id: fields.text("volume")?,
         node_id: fields.text("node")?,
@@ -36,7 +37,7 @@ fn publish(fields: Fields<'_, '_>) -> Result<Request, WordsFault> {
     }))
 }
 
-fn validate(fields: Fields<'_, '_>) -> Result<Request, WordsFault> {
+fn validate(fields: Fields<'_, '_>) -> Result<Request, Failure> {
     Ok(Request::Validate(Validate {
         volume_id: fields.text("volume")?,
         context: fields.no_map(),
@@ -47,7 +48,7 @@ fn validate(fields: Fields<'_, '_>) -> Result<Request, WordsFault> {
 }
 
 // The request of a method with these fields.
-fn request(method: Method, fields: Fields<'_, '_>) -> Result<Request, WordsFault> {
+fn request(method: Method, fields: Fields<'_, '_>) -> Result<Request, Failure> {
     Ok(match method {
         Method::GetPluginInfo => Request::PluginInfo,
         Method::GetPluginCapabilities => Request::PluginCapabilities,
@@ -82,53 +83,56 @@ fn request(method: Method, fields: Fields<'_, '_>) -> Result<Request, WordsFault
     })
 }
 
-fn encoded(alloc: Global, request: &Request) -> Result<Vec<u8>, WordsFault> {
+fn encoded(alloc: Global, request: &Request) -> Result<Vec<u8>, Failure> {
     let mut bytes = Vec::new(alloc);
     encode_request(request, &mut bytes)?;
     Ok(bytes)
 }
 
-// The bytes of the message whose fields the words give.
+// The bytes of the message whose fields the arguments give.
 fn message_of_fields(
     alloc: Global,
     method: Method,
-    words: &ArgMatches<'_>,
-) -> Result<Vec<u8>, WordsFault> {
-    let fields = Fields::new(alloc, method, words)?;
+    arguments: &ArgMatches<'_>,
+) -> Result<Vec<u8>, Failure> {
+    let fields = Fields::new(alloc, method, arguments)?;
     let request = request(method, fields)?;
     encoded(alloc, &request)
 }
 
 // The bytes of a message that is given as it is.
-fn message_as_it_is(alloc: Global, digits: &str) -> Result<Vec<u8>, WordsFault> {
+fn message_as_it_is(alloc: Global, digits: &str) -> Result<Vec<u8>, Failure> {
     match hex::decode(alloc, digits) {
         Ok(bytes) => Ok(bytes),
-        Err(FromHexError::OutOfMemory) => Err(WordsFault::NoMemory),
-        Err(_) => Err(WordsFault::NotHex),
+        Err(FromHexError::OutOfMemory) => Err(Failure::NoMemory),
+        Err(_) => Err(Failure::NotHex),
     }
 }
 
 // The bytes of the message.
-fn message(alloc: Global, method: Method, words: &ArgMatches<'_>) -> Result<Vec<u8>, WordsFault> {
-    match words.get_str("message") {
+fn message(alloc: Global, method: Method, arguments: &ArgMatches<'_>) -> Result<Vec<u8>, Failure> {
+    match arguments.get_str("message") {
         Some(digits) => {
-            give_none(words)?;
+            give_none(arguments)?;
             message_as_it_is(alloc, digits)
         }
-        None => message_of_fields(alloc, method, words),
+        None => message_of_fields(alloc, method, arguments),
     }
 }
 
-/// The method that the words name.
+/// The method that the arguments name.
 ///
 /// # Errors
 ///
 /// Where no method has the name, or memory was refused.
-pub(crate) fn method(alloc: Global, name: &str) -> Result<Method, WordsFault> {
-    method_named(alloc, name)?.ok_or(WordsFault::NoMethod)
+pub(crate) fn method(alloc: Global, name: &str) -> Result<Method, Failure> {
+    match method_named(alloc, name)? {
+        Some(method) => Ok(method),
+        None => Err(Failure::NoMethod(String::from_str(alloc, name)?)),
+    }
 }
 
-/// The frame of the call of a method that the words ask for.
+/// The frame of the call of a method that the arguments ask for.
 ///
 /// # Errors
 ///
@@ -136,11 +140,11 @@ pub(crate) fn method(alloc: Global, name: &str) -> Result<Method, WordsFault> {
 pub(crate) fn frame(
     alloc: Global,
     method: Method,
-    words: &ArgMatches<'_>,
-) -> Result<Vec<u8>, WordsFault> {
-    let message = message(alloc, method, words)?;
+    arguments: &ArgMatches<'_>,
+) -> Result<Vec<u8>, Failure> {
+    let message = message(alloc, method, arguments)?;
     if message.len() > MAX_MESSAGE_BYTES {
-        return Err(WordsFault::TooLong);
+        return Err(Failure::TooLong);
     }
     let mut frame = Vec::new(alloc);
     put_call(&mut frame, method, &message)?;

@@ -1,63 +1,69 @@
-//! What the program does, and the status that it ends with.
+//! What the program does.
 
 use crate::command::command;
-use crate::say::{DONE, INPUT_OUTPUT, USAGE, no_memory, say};
+use crate::failure::{Ended, Failure};
 use crate::{call, frame, show, vectors};
 use clap::ArgMatches;
-use clap::error::ErrorKind as WordsKind;
+use clap::error::ErrorKind as ArgumentsKind;
 use command_line::refusal_line;
 use std::env;
 use std::io::{self, ErrorKind};
 
-// Says why words are refused.
-fn refuse_words(rt: &HostRuntime, error: &clap::Error) -> u8 {
-    match refusal_line(rt.alloc(), error) {
-        Ok(line) => say(rt, line.as_str(), USAGE),
-        Err(_) => no_memory(rt),
+// Prints help or the version.
+fn print(rt: &HostRuntime, help: &clap::Error) -> Result<Ended, Failure> {
+    match help.print(rt) {
+        Ok(()) => Ok(Ended::Done),
+        Err(_) => Err(Failure::WriteFailed),
     }
 }
 
-// Prints help or the version, or says why the words are refused.
-fn end_words(rt: &HostRuntime, error: &clap::Error) -> u8 {
+// Prints help or the version, if the arguments ask for that; else they are refused.
+fn end_arguments(rt: &HostRuntime, error: &clap::Error) -> Result<Ended, Failure> {
     match error.kind() {
-        WordsKind::OutOfMemory => no_memory(rt),
-        WordsKind::DisplayHelp | WordsKind::DisplayVersion => match error.print(rt) {
-            Ok(()) => DONE,
-            Err(_) => say(rt, "a write to standard output failed", INPUT_OUTPUT),
-        },
-        _ => refuse_words(rt, error),
+        ArgumentsKind::OutOfMemory => Err(Failure::NoMemory),
+        ArgumentsKind::DisplayHelp | ArgumentsKind::DisplayVersion => print(rt, error),
+        _ => Err(Failure::Arguments(refusal_line(rt.alloc(), error)?)),
     }
 }
 
-// Does what the words ask.
-fn obey(rt: &HostRuntime, words: &ArgMatches<'_>) -> u8 {
-    match words.subcommand() {
-        Some(("frame", words)) => frame::run(rt, words),
-        Some(("call", words)) => call::run(rt, words),
-        Some(("vectors", words)) => vectors::run(rt, words),
-        Some((_, words)) => show::run(rt, words),
+// Does what the arguments ask.
+fn obey(rt: &HostRuntime, arguments: &ArgMatches<'_>) -> Result<Ended, Failure> {
+    match arguments.subcommand() {
+        Some(("frame", arguments)) => frame::run(rt, arguments),
+        Some(("call", arguments)) => call::run(rt, arguments),
+        Some(("vectors", arguments)) => vectors::run(rt, arguments),
+        Some((_, arguments)) => show::run(rt, arguments),
         None => show::run_plain(rt),
     }
 }
 
-/// Does what the command line asks, and gives the exit status.
-pub(crate) fn run(rt: &HostRuntime) -> u8 {
-    let words: Vec<String> = match words(rt) {
-        Ok(words) => words,
-        Err(error) if error.kind() == ErrorKind::OutOfMemory => return no_memory(rt),
-        Err(_) => return say(rt, "a word is no text", USAGE),
-    };
-    let command = match command(rt.alloc()) {
-        Ok(command) => command,
-        Err(error) => return end_words(rt, &error),
-    };
-    match command.try_get_matches_from(words.as_slice()) {
-        Ok(matches) => obey(rt, &matches),
-        Err(error) => end_words(rt, &error),
+fn collected(rt: &HostRuntime) -> io::Result<Vec<String>> {
+    let arguments: Vec<String> = env::args(rt)?.collect(rt.alloc())?;
+    Ok(arguments)
+}
+
+// The arguments of the program, with its name before them.
+fn arguments(rt: &HostRuntime) -> Result<Vec<String>, Failure> {
+    match collected(rt) {
+        Ok(arguments) => Ok(arguments),
+        Err(error) if error.kind() == ErrorKind::OutOfMemory => Err(Failure::NoMemory),
+        Err(_) => Err(Failure::NotText),
     }
 }
 
-fn words(rt: &HostRuntime) -> io::Result<Vec<String>> {
-    let words: Vec<String> = env::args(rt)?.collect(rt.alloc())?;
-    Ok(words)
+/// Does what the command line asks.
+///
+/// # Errors
+///
+/// Why the program ends otherwise than well. It is not said yet.
+pub(crate) fn run(rt: &HostRuntime) -> Result<Ended, Failure> {
+    let arguments = arguments(rt)?;
+    let command = match command(rt.alloc()) {
+        Ok(command) => command,
+        Err(error) => return end_arguments(rt, &error),
+    };
+    match command.try_get_matches_from(arguments.as_slice()) {
+        Ok(matches) => obey(rt, &matches),
+        Err(error) => end_arguments(rt, &error),
+    }
 }

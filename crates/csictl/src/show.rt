@@ -1,57 +1,41 @@
 //! `csictl show`.
 
-use crate::frame::say_words;
+use crate::failure::{Ended, Failure};
 use crate::message;
-use crate::say::{DONE, INPUT_OUTPUT, MALFORMED, REFUSED, no_memory, say};
 use clap::ArgMatches;
 use csi_client::{ShowEnd, show_all};
 use csi_types::Method;
-use frames_core::ReplyFault;
 
-/// Says where a reply is malformed.
-pub(crate) fn say_malformed(rt: &HostRuntime, fault: ReplyFault) -> u8 {
-    match format!(in rt.alloc(); "{fault}") {
-        Ok(line) => say(rt, line.as_str(), MALFORMED),
-        Err(_) => no_memory(rt),
-    }
-}
-
-/// Says that a body is no response of its method.
-pub(crate) fn say_bad_body(rt: &HostRuntime) -> u8 {
-    say(rt, "the body is no response of the method", MALFORMED)
-}
-
-// Says why a run ended, where it is not done, and gives the exit status.
-fn report(rt: &HostRuntime, end: ShowEnd) -> u8 {
+// What came of a run.
+fn outcome(end: ShowEnd) -> Result<Ended, Failure> {
     match end {
-        ShowEnd::Done(false) => DONE,
-        ShowEnd::Done(true) => REFUSED,
-        ShowEnd::Malformed(fault) => say_malformed(rt, fault),
-        ShowEnd::BadBody => say_bad_body(rt),
-        ShowEnd::ReadFailed => say(rt, "a read of standard input failed", INPUT_OUTPUT),
-        ShowEnd::WriteFailed => say(rt, "a write to standard output failed", INPUT_OUTPUT),
-        ShowEnd::NoMemory => no_memory(rt),
+        ShowEnd::Done(is_refused) => Ok(Ended::with(is_refused)),
+        ShowEnd::Malformed(fault) => Err(Failure::Malformed(fault)),
+        ShowEnd::BadBody => Err(Failure::BadBody),
+        ShowEnd::ReadFailed => Err(Failure::ReadFailed),
+        ShowEnd::WriteFailed => Err(Failure::WriteFailed),
+        ShowEnd::NoMemory => Err(Failure::NoMemory),
     }
 }
 
 // Shows the replies of standard input.
-fn show(rt: &HostRuntime, method: Option<Method>) -> u8 {
-    let end = show_all(rt.alloc(), method, &mut rt.stdin(), &mut rt.stdout());
-    report(rt, end)
+fn show(rt: &HostRuntime, method: Option<Method>) -> Result<Ended, Failure> {
+    outcome(show_all(rt.alloc(), method, &mut rt.stdin(), &mut rt.stdout()))
 }
 
-/// Shows the replies of standard input, to calls of the method that the words may name.
-pub(crate) fn run(rt: &HostRuntime, words: &ArgMatches<'_>) -> u8 {
-    let Some(name) = words.get_str("method") else {
-        return show(rt, None);
-    };
-    match message::method(rt.alloc(), name) {
-        Ok(method) => show(rt, Some(method)),
-        Err(fault) => say_words(rt, words, fault),
+/// Shows the replies of standard input, to calls of the method that the arguments may name.
+///
+/// # Errors
+///
+/// Where they name none, a reply is malformed, reading or writing fails, or memory is refused.
+pub(crate) fn run(rt: &HostRuntime, arguments: &ArgMatches<'_>) -> Result<Ended, Failure> {
+    match arguments.get_str("method") {
+        Some(name) => show(rt, Some(message::method(rt.alloc(), name)?)),
+        None => show(rt, None),
     }
 }
 
-/// The same where there are no words.
-pub(crate) fn run_plain(rt: &HostRuntime) -> u8 {
+/// The same where there are no arguments.
+pub(crate) fn run_plain(rt: &HostRuntime) -> Result<Ended, Failure> {
     show(rt, None)
 }

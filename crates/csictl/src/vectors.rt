@@ -1,36 +1,37 @@
 //! `csictl vectors`.
 
-use crate::say::{DONE, INPUT_OUTPUT, REFUSED, USAGE, no_memory, say, say_failed, say_of};
+use crate::failure::{Ended, Failure};
 use clap::ArgMatches;
 use csi_vectors::{VectorsEnd, run_vectors};
+use std::alloc::Global;
 use std::fs::File;
 
-// Says why a run ended, where it is not done, and gives the exit status.
-fn report(rt: &HostRuntime, path: &str, end: VectorsEnd) -> u8 {
+// What came of a run over a file.
+fn outcome(alloc: Global, path: &str, end: VectorsEnd) -> Result<Ended, Failure> {
     match end {
-        VectorsEnd::Done(false) => DONE,
-        VectorsEnd::Done(true) => REFUSED,
-        VectorsEnd::BadLine(number) => match format!(in rt.alloc();
+        VectorsEnd::Done(is_failed) => Ok(Ended::with(is_failed)),
+        VectorsEnd::BadLine(number) => Err(Failure::NotVector(format!(in alloc;
             "{path}: line {number} is no vector"
-        ) {
-            Ok(line) => say(rt, line.as_str(), USAGE),
-            Err(_) => no_memory(rt),
-        },
-        VectorsEnd::ReadFailed => say_of(rt, path, "a read failed", INPUT_OUTPUT),
-        VectorsEnd::WriteFailed => say(rt, "a write to standard output failed", INPUT_OUTPUT),
-        VectorsEnd::NoMemory => no_memory(rt),
+        )?)),
+        VectorsEnd::ReadFailed => Err(Failure::of_name(alloc, path, &"a read failed")),
+        VectorsEnd::WriteFailed => Err(Failure::WriteFailed),
+        VectorsEnd::NoMemory => Err(Failure::NoMemory),
     }
 }
 
 /// Runs the test vectors of a file.
-pub(crate) fn run(rt: &HostRuntime, words: &ArgMatches<'_>) -> u8 {
-    let path = words.get_str("file").unwrap_or("");
+///
+/// # Errors
+///
+/// Where the file cannot be read, a line is no vector, writing fails, or memory is refused.
+pub(crate) fn run(rt: &HostRuntime, arguments: &ArgMatches<'_>) -> Result<Ended, Failure> {
+    let path = arguments.get_str("file").unwrap_or("");
     match File::open(rt, path) {
-        Ok(mut file) => report(
-            rt,
+        Ok(mut file) => outcome(
+            rt.alloc(),
             path,
             run_vectors(rt.alloc(), &mut file, &mut rt.stdout()),
         ),
-        Err(error) => say_failed(rt, path, &error),
+        Err(error) => Err(Failure::of_system(rt.alloc(), path, &error)),
     }
 }

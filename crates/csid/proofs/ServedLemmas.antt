@@ -6,8 +6,7 @@ use Rattle.sqlite.specs.Tree.{Trees}
 use Rattle.csi_config.specs.declared.config.Config.{Config}
 use Rattle.csi_keeper.specs.Invariant.{IsInvariant}
 use Rattle.csi_keeper.specs.State.{State}
-use Rattle.csi_tables.specs.Holding.{store_survivors}
-use Rattle.csi_tables.specs.Keeping.{connection_of, store_of}
+use Rattle.csi_tables.specs.Keeping.{connection_of, tables_model}
 use Rattle.csi_tables.specs.declared.tables.Tables.{Tables}
 use Rattle.csi_adoption.specs.Again.{EndsTaken, IsTakenAfter, IsTakenAs, StopsTaken}
 use Rattle.csi_server.specs.Machine.{Event, state_after}
@@ -29,8 +28,8 @@ module _ {S : Type 0} (g : Ghosts S) (config : Config) where
   -- what a stop may leave of a run
   abbrev pub Leaves : Type 0
   Leaves = (old new : Tables S g) (s : State) (events : List Event) → Serves g config old new s events
-      → ((t : State) → store_survivors g (store_of g old) t → t ≡ s)
-      → (t : State) → store_survivors g (store_of g new) t → (t ≡ state_after (volumes config) s events) ⊎ IsPending config s events t
+      → ((t : State) → (tables_model g old).survivors t → t ≡ s)
+      → (t : State) → (tables_model g new).survivors t → (t ≡ state_after (volumes config) s events) ⊎ IsPending config s events t
 
   pub stops_served : StopsTaken g → RunKeeps → PendingKeeps → Leaves → StopsServed g config
   stops_served taken runs pends leaves old new s events run inv only tied clean db may = by (taken config new db clean (run.ties tied) may)

@@ -5,20 +5,20 @@ use Rattle.sqlite.specs.Store.{Ghosts}
 use Rattle.sqlite.specs.Tree.{Trees}
 use Rattle.csi_config.specs.declared.config.Config.{Config}
 use Rattle.csi_keeper.specs.Invariant.{IsInvariant}
+use Rattle.csi_keeper.specs.Model.{Model}
 use Rattle.csi_keeper.specs.State.{State}
-use Rattle.csi_layout.specs.Tables.{schema}
-use Rattle.csi_tables.specs.Holding.{store_doubt, store_holds, store_survivors, store_tied}
-use Rattle.csi_tables.specs.Keeping.{connection_of, is_down, refusals, store_of}
+use Rattle.csi_schema.specs.Tables.{schema}
+use Rattle.csi_tables.specs.Keeping.{connection_of, tables_model}
 use Rattle.csi_tables.specs.declared.tables.Tables.{Tables}
 use Rattle.csi_adoption.specs.Adopting.{committed}
 use Rattle.csi_adoption.specs.Again.{IsTakenAs}
-use Rattle.csi_server.specs.Machine.{Event, Runs, Sight, state_after}
+use Rattle.csi_server.specs.Machine.{Event, Runs, state_after}
 use Rattle.csi_server.specs.Volumes.{IsPending, seen, volumes}
 
 module _ {S : Type 0} (g : Ghosts S) (config : Config) where
   -- a keeper over tables as a run of `serve` sees it
-  abbrev pub tables_seen : Tables S g → Sight State
-  tables_seen = seen (λ t. store_holds g (store_of g t)) (λ t. store_doubt g (store_of g t)) (refusals g) (λ t. store_survivors g (store_of g t)) (λ t. store_tied g (store_of g t)) (is_down g) config
+  abbrev pub tables_seen : Tables S g → Model State
+  tables_seen t = seen config (tables_model g t)
 
   -- a run of `serve` over tables: of these calls, from the State s to what it left
   abbrev pub Serves : Tables S g → Tables S g → State → List Event → Type 0
@@ -40,6 +40,6 @@ module _ {S : Type 0} (g : Ghosts S) (config : Config) where
   abbrev pub StopsServed : Type 0
   StopsServed =
       (old new : Tables S g) (s : State) (events : List Event) → Serves old new s events → IsInvariant config s
-      → ((t : State) → store_survivors g (store_of g old) t → t ≡ s) → store_tied g (store_of g old)
-      → store_doubt g (store_of g new) ≡ 0
+      → ((t : State) → (tables_model g old).survivors t → t ≡ s) → (tables_model g old).tied
+      → (tables_model g new).doubt ≡ 0
       → (db : Trees) → (state g (connection_of g new)).may_leave db → IsTakenBehind s events db

@@ -1,17 +1,34 @@
 -- The exit statuses.
 use Rattle.std.specs.Prelude.{◌≡◌, ◌⊎◌, ℕ}
 use Rattle.csi_server.specs.declared.end.RunEnd.{RunEnd}
-use Rattle.csi_server.specs.declared.end.RunEnd.TheVariants.{Done, Malformed, ReadFailed, TurnsSpent, WriteFailed, NoMemory}
+use Rattle.csi_server.specs.declared.end.RunEnd.TheVariants as end
+use Rattle.csid.specs.declared.failure.Failure.{Failure}
+use Rattle.csid.specs.declared.failure.Failure.TheVariants as failure
 
--- a status for its cause, or want of memory
-abbrev pub IsOrNoMemory : ℕ → ℕ → Type 0
-IsOrNoMemory wanted status = (status ≡ wanted) ⊎ (status ≡ 6)
+-- the exit status that a failure gives
+abbrev pub failure_status : Failure → ℕ
+failure_status (failure.Malformed fault) = 1
+failure_status failure.NotText = 2
+failure_status (failure.Arguments line) = 2
+failure_status (failure.Configuration line) = 3
+failure_status (failure.Tables line) = 4
+failure_status failure.NoTablesPath = 4
+failure_status (failure.ReadFailed source) = 5
+failure_status (failure.WriteFailed sink) = 5
+failure_status failure.TurnsSpent = 5
+failure_status failure.NoMemory = 6
+failure_status (failure.Socket line) = 7
+failure_status failure.NoSocketPath = 7
+
+-- a failure of this status, or want of memory
+abbrev pub IsOrNoMemory : ℕ → Failure → Type 0
+IsOrNoMemory wanted failure = (failure_status failure ≡ wanted) ⊎ (failure_status failure ≡ 6)
 
 -- the exit status that the end of a run gives
 abbrev pub status_of : RunEnd → ℕ
-status_of Done = 0
-status_of (Malformed f) = 1
-status_of ReadFailed = 5
-status_of TurnsSpent = 5
-status_of WriteFailed = 5
-status_of NoMemory = 6
+status_of end.Done = 0
+status_of (end.Malformed fault) = 1
+status_of end.ReadFailed = 5
+status_of end.TurnsSpent = 5
+status_of end.WriteFailed = 5
+status_of end.NoMemory = 6

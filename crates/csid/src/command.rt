@@ -147,9 +147,9 @@ const NUMBERS: [(&str, &str); 2] = [
 
 /// An option whose number is given otherwise than in decimal digits alone, as it is shown, and that number: `clap` takes a sign.
 pub(crate) fn odd_number<'a>(matches: &ArgMatches<'a>) -> Option<(&'static str, &'a str)> {
-    let (_, words) = matches.subcommand()?;
+    let (_, arguments) = matches.subcommand()?;
     for (name, shown) in NUMBERS {
-        if let Some(number) = words.get_str(name) {
+        if let Some(number) = arguments.get_str(name) {
             if !is_decimal(number) {
                 return Some((shown, number));
             }
@@ -158,27 +158,27 @@ pub(crate) fn odd_number<'a>(matches: &ArgMatches<'a>) -> Option<(&'static str, 
     None
 }
 
-// What the words behind `serve` ask for.
-fn asked_of_serve<'a>(words: &ArgMatches<'a>) -> Serving<'a> {
+// What the arguments behind `serve` ask for.
+fn asked_of_serve<'a>(arguments: &ArgMatches<'a>) -> Serving<'a> {
     Serving {
-        socket: words.get_str("socket").unwrap_or(""),
-        tables: words.get_str("tables").unwrap_or(""),
-        is_existing: words.get_flag("existing"),
-        config: words.get_str("config"),
-        group: words.get_str("group"),
-        idle: words.get_one::<u32>("idle"),
-        connections: words.get_one::<u32>("connections").unwrap_or(1),
+        socket: arguments.get_str("socket").unwrap_or(""),
+        tables: arguments.get_str("tables").unwrap_or(""),
+        is_existing: arguments.get_flag("existing"),
+        config: arguments.get_str("config"),
+        group: arguments.get_str("group"),
+        idle: arguments.get_one::<u32>("idle"),
+        connections: arguments.get_one::<u32>("connections").unwrap_or(1),
     }
 }
 
-/// What the words that [`command`] takes ask for.
+/// What the arguments that [`command`] takes ask for.
 pub(crate) fn asked<'a>(matches: &ArgMatches<'a>) -> Task<'a> {
     match matches.subcommand() {
-        Some(("serve", words)) => Task::Serve(asked_of_serve(words)),
-        Some((_, words)) => Task::Pipe {
-            config: words.get_str("config"),
-            tables: words.get_str("tables"),
-            is_existing: words.get_flag("existing"),
+        Some(("serve", arguments)) => Task::Serve(asked_of_serve(arguments)),
+        Some((_, arguments)) => Task::Pipe {
+            config: arguments.get_str("config"),
+            tables: arguments.get_str("tables"),
+            is_existing: arguments.get_flag("existing"),
         },
         None => Task::Pipe {
             config: None,

@@ -3,29 +3,33 @@
 ghost use Rattle.std.specs.Prelude.{IfErr};
 ghost use Rattle.csid.specs.Statuses.{IsOrNoMemory};
 
-use crate::say::{CONFIGURATION, no_memory, refuse, say, say_of};
+use crate::failure::Failure;
+use crate::say::{say, say_of};
 use csi_config::Config;
-use csi_server::{ConfigError, read_config, unknown_keys};
+use csi_config_file::{ConfigError, read_config, unknown_keys};
+use std::alloc::Global;
 use std::fs;
-use std::io::{self, ErrorKind};
+use std::io::ErrorKind;
 
-// Says why a file cannot be read.
-fn refuse_file(rt: &HostRuntime, path: &str, error: &io::Error) -> u8
-    ensures { IsOrNoMemory 3 result }
+// The bytes of a file.
+fn read_file(rt: &HostRuntime, path: &str) -> Result<Vec<u8>, Failure>
+    ensures { IfErr result (λ failure. IsOrNoMemory 3 failure) }
 {
-    match error.kind() {
-        ErrorKind::OutOfMemory => no_memory(rt),
-        _ => refuse(rt, path, error, CONFIGURATION),
+    match fs::read(rt, path) {
+        Ok(bytes) => Ok(bytes),
+        Err(error) if error.kind() == ErrorKind::OutOfMemory => Err(Failure::NoMemory),
+        Err(error) => Err(Failure::of_configuration(rt.alloc(), path, &error)),
     }
 }
 
-// Says why a file holds no configuration.
-fn refuse_config(rt: &HostRuntime, path: &str, error: &ConfigError) -> u8
-    ensures { IsOrNoMemory 3 result }
+// The configuration that the bytes of a file give.
+fn config_of(alloc: Global, path: &str, bytes: &[u8]) -> Result<Config, Failure>
+    ensures { IfErr result (λ failure. IsOrNoMemory 3 failure) }
 {
-    match error {
-        ConfigError::NoMemory => no_memory(rt),
-        _ => refuse(rt, path, error, CONFIGURATION),
+    match read_config(alloc, bytes) {
+        Ok(config) => Ok(config),
+        Err(ConfigError::NoMemory) => Err(Failure::NoMemory),
+        Err(error) => Err(Failure::of_configuration(alloc, path, &error)),
     }
 }
 
@@ -41,32 +45,25 @@ fn tell_unknown(rt: &HostRuntime, path: &str, bytes: &[u8]) {
     }
 }
 
-/// The configuration of a file, or the sample; else the status to end with. Keys that are not known are ignored, and said only if that
-/// is asked for.
+/// The configuration of a file, or the sample. Keys that are not known are ignored, and said only if that is asked for.
+///
+/// # Errors
+///
+/// Where the file cannot be read or holds no configuration, or memory is refused.
 pub(crate) fn configuration(
     rt: &HostRuntime,
     path: Option<&str>,
     names_unknown: bool,
-) -> Result<Config, u8>
-    ensures { IfErr result (λ status. IsOrNoMemory 3 status) }
+) -> Result<Config, Failure>
+    ensures { IfErr result (λ failure. IsOrNoMemory 3 failure) }
 {
     let Some(path) = path else {
-        return match Config::sample(rt.alloc()) {
-            Ok(config) => Ok(config),
-            Err(_) => Err(no_memory(rt)),
-        };
+        return Ok(Config::sample(rt.alloc())?);
     };
-    let bytes = match fs::read(rt, path) {
-        Ok(bytes) => bytes,
-        Err(error) => return Err(refuse_file(rt, path, &error)),
-    };
-    match read_config(rt.alloc(), bytes.as_slice()) {
-        Ok(config) => {
-            if names_unknown {
-                tell_unknown(rt, path, bytes.as_slice());
-            }
-            Ok(config)
-        }
-        Err(error) => Err(refuse_config(rt, path, &error)),
+    let bytes = read_file(rt, path)?;
+    let config = config_of(rt.alloc(), path, bytes.as_slice())?;
+    if names_unknown {
+        tell_unknown(rt, path, bytes.as_slice());
     }
+    Ok(config)
 }

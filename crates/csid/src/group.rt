@@ -3,7 +3,7 @@
 ghost use Rattle.std.specs.Prelude.{◌≡◌, IfErr};
 ghost use Rattle.csid.specs.Statuses.{IsOrNoMemory};
 
-use crate::say::{SOCKET, no_memory, refuse};
+use crate::failure::Failure;
 use command_line::is_decimal;
 use std::fs;
 use std::io::ErrorKind;
@@ -36,26 +36,30 @@ fn number_among(lines: &str, name: &str) -> Option<u32> {
     None
 }
 
-// The number that a word is.
-fn number_of(word: &str) -> Option<u32> {
-    if is_decimal(word) {
-        word.parse().ok()
+// The number that a text is.
+fn number_of(text: &str) -> Option<u32> {
+    if is_decimal(text) {
+        text.parse().ok()
     } else {
         None
     }
 }
 
-/// The number of a group by its name, or else by its number; else the status to end with.
-pub(crate) fn group_number(rt: &HostRuntime, name: &str) -> Result<u32, u8>
-    ensures { IfErr result (λ status. IsOrNoMemory 7 status) }
+/// The number of a group by its name, or else by its number.
+///
+/// # Errors
+///
+/// Where there is no such group, or memory is refused.
+pub(crate) fn group_number(rt: &HostRuntime, name: &str) -> Result<u32, Failure>
+    ensures { IfErr result (λ failure. IsOrNoMemory 7 failure) }
 {
     let lines = match fs::read_to_string(rt, GROUPS) {
         Ok(lines) => lines,
-        Err(error) if error.kind() == ErrorKind::OutOfMemory => return Err(no_memory(rt)),
+        Err(error) if error.kind() == ErrorKind::OutOfMemory => return Err(Failure::NoMemory),
         Err(_) => String::new(rt.alloc()),
     };
     match number_among(lines.as_str(), name).or(number_of(name)) {
         Some(number) if number != NO_GROUP => Ok(number),
-        _ => Err(refuse(rt, name, &NO_SUCH, SOCKET)),
+        _ => Err(Failure::of_socket(rt.alloc(), name, &NO_SUCH)),
     }
 }

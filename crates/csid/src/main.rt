@@ -4,6 +4,7 @@
 mod command;
 mod config;
 mod content;
+mod failure;
 mod group;
 pub mod laws;
 mod peer;
@@ -16,9 +17,16 @@ mod tables;
 mod waiting;
 
 use command_line::take_closed;
+use say::say_failure;
 use std::process::ExitCode;
 
 fn main(rt: HostRuntime) -> ExitCode {
     let _standard = take_closed(&rt);
-    ExitCode::from(run::run(&rt))
+    match run::run(&rt) {
+        Ok(()) => ExitCode::SUCCESS,
+        Err(failure) => {
+            say_failure(&rt, &failure);
+            ExitCode::from(failure.status())
+        }
+    }
 }

@@ -1,93 +1,94 @@
-//! What the program does, and the status that it ends with.
+//! What the program does.
 
 ghost use Rattle.std.specs.Prelude.{IfErr};
 ghost use Rattle.csid.specs.Statuses.{IsOrNoMemory};
 
 use crate::command::{Serving, Task, asked, command, odd_number};
 use crate::config::configuration;
-use crate::say::{DONE, INPUT_OUTPUT, Peer, USAGE, no_memory, report, say};
+use crate::failure::{Failure, Peer, outcome};
+use crate::say::say_failure;
 use crate::socket::{listen, serve_all};
-use crate::tables::{Blank, check_standing, close, no_path, open, survey};
+use crate::tables::{Blank, check_standing, close, open, survey};
 use clap::ArgMatches;
-use clap::error::ErrorKind as WordsKind;
+use clap::error::ErrorKind as ArgumentsKind;
 use command_line::refusal_line;
 use csi_config::Config;
-use csi_machine::{Keeper, MemKeeper};
+use csi_keeper::{Keeper, MemKeeper};
 use csi_server::serve;
-use std::alloc::AllocError;
+use std::alloc::{AllocError, Global};
 use std::env;
 use std::io::{self, ErrorKind};
 
 /// The number that the first volume gets.
 pub(crate) const FIRST_NUMBER: u64 = 1;
 
-// Says a line of words that are refused.
-fn say_refusal(rt: &HostRuntime, line: Result<String, AllocError>) -> u8
+// Arguments that are refused, with this line.
+fn refused(line: Result<String, AllocError>) -> Failure
     ensures { IsOrNoMemory 2 result }
 {
     match line {
-        Ok(line) => {
-            say(rt, line.as_str());
-            USAGE
-        }
-        Err(_) => no_memory(rt),
+        Ok(line) => Failure::Arguments(line),
+        Err(_) => Failure::NoMemory,
     }
 }
 
-// Says why words are refused.
-fn refuse_words(rt: &HostRuntime, error: &clap::Error) -> u8 {
-    say_refusal(rt, refusal_line(rt.alloc(), error))
+// Prints help or the version.
+fn print(rt: &HostRuntime, help: &clap::Error) -> Result<(), Failure> {
+    match help.print(rt) {
+        Ok(()) => Ok(()),
+        Err(_) => Err(Failure::WriteFailed("standard output")),
+    }
 }
 
-// Prints help or the version, or says why the words are refused.
-fn end_words(rt: &HostRuntime, error: &clap::Error) -> u8 {
+// Prints help or the version, if the arguments ask for that; else they are refused.
+fn end_arguments(rt: &HostRuntime, error: &clap::Error) -> Result<(), Failure> {
     match error.kind() {
-        WordsKind::OutOfMemory => no_memory(rt),
-        WordsKind::DisplayHelp | WordsKind::DisplayVersion => match error.print(rt) {
-            Ok(()) => DONE,
-            Err(_) => {
-                say(rt, "a write to standard output failed");
-                INPUT_OUTPUT
-            }
-        },
-        _ => refuse_words(rt, error),
+        ArgumentsKind::OutOfMemory => Err(Failure::NoMemory),
+        ArgumentsKind::DisplayHelp | ArgumentsKind::DisplayVersion => print(rt, error),
+        _ => Err(refused(refusal_line(rt.alloc(), error))),
     }
 }
 
 // Answers the calls of standard input over a keeper.
-fn serve_pipe<K: Keeper>(rt: &HostRuntime, config: &Config, keeper: &mut K) -> u8 {
+fn serve_pipe<K: Keeper>(rt: &HostRuntime, config: &Config, keeper: &mut K) -> Result<(), Failure> {
     let mut reader = rt.stdin();
     let mut writer = rt.stdout();
     let end = serve(rt.alloc(), config, keeper, &mut reader, &mut writer);
-    report(rt, Peer::Pipe, end)
+    outcome(Peer::Pipe, end)
 }
 
 // Answers the calls of standard input, and keeps the volumes in memory.
-fn pipe_over_memory(rt: &HostRuntime, config: &Config) -> u8 {
-    match MemKeeper::new(rt.alloc(), FIRST_NUMBER) {
-        Ok(mut keeper) => serve_pipe(rt, config, &mut keeper),
-        Err(_) => no_memory(rt),
-    }
+fn pipe_over_memory(rt: &HostRuntime, config: &Config) -> Result<(), Failure> {
+    let mut keeper = MemKeeper::new(rt.alloc(), FIRST_NUMBER)?;
+    serve_pipe(rt, config, &mut keeper)
 }
 
 // Answers the calls of standard input, and keeps the volumes in a file.
-fn pipe_over_tables(rt: &HostRuntime, config: &Config, path: &str, blank: Blank) -> u8 {
-    let mut tables = match open(rt, path, config, blank) {
-        Ok(tables) => tables,
-        Err(status) => return status,
-    };
-    let status = serve_pipe(rt, config, &mut tables);
-    match close(rt, path, tables) {
-        DONE => status,
-        closing => closing,
+fn pipe_over_tables(
+    rt: &HostRuntime,
+    config: &Config,
+    path: &str,
+    blank: Blank,
+) -> Result<(), Failure> {
+    let mut tables = open(rt, path, config, blank)?;
+    let served = serve_pipe(rt, config, &mut tables);
+    if let Err(closing) = close(rt.alloc(), path, tables) {
+        // Both are said, and the program ends with what became of the file.
+        if let Err(failure) = &served {
+            say_failure(rt, failure);
+        }
+        return Err(closing);
     }
+    served
 }
 
-fn pipe(rt: &HostRuntime, config: Option<&str>, tables: Option<&str>, is_existing: bool) -> u8 {
-    let config = match configuration(rt, config, false) {
-        Ok(config) => config,
-        Err(status) => return status,
-    };
+fn pipe(
+    rt: &HostRuntime,
+    config: Option<&str>,
+    tables: Option<&str>,
+    is_existing: bool,
+) -> Result<(), Failure> {
+    let config = configuration(rt, config, false)?;
     match tables {
         Some(path) => pipe_over_tables(
             rt,
@@ -100,11 +101,11 @@ fn pipe(rt: &HostRuntime, config: Option<&str>, tables: Option<&str>, is_existin
 }
 
 // Looks whether the tables have a path, and whether they stand, if they have to.
-fn check_tables(rt: &HostRuntime, serving: &Serving<'_>) -> Result<(), u8>
-    ensures { IfErr result (λ status. IsOrNoMemory 4 status) }
+fn check_tables(rt: &HostRuntime, serving: &Serving<'_>) -> Result<(), Failure>
+    ensures { IfErr result (λ failure. IsOrNoMemory 4 failure) }
 {
     if serving.tables.is_empty() {
-        return Err(no_path(rt));
+        return Err(Failure::NoTablesPath);
     }
     if serving.is_existing {
         check_standing(rt, serving.tables)
@@ -115,44 +116,36 @@ fn check_tables(rt: &HostRuntime, serving: &Serving<'_>) -> Result<(), u8>
 
 // A socket, and then what the tables have is said. The socket is made first, so that the file of a server that
 // runs is left alone.
-fn listen_over(rt: &HostRuntime, config: &Config, serving: &Serving<'_>) -> u8 {
-    let listener = match listen(rt, serving.socket, serving.group) {
-        Ok(listener) => listener,
-        Err(status) => return status,
-    };
+fn listen_over(rt: &HostRuntime, config: &Config, serving: &Serving<'_>) -> Result<(), Failure> {
+    let listener = listen(rt, serving.socket, serving.group)?;
     let blank = Blank::refused_if(serving.is_existing, Blank::MakeAndSay);
     survey(rt, serving.tables, config, blank);
     serve_all(rt, config, serving, &listener)
 }
 
 // Answers the calls of connections, and keeps the volumes in a file.
-fn listening(rt: &HostRuntime, serving: &Serving<'_>) -> u8 {
-    let config = match configuration(rt, serving.config, true) {
-        Ok(config) => config,
-        Err(status) => return status,
-    };
-    match check_tables(rt, serving) {
-        Ok(()) => listen_over(rt, &config, serving),
-        Err(status) => status,
-    }
+fn listening(rt: &HostRuntime, serving: &Serving<'_>) -> Result<(), Failure> {
+    let config = configuration(rt, serving.config, true)?;
+    check_tables(rt, serving)?;
+    listen_over(rt, &config, serving)
 }
 
-// Says that the number of an option is no number in decimal digits.
-fn refuse_number(rt: &HostRuntime, option: &str, number: &str) -> u8
+// The number of an option that is no number in decimal digits.
+fn refused_number(alloc: Global, option: &str, number: &str) -> Failure
     ensures { IsOrNoMemory 2 result }
 {
-    let line = format!(in rt.alloc();
+    let line = format!(in alloc;
         "invalid value '{number}' for '{option}': not decimal digits alone"
     );
-    say_refusal(rt, line)
+    refused(line)
 }
 
-// Does what the words ask.
-fn obey(rt: &HostRuntime, words: &ArgMatches<'_>) -> u8 {
-    if let Some((option, number)) = odd_number(words) {
-        return refuse_number(rt, option, number);
+// Does what the arguments ask.
+fn obey(rt: &HostRuntime, arguments: &ArgMatches<'_>) -> Result<(), Failure> {
+    if let Some((option, number)) = odd_number(arguments) {
+        return Err(refused_number(rt.alloc(), option, number));
     }
-    match asked(words) {
+    match asked(arguments) {
         Task::Pipe {
             config,
             tables,
@@ -162,27 +155,33 @@ fn obey(rt: &HostRuntime, words: &ArgMatches<'_>) -> u8 {
     }
 }
 
-/// Does what the command line asks, and gives the exit status.
-pub(crate) fn run(rt: &HostRuntime) -> u8 {
-    let words: Vec<String> = match words(rt) {
-        Ok(words) => words,
-        Err(error) if error.kind() == ErrorKind::OutOfMemory => return no_memory(rt),
-        Err(_) => {
-            say(rt, "a word is no text");
-            return USAGE;
-        }
-    };
-    let command = match command(rt.alloc()) {
-        Ok(command) => command,
-        Err(error) => return end_words(rt, &error),
-    };
-    match command.try_get_matches_from(words.as_slice()) {
-        Ok(matches) => obey(rt, &matches),
-        Err(error) => end_words(rt, &error),
+fn collected(rt: &HostRuntime) -> io::Result<Vec<String>> {
+    let arguments: Vec<String> = env::args(rt)?.collect(rt.alloc())?;
+    Ok(arguments)
+}
+
+// The arguments of the program, with its name before them.
+fn arguments(rt: &HostRuntime) -> Result<Vec<String>, Failure> {
+    match collected(rt) {
+        Ok(arguments) => Ok(arguments),
+        Err(error) if error.kind() == ErrorKind::OutOfMemory => Err(Failure::NoMemory),
+        Err(_) => Err(Failure::NotText),
     }
 }
 
-fn words(rt: &HostRuntime) -> io::Result<Vec<String>> {
-    let words: Vec<String> = env::args(rt)?.collect(rt.alloc())?;
-    Ok(words)
+/// Does what the command line asks.
+///
+/// # Errors
+///
+/// Why the program ends with a status other than 0. It is not said yet.
+pub(crate) fn run(rt: &HostRuntime) -> Result<(), Failure> {
+    let arguments = arguments(rt)?;
+    let command = match command(rt.alloc()) {
+        Ok(command) => command,
+        Err(error) => return end_arguments(rt, &error),
+    };
+    match command.try_get_matches_from(arguments.as_slice()) {
+        Ok(matches) => obey(rt, &matches),
+        Err(error) => end_arguments(rt, &error),
+    }
 }

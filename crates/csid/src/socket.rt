@@ -1,20 +1,22 @@
 //! `csid serve`: connections to a Unix socket.
 
-ghost use Rattle.std.specs.Prelude.{◌≡◌, ◌⊎◌, IfErr};
+ghost use Rattle.std.specs.Prelude.{IfErr};
 ghost use Rattle.csid.specs.Statuses.{IsOrNoMemory};
 
 use crate::command::Serving;
+use crate::failure::{Failure, Peer, outcome};
 use crate::group::group_number;
 use crate::peer::{Patient, has_gone, settle};
 use crate::pending::{Pending, Start};
 use crate::run::FIRST_NUMBER;
-use crate::say::{DONE, Peer, SOCKET, no_memory, refuse, report, say, say_of};
+use crate::say::{say, say_failure, say_of};
 use crate::tables::{Blank, Store, close, open};
 use crate::waiting::Waiting;
 use csi_config::Config;
-use csi_machine::{Keeper, MemKeeper};
+use csi_keeper::{Keeper, MemKeeper};
 use csi_server::{RunEnd, serve};
 use csi_tables::Tables;
+use std::alloc::Global;
 use std::fs::{self, Permissions};
 use std::io::{self, ErrorKind};
 use std::os::unix::fs::{PermissionsExt, chown};
@@ -25,14 +27,14 @@ const OWNER: u32 = 0o600;
 
 const OWNER_AND_GROUP: u32 = 0o660;
 
-// Says why the socket failed.
-fn refuse_socket(rt: &HostRuntime, path: &str, error: &io::Error) -> u8
+// Why the socket failed.
+fn of_socket(alloc: Global, path: &str, error: &io::Error) -> Failure
     ensures { IsOrNoMemory 7 result }
 {
     match error.kind() {
-        ErrorKind::OutOfMemory => no_memory(rt),
-        ErrorKind::AddrInUse => refuse(rt, path, &"a file stands there already", SOCKET),
-        _ => refuse(rt, path, error, SOCKET),
+        ErrorKind::OutOfMemory => Failure::NoMemory,
+        ErrorKind::AddrInUse => Failure::of_socket(alloc, path, &"a file stands there already"),
+        _ => Failure::of_socket(alloc, path, error),
     }
 }
 
@@ -58,14 +60,21 @@ fn bind(rt: &HostRuntime, path: &str, group: Option<u32>) -> io::Result<UnixList
     }
 }
 
-/// A socket at the path, to which the owner may connect, and this group; else the status to end with.
-pub(crate) fn listen(rt: &HostRuntime, path: &str, group: Option<&str>) -> Result<UnixListener, u8>
-    ensures { IfErr result (λ status. IsOrNoMemory 7 status) }
+/// A socket at the path, to which the owner may connect, and this group.
+///
+/// # Errors
+///
+/// Where it cannot be made, there is no such group, or memory is refused.
+pub(crate) fn listen(
+    rt: &HostRuntime,
+    path: &str,
+    group: Option<&str>,
+) -> Result<UnixListener, Failure>
+    ensures { IfErr result (λ failure. IsOrNoMemory 7 failure) }
 {
     if path.is_empty() {
         // The system would choose an address of its own.
-        say(rt, "the socket's path is empty");
-        return Err(SOCKET);
+        return Err(Failure::NoSocketPath);
     }
     let group = match group {
         Some(name) => Some(group_number(rt, name)?),
@@ -73,7 +82,7 @@ pub(crate) fn listen(rt: &HostRuntime, path: &str, group: Option<&str>) -> Resul
     };
     match bind(rt, path, group) {
         Ok(listener) => Ok(listener),
-        Err(error) => Err(refuse_socket(rt, path, &error)),
+        Err(error) => Err(of_socket(rt.alloc(), path, &error)),
     }
 }
 
@@ -82,7 +91,9 @@ fn tell_end(rt: &HostRuntime, is_idle: bool, end: RunEnd) {
     match end {
         RunEnd::ReadFailed if is_idle => say(rt, "a connection that sent nothing was closed"),
         _ => {
-            report(rt, Peer::Connection, end);
+            if let Err(failure) = outcome(Peer::Connection, end) {
+                say_failure(rt, &failure);
+            }
         }
     }
 }
@@ -99,9 +110,7 @@ fn serve_one<K: Keeper>(rt: &HostRuntime, config: &Config, keeper: &mut K, peer:
 fn refuse_peer(rt: &HostRuntime, config: &Config, peer: &Pending) {
     match MemKeeper::new(rt.alloc(), FIRST_NUMBER) {
         Ok(mut keeper) => serve_one(rt, config, &mut keeper, peer),
-        Err(_) => {
-            no_memory(rt);
-        }
+        Err(_) => say_failure(rt, &Failure::NoMemory),
     }
 }
 
@@ -116,14 +125,25 @@ fn tell_refusals(rt: &HostRuntime, path: &str, tables: &Tables<Store>) {
     }
 }
 
+// Opens the tables for a connection, answers its calls over them, and closes them.
+fn answer_over_tables(
+    rt: &HostRuntime,
+    config: &Config,
+    serving: &Serving<'_>,
+    peer: &Pending,
+) -> Result<(), Failure> {
+    let blank = Blank::refused_if(serving.is_existing, Blank::MakeAndSay);
+    let mut tables = open(rt, serving.tables, config, blank)?;
+    serve_one(rt, config, &mut tables, peer);
+    tell_refusals(rt, serving.tables, &tables);
+    close(rt.alloc(), serving.tables, tables)
+}
+
 // Answers the calls of one connection over the tables, which are opened for it; where they cannot be,
 // the connection is closed unanswered. What went wrong is said, and the next connection opens them anew.
 fn serve_over_tables(rt: &HostRuntime, config: &Config, serving: &Serving<'_>, peer: &Pending) {
-    let blank = Blank::refused_if(serving.is_existing, Blank::MakeAndSay);
-    if let Ok(mut tables) = open(rt, serving.tables, config, blank) {
-        serve_one(rt, config, &mut tables, peer);
-        tell_refusals(rt, serving.tables, &tables);
-        let _ = close(rt, serving.tables, tables);
+    if let Err(failure) = answer_over_tables(rt, config, serving, peer) {
+        say_failure(rt, &failure);
     }
 }
 
@@ -158,16 +178,20 @@ fn serve_each(
 }
 
 /// Answers the calls of so many connections, one after the other, over the tables in a file.
+///
+/// # Errors
+///
+/// Where the socket gives no connection, or memory is refused.
 pub(crate) fn serve_all(
     rt: &HostRuntime,
     config: &Config,
     serving: &Serving<'_>,
     listener: &UnixListener,
-) -> u8
-    ensures { (result ≡ 0) ⊎ IsOrNoMemory 7 result }
+) -> Result<(), Failure>
+    ensures { IfErr result (λ failure. IsOrNoMemory 7 failure) }
 {
     match serve_each(rt, config, serving, listener) {
-        Ok(()) => DONE,
-        Err(error) => refuse_socket(rt, serving.socket, &error),
+        Ok(()) => Ok(()),
+        Err(error) => Err(of_socket(rt.alloc(), serving.socket, &error)),
     }
 }

@@ -1,17 +1,18 @@
 //! The tables in a file.
 
-ghost use Rattle.std.specs.Prelude.{◌≡◌, ◌⊎◌, false, IfErr, IfOk, IsTrue};
+ghost use Rattle.std.specs.Prelude.{◌≡◌, false, IfErr, IfOk, IsTrue};
 ghost use Rattle.csid.specs.Statuses.{IsOrNoMemory};
 
 use crate::content::{Content, read_content};
-use crate::say::{DONE, TABLES, no_memory, refuse, say, say_of};
+use crate::failure::Failure;
+use crate::say::{say_failure, say_of};
 use crate::standing::{Fault, fault_of_standing, make_private};
 use csi_adoption::{AdoptError, AdoptFault, adopt};
 use csi_config::Config;
 use csi_tables::Tables;
 use sqlite::{Connection, Error, ErrorCode, File, FileStore};
 use sqlite_disk::Disk;
-use std::fmt::Display;
+use std::alloc::Global;
 
 /// The store of a file on the disk.
 pub(crate) type Store = FileStore<File>;
@@ -40,38 +41,33 @@ impl Blank {
     }
 }
 
-// Says why a file cannot be opened or closed.
-fn refuse_file(rt: &HostRuntime, path: &str, error: &Error) -> u8
+// Why a file cannot be opened, read or closed.
+fn of_database(alloc: Global, path: &str, error: &Error) -> Failure
     ensures { IsOrNoMemory 4 result }
 {
     match error {
-        Error::SqliteFailure(ErrorCode::OutOfMemory) => no_memory(rt),
-        _ => refuse(rt, path, error, TABLES),
+        Error::SqliteFailure(ErrorCode::OutOfMemory) => Failure::NoMemory,
+        _ => Failure::of_tables(alloc, path, error),
     }
 }
 
-/// Says that no file is named.
-pub(crate) fn no_path(rt: &HostRuntime) -> u8
-    ensures { result ≡ 4 }
-{
-    say(rt, "the path of the tables is empty");
-    TABLES
-}
-
-/// Looks whether a file that has to have tables has some, as far as that is seen without an opening; else the status to end with,
-/// and why is said. Nothing is changed.
-pub(crate) fn check_standing(rt: &HostRuntime, path: &str) -> Result<(), u8>
-    ensures { IfErr result (λ status. IsOrNoMemory 4 status) }
+/// Looks whether a file that has to have tables has some, as far as that is seen without an opening. Nothing is changed.
+///
+/// # Errors
+///
+/// Where it has none, or memory is refused.
+pub(crate) fn check_standing(rt: &HostRuntime, path: &str) -> Result<(), Failure>
+    ensures { IfErr result (λ failure. IsOrNoMemory 4 failure) }
 {
     match fault_of_standing(rt, path) {
         None => Ok(()),
-        Some(fault) => Err(refuse(rt, path, &fault, TABLES)),
+        Some(fault) => Err(Failure::of_tables(rt.alloc(), path, &fault)),
     }
 }
 
 // What is done of a file before it is opened.
-fn prepare(rt: &HostRuntime, path: &str, blank: Blank) -> Result<(), u8>
-    ensures { IfErr result (λ status. IsOrNoMemory 4 status) }
+fn prepare(rt: &HostRuntime, path: &str, blank: Blank) -> Result<(), Failure>
+    ensures { IfErr result (λ failure. IsOrNoMemory 4 failure) }
 {
     match blank {
         Blank::Refuse => check_standing(rt, path),
@@ -82,41 +78,40 @@ fn prepare(rt: &HostRuntime, path: &str, blank: Blank) -> Result<(), u8>
     }
 }
 
-// A connection to a file, which is made where there is none; else the status to end with, and why is said.
-fn connect(rt: &HostRuntime, path: &str) -> Result<Connection<Store>, u8>
+// A connection to a file, which is made where there is none.
+fn connect(rt: &HostRuntime, path: &str) -> Result<Connection<Store>, Failure>
     ensures idle { IfOk result (λ conn. conn.in_transaction ≡ false) }
-    ensures status { IfErr result (λ status. IsOrNoMemory 4 status) }
+    ensures failure { IfErr result (λ failure. IsOrNoMemory 4 failure) }
 {
     match Connection::open(rt, path) {
         Ok(conn) => Ok(conn),
-        Err(error) => Err(refuse_file(rt, path, &error)),
+        Err(error) => Err(of_database(rt.alloc(), path, &error)),
     }
 }
 
-// Says why the tables in a file were not adopted.
-fn refuse_tables(rt: &HostRuntime, path: &str, fault: &AdoptFault) -> u8
+// Why the tables in a file were not adopted.
+fn of_adoption(alloc: Global, path: &str, fault: &AdoptFault) -> Failure
     ensures { IsOrNoMemory 4 result }
 {
     match fault {
-        AdoptFault::NoMemory => no_memory(rt),
-        _ => refuse(rt, path, fault, TABLES),
+        AdoptFault::NoMemory => Failure::NoMemory,
+        _ => Failure::of_tables(alloc, path, fault),
     }
 }
 
-// A keeper over the tables on a connection, which are made where the file is new; else the status to end
-// with, and why is said.
+// A keeper over the tables on a connection, which are made where the file is new.
 fn keep<D: Disk + Drop>(
     rt: &HostRuntime,
     path: &str,
     conn: Connection<FileStore<D>>,
     config: &Config,
-) -> Result<Tables<FileStore<D>>, u8>
+) -> Result<Tables<FileStore<D>>, Failure>
     requires { conn.in_transaction ≡ false }
-    ensures { IfErr result (λ status. IsOrNoMemory 4 status) }
+    ensures { IfErr result (λ failure. IsOrNoMemory 4 failure) }
 {
     match adopt(rt.alloc(), conn, config) {
         Ok(tables) => Ok(tables),
-        Err(AdoptError { fault, .. }) => Err(refuse_tables(rt, path, &fault)),
+        Err(AdoptError { fault, .. }) => Err(of_adoption(rt.alloc(), path, &fault)),
     }
 }
 
@@ -127,13 +122,13 @@ fn take<D: Disk + Drop>(
     conn: Connection<FileStore<D>>,
     config: &Config,
     blank: Blank,
-) -> Result<Tables<FileStore<D>>, u8>
+) -> Result<Tables<FileStore<D>>, Failure>
     requires { conn.in_transaction ≡ false }
-    ensures { IfErr result (λ status. IsOrNoMemory 4 status) }
+    ensures { IfErr result (λ failure. IsOrNoMemory 4 failure) }
 {
     let is_new = conn.schema().tables.is_empty();
     if is_new & (blank == Blank::Refuse) {
-        return Err(refuse(rt, path, &Fault::Blank, TABLES));
+        return Err(Failure::of_tables(rt.alloc(), path, &Fault::Blank));
     }
     let kept = keep(rt, path, conn, config);
     if is_new & kept.is_ok() & (blank == Blank::MakeAndSay) {
@@ -142,61 +137,69 @@ fn take<D: Disk + Drop>(
     kept
 }
 
-/// A keeper over the tables in a file; else the status to end with, and why is said.
+/// A keeper over the tables in a file.
+///
+/// # Errors
+///
+/// Where they cannot be had, or memory is refused.
 pub(crate) fn open(
     rt: &HostRuntime,
     path: &str,
     config: &Config,
     blank: Blank,
-) -> Result<Tables<Store>, u8>
-    ensures { IfErr result (λ status. IsOrNoMemory 4 status) }
+) -> Result<Tables<Store>, Failure>
+    ensures { IfErr result (λ failure. IsOrNoMemory 4 failure) }
 {
     if path.is_empty() {
-        return Err(no_path(rt));
+        return Err(Failure::NoTablesPath);
     }
-    if let Err(status) = prepare(rt, path, blank) {
-        return Err(status);
-    }
-    match connect(rt, path) {
-        Ok(conn) => take(rt, path, conn, config, blank),
-        Err(status) => Err(status),
-    }
+    prepare(rt, path, blank)?;
+    take(rt, path, connect(rt, path)?, config, blank)
 }
 
 // Closes a connection to a file, as `close` does.
-fn disconnect(rt: &HostRuntime, path: &str, conn: Connection<Store>) -> u8
-    ensures { (result ≡ 0) ⊎ IsOrNoMemory 4 result }
+fn disconnect(alloc: Global, path: &str, conn: Connection<Store>) -> Result<(), Failure>
+    ensures { IfErr result (λ failure. IsOrNoMemory 4 failure) }
 {
     match conn.close() {
-        Ok(()) => DONE,
-        Err(error) => refuse_file(rt, path, &error),
+        Ok(()) => Ok(()),
+        Err(error) => Err(of_database(alloc, path, &error)),
     }
 }
 
-/// Copies what was committed into the file itself, and closes it; gives the status to end with. Where that
-/// fails, nothing is lost: it stays in the log beside the file.
-pub(crate) fn close(rt: &HostRuntime, path: &str, tables: Tables<Store>) -> u8
-    ensures { (result ≡ 0) ⊎ IsOrNoMemory 4 result }
+/// Copies what was committed into the file itself, and closes it. Where that fails, nothing is lost: it stays in the log beside the file.
+///
+/// # Errors
+///
+/// Where it cannot be copied, or memory is refused.
+pub(crate) fn close(alloc: Global, path: &str, tables: Tables<Store>) -> Result<(), Failure>
+    ensures { IfErr result (λ failure. IsOrNoMemory 4 failure) }
 {
-    disconnect(rt, path, tables.into_connection())
+    disconnect(alloc, path, tables.into_connection())
 }
 
 // Says what the tables in a file have.
 fn tell_content(rt: &HostRuntime, path: &str, content: Result<Content, Error>) {
     match content {
         Ok(content) => say_of(rt, path, &content),
-        Err(error) => {
-            refuse_file(rt, path, &error);
-        }
+        Err(error) => say_failure(rt, &of_database(rt.alloc(), path, &error)),
     }
+}
+
+// Says what the tables of a keeper have, and closes their file.
+fn tell_and_close(rt: &HostRuntime, path: &str, tables: Tables<Store>) {
+    let mut conn = tables.into_connection();
+    let content = read_content(&mut conn);
+    if let Err(failure) = disconnect(rt.alloc(), path, conn) {
+        say_failure(rt, &failure);
+    }
+    tell_content(rt, path, content);
 }
 
 /// Opens and judges the tables in a file once, and says what they have, or why they cannot be had. The file is closed by then.
 pub(crate) fn survey(rt: &HostRuntime, path: &str, config: &Config, blank: Blank) {
-    if let Ok(tables) = open(rt, path, config, blank) {
-        let mut conn = tables.into_connection();
-        let content = read_content(&mut conn);
-        disconnect(rt, path, conn);
-        tell_content(rt, path, content);
+    match open(rt, path, config, blank) {
+        Ok(tables) => tell_and_close(rt, path, tables),
+        Err(failure) => say_failure(rt, &failure),
     }
 }

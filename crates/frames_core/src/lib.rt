@@ -1,8 +1,26 @@
 //! The envelope: how calls and replies are framed as bytes, and which calls a stream of bytes has.
 //!
-//! The envelope is this project's own (docs/PROTOCOL.md, "Envelope"). `specs/Envelope.antt` says how one frame is spelled,
-//! `specs/Grammar.antt` how a frame of either kind is read, and `specs/Stream.antt` how a stream of calls is; every
-//! public function here is exact against these three.
+//! The envelope is this project's own (docs/PROTOCOL.md, "Envelope"). Calls and replies are one kind of frame: a text behind its length, a
+//! flag, and a body behind its length; before the text of a reply stands its status, which says how long text and body may be. So one table
+//! reads both: `specs/Envelope.antt` spells a frame, `specs/Grammar.antt` says which byte breaks the table and in which part (the break of
+//! the least place is the fault), and `specs/Stream.antt` reads a list of bytes as calls and an end. Each lemma is proved once, for both kinds.
+//!
+//! [`take_frame`] and [`take_reply`] look at a whole rest; [`Framer`] and [`ReplyFramer`] take a stream in any pieces. A `Framer` appends what
+//! may be a head, looks at it, and cuts back to where the frame or the fault ends; the body then comes as one block copy into the same buffer,
+//! the only memory that it ever takes. Heads of replies, refusals and fault texts are made in fixed arrays, without memory.
+//!
+//! ```rust
+//! let mut framer = Framer::new(alloc)?;
+//! let mut rest = piece;
+//! while !rest.is_empty() && framer.fault().is_none() {
+//!     let taken = framer.feed(rest); // up to the end of a frame
+//!     rest = &rest[taken..];
+//!     if let Some(call) = framer.frame() {
+//!         answer(call.path, call.message);
+//!         framer.next_frame();
+//!     }
+//! }
+//! ```
 #![tactic(auto)]
 
 mod call;

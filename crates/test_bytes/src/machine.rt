@@ -7,7 +7,7 @@ use crate::words::{first_word, named, number_of};
 use calls::{Reply, reply_to};
 use csi_codec::decode_response;
 use csi_config::{Config, Node, Plugin, Sizes};
-use csi_machine::MemKeeper;
+use csi_keeper::MemKeeper;
 use csi_types::{Entry, Map, Method, Response, copy_text};
 use std::alloc::{AllocError, Global};
 use std::fmt::Write;

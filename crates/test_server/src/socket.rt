@@ -5,7 +5,7 @@ use csi_client::{
 };
 use csi_codec::DecodeFault;
 use csi_config::Config;
-use csi_machine::MemKeeper;
+use csi_keeper::MemKeeper;
 use csi_server::serve;
 use csi_types::{Method, method_named};
 use frames_core::MAX_MESSAGE_BYTES;

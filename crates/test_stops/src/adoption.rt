@@ -6,7 +6,7 @@ use crate::state::state_text;
 use configs::config_named;
 use csi_adoption::{AdoptError, adopt};
 use csi_config::Config;
-use csi_layout::make_tables;
+use csi_schema::make_tables;
 use sqlite::{Connection, Error as SqlError, ErrorCode, MemStore};
 use std::alloc::Global;
 use test_kit::RowFault;

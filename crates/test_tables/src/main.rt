@@ -1,12 +1,12 @@
-//! Answers rows about tables in memory: statements and looks over them, the rules of what is stored in them, and the volume machine
+//! Answers rows about tables in memory: statements and scans over them, the constraints of what is stored in them, and the volume machine
 //! over them. What the rows of a section look like stands at its head in the file `stdin` of this crate.
 #![tactic(auto)]
 
 mod cells;
+mod constraints;
 mod database;
-mod looks;
 mod numbers;
-mod rules;
+mod scans;
 mod statements;
 mod tables;
 
@@ -19,8 +19,8 @@ enum Section {
     /// None was begun.
     Unbegun,
     Statements(statements::Bench),
-    Looks,
-    Rules,
+    Scans,
+    Constraints,
     Tables(tables::Bench),
 }
 
@@ -29,8 +29,8 @@ impl AnswerRow for Section {
         let alloc = rt.alloc();
         *self = match name {
             "statements" => Section::Statements(statements::Bench::new(alloc)?),
-            "looks" => Section::Looks,
-            "rules" => Section::Rules,
+            "scans" => Section::Scans,
+            "constraints" => Section::Constraints,
             "tables" => Section::Tables(tables::Bench::new(alloc)?),
             _ => return Err(RowFault::NotRow),
         };
@@ -42,8 +42,8 @@ impl AnswerRow for Section {
         let text = match self {
             Section::Unbegun => return Err(RowFault::NotRow),
             Section::Statements(bench) => bench.answer(alloc, row)?,
-            Section::Looks => looks::answer(alloc, row)?,
-            Section::Rules => rules::answer(alloc, row)?,
+            Section::Scans => scans::answer(alloc, row)?,
+            Section::Constraints => constraints::answer(alloc, row)?,
             Section::Tables(bench) => bench.answer(alloc, row)?,
         };
         Ok(Answer::Text(text))

@@ -1,31 +1,27 @@
 -- What reads leave of a keeper, one after the other.
-use Rattle.std.proofs.Common.{◌≡◌, ℕ, Bool, ◌≤◌, ◌∙◌, arith, refl, Result, Ok, Err, IfOk}
+use Rattle.std.proofs.Common.{◌≡◌, ◌≤◌, ◌∙◌, arith, refl, false, Result, Ok, Err, IfOk}
 use Rattle.csi_keeper.specs.State.{State}
-use Rattle.csi_keeper.specs.Keeper.{IsQuiet, Tells}
+use Rattle.csi_keeper.specs.Keeper.{IsQuiet, Reads, Tells}
+use Rattle.csi_keeper.specs.Model.{Model}
 
-module _ {K : Type 0} {holds : K → State → Type 0} {doubt : K → ℕ} {survivors : K → State → Type 0} {tied : K → Type 0} {is_down : K → Bool} where
-  pub quiet_same : (a : K) → IsQuiet holds doubt survivors tied is_down a a
-  quiet_same a = record { clean = omega arith; state = λ d s h. h; crash = λ d t h. h; ties = λ d t. t; down = refl }
+pub quiet_same : (a : Model State) → IsQuiet a a
+quiet_same a = record { clean = omega arith; state = λ d s h. h; crash = λ d t h. h; ties = λ d t. t; down = refl }
 
-  pub quiet_then : {a b c : K} → IsQuiet holds doubt survivors tied is_down a b → IsQuiet holds doubt survivors tied is_down b c → IsQuiet holds doubt survivors tied is_down a c
-  quiet_then {a} {b} {c} p q =
-      let more : doubt a ≤ doubt c = omega (arith, p.clean, q.clean) in
-      let before : doubt c ≡ 0 → doubt b ≡ 0 = λ d. omega (arith, q.clean) in
-      record {
-        clean = more;
-        state = λ d s h. q.state d s (p.state (before d) s h);
-        crash = λ d t h. p.crash (before d) t (q.crash d t h);
-        ties = λ d t. q.ties d (p.ties (before d) t);
-        down = q.down ∙ p.down;
-      }
+pub quiet_then : {a b c : Model State} → IsQuiet a b → IsQuiet b c → IsQuiet a c
+quiet_then {a} {b} {c} p q =
+    let more : a.doubt ≤ c.doubt = omega (arith, p.clean, q.clean) in
+    let before : c.doubt ≡ 0 → b.doubt ≡ 0 = λ d. omega (arith, q.clean) in
+    record {
+      clean = more;
+      state = λ d s h. q.state d s (p.state (before d) s h);
+      crash = λ d t h. p.crash (before d) t (q.crash d t h);
+      ties = λ d t. q.ties d (p.ties (before d) t);
+      down = q.down ∙ p.down;
+    }
 
-  -- what was told before a read is told after it
-  pub told_before : {a b c : K} {P : State → Type 0} → IsQuiet holds doubt survivors tied is_down b c → Tells holds doubt a b P → Tells holds doubt a c P
-  told_before {a} {b} {c} q t d s h = t (omega (arith, q.clean)) s h
-
-  -- what is told of a later keeper is told of an earlier one
-  pub told_after : {a b c : K} {P : State → Type 0} → IsQuiet holds doubt survivors tied is_down a b → doubt b ≤ doubt c → Tells holds doubt b c P → Tells holds doubt a c P
-  told_after {a} {b} {c} q m t d s h = t d s (q.state (omega arith) s h)
+-- a read that leaves a keeper that is not down as it is
+pub read_same : {X : Type 0} (a : Model State) (x : X) {IsSo : State → X → Type 0} → a.is_down ≡ false → Tells a a (λ s. IsSo s x) → Reads a a (Ok x) IsSo
+read_same a x up told = record { value = told; quiet = quiet_same a; count = refl; down = (λ e. absurd (cc (e)), λ is. absurd (cc (is, up))) }
 
 -- what is so of each answer
 pub if_ok : {X E : Type 0} {P Q : X → Type 0} → ((x : X) → P x → Q x) → (r : Result X E) → IfOk r P → IfOk r Q

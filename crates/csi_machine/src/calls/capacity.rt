@@ -3,10 +3,9 @@
 ghost use Rattle.std.specs.Prelude.{◌≡◌, ◌≤◌, ◌^◌, None, map, sum_by, IfOk};
 ghost use Rattle.std.specs.List.{list_all};
 ghost use Rattle.csi_types.specs.Checks.{is_supported};
-ghost use Rattle.csi_machine.specs.Down.{TellsDown};
+ghost use Rattle.csi_machine.specs.Finding.{Finds};
 ghost use Rattle.csi_machine.specs.Choice.{room_value, free};
-ghost use Rattle.csi_keeper.specs.Keeper.{IsQuiet, Tells, count_after};
-ghost use Rattle.csi_keeper.specs.State.{State, up_to_u64};
+ghost use Rattle.csi_keeper.specs.State.{up_to_u64};
 ghost use Rattle.csi_machine.specs.calls.Capacity.{is_served, served, greatest, tell_capacity, capacity_of, capacity};
 
 use crate::choice::{Room, read_rooms};
@@ -90,10 +89,7 @@ pub(crate) fn plan_capacity<K: Keeper>(
     request: &GetCapacity,
 ) -> Result<Plan, StoreFault>
     ensures none { IfOk result (λ plan. plan.change ≡ None) }
-    ensures value { IfOk result (λ plan. Tells K.holds K.doubt keeper.old keeper.new (λ s. plan ≡ capacity config.now s request.now)) }
-    ensures quiet { IsQuiet K.holds K.doubt K.survivors K.tied K.is_down keeper.old keeper.new }
-    ensures down { TellsDown (K.is_down keeper.old) (λ plan. (s : State) → plan ≡ capacity config.now s request.now) result }
-    ensures count { K.refused keeper.new ≡ count_after (K.refused keeper.old) result }
+    ensures finds { Finds (K.model keeper.old) (K.model keeper.new) result (λ s plan. plan ≡ capacity config.now s request.now) }
 {
     pool_bytes_whole(config);
     let rooms = read_rooms(alloc, config, keeper)?;

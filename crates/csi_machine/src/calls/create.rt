@@ -2,10 +2,9 @@
 
 ghost use Rattle.std.specs.Prelude.{◌≡◌, Some, None, IfOk, IfSome, map};
 ghost use Rattle.std.specs.Option.{option_copied};
-ghost use Rattle.csi_machine.specs.Down.{TellsDown};
+ghost use Rattle.csi_machine.specs.Finding.{Finds};
 ghost use Rattle.csi_machine.specs.Choice.{room_value};
-ghost use Rattle.csi_keeper.specs.Keeper.{IsQuiet, Tells, count_after};
-ghost use Rattle.csi_keeper.specs.State.{State, IsBounded};
+ghost use Rattle.csi_keeper.specs.State.{IsBounded};
 ghost use Rattle.csi_machine.specs.calls.Create.{is_compatible, again_at, again, made, place_in, place, fresh, create};
 
 use crate::capability::{have_keys, keys_of};
@@ -172,10 +171,7 @@ pub(crate) fn plan_create<K: Keeper>(
     request: &CreateVolume,
 ) -> Result<Plan, StoreFault>
     ensures bounded { IfOk result (λ plan. IfSome plan.change IsBounded) }
-    ensures value { IfOk result (λ plan. Tells K.holds K.doubt keeper.old keeper.new (λ s. plan ≡ create config.now s request.now)) }
-    ensures quiet { IsQuiet K.holds K.doubt K.survivors K.tied K.is_down keeper.old keeper.new }
-    ensures down { TellsDown (K.is_down keeper.old) (λ plan. (s : State) → plan ≡ create config.now s request.now) result }
-    ensures count { K.refused keeper.new ≡ count_after (K.refused keeper.old) result }
+    ensures finds { Finds (K.model keeper.old) (K.model keeper.new) result (λ s plan. plan ≡ create config.now s request.now) }
 {
     if let Some(volume) = keeper.by_name(alloc, request.name.as_str())? {
         return Ok(again(alloc, config, request, &volume)?);

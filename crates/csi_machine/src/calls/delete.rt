@@ -1,9 +1,8 @@
 //! DeleteVolume (CSI specification, 'DeleteVolume').
 
 ghost use Rattle.std.specs.Prelude.{◌≡◌, IfOk, IfSome};
-ghost use Rattle.csi_keeper.specs.Keeper.{IsQuiet, Tells, count_after};
-ghost use Rattle.csi_keeper.specs.State.{State, IsBounded};
-ghost use Rattle.csi_machine.specs.Down.{TellsDown};
+ghost use Rattle.csi_keeper.specs.State.{IsBounded};
+ghost use Rattle.csi_machine.specs.Finding.{Finds};
 ghost use Rattle.csi_machine.specs.calls.Delete.{delete_volume, delete};
 
 use crate::ids::number_of_id;
@@ -41,10 +40,7 @@ pub(crate) fn plan_delete<K: Keeper>(
     request: &DeleteVolume,
 ) -> Result<Plan, StoreFault>
     ensures bounded { IfOk result (λ plan. IfSome plan.change IsBounded) }
-    ensures value { IfOk result (λ plan. Tells K.holds K.doubt keeper.old keeper.new (λ s. plan ≡ delete s request.now)) }
-    ensures quiet { IsQuiet K.holds K.doubt K.survivors K.tied K.is_down keeper.old keeper.new }
-    ensures down { TellsDown (K.is_down keeper.old) (λ plan. (s : State) → plan ≡ delete s request.now) result }
-    ensures count { K.refused keeper.new ≡ count_after (K.refused keeper.old) result }
+    ensures finds { Finds (K.model keeper.old) (K.model keeper.new) result (λ s plan. plan ≡ delete s request.now) }
 {
     let Some(number) = number_of_id(alloc, request.volume_id.as_str())? else {
         return Ok(respond(Response::Delete));

@@ -1,9 +1,7 @@
 //! ListVolumes (CSI specification, 'ListVolumes').
 
 ghost use Rattle.std.specs.Prelude.{◌≡◌, Some, None, IfOk};
-ghost use Rattle.csi_keeper.specs.Keeper.{IsQuiet, Tells, count_after};
-ghost use Rattle.csi_keeper.specs.State.{State};
-ghost use Rattle.csi_machine.specs.Down.{TellsDown};
+ghost use Rattle.csi_machine.specs.Finding.{Finds};
 ghost use Rattle.csi_machine.specs.Size.{whole};
 ghost use Rattle.csi_machine.specs.calls.Listing.{start_of, entries_for, last_of, token_for, entry_with, entries_with, list_after, list_volumes};
 
@@ -103,11 +101,8 @@ fn list_after<K: Keeper>(
     most: i32,
     after: u64,
 ) -> Result<Plan, StoreFault>
-    ensures value { IfOk result (λ p. Tells K.holds K.doubt keeper.old keeper.new (λ s. p ≡ list_after config.now s (whole most) (Some after))) }
+    ensures finds { Finds (K.model keeper.old) (K.model keeper.new) result (λ s p. p ≡ list_after config.now s (whole most) (Some after)) }
     ensures none { IfOk result (λ p. p.change ≡ None) }
-    ensures quiet { IsQuiet K.holds K.doubt K.survivors K.tied K.is_down keeper.old keeper.new }
-    ensures down { TellsDown (K.is_down keeper.old) (λ p. (s : State) → p ≡ list_after config.now s (whole most) (Some after)) result }
-    ensures count { K.refused keeper.new ≡ count_after (K.refused keeper.old) result }
 {
     let volumes = keeper.page(alloc, after, entries_for(most))?;
     let nodes = keeper.published_nodes(alloc, after, entries_for(most))?;
@@ -126,11 +121,9 @@ fn list_from<K: Keeper>(
     next: u64,
     request: &ListVolumes,
 ) -> Result<Plan, StoreFault>
-    ensures value { IfOk result (λ p. Tells K.holds K.doubt keeper.old keeper.new (λ s. p ≡ list_after config.now s (whole request.now.max_entries) (start_of next request.now.token))) }
+    ensures finds { Finds (K.model keeper.old) (K.model keeper.new) result
+        (λ s p. p ≡ list_after config.now s (whole request.now.max_entries) (start_of next request.now.token)) }
     ensures none { IfOk result (λ p. p.change ≡ None) }
-    ensures quiet { IsQuiet K.holds K.doubt K.survivors K.tied K.is_down keeper.old keeper.new }
-    ensures down { TellsDown (K.is_down keeper.old) (λ p. (s : State) → p ≡ list_after config.now s (whole request.now.max_entries) (start_of next request.now.token)) result }
-    ensures count { K.refused keeper.new ≡ count_after (K.refused keeper.old) result }
 {
     match start_of(alloc, next, &request.token)? {
         Some(after) => list_after(alloc, config, keeper, request.max_entries, after),
@@ -148,11 +141,8 @@ pub(crate) fn plan_list<K: Keeper>(
     keeper: &mut K,
     request: &ListVolumes,
 ) -> Result<Plan, StoreFault>
-    ensures value { IfOk result (λ p. Tells K.holds K.doubt keeper.old keeper.new (λ s. p ≡ list_volumes config.now s request.now)) }
+    ensures finds { Finds (K.model keeper.old) (K.model keeper.new) result (λ s p. p ≡ list_volumes config.now s request.now) }
     ensures none { IfOk result (λ p. p.change ≡ None) }
-    ensures quiet { IsQuiet K.holds K.doubt K.survivors K.tied K.is_down keeper.old keeper.new }
-    ensures down { TellsDown (K.is_down keeper.old) (λ p. (s : State) → p ≡ list_volumes config.now s request.now) result }
-    ensures count { K.refused keeper.new ≡ count_after (K.refused keeper.old) result }
 {
     let next = keeper.next_number()?;
     list_from(alloc, config, keeper, next, request)

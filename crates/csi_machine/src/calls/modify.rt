@@ -2,9 +2,8 @@
 
 ghost use Rattle.std.specs.Prelude.{◌≡◌, nat_lt, IfOk, IfSome};
 ghost use Rattle.csi_types.specs.Checks.{map_bytes};
-ghost use Rattle.csi_keeper.specs.Keeper.{IsQuiet, Tells, count_after};
-ghost use Rattle.csi_keeper.specs.State.{State, IsBounded};
-ghost use Rattle.csi_machine.specs.Down.{TellsDown};
+ghost use Rattle.csi_keeper.specs.State.{IsBounded};
+ghost use Rattle.csi_machine.specs.Finding.{Finds};
 ghost use Rattle.csi_machine.specs.calls.Modify.{modify_own, modify_volume, modify};
 
 use crate::ids::number_of_id;
@@ -66,10 +65,7 @@ pub(crate) fn plan_modify<K: Keeper>(
     request: &Modify,
 ) -> Result<Plan, StoreFault>
     ensures bounded { IfOk result (λ p. IfSome p.change IsBounded) }
-    ensures value { IfOk result (λ p. Tells K.holds K.doubt keeper.old keeper.new (λ s. p ≡ modify s request.now)) }
-    ensures quiet { IsQuiet K.holds K.doubt K.survivors K.tied K.is_down keeper.old keeper.new }
-    ensures down { TellsDown (K.is_down keeper.old) (λ p. (s : State) → p ≡ modify s request.now) result }
-    ensures count { K.refused keeper.new ≡ count_after (K.refused keeper.old) result }
+    ensures finds { Finds (K.model keeper.old) (K.model keeper.new) result (λ s p. p ≡ modify s request.now) }
 {
     let Some(number) = number_of_id(alloc, request.volume_id.as_str())? else {
         return Ok(refuse(Reason::VolumeNotFound));

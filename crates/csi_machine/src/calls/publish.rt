@@ -2,9 +2,8 @@
 
 ghost use Rattle.std.specs.Prelude.{◌≡◌, Some, None, IfOk, IfSome, find, not};
 ghost use Rattle.std.specs.Option.{option_copied};
-ghost use Rattle.csi_keeper.specs.Keeper.{IsQuiet, Tells, count_after};
-ghost use Rattle.csi_keeper.specs.State.{State, IsBounded};
-ghost use Rattle.csi_machine.specs.Down.{TellsDown};
+ghost use Rattle.csi_keeper.specs.State.{IsBounded};
+ghost use Rattle.csi_machine.specs.Finding.{Finds};
 ghost use Rattle.csi_machine.specs.calls.Publish.{publication, is_at, publish_again, has_conflict, attach, publish, publish_node, publish_at, publish_key, asked_key};
 ghost use Rattle.csi_keeper.specs.Lookup.{node_of};
 
@@ -143,10 +142,8 @@ fn publish_node<K: Keeper>(
     request: &Publish,
 ) -> Result<Plan, StoreFault>
     ensures bounded { IfOk result (λ p. IfSome p.change IsBounded) }
-    ensures value { IfOk result (λ p. Tells K.holds K.doubt keeper.old keeper.new (λ s. p ≡ publish_node s number volume.now request.now (node_of config.now request.now.node_id))) }
-    ensures quiet { IsQuiet K.holds K.doubt K.survivors K.tied K.is_down keeper.old keeper.new }
-    ensures down { TellsDown (K.is_down keeper.old) (λ p. (s : State) → p ≡ publish_node s number volume.now request.now (node_of config.now request.now.node_id)) result }
-    ensures count { K.refused keeper.new ≡ count_after (K.refused keeper.old) result }
+    ensures finds { Finds (K.model keeper.old) (K.model keeper.new) result
+        (λ s p. p ≡ publish_node s number volume.now request.now (node_of config.now request.now.node_id)) }
 {
     let Some(node) = node_of(config, &request.node_id) else {
         return Ok(refuse(Reason::NodeNotFound));
@@ -173,10 +170,7 @@ pub(crate) fn plan_publish<K: Keeper>(
     request: &Publish,
 ) -> Result<Plan, StoreFault>
     ensures bounded { IfOk result (λ p. IfSome p.change IsBounded) }
-    ensures value { IfOk result (λ p. Tells K.holds K.doubt keeper.old keeper.new (λ s. p ≡ publish config.now s request.now)) }
-    ensures quiet { IsQuiet K.holds K.doubt K.survivors K.tied K.is_down keeper.old keeper.new }
-    ensures down { TellsDown (K.is_down keeper.old) (λ p. (s : State) → p ≡ publish config.now s request.now) result }
-    ensures count { K.refused keeper.new ≡ count_after (K.refused keeper.old) result }
+    ensures finds { Finds (K.model keeper.old) (K.model keeper.new) result (λ s p. p ≡ publish config.now s request.now) }
 {
     let Some(number) = number_of_id(alloc, request.volume_id.as_str())? else {
         return Ok(refuse(Reason::VolumeNotFound));

@@ -1,9 +1,8 @@
 //! ControllerUnpublishVolume (CSI specification, 'ControllerUnpublishVolume').
 
 ghost use Rattle.std.specs.Prelude.{◌≡◌, IfOk, IfSome, find};
-ghost use Rattle.csi_keeper.specs.Keeper.{IsQuiet, Tells, count_after};
-ghost use Rattle.csi_keeper.specs.State.{State, IsBounded};
-ghost use Rattle.csi_machine.specs.Down.{TellsDown};
+ghost use Rattle.csi_keeper.specs.State.{IsBounded};
+ghost use Rattle.csi_machine.specs.Finding.{Finds};
 ghost use Rattle.csi_machine.specs.calls.Publish.{is_at};
 ghost use Rattle.csi_machine.specs.calls.Unpublish.{detach_all, detach_one, detach, unpublish};
 
@@ -69,10 +68,7 @@ pub(crate) fn plan_unpublish<K: Keeper>(
     request: &Unpublish,
 ) -> Result<Plan, StoreFault>
     ensures bounded { IfOk result (λ p. IfSome p.change IsBounded) }
-    ensures value { IfOk result (λ p. Tells K.holds K.doubt keeper.old keeper.new (λ s. p ≡ unpublish s request.now)) }
-    ensures quiet { IsQuiet K.holds K.doubt K.survivors K.tied K.is_down keeper.old keeper.new }
-    ensures down { TellsDown (K.is_down keeper.old) (λ p. (s : State) → p ≡ unpublish s request.now) result }
-    ensures count { K.refused keeper.new ≡ count_after (K.refused keeper.old) result }
+    ensures finds { Finds (K.model keeper.old) (K.model keeper.new) result (λ s p. p ≡ unpublish s request.now) }
 {
     let Some(number) = number_of_id(alloc, request.volume_id.as_str())? else {
         return Ok(respond(Response::Unpublish));

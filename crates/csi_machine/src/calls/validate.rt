@@ -4,9 +4,7 @@ ghost use Rattle.std.specs.Prelude.{◌≡◌, ◌&&◌, ◌||◌, ◌==◌, Non
 ghost use Rattle.std.specs.FinMap.{len};
 ghost use Rattle.csi_types.specs.Maps.{same_map};
 ghost use Rattle.csi_keeper.specs.Capability.{have_keys};
-ghost use Rattle.csi_keeper.specs.Keeper.{IsQuiet, Tells, count_after};
-ghost use Rattle.csi_keeper.specs.State.{State};
-ghost use Rattle.csi_machine.specs.Down.{TellsDown};
+ghost use Rattle.csi_machine.specs.Finding.{Finds};
 ghost use Rattle.csi_machine.specs.calls.Validate.{confirm, deny, validate_volume, validate};
 
 use crate::capability::have_keys;
@@ -94,11 +92,8 @@ pub(crate) fn plan_validate<K: Keeper>(
     keeper: &mut K,
     request: &Validate,
 ) -> Result<Plan, StoreFault>
-    ensures value { IfOk result (λ p. Tells K.holds K.doubt keeper.old keeper.new (λ s. p ≡ validate s request.now)) }
+    ensures finds { Finds (K.model keeper.old) (K.model keeper.new) result (λ s p. p ≡ validate s request.now) }
     ensures none { IfOk result (λ p. p.change ≡ None) }
-    ensures quiet { IsQuiet K.holds K.doubt K.survivors K.tied K.is_down keeper.old keeper.new }
-    ensures down { TellsDown (K.is_down keeper.old) (λ p. (s : State) → p ≡ validate s request.now) result }
-    ensures count { K.refused keeper.new ≡ count_after (K.refused keeper.old) result }
 {
     let Some(number) = number_of_id(alloc, request.volume_id.as_str())? else {
         return Ok(refuse(Reason::VolumeNotFound));

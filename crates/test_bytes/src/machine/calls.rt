@@ -3,7 +3,8 @@
 use csi_checks::check;
 use csi_codec::{DecodeFault, decode};
 use csi_config::Config;
-use csi_machine::{MemKeeper, StoreFault, Verdict, answer};
+use csi_keeper::{MemKeeper, StoreFault};
+use csi_machine::{Verdict, answer};
 use csi_types::{Method, Reason, Request};
 use std::alloc::{AllocError, Global};
 

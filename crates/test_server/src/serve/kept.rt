@@ -1,6 +1,6 @@
 //! What a keeper keeps, as a text.
 
-use csi_machine::{Keeper, MemKeeper, StoreFault};
+use csi_keeper::{Keeper, MemKeeper, StoreFault};
 use std::alloc::Global;
 use std::fmt::Write;
 use test_kit::RowFault;

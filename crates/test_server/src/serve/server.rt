@@ -4,7 +4,7 @@ use super::compared::Served;
 use super::fakes::{Pieces, Reader, Takes, Writer};
 use super::kept::kept;
 use csi_config::Config;
-use csi_machine::{Keeper, MemKeeper};
+use csi_keeper::{Keeper, MemKeeper};
 use csi_server::{RunEnd, serve, serve_identity};
 use std::alloc::Global;
 use std::cell::Cell;

@@ -4,8 +4,8 @@ use super::compared::{Served, Trial, Wanted, compare};
 use super::fakes::{GREATEST_PIECE, Pieces, Takes};
 use super::kept::kept;
 use super::trials::Trials;
-use csi_machine::Keeper;
-use csi_machine::fakes::FusedMem;
+use csi_keeper::Keeper;
+use csi_keeper::fakes::FusedMem;
 use std::alloc::AllocError;
 use test_kit::RowFault;
 

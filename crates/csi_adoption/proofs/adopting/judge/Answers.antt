@@ -1,10 +1,10 @@
 use Rattle.std.proofs.Common.{rules, ◌≡◌, ◌∙◌, inl, inr, sym, ap, ap₂, subst, Err, IfErr}
 use Rattle.sqlite.specs.Held.{state}
-use Rattle.csi_layout.specs.Tables.{schema as our_schema}
+use Rattle.csi_schema.specs.Tables.{schema as our_schema}
 use Rattle.csi_adoption.specs.Adopting.{IsNotRefused}
 use Rattle.csi_adoption.specs.Judging.{sums_of, total_in}
 use Rattle.csi_adoption.proofs.FaultLemmas.{is_err, must_fail}
-use Rattle.csi_adoption.proofs.TurnLemmas.{ended}
+use Rattle.csi_adoption.proofs.ChainLemmas.{ended}
 use Rattle.csi_adoption.proofs.adopting.judge.Goals as goal
 
 pub returns-in_err-volumes-clause-other : goal.returns-in_err-volumes-clause-other
@@ -22,8 +22,8 @@ returns-in_err-volumes-clause-sound g c = λ clean.
       | inr it ↦ c.rows_tell.ensures.no_fault db.trees s rows invariant fault it
     ]))
 
-pub returns-in_err-totals-clause-looks : goal.returns-in_err-totals-clause-looks
-returns-in_err-totals-clause-looks g c = ended g.S.Store c.args.conn.now c.judge_rows.new.conn c.in_ok-volumes.volumes c.from_residual-in_err-totals.result c.in_ok-volumes.ensures.looks
+pub returns-in_err-totals-clause-scans : goal.returns-in_err-totals-clause-scans
+returns-in_err-totals-clause-scans g c = ended g.S.Store c.args.conn.now c.judge_rows.new.conn c.in_ok-volumes.volumes c.from_residual-in_err-totals.result c.in_ok-volumes.ensures.scans
 
 pub returns-in_err-totals-clause-other : goal.returns-in_err-totals-clause-other
 returns-in_err-totals-clause-other g c = λ clean others.

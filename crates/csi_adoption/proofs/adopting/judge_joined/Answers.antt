@@ -1,20 +1,20 @@
 use Rattle.std.proofs.Common.{◌≡◌, sym, subst, map, Err, IsPermutation}
 use Rattle.sqlite.specs.Held.{state}
 use Rattle.sqlite.specs.Tree.{Trees}
-use Rattle.csi_layout.specs.Rows.{seen_attachment}
+use Rattle.csi_schema.specs.Rows.{seen_attachment}
 use Rattle.csi_adoption.specs.Judging.{JudgesRows, volumes_unless}
 use Rattle.csi_adoption.proofs.JudgedLemmas.{counts_fault, joined_failure, judged_err, none_broken, owner_fault}
 use Rattle.csi_adoption.proofs.FaultLemmas.{is_err, not_memory}
-use Rattle.csi_adoption.proofs.TurnLemmas.{clean_before, ended, failed, same_trees, turns}
+use Rattle.csi_adoption.proofs.ChainLemmas.{clean_before, ended, failed, same_trees, chained}
 use Rattle.csi_adoption.proofs.adopting.judge_joined.Goals as goal
 
 pub returns-in_err-unowned-clause-judged : goal.returns-in_err-unowned-clause-judged
 returns-in_err-unowned-clause-judged g c = λ clean next seen fine rows same is.
     joined_failure c.args.config.now (state g.S.Store c.args.conn.now).now.trees c.args.tables.now c.from_residual.result c.in_err-unowned.field-0.0 c.from_residual.ensures.1
 
-pub returns-in_err-check_attachment-clause-looks : goal.returns-in_err-check_attachment-clause-looks
-returns-in_err-check_attachment-clause-looks g c =
-    ended g.S.Store c.args.conn.now c.see_owners.new.conn _ c.from_residual-in_err-check_attachment.result c.in_ok-unowned.ensures.looks
+pub returns-in_err-check_attachment-clause-scans : goal.returns-in_err-check_attachment-clause-scans
+returns-in_err-check_attachment-clause-scans g c =
+    ended g.S.Store c.args.conn.now c.see_owners.new.conn _ c.from_residual-in_err-check_attachment.result c.in_ok-unowned.ensures.scans
 
 pub returns-in_err-check_attachment-clause-judged : goal.returns-in_err-check_attachment-clause-judged
 returns-in_err-check_attachment-clause-judged g c = λ clean next seen fine rows same is.
@@ -26,19 +26,19 @@ returns-in_err-check_attachment-clause-judged g c = λ clean next seen fine rows
     subst (λ r. JudgesRows config db (volumes_unless tables r)) (sym answer) (judged_err config db c.in_err-check_attachment.field-0.0 (λ known.
     owner_fault config db next rows same is tables seen owned.0 owned.1 c.in_ok-unowned.unowned owned.2 fine c.in_err-check_attachment.field-0.0 (c.in_err-check_attachment.ensures (not_memory c.in_err-check_attachment.field-0.0 known))))
 
-pub returns-in_err-apart-clause-looks : goal.returns-in_err-apart-clause-looks
-returns-in_err-apart-clause-looks g c =
+pub returns-in_err-apart-clause-scans : goal.returns-in_err-apart-clause-scans
+returns-in_err-apart-clause-scans g c =
     failed g.S.Store c.args.conn.now c.see_apart.new.conn _ c.from_residual-in_err-apart.result c.from_residual-in_err-apart.ensures.0
-    (turns g.S.Store c.args.conn.now c.see_owners.new.conn c.see_apart.new.conn _ _ c.in_ok-unowned.ensures.looks c.in_err-apart.ensures.looks)
+    (chained g.S.Store c.args.conn.now c.see_owners.new.conn c.see_apart.new.conn _ _ c.in_ok-unowned.ensures.scans c.in_err-apart.ensures.scans)
 
 pub returns-in_err-apart-clause-judged : goal.returns-in_err-apart-clause-judged
 returns-in_err-apart-clause-judged g c = λ clean next seen fine rows same is.
     joined_failure c.args.config.now (state g.S.Store c.args.conn.now).now.trees c.args.tables.now c.from_residual-in_err-apart.result c.in_err-apart.field-0.0 c.from_residual-in_err-apart.ensures.1
 
-pub returns-in_err-check_counts-clause-looks : goal.returns-in_err-check_counts-clause-looks
-returns-in_err-check_counts-clause-looks g c =
+pub returns-in_err-check_counts-clause-scans : goal.returns-in_err-check_counts-clause-scans
+returns-in_err-check_counts-clause-scans g c =
     ended g.S.Store c.args.conn.now c.see_apart.new.conn _ c.from_residual-in_err-check_counts.result
-    (turns g.S.Store c.args.conn.now c.see_owners.new.conn c.see_apart.new.conn _ _ c.in_ok-unowned.ensures.looks c.in_ok-apart.ensures.looks)
+    (chained g.S.Store c.args.conn.now c.see_owners.new.conn c.see_apart.new.conn _ _ c.in_ok-unowned.ensures.scans c.in_ok-apart.ensures.scans)
 
 pub returns-in_err-check_counts-clause-judged : goal.returns-in_err-check_counts-clause-judged
 returns-in_err-check_counts-clause-judged g c = λ clean next seen fine rows same is.
@@ -46,8 +46,8 @@ returns-in_err-check_counts-clause-judged g c = λ clean next seen fine rows sam
     let config = c.args.config.now in
     let tables = c.args.tables.now in
     let db = (state g.S.Store c.args.conn.now).now.trees in
-    let before = clean_before g.S.Store c.see_owners.new.conn c.see_apart.new.conn _ c.in_ok-apart.ensures.looks clean in
-    let trees = same_trees g.S.Store c.args.conn.now c.see_owners.new.conn (c.in_ok-unowned.ensures.looks.same before) in
+    let before = clean_before g.S.Store c.see_owners.new.conn c.see_apart.new.conn _ c.in_ok-apart.ensures.scans clean in
+    let trees = same_trees g.S.Store c.args.conn.now c.see_owners.new.conn (c.in_ok-unowned.ensures.scans.same before) in
     let owned = c.in_ok-unowned.ensures.seen before in
     let places = c.in_ok-apart.ensures.seen clean in
     let two = subst (λ (t : Trees). IsPermutation (map seen_attachment (t 3)) places.0) trees places.1 in
@@ -55,18 +55,18 @@ returns-in_err-check_counts-clause-judged g c = λ clean next seen fine rows sam
     counts_fault config db next rows same is tables seen owned.0 owned.1 c.in_ok-unowned.unowned owned.2 fine places.0 two c.in_ok-apart.apart places.2 c.in_ok-check_attachment.ensures
     c.in_err-check_counts.field-0.0 (c.in_err-check_counts.ensures (not_memory c.in_err-check_counts.field-0.0 known))))
 
-pub returns-clause-looks : goal.returns-clause-looks
-returns-clause-looks g c =
+pub returns-clause-scans : goal.returns-clause-scans
+returns-clause-scans g c =
     ended g.S.Store c.args.conn.now c.see_apart.new.conn _ _
-    (turns g.S.Store c.args.conn.now c.see_owners.new.conn c.see_apart.new.conn _ _ c.in_ok-unowned.ensures.looks c.in_ok-apart.ensures.looks)
+    (chained g.S.Store c.args.conn.now c.see_owners.new.conn c.see_apart.new.conn _ _ c.in_ok-unowned.ensures.scans c.in_ok-apart.ensures.scans)
 
 pub returns-clause-judged : goal.returns-clause-judged
 returns-clause-judged g c = λ clean next seen fine rows same is.
     let config = c.args.config.now in
     let tables = c.args.tables.now in
     let db = (state g.S.Store c.args.conn.now).now.trees in
-    let before = clean_before g.S.Store c.see_owners.new.conn c.see_apart.new.conn _ c.in_ok-apart.ensures.looks clean in
-    let trees = same_trees g.S.Store c.args.conn.now c.see_owners.new.conn (c.in_ok-unowned.ensures.looks.same before) in
+    let before = clean_before g.S.Store c.see_owners.new.conn c.see_apart.new.conn _ c.in_ok-apart.ensures.scans clean in
+    let trees = same_trees g.S.Store c.args.conn.now c.see_owners.new.conn (c.in_ok-unowned.ensures.scans.same before) in
     let owned = c.in_ok-unowned.ensures.seen before in
     let places = c.in_ok-apart.ensures.seen clean in
     let two = subst (λ (t : Trees). IsPermutation (map seen_attachment (t 3)) places.0) trees places.1 in

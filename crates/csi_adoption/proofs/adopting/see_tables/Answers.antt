@@ -1,25 +1,25 @@
 use Rattle.std.proofs.Common.{map, subst}
 use Rattle.sqlite.specs.Tree.{Trees}
-use Rattle.csi_looks.specs.Looks.{keyed_attachment, IsInOrder}
-use Rattle.csi_adoption.proofs.TurnLemmas.{clean_before, ended, failed, same_trees, turns}
+use Rattle.csi_scans.specs.Scans.{keyed_attachment, IsInOrder}
+use Rattle.csi_adoption.proofs.ChainLemmas.{clean_before, ended, failed, same_trees, chained}
 use Rattle.csi_adoption.proofs.adopting.see_tables.Goals as goal
 
-pub returns-in_err-attachments-clause-looks : goal.returns-in_err-attachments-clause-looks
-returns-in_err-attachments-clause-looks g c =
+pub returns-in_err-attachments-clause-scans : goal.returns-in_err-attachments-clause-scans
+returns-in_err-attachments-clause-scans g c =
     failed g.S.Store c.args.conn.now c.see_attachments.new.conn _ c.from_residual-in_err-attachments.result c.from_residual-in_err-attachments.ensures.0
-    (turns g.S.Store c.args.conn.now c.see_volumes.new.conn c.see_attachments.new.conn c.in_ok-volumes.volumes _ c.in_ok-volumes.ensures.looks c.in_err-attachments.ensures.looks)
+    (chained g.S.Store c.args.conn.now c.see_volumes.new.conn c.see_attachments.new.conn c.in_ok-volumes.volumes _ c.in_ok-volumes.ensures.scans c.in_err-attachments.ensures.scans)
 
-pub returns-clause-looks : goal.returns-clause-looks
-returns-clause-looks g c =
+pub returns-clause-scans : goal.returns-clause-scans
+returns-clause-scans g c =
     ended g.S.Store c.args.conn.now c.see_attachments.new.conn c.in_ok-attachments.attachments _
-    (turns g.S.Store c.args.conn.now c.see_volumes.new.conn c.see_attachments.new.conn c.in_ok-volumes.volumes _ c.in_ok-volumes.ensures.looks c.in_ok-attachments.ensures.looks)
+    (chained g.S.Store c.args.conn.now c.see_volumes.new.conn c.see_attachments.new.conn c.in_ok-volumes.volumes _ c.in_ok-volumes.ensures.scans c.in_ok-attachments.ensures.scans)
 
 pub returns-clause-seen : goal.returns-clause-seen
 returns-clause-seen g c = λ clean.
-    let before = clean_before g.S.Store c.see_volumes.new.conn c.see_attachments.new.conn _ c.in_ok-attachments.ensures.looks clean in
+    let before = clean_before g.S.Store c.see_volumes.new.conn c.see_attachments.new.conn _ c.in_ok-attachments.ensures.scans clean in
     let volumes = c.in_ok-volumes.ensures.seen before in
     let attachments = c.in_ok-attachments.ensures.seen clean in
-    let same = same_trees g.S.Store c.args.conn.now c.see_volumes.new.conn (c.in_ok-volumes.ensures.looks.same before) in
+    let same = same_trees g.S.Store c.args.conn.now c.see_volumes.new.conn (c.in_ok-volumes.ensures.scans.same before) in
     record {
       volume_rows = volumes.0;
       attachment_rows = attachments.0;

@@ -4,5 +4,5 @@ use Rattle.csi_adoption.proofs.attachments.see_apart.Goals as goal
 
 pub returns-clause-seen : goal.returns-clause-seen
 returns-clause-seen g c clean =
-    let seen = rw c.in_ok-look_over_places.was at (c.look_over_places.ensures.ok clean) in
+    let seen = rw c.in_ok-scan_places.was at (c.scan_places.ensures.ok clean) in
     (seen.0, seen.1.same, (seen.2 refl refl (do_not_fall seen.0 seen.1.sorted)).0)

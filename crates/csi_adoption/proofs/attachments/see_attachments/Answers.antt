@@ -1,15 +1,15 @@
 use Rattle.std.proofs.Common.{subst, sym}
-use Rattle.csi_looks.specs.declared.sums.Weight.TheVariants.{One}
-use Rattle.csi_rules.specs.Attachments.{has_flag, is_at_node}
-use Rattle.csi_rules.specs.Coded.{has_cap}
-use Rattle.csi_rules.specs.Kinds.{has_attachment_kinds}
+use Rattle.csi_scans.specs.declared.sums.Weight.TheVariants.{One}
+use Rattle.csi_constraints.specs.Attachments.{has_flag, is_at_node}
+use Rattle.csi_constraints.specs.Coded.{has_cap}
+use Rattle.csi_constraints.specs.Kinds.{has_attachment_kinds}
 use Rattle.csi_adoption.specs.Judging.{SeesAttachments}
 use Rattle.csi_adoption.proofs.SeeingLemmas.{all_sums, named, named_by, risen, sees_attachments}
 use Rattle.csi_adoption.proofs.attachments.see_attachments.Goals as goal
 
 pub returns-clause-seen : goal.returns-clause-seen
 returns-clause-seen g c clean =
-    let seen = rw c.in_ok-look_over_attachments.was at (c.look_over_attachments.ensures.ok clean) in
+    let seen = rw c.in_ok-scan_attachments.was at (c.scan_attachments.ensures.ok clean) in
     let rows = seen.0 in
     let all = seen.2 in
     let kinds = c.kinds.ensures in

@@ -1,15 +1,15 @@
 use Rattle.std.proofs.Common.{refl, subst, sym}
-use Rattle.csi_looks.specs.declared.sums.Weight.TheVariants.{Number, One}
-use Rattle.csi_rules.specs.Coded.{has_caps, has_params}
-use Rattle.csi_rules.specs.Kinds.{has_volume_kinds}
-use Rattle.csi_rules.specs.Volumes.{is_in_pools, is_named, is_numbered, is_sized}
+use Rattle.csi_scans.specs.declared.sums.Weight.TheVariants.{Number, One}
+use Rattle.csi_constraints.specs.Coded.{has_caps, has_params}
+use Rattle.csi_constraints.specs.Kinds.{has_volume_kinds}
+use Rattle.csi_constraints.specs.Volumes.{is_in_pools, is_named, is_numbered, is_sized}
 use Rattle.csi_adoption.specs.Judging.{SeesVolumes}
 use Rattle.csi_adoption.proofs.SeeingLemmas.{all_sums, counted, named, named_by, risen, sees_volumes}
 use Rattle.csi_adoption.proofs.volumes.see_volumes.Goals as goal
 
 pub returns-clause-seen : goal.returns-clause-seen
 returns-clause-seen g c clean =
-    let seen = rw c.in_ok-look_over_volumes.was at (c.look_over_volumes.ensures.ok clean) in
+    let seen = rw c.in_ok-scan_volumes.was at (c.scan_volumes.ensures.ok clean) in
     let rows = seen.0 in
     let all = seen.2 in
     let kinds = c.kinds.ensures in

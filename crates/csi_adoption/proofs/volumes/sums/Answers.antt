@@ -1,7 +1,7 @@
 use Rattle.std.proofs.Common.{subst}
 use Rattle.std.specs.List.{AllZip}
-use Rattle.csi_looks.specs.declared.sums.Weight.TheVariants.{Number, One}
-use Rattle.csi_adoption.specs.Looking.{IsBegun}
+use Rattle.csi_scans.specs.declared.sums.Weight.TheVariants.{Number, One}
+use Rattle.csi_adoption.specs.Scanning.{IsBegun}
 use Rattle.csi_adoption.proofs.volumes.sums.Goals as goal
 
 pub returns-clause-bytes : goal.returns-clause-bytes

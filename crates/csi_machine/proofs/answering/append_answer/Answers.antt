@@ -1,17 +1,21 @@
-use Rattle.csi_machine.proofs.AnsweringLemmas.{tells, state, left, keeps, alone, settled_sound}
+use Rattle.std.proofs.Common.{rules, ap}
+use Rattle.csi_machine.specs.Step.{limited, settled_plan}
+use Rattle.csi_machine.proofs.AnsweringLemmas.{carried, performed, keeps, settled_sound}
 use Rattle.csi_machine.proofs.answering.append_answer.Goals as goal
 
-pub returns-clause-told : goal.returns-clause-told
-returns-clause-told g c = tells c.args.config.now c.args.request.now _ _ _ _ _ c.answer_by_plan.ensures
+pub returns-in_err-plan-clause-performs : goal.returns-in_err-plan-clause-performs
+returns-in_err-plan-clause-performs g c = performed c.args.config.now c.args.request.now _ _ _ _ _ (search rules)
 
-pub returns-clause-state : goal.returns-clause-state
-returns-clause-state g c = state c.args.config.now c.args.request.now _ _ _ _ _ c.answer_by_plan.ensures
+pub returns-in_err-plan-clause-invariant : goal.returns-in_err-plan-clause-invariant
+returns-in_err-plan-clause-invariant g c = keeps c.args.config.now c.args.request.now (settled_sound c.args.config.now c.configured.ensures c.args.request.now c.requires)
+
+pub returns-clause-performs : goal.returns-clause-performs
+returns-clause-performs g c =
+    let found = c.in_ok-plan.ensures.finds in
+    let did = c.finish.ensures in
+    performed c.args.config.now c.args.request.now _ _ _ _ _
+    (carried c.args.config.now (λ s. settled_plan c.args.config.now s c.args.request.now) _ _ _ _ _ _ _ (settled_sound c.args.config.now c.configured.ensures c.args.request.now c.requires)
+    found.quiet (λ d s h. ap limited (found.value d s h)) (λ is s. ap limited (found.down.unasked is s)) did.carries found.count did.body did.err did.small)
 
 pub returns-clause-invariant : goal.returns-clause-invariant
 returns-clause-invariant g c = keeps c.args.config.now c.args.request.now (settled_sound c.args.config.now c.configured.ensures c.args.request.now c.requires)
-
-pub returns-clause-left : goal.returns-clause-left
-returns-clause-left g c = left c.args.config.now c.args.request.now _ _ _ _ _ c.answer_by_plan.ensures
-
-pub returns-clause-down : goal.returns-clause-down
-returns-clause-down g c = alone c.args.config.now c.args.request.now _ _ _ _ _ c.answer_by_plan.ensures

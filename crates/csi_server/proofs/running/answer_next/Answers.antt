@@ -7,7 +7,7 @@ use Rattle.csi_server.proofs.running.answer_next.Goals as goal
 pub returns-in-Some-clause-steps : goal.returns-in-Some-clause-steps
 returns-in-Some-clause-steps g c start s read held live clean =
     let m = g.S.Service.machine c.args.config.now in
-    let v = g.S.Service.sight c.args.config.now in
+    let v = g.S.Service.model c.args.config.now in
     let w = g.W.Write.contents in
     let f : Fed c.args.framer.now c.feed-count.new.self c.args.rest.now c.feed-count.result = record { past = c.feed-count.ensures.past; held = c.feed-count.ensures.held; all = c.feed-count.ensures.all; known = c.feed-count.ensures.known; idle = c.feed-count.ensures.idle } in
     fed_fault m (v start) (v c.args.service.now) s read c.args.framer.now c.feed-count.new.self c.args.rest.now c.feed-count.result held (w c.args.writer.now) c.in-Some.fault (live clean) f (sym c.in-Some.ensures.value)
@@ -15,7 +15,7 @@ returns-in-Some-clause-steps g c start s read held live clean =
 pub returns-in-Err-clause-steps : goal.returns-in-Err-clause-steps
 returns-in-Err-clause-steps g c start s read held live clean =
     let m = g.S.Service.machine c.args.config.now in
-    let v = g.S.Service.sight c.args.config.now in
+    let v = g.S.Service.model c.args.config.now in
     let w = g.W.Write.contents in
     let f : Fed c.args.framer.now c.feed-count.new.self c.args.rest.now c.feed-count.result = record { past = c.feed-count.ensures.past; held = c.feed-count.ensures.held; all = c.feed-count.ensures.all; known = c.feed-count.ensures.known; idle = c.feed-count.ensures.idle } in
     fed_cut m (v start) (v c.args.service.now) (v c.answer_call.new.service) s read c.args.framer.now c.feed-count.new.self c.args.rest.now c.feed-count.result (bytes_of c.in-Some-frame.call) held (w c.args.writer.now) (w c.answer_call.new.writer) (IsOk c.answer_call.result) (live (omega (arith, clean, c.answer_call.ensures.clean))) f
@@ -24,7 +24,7 @@ returns-in-Err-clause-steps g c start s read held live clean =
 pub returns-in-Ok-clause-steps : goal.returns-in-Ok-clause-steps
 returns-in-Ok-clause-steps g c start s read held live clean =
     let m = g.S.Service.machine c.args.config.now in
-    let v = g.S.Service.sight c.args.config.now in
+    let v = g.S.Service.model c.args.config.now in
     let w = g.W.Write.contents in
     let f : Fed c.args.framer.now c.feed-count.new.self c.args.rest.now c.feed-count.result = record { past = c.feed-count.ensures.past; held = c.feed-count.ensures.held; all = c.feed-count.ensures.all; known = c.feed-count.ensures.known; idle = c.feed-count.ensures.idle } in
     fed_answered m (v start) (v c.args.service.now) (v c.answer_call.new.service) s read c.args.framer.now c.feed-count.new.self c.next_frame.new.self c.args.rest.now c.feed-count.result (bytes_of c.in-Some-frame.call) held (w c.args.writer.now) (w c.answer_call.new.writer) (live (omega (arith, clean, c.answer_call.ensures.clean))) f

@@ -13,7 +13,7 @@ loop-at-preserved g c =
       count = omega (arith, a.count, i.count);
       ready = a.ready;
       clean = omega (arith, i.clean, c.answer_next.ensures.clean);
-      live = λ start s read held live clean. subst (λ (x : List ℕ). Live (g.S.Service.machine c.args.config.now) (g.S.Service.sight c.args.config.now start) (g.S.Service.sight c.args.config.now c.answer_next.new.service) s x c.answer_next.new.framer held (g.W.Write.contents c.answer_next.new.writer))
+      live = λ start s read held live clean. subst (λ (x : List ℕ). Live (g.S.Service.machine c.args.config.now) (g.S.Service.model c.args.config.now start) (g.S.Service.model c.args.config.now c.answer_next.new.service) s x c.answer_next.new.framer held (g.W.Write.contents c.answer_next.new.writer))
           (one_piece read c.args.piece.now c.loop-at.at c.in-Fed.count c.split_at.result.1.now c.split_at.ensures.back)
           (c.in-Fed.ensures.steps start s (read ++ take c.loop-at.at c.args.piece.now) held (i.live start s read held live) clean);
     }
@@ -22,12 +22,12 @@ pub returns-in-Faulty-clause-steps : goal.returns-in-Faulty-clause-steps
 returns-in-Faulty-clause-steps g c start s read held live clean =
     let h = c.in-Faulty.ensures.steps start s (read ++ take c.loop-at.at c.args.piece.now) held (c.loop-at.invariant.live start s read held live) clean in (
       h.0,
-      subst (λ (x : List ℕ). Answered (g.S.Service.machine c.args.config.now) (g.S.Service.sight c.args.config.now start) (g.S.Service.sight c.args.config.now c.answer_next.new.service) s x held (g.W.Write.contents c.answer_next.new.writer) (λ calls. HasFault x calls c.in-Faulty.fault.why c.in-Faulty.fault.at) [])
+      subst (λ (x : List ℕ). Answered (g.S.Service.machine c.args.config.now) (g.S.Service.model c.args.config.now start) (g.S.Service.model c.args.config.now c.answer_next.new.service) s x held (g.W.Write.contents c.answer_next.new.writer) (λ calls. HasFault x calls c.in-Faulty.fault.why c.in-Faulty.fault.at) [])
           (whole_piece read c.args.piece.now c.loop-at.at c.split_at.result.1.now c.split_at.ensures.back) h.1,
     )
 
 pub returns-in-Cut-clause-steps : goal.returns-in-Cut-clause-steps
 returns-in-Cut-clause-steps g c start s read held live clean =
-    subst (λ (x : List ℕ). CutOff (g.S.Service.machine c.args.config.now) (g.S.Service.sight c.args.config.now start) (g.S.Service.sight c.args.config.now c.answer_next.new.service) s x ⊥ held (g.W.Write.contents c.answer_next.new.writer))
+    subst (λ (x : List ℕ). CutOff (g.S.Service.machine c.args.config.now) (g.S.Service.model c.args.config.now start) (g.S.Service.model c.args.config.now c.answer_next.new.service) s x ⊥ held (g.W.Write.contents c.answer_next.new.writer))
     (whole_piece read c.args.piece.now c.loop-at.at c.split_at.result.1.now c.split_at.ensures.back)
     (c.in-Cut.ensures.steps start s (read ++ take c.loop-at.at c.args.piece.now) held (c.loop-at.invariant.live start s read held live) clean)

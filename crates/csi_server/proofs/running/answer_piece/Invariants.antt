@@ -7,10 +7,10 @@ invariant-loop-at g l = record {
   within : l.at ≤ length l.piece;
   count : l.framer.past + length l.framer.held ≡ l.initial.framer.past + length l.initial.framer.held + l.at;
   ready : IsReady l.framer;
-  clean : (g.S.Service.sight l.config l.initial.service).doubt ≤ (g.S.Service.sight l.config l.service).doubt;
+  clean : (g.S.Service.model l.config l.initial.service).doubt ≤ (g.S.Service.model l.config l.service).doubt;
   live : (start : g.row.S.Denot) (s : g.S.Service.State) (read : List ℕ) (held : Option (List ℕ))
-      → IsLive (g.S.Service.machine l.config) (g.S.Service.sight l.config start) (g.S.Service.sight l.config l.initial.service) s read l.initial.framer held (g.W.Write.contents l.initial.writer)
-      → IsLive (g.S.Service.machine l.config) (g.S.Service.sight l.config start) (g.S.Service.sight l.config l.service) s (read ++ take l.at l.piece) l.framer held (g.W.Write.contents l.writer);
+      → IsLive (g.S.Service.machine l.config) (g.S.Service.model l.config start) (g.S.Service.model l.config l.initial.service) s read l.initial.framer held (g.W.Write.contents l.initial.writer)
+      → IsLive (g.S.Service.machine l.config) (g.S.Service.model l.config start) (g.S.Service.model l.config l.service) s (read ++ take l.at l.piece) l.framer held (g.W.Write.contents l.writer);
 }
 
 abbrev pub decreases-loop-at : goal.decreases-loop-at

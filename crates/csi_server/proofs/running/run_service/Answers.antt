@@ -9,7 +9,7 @@ use Rattle.csi_server.proofs.running.run_service.Goals as goal
 pub loop-turn-init : goal.loop-turn-init
 loop-turn-init g c =
     let m = g.S.Service.machine c.args.config.now in
-    let v = g.S.Service.sight c.args.config.now in
+    let v = g.S.Service.model c.args.config.now in
     let e = c.in-Ok.ensures.empty in
     record {
       few = omega (arith, ap (λ (s : FramerState). s.past) e, ap (λ (s : FramerState). length s.held) e);
@@ -25,7 +25,7 @@ returns-in-Err-clause-serves g c =
     let run = c.loop-turn.invariant.run in (
       run.0,
       Consumes-kept (r c.args.reader.now) (r c.loop-turn.reader) (r c.read.new.self) run.0 run.2 c.in-Err.ensures.bytes,
-      λ clean s h. live_ends (g.S.Service.machine c.args.config.now) (g.S.Service.sight c.args.config.now c.args.service.now) (g.S.Service.sight c.args.config.now c.loop-turn.service) s run.0 c.loop-turn.framer (w c.args.writer.now) (w c.loop-turn.writer) (run.3 s h clean),
+      λ clean s h. live_ends (g.S.Service.machine c.args.config.now) (g.S.Service.model c.args.config.now c.args.service.now) (g.S.Service.model c.args.config.now c.loop-turn.service) s run.0 c.loop-turn.framer (w c.args.writer.now) (w c.loop-turn.writer) (run.3 s h clean),
     )
 
 pub returns-then-count-eq0-clause-serves : goal.returns-then-count-eq0-clause-serves
@@ -36,7 +36,7 @@ returns-then-count-eq0-clause-serves g c =
     let none = consumes_none (r c.loop-turn.reader) (r c.read.new.self) c.read.new.buf c.in-Ok-read.count c.if-count-eq0.true c.in-Ok-read.ensures.bytes.0 in (
       run.0,
       consumes_same (r c.args.reader.now) (r c.loop-turn.reader) (r c.read.new.self) run.0 run.2 none,
-      λ clean s h. finish_ends (g.S.Service.machine c.args.config.now) (g.S.Service.sight c.args.config.now c.args.service.now) (g.S.Service.sight c.args.config.now c.loop-turn.service) s run.0 (IsAtEnd (r c.read.new.self)) c.loop-turn.framer (w c.args.writer.now) (w c.loop-turn.writer) (w c.finish.new.writer) c.finish.result (run.3 s h clean)
+      λ clean s h. finish_ends (g.S.Service.machine c.args.config.now) (g.S.Service.model c.args.config.now c.args.service.now) (g.S.Service.model c.args.config.now c.loop-turn.service) s run.0 (IsAtEnd (r c.read.new.self)) c.loop-turn.framer (w c.args.writer.now) (w c.loop-turn.writer) (w c.finish.new.writer) c.finish.result (run.3 s h clean)
           (c.in-Ok-read.ensures.bytes.1 c.if-count-eq0.true (search rules)) c.finish.ensures,
     )
 
@@ -45,10 +45,10 @@ returns-in-Faulty-clause-serves g c =
     let r = g.R.Read.remaining in
     let w = g.W.Write.contents in
     let run = c.loop-turn.invariant.run in
-    let steps = λ (s : g.S.Service.State) (h : (g.S.Service.sight c.args.config.now c.args.service.now).holds s). c.in-Faulty.ensures.steps c.args.service.now s run.0 (w c.args.writer.now) (run.3 s h) in (
+    let steps = λ (s : g.S.Service.State) (h : (g.S.Service.model c.args.config.now c.args.service.now).holds s). c.in-Faulty.ensures.steps c.args.service.now s run.0 (w c.args.writer.now) (run.3 s h) in (
       run.0 ++ c.split_at.result.0.now,
       Consumes-trans (r c.args.reader.now) (r c.loop-turn.reader) (r c.read.new.self) run.0 c.split_at.result.0.now run.2 (subst (λ (x : List ℕ). Consumes (r c.loop-turn.reader) (r c.read.new.self) x) (sym c.split_at.ensures.front) c.in-Ok-read.ensures.bytes.0),
-      λ clean s h. refuse_ends (g.S.Service.machine c.args.config.now) (g.S.Service.sight c.args.config.now c.args.service.now) (g.S.Service.sight c.args.config.now c.answer_piece.new.service) s (run.0 ++ c.split_at.result.0.now) (IsAtEnd (r c.read.new.self)) c.in-Faulty.fault (w c.args.writer.now) (w c.answer_piece.new.writer) (w c.refuse.new.writer) c.refuse.result (steps s h clean).1 (λ e. absurd ((steps s h clean).0 e)) c.refuse.ensures,
+      λ clean s h. refuse_ends (g.S.Service.machine c.args.config.now) (g.S.Service.model c.args.config.now c.args.service.now) (g.S.Service.model c.args.config.now c.answer_piece.new.service) s (run.0 ++ c.split_at.result.0.now) (IsAtEnd (r c.read.new.self)) c.in-Faulty.fault (w c.args.writer.now) (w c.answer_piece.new.writer) (w c.refuse.new.writer) c.refuse.result (steps s h clean).1 (λ e. absurd ((steps s h clean).0 e)) c.refuse.ensures,
     )
 
 pub returns-in-Cut-clause-serves : goal.returns-in-Cut-clause-serves
@@ -58,7 +58,7 @@ returns-in-Cut-clause-serves g c =
     let run = c.loop-turn.invariant.run in (
       run.0 ++ c.split_at.result.0.now,
       Consumes-trans (r c.args.reader.now) (r c.loop-turn.reader) (r c.read.new.self) run.0 c.split_at.result.0.now run.2 (subst (λ (x : List ℕ). Consumes (r c.loop-turn.reader) (r c.read.new.self) x) (sym c.split_at.ensures.front) c.in-Ok-read.ensures.bytes.0),
-      λ clean s h. cut_at (g.S.Service.machine c.args.config.now) (g.S.Service.sight c.args.config.now c.args.service.now) (g.S.Service.sight c.args.config.now c.answer_piece.new.service) s (run.0 ++ c.split_at.result.0.now) (w c.args.writer.now) (w c.answer_piece.new.writer) (IsAtEnd (r c.read.new.self)) (c.in-Cut.ensures.steps c.args.service.now s run.0 (w c.args.writer.now) (run.3 s h) clean),
+      λ clean s h. cut_at (g.S.Service.machine c.args.config.now) (g.S.Service.model c.args.config.now c.args.service.now) (g.S.Service.model c.args.config.now c.answer_piece.new.service) s (run.0 ++ c.split_at.result.0.now) (w c.args.writer.now) (w c.answer_piece.new.writer) (IsAtEnd (r c.read.new.self)) (c.in-Cut.ensures.steps c.args.service.now s run.0 (w c.args.writer.now) (run.3 s h) clean),
     )
 
 pub loop-turn-preserved : goal.loop-turn-preserved
@@ -75,7 +75,7 @@ loop-turn-preserved g c =
         run.0 ++ c.split_at.result.0.now,
         omega (arith, run.1, length-append run.0 c.split_at.result.0.now, c.split_at.ensures.front_len),
         Consumes-trans (r c.args.reader.now) (r c.loop-turn.reader) (r c.read.new.self) run.0 c.split_at.result.0.now run.2 (subst (λ (x : List ℕ). Consumes (r c.loop-turn.reader) (r c.read.new.self) x) (sym c.split_at.ensures.front) c.in-Ok-read.ensures.bytes.0),
-        λ s h clean. live_whole (g.S.Service.machine c.args.config.now) (g.S.Service.sight c.args.config.now c.args.service.now) (g.S.Service.sight c.args.config.now c.answer_piece.new.service) s run.0 c.split_at.result.0.now _ c.answer_piece.new.framer (w c.args.writer.now) (w c.answer_piece.new.writer) all (c.in-Fed.ensures.steps c.args.service.now s run.0 (w c.args.writer.now) (run.3 s h) clean),
+        λ s h clean. live_whole (g.S.Service.machine c.args.config.now) (g.S.Service.model c.args.config.now c.args.service.now) (g.S.Service.model c.args.config.now c.answer_piece.new.service) s run.0 c.split_at.result.0.now _ c.answer_piece.new.framer (w c.args.writer.now) (w c.answer_piece.new.writer) all (c.in-Fed.ensures.steps c.args.service.now s run.0 (w c.args.writer.now) (run.3 s h) clean),
       );
       clean = omega (arith, c.loop-turn.invariant.clean, c.answer_piece.ensures.clean);
     }
@@ -85,9 +85,9 @@ returns-clause-serves g c =
     let r = g.R.Read.remaining in
     let w = g.W.Write.contents in
     let run = c.loop-turn.invariant.run in
-    (run.0, run.2, λ clean s h. (live_ends (g.S.Service.machine c.args.config.now) (g.S.Service.sight c.args.config.now c.args.service.now) (g.S.Service.sight c.args.config.now c.loop-turn.service) s run.0 c.loop-turn.framer (w c.args.writer.now) (w c.loop-turn.writer) (run.3 s h clean), omega (arith, run.1)))
+    (run.0, run.2, λ clean s h. (live_ends (g.S.Service.machine c.args.config.now) (g.S.Service.model c.args.config.now c.args.service.now) (g.S.Service.model c.args.config.now c.loop-turn.service) s run.0 c.loop-turn.framer (w c.args.writer.now) (w c.loop-turn.writer) (run.3 s h clean), omega (arith, run.1)))
 
 pub returns-in_default-clause-serves : goal.returns-in_default-clause-serves
 returns-in_default-clause-serves g c =
-    let v = g.S.Service.sight c.args.config.now in
+    let v = g.S.Service.model c.args.config.now in
     ([], Consumes-nil (g.R.Read.remaining c.args.reader.now), λ clean s h. nothing_ends (g.S.Service.machine c.args.config.now) (v c.args.service.now) s (g.W.Write.contents c.args.writer.now) h)

@@ -2,18 +2,14 @@ use Rattle.std.proofs.Common.{◌∙◌}
 use Rattle.sqlite.specs.Held.{state}
 use Rattle.csi_keeper.specs.facts.Reads.{if_ok}
 use Rattle.csi_tables.proofs.ShownLemmas.{number_found, number_readable}
+use Rattle.csi_tables.proofs.RefusalLemmas.{read_as, unread}
 use Rattle.csi_tables.proofs.read.by_number.Goals as goal
 
-pub returns-clause-value : goal.returns-clause-value
-returns-clause-value g c = if_ok (λ v read clean s held.
-    let told = c.in_ok-found.ensures.ok clean in
-    let shows = held told.was_open in
-    let it = number_found s (state g.S.Store c.args.conn.now).now.trees shows.rows c.args.number c.in_ok-found.found (told.what shows.schema) in
-    read it.0 it.1 it.2 ∙ it.3) c.volume_of.result c.volume_of.ensures.ok
+pub returns : goal.returns
+returns g c =
+    read_as c.volume_of.result c.in_ok-found.ensures
+    (λ s shows what. let it = number_found s (state g.S.Store c.args.conn.now).now.trees shows.rows c.args.number c.in_ok-found.found what in if_ok (λ v read. read it.0 it.1 it.2 ∙ it.3) c.volume_of.result c.volume_of.ensures.ok)
+    (λ s shows known what is. let it = number_readable s (state g.S.Store c.args.conn.now).now.trees shows.rows known c.args.number c.in_ok-found.found what in c.volume_of.ensures.refused is it.0 it.1 it.2)
 
-pub returns-clause-refused : goal.returns-clause-refused
-returns-clause-refused g c clean is s held known =
-    let told = c.in_ok-found.ensures.ok clean in
-    let shows = held told.was_open in
-    let it = number_readable s (state g.S.Store c.args.conn.now).now.trees shows.rows known c.args.number c.in_ok-found.found (told.what shows.schema) in
-    absurd (c.volume_of.ensures.refused is it.0 it.1 it.2)
+pub returns-in_err-found : goal.returns-in_err-found
+returns-in_err-found g c = unread c.from_residual.result c.in_err-found.field-0.0 (λ s shows none. none) c.in_err-found.ensures c.from_residual.ensures.1

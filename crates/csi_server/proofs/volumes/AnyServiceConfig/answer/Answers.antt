@@ -8,8 +8,8 @@ use Rattle.csi_server.proofs.volumes.AnyServiceConfig.answer.Goals as goal
 
 pub returns-in-Some-clause-step : goal.returns-in-Some-clause-step
 returns-in-Some-clause-step g c d s h =
-    let k = g.K.Keeper in
+    let m = g.K.Keeper.model in
     call_by method_at (step c.args.config.now) (bytes_of c.args.call.now)
-    (seen k.holds k.doubt k.refused k.survivors k.tied k.is_down c.args.config.now c.args.self.now)
-    (seen k.holds k.doubt k.refused k.survivors k.tied k.is_down c.args.config.now c.answer_message.new.keeper)
+    (seen c.args.config.now (m c.args.self.now))
+    (seen c.args.config.now (m c.answer_message.new.keeper))
     s _ c.in-Some.method (sym c.method_of.ensures.at ∙ c.in-Some.is) (c.answer_message.ensures.step d s h)

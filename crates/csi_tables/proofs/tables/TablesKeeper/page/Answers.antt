@@ -1,17 +1,18 @@
-use Rattle.std.proofs.Common.{◌∙◌, refl}
-use Rattle.csi_tables.specs.declared.tables.Tables.{Tables}
-use Rattle.csi_tables.proofs.KeepLemmas.{is_quiet}
-use Rattle.csi_tables.proofs.TablesLemmas.{keeps_quiet, no_page}
+use Rattle.std.proofs.Common.{rules, ◌∙◌, refl, Ok}
+use Rattle.csi_tables.proofs.KeepLemmas.{is_quiet, stays_quiet}
+use Rattle.csi_tables.proofs.TablesLemmas.{keeps_read, no_page}
 use Rattle.csi_tables.proofs.RefusalLemmas.{told_refused}
 use Rattle.csi_tables.proofs.tables.TablesKeeper.page.Goals as goal
 
-pub returns-then-after-ge-NUMBERS-clause-value : goal.returns-then-after-ge-NUMBERS-clause-value
-returns-then-after-ge-NUMBERS-clause-value g c clean s held = c.new.ensures ∙ no_page s c.args.after c.args.count c.if-after-ge-NUMBERS.true held.2
+pub returns-then-after-ge-NUMBERS-clause-reads : goal.returns-then-after-ge-NUMBERS-clause-reads
+returns-then-after-ge-NUMBERS-clause-reads g c =
+    keeps_read g.S.Store (c.args.self.now.conn, c.args.self.now.totals) (c.args.self.now.conn, c.args.self.now.totals) c.args.self.now.health c.begin.new.self (Ok _) refl c.begin.ensures.stays
+    (stays_quiet g.S.Store c.args.self.now.conn) (λ clean s held. c.new.ensures ∙ no_page s c.args.after c.args.count c.if-after-ge-NUMBERS.true held.2) (search rules) (search rules)
 
-pub returns-clause-quiet : goal.returns-clause-quiet
-returns-clause-quiet g c =
-    keeps_quiet g.S.Store (λ (t : Tables g.row.S.Denot g.S.Store). (t.conn, t.totals)) (λ (t : Tables g.row.S.Denot g.S.Store). t.turns.is_down) _ _ refl (c.end.ensures.stays ∙ c.begin.ensures.stays)
-    (is_quiet g.S.Store c.args.self.now.conn c.page-answer.new.conn c.page-answer.ensures.undone c.page-answer.ensures.survives)
+pub returns-clause-reads : goal.returns-clause-reads
+returns-clause-reads g c =
+    keeps_read g.S.Store (c.args.self.now.conn, c.args.self.now.totals) (c.page-answer.new.conn, c.args.self.now.totals) c.args.self.now.health c.end.new.self c.end.result refl (c.end.ensures.stays ∙ c.begin.ensures.stays)
+    (is_quiet g.S.Store c.args.self.now.conn c.page-answer.new.conn c.page-answer.ensures.undone c.page-answer.ensures.survives) (search rules) (search rules) (search rules)
 
 pub returns-clause-refused : goal.returns-clause-refused
 returns-clause-refused g c clean is s held known = c.page-answer.ensures.refused clean (told_refused c.page-answer.result c.end.result c.end.ensures.told is) s held.0 known

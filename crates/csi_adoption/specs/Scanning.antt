@@ -1,0 +1,28 @@
+-- What a scan over the tables leaves, and what it shows.
+use Rattle.std.specs.Prelude.{◌≡◌, ℕ, false, List, Result, IfOk, OnOk}
+use Rattle.sqlite.specs.Held.{Held, state}
+use Rattle.sqlite.specs.Order.{Row}
+use Rattle.sqlite.specs.State.{HasCleanDisk, IsUnchanged, KeepsCommit, Survives}
+use Rattle.sqlite.specs.Store.{Ghosts}
+use Rattle.sqlite.specs.Tree.{Trees}
+use Rattle.csi_scans.specs.declared.sums.TextSum.{TextSum}
+use Rattle.csi_scans.specs.declared.sums.Weight.{Weight}
+
+module _ {S : Type 0} (g : Ghosts S) (old new : Held S) where
+  -- nothing is changed or committed, and a stop leaves what it could leave before
+  pub record Scans {X E : Type 0} (result : Result X E) : Type 0 where
+    pub idle : new.in_transaction ≡ false
+    pub same : HasCleanDisk (state g new) → OnOk result (IsUnchanged (state g old) (state g new))
+    pub kept : HasCleanDisk (state g new) → KeepsCommit (state g old) (state g new)
+    pub survives : Survives (state g old) (state g new) (λ _. ⊥)
+
+  -- there are such rows of which the answer tells
+  abbrev pub SeenBy : {X E : Type 0} → Result X E → (Trees → List Row → Type 0) → (List Row → X → Type 0) → Type 0
+  SeenBy result What Told = HasCleanDisk (state g new) → IfOk result (λ seen. (rows : List Row) × What (state g old).now.trees rows × Told rows seen)
+
+-- a sum over no row yet
+pub record IsBegun (at : ℕ) (text : List ℕ) (weight : Weight) (sum : TextSum) : Type 0 where
+  pub column : sum.column ≡ at
+  pub text_is : sum.text.items ≡ text
+  pub weight_is : sum.weight ≡ weight
+  pub none : sum.sum ≡ 0

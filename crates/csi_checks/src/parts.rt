@@ -1,0 +1,156 @@
+//! The parts of a request that the lines of the table speak of.
+
+ghost use Rattle.std.specs.Prelude.{◌≡◌, [], None, false};
+ghost use Rattle.csi_types.specs.Checks.{no_parts, parts};
+ghost use Rattle.csi_checks.specs.Parts.{parts_in};
+
+use csi_types::{
+    Capability, CapacityRange, CreateVolume, Map, Publish, Request, Requirement, Text, Validate,
+};
+use std::slice::from_ref;
+
+/// What a request has of each part; an empty list, or `None`, where its method has no such field.
+#[derive(Clone, Copy)]
+pub(crate) struct Parts<'a> {
+    pub(crate) name: Option<&'a Text>,
+    pub(crate) capabilities: &'a [Capability],
+    /// One has to be given.
+    pub(crate) wants_capability: bool,
+    /// A volume is to be made for them.
+    pub(crate) is_create: bool,
+    pub(crate) ranges: &'a [CapacityRange],
+    pub(crate) requirement: Option<&'a Requirement>,
+    pub(crate) topology: Option<&'a Map>,
+    /// The other maps: lists of one or none.
+    pub(crate) first_map: &'a [Map],
+    pub(crate) second_map: &'a [Map],
+    pub(crate) third_map: &'a [Map],
+    /// A map that has to have an entry.
+    pub(crate) required_maps: &'a [Map],
+    pub(crate) volume_ids: &'a [Text],
+    pub(crate) node_ids: &'a [Text],
+    /// A node id that has to be given.
+    pub(crate) required_node_ids: &'a [Text],
+    pub(crate) tokens: &'a [Text],
+    pub(crate) most_entries: &'a [i32],
+    pub(crate) has_source: bool,
+}
+
+// The parts of a request without fields.
+fn no_parts<'a>() -> Parts<'a>
+    ensures none { parts_in result ≡ no_parts }
+    ensures maps { (result.second_map.now ≡ []) × (result.third_map.now ≡ []) }
+    ensures topologies { (result.topology ≡ None) × (result.requirement ≡ None) }
+    ensures is_create { result.is_create ≡ false }
+{
+    Parts {
+        name: None,
+        capabilities: &[],
+        wants_capability: false,
+        is_create: false,
+        ranges: &[],
+        requirement: None,
+        topology: None,
+        first_map: &[],
+        second_map: &[],
+        third_map: &[],
+        required_maps: &[],
+        volume_ids: &[],
+        node_ids: &[],
+        required_node_ids: &[],
+        tokens: &[],
+        most_entries: &[],
+        has_source: false,
+    }
+}
+
+fn parts_of_create(request: &CreateVolume) -> Parts<'_>
+    ensures { parts_in result ≡ parts (Request.Create request.now) }
+{
+    Parts {
+        name: Some(&request.name),
+        capabilities: request.capabilities.as_slice(),
+        wants_capability: true,
+        is_create: true,
+        ranges: request.range.as_slice(),
+        requirement: request.topology.as_ref(),
+        first_map: from_ref(&request.parameters),
+        second_map: from_ref(&request.secrets),
+        third_map: from_ref(&request.mutable),
+        has_source: request.source,
+        ..no_parts()
+    }
+}
+
+fn parts_of_publish(request: &Publish) -> Parts<'_>
+    ensures { parts_in result ≡ parts (Request.Publish request.now) }
+{
+    Parts {
+        capabilities: request.capability.as_slice(),
+        wants_capability: true,
+        first_map: from_ref(&request.secrets),
+        second_map: from_ref(&request.context),
+        volume_ids: from_ref(&request.volume_id),
+        node_ids: from_ref(&request.node_id),
+        required_node_ids: from_ref(&request.node_id),
+        ..no_parts()
+    }
+}
+
+fn parts_of_validate(request: &Validate) -> Parts<'_>
+    ensures { parts_in result ≡ parts (Request.Validate request.now) }
+{
+    Parts {
+        capabilities: request.capabilities.as_slice(),
+        wants_capability: true,
+        first_map: from_ref(&request.context),
+        second_map: from_ref(&request.parameters),
+        third_map: from_ref(&request.secrets),
+        volume_ids: from_ref(&request.volume_id),
+        ..no_parts()
+    }
+}
+
+/// The parts of a request.
+pub(crate) fn parts_of(request: &Request) -> Parts<'_>
+    ensures { parts_in result ≡ parts request.now }
+{
+    match request {
+        Request::PluginInfo
+        | Request::PluginCapabilities
+        | Request::Probe
+        | Request::ControllerCapabilities => no_parts(),
+        Request::Create(request) => parts_of_create(request),
+        Request::Delete(request) => Parts {
+            volume_ids: from_ref(&request.volume_id),
+            first_map: from_ref(&request.secrets),
+            ..no_parts()
+        },
+        Request::Publish(request) => parts_of_publish(request),
+        Request::Unpublish(request) => Parts {
+            first_map: from_ref(&request.secrets),
+            volume_ids: from_ref(&request.volume_id),
+            node_ids: from_ref(&request.node_id),
+            ..no_parts()
+        },
+        Request::Validate(request) => parts_of_validate(request),
+        Request::List(request) => Parts {
+            tokens: from_ref(&request.token),
+            most_entries: from_ref(&request.max_entries),
+            ..no_parts()
+        },
+        Request::Capacity(request) => Parts {
+            capabilities: request.capabilities.as_slice(),
+            topology: request.topology.as_ref(),
+            first_map: from_ref(&request.parameters),
+            ..no_parts()
+        },
+        Request::Modify(request) => Parts {
+            first_map: from_ref(&request.secrets),
+            second_map: from_ref(&request.mutable),
+            required_maps: from_ref(&request.mutable),
+            volume_ids: from_ref(&request.volume_id),
+            ..no_parts()
+        },
+    }
+}

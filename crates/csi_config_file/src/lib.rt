@@ -1,0 +1,8 @@
+//! A configuration from its text, a TOML document: what it gives, or the first fault of it, and its keys that are not known.
+#![tactic(auto)]
+
+mod config_file;
+mod unknown;
+
+pub use config_file::{ConfigError, Key, KeyRule, Section, read_config};
+pub use unknown::{UnknownKey, unknown_keys};

@@ -1,0 +1,34 @@
+-- The constraints of bytes in a row of volumes (number, name, bytes, pool, caps, params) and of attachments (rowid, number, node, cap, readonly).
+use Rattle.std.specs.Prelude.{ℕ, Bool, List, Option}
+use Rattle.std.specs.Option.{option_and_then}
+use Rattle.sqlite.specs.Order.{Row, column}
+use Rattle.csi_types.specs.Maps.{TextMap}
+use Rattle.csi_keeper.specs.Capability.{is_supported_key}
+use Rattle.csi_keeper.specs.declared.capability.CapKey.{CapKey}
+use Rattle.csi_transactions.specs.Cells.{as_blob}
+use Rattle.csi_constraints.specs.Coding.{are_keys, are_params, key_in, keys_in, params_in}
+use Rattle.csi_constraints.specs.Values.{is_some_and}
+
+-- the keys that a cell says
+abbrev pub keys_at : ℕ → Row → Option (List CapKey)
+keys_at at row = option_and_then keys_in (as_blob (column row at))
+
+-- the one key that a cell says
+abbrev pub key_at : ℕ → Row → Option CapKey
+key_at at row = option_and_then key_in (as_blob (column row at))
+
+-- the parameters and mutable parameters that a cell says
+abbrev pub params_at : ℕ → Row → Option (TextMap × TextMap)
+params_at at row = option_and_then params_in (as_blob (column row at))
+
+-- caps says capabilities: at least one, in order, each supported
+abbrev pub has_caps : Row → Bool
+has_caps row = is_some_and are_keys (keys_at 4 row)
+
+-- params says parameters and mutable parameters, each of at most 4,096 bytes; under format 1 none that are mutable
+abbrev pub has_params : ℕ → Row → Bool
+has_params format row = is_some_and (are_params format) (params_at 5 row)
+
+-- cap says one capability, which is supported
+abbrev pub has_cap : Row → Bool
+has_cap row = is_some_and is_supported_key (key_at 3 row)

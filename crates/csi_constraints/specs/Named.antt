@@ -1,0 +1,25 @@
+-- The first row that breaks a constraint, by its number and its text.
+use Rattle.std.specs.Prelude.{ℕ, not, Bool, List, Option, Some, None, find, if◌then◌else◌}
+use Rattle.std.specs.Option.{option_map, option_or}
+use Rattle.std.specs.Str.{is_utf8}
+use Rattle.sqlite.specs.Order.{Row, column}
+use Rattle.csi_scans.specs.Folds.{as_integer}
+use Rattle.csi_transactions.specs.Cells.{as_text}
+use Rattle.csi_constraints.specs.Values.{if_passes}
+use Rattle.csi_constraints.specs.declared.named.RowName.{RowName}
+
+-- the integer of one column, and the text of another if it is UTF-8
+abbrev pub name_of : ℕ → ℕ → Row → RowName
+name_of number text row = record { number = as_integer (column row number); text = if_passes is_utf8 (as_text (column row text)) }
+
+-- that of a row, if it does not pass a test
+abbrev pub name_if : ℕ → ℕ → (Row → Bool) → Row → Option RowName
+name_if number text test row = if test row then None else Some (name_of number text row)
+
+-- the first row that does not pass a test
+abbrev pub first_out : (Row → Bool) → List Row → Option Row
+first_out test rows = find (λ r. not (test r)) rows
+
+-- the name that was there, or that of the first row that does not pass
+abbrev pub named_out : ℕ → ℕ → (Row → Bool) → Option RowName → List Row → Option RowName
+named_out number text test found rows = option_or found (option_map (name_of number text) (first_out test rows))

@@ -1,0 +1,112 @@
+//! The constraint of attachments of one volume, by one that stands for all of them.
+
+ghost use Rattle.std.specs.Prelude.{◌≡◌, None, IfOk};
+ghost use Rattle.csi_scans.specs.Failing.{FailsForMemory};
+ghost use Rattle.csi_constraints.specs.Apart.{AreLed, DoNotFall, admits, apart_named, are_beside, is_written, led_at, stays};
+ghost use Rattle.csi_constraints.specs.facts.Starts.{none_led};
+
+use crate::joins::attached_at;
+use crate::named::{RowName, name_at};
+use csi_keeper::{Attachment, coexist};
+use csi_scans::{Fold, integer_at};
+use sqlite::{Error, Row};
+use std::alloc::Global;
+
+/// An attachment that stands for those of its volume so far: what can stand beside it can stand beside
+/// each of them.
+#[derive(Debug, Drop)]
+pub struct Led {
+    /// The number of the volume.
+    pub number: i64,
+    /// The attachment; `None` where the row says none.
+    pub attachment: Option<Attachment>,
+}
+
+// The attachment of a row that has a number.
+fn led_at(alloc: Global, row: &Row) -> Result<Option<Led>, Error>
+    ensures value { IfOk result (λ led. led ≡ led_at row.now) }
+    ensures memory { FailsForMemory result }
+{
+    let Some(number) = integer_at(row, 0) else {
+        return Ok(None);
+    };
+    let attachment = attached_at(alloc, row, 2, 3)?;
+    Ok(Some(Led { number, attachment }))
+}
+
+fn are_beside(one: &Option<Attachment>, other: &Option<Attachment>) -> bool
+    ensures { result ≡ are_beside one.now other.now }
+{
+    match (one, other) {
+        (Some(one), Some(other)) => coexist(one, other),
+        _ => false,
+    }
+}
+
+fn is_written(attachment: &Option<Attachment>) -> bool
+    ensures { result ≡ is_written attachment.now }
+{
+    match attachment {
+        Some(attachment) => !attachment.readonly,
+        None => false,
+    }
+}
+
+// Whether an attachment can stand beside all of its volume so far.
+fn admits(last: &Option<Led>, next: &Led) -> bool
+    ensures { result ≡ admits last.now next.now }
+{
+    match last {
+        Some(led) => { led.number != next.number || are_beside(&led.attachment, &next.attachment) }
+        None => true,
+    }
+}
+
+// Whether the one that stands for those so far stands for the next one too, which it admits.
+fn stays(last: &Option<Led>, next: &Led) -> bool
+    ensures { result ≡ stays last.now next.now }
+{
+    match last {
+        Some(led) => led.number == next.number && is_written(&led.attachment),
+        None => false,
+    }
+}
+
+/// The first attachment that cannot stand beside one before it of the same volume, over rows whose
+/// numbers do not fall (`scan_places`).
+///
+/// One attachment is kept for all of a volume: one that is written, where there is one, as what can
+/// stand beside it can stand beside those that are only read.
+#[derive(Drop)]
+pub struct FirstApart {
+    /// What holds the capabilities while they are looked at, and the text of the row.
+    pub alloc: Global,
+    /// What stands for the last volume; `None` where no row had a number so far. It begins as `None`.
+    pub last: Option<Led>,
+    /// The first row that breaks the constraint; `None` where none has so far. It begins as `None`.
+    pub found: Option<RowName>,
+}
+
+impl Fold for FirstApart {
+    ghost folds = { λ first rows now.
+        first.found ≡ None → first.last ≡ None → DoNotFall rows → (now.found ≡ apart_named rows) × (now.found ≡ None → AreLed now.last rows) };
+
+    ghost starts = { λ first found last falls. (found, λ none. none_led first.last last) };
+
+    fn take(&mut self, row: &Row) -> Result<(), Error> {
+        if self.found.is_some() {
+            return Ok(());
+        }
+        let Some(next) = led_at(self.alloc, row)? else {
+            return Ok(());
+        };
+        if !admits(&self.last, &next) {
+            self.found = Some(name_at(self.alloc, row, 0, 1)?);
+            return Ok(());
+        }
+        if !stays(&self.last, &next) {
+            self.last = Some(next);
+        }
+        Ok(())
+    }
+}

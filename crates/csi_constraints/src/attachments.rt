@@ -1,0 +1,45 @@
+//! The constraints of a row of attachments that its texts and truths tell.
+
+ghost use Rattle.std.specs.Prelude.{◌≡◌};
+ghost use Rattle.csi_constraints.specs.Attachments.{has_flag, is_at_node, is_node};
+
+use csi_config::{Config, Node};
+use csi_scans::RowTest;
+use csi_transactions::values::{flag_at, text_at};
+use sqlite::Row;
+
+/// `readonly` of an attachment is 0 or 1.
+#[derive(Clone, Copy, Debug)]
+pub struct HasFlag;
+
+impl RowTest for HasFlag {
+    ghost accepts = { λ _ row. has_flag row };
+
+    fn test(&self, row: &Row) -> bool {
+        flag_at(row, 4).is_some()
+    }
+}
+
+fn is_node(nodes: &[Node], id: &[u8]) -> bool
+    ensures { result ≡ is_node nodes.now id.now }
+{
+    nodes.iter().any(|node| node.id.as_bytes() == id)
+}
+
+/// The node of an attachment is one of the configuration.
+#[derive(Clone, Copy, Debug)]
+pub struct IsAtNode<'a> {
+    /// The configuration.
+    pub config: &'a Config,
+}
+
+impl RowTest for IsAtNode<'_> {
+    ghost accepts = { λ test row. is_at_node test.config.now.nodes row };
+
+    fn test(&self, row: &Row) -> bool {
+        match text_at(row, 2) {
+            Some(id) => is_node(self.config.nodes(), id),
+            None => false,
+        }
+    }
+}

@@ -1,0 +1,52 @@
+//! The cells of a row by their kinds.
+
+ghost use Rattle.std.specs.Prelude.{◌≡◌, Some, option_copied};
+ghost use Rattle.std.specs.Str.{is_utf8};
+ghost use Rattle.sqlite.specs.Order.{column};
+ghost use Rattle.csi_constraints.specs.Kinds.{is_blob, is_integer, is_text};
+ghost use Rattle.csi_constraints.specs.Values.{if_passes};
+
+use csi_transactions::values::text_at;
+use sqlite::Row;
+use sqlite::types::ValueRef;
+use std::str;
+
+/// Whether a cell, counted from 0, has an integer.
+pub(crate) fn has_integer(row: &Row, at: usize) -> bool
+    ensures { result ≡ is_integer (column row.now at) }
+{
+    matches!(row.get_ref(at), Ok(ValueRef::Int(_)))
+}
+
+/// The bytes as a text, if they are UTF-8.
+pub(crate) fn as_utf8(bytes: &[u8]) -> Option<&str>
+    ensures { option_copied result ≡ if_passes is_utf8 (Some bytes.now) }
+{
+    match str::from_utf8(bytes) {
+        Ok(text) => Some(text),
+        Err(_) => None,
+    }
+}
+
+fn is_utf8(bytes: &[u8]) -> bool
+    ensures { result ≡ is_utf8 bytes.now }
+{
+    str::from_utf8(bytes).is_ok()
+}
+
+/// Whether a cell has a text in UTF-8.
+pub(crate) fn has_text(row: &Row, at: usize) -> bool
+    ensures { result ≡ is_text (column row.now at) }
+{
+    match text_at(row, at) {
+        Some(bytes) => is_utf8(bytes),
+        None => false,
+    }
+}
+
+/// Whether a cell has bytes.
+pub(crate) fn has_blob(row: &Row, at: usize) -> bool
+    ensures { result ≡ is_blob (column row.now at) }
+{
+    matches!(row.get_ref(at), Ok(ValueRef::Blob(_)))
+}

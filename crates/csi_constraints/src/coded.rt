@@ -1,0 +1,112 @@
+//! The constraints of a row that read capabilities or parameters of its bytes.
+
+ghost use Rattle.std.specs.Prelude.{◌≡◌, IfOk, IfSome, ◌∷◌, []};
+ghost use Rattle.csi_tables.specs.Encoding.{FitCaps, FitParams};
+ghost use Rattle.csi_scans.specs.Failing.{FailsForMemory};
+ghost use Rattle.csi_constraints.specs.Coded.{has_cap, has_caps, has_params, key_at, keys_at, params_at};
+
+use crate::coding::{are_keys, are_params, key_in, keys_in, params_in};
+use crate::trial::RowTrial;
+use csi_keeper::{CapKey, supported};
+use csi_transactions::values::blob_at;
+use csi_types::{Items, Map};
+use sqlite::{Error, Row};
+use std::alloc::Global;
+
+/// The keys that a cell, counted from 0, says.
+pub(crate) fn keys_at(alloc: Global, row: &Row, at: usize) -> Result<Option<Items<CapKey>>, Error>
+    ensures value { IfOk result (λ keys. keys ≡ keys_at at row.now) }
+    ensures fits { IfOk result (λ keys. IfSome keys FitCaps) }
+    ensures memory { FailsForMemory result }
+{
+    match blob_at(row, at) {
+        Some(bytes) => keys_in(alloc, bytes),
+        None => Ok(None),
+    }
+}
+
+/// The one key that a cell says.
+pub(crate) fn key_at(alloc: Global, row: &Row, at: usize) -> Result<Option<CapKey>, Error>
+    ensures value { IfOk result (λ key. key ≡ key_at at row.now) }
+    ensures fits { IfOk result (λ key. IfSome key (λ k. FitCaps (k ∷ []))) }
+    ensures memory { FailsForMemory result }
+{
+    match blob_at(row, at) {
+        Some(bytes) => key_in(alloc, bytes),
+        None => Ok(None),
+    }
+}
+
+fn params_at(alloc: Global, row: &Row, at: usize) -> Result<Option<(Map, Map)>, Error>
+    ensures value { IfOk result (λ params. params ≡ params_at at row.now) }
+    ensures fits { IfOk result (λ params. IfSome params (λ ms. FitParams ms.0 ms.1)) }
+    ensures memory { FailsForMemory result }
+{
+    match blob_at(row, at) {
+        Some(bytes) => params_in(alloc, bytes),
+        None => Ok(None),
+    }
+}
+
+/// `caps` of a volume is the canonical bytes of capabilities: at least one, in order, each supported.
+#[derive(Clone, Copy, Debug)]
+pub struct HasCaps {
+    /// What holds the capabilities while they are looked at.
+    pub alloc: Global,
+}
+
+impl RowTrial for HasCaps {
+    ghost accepts = { λ _ row. has_caps row };
+
+    ghost knows = { λ _ row. IfSome (keys_at 4 row) FitCaps };
+
+    fn try_test(&self, row: &Row) -> Result<bool, Error> {
+        match keys_at(self.alloc, row, 4)? {
+            Some(keys) => Ok(are_keys(keys.as_slice())),
+            None => Ok(false),
+        }
+    }
+}
+
+/// `params` of a volume is the canonical bytes of parameters and mutable parameters, each of at most
+/// 4,096 bytes. Tables of format 1 have none that are mutable.
+#[derive(Clone, Copy, Debug)]
+pub struct HasParams {
+    /// What holds the parameters while they are looked at.
+    pub alloc: Global,
+    /// The format of the tables, as `meta` tells it.
+    pub format: u32,
+}
+
+impl RowTrial for HasParams {
+    ghost accepts = { λ test row. has_params test.format row };
+
+    ghost knows = { λ _ row. IfSome (params_at 5 row) (λ ms. FitParams ms.0 ms.1) };
+
+    fn try_test(&self, row: &Row) -> Result<bool, Error> {
+        match params_at(self.alloc, row, 5)? {
+            Some((params, mutable)) => Ok(are_params(self.format, &params, &mutable)),
+            None => Ok(false),
+        }
+    }
+}
+
+/// `cap` of an attachment is the canonical bytes of one capability, which is supported.
+#[derive(Clone, Copy, Debug)]
+pub struct HasCap {
+    /// What holds the capability while it is looked at.
+    pub alloc: Global,
+}
+
+impl RowTrial for HasCap {
+    ghost accepts = { λ _ row. has_cap row };
+
+    ghost knows = { λ _ row. IfSome (key_at 3 row) (λ key. FitCaps (key ∷ [])) };
+
+    fn try_test(&self, row: &Row) -> Result<bool, Error> {
+        match key_at(self.alloc, row, 3)? {
+            Some(key) => Ok(supported(&key)),
+            None => Ok(false),
+        }
+    }
+}

@@ -1,0 +1,35 @@
+//! The attachment that a row says.
+
+ghost use Rattle.std.specs.Prelude.{◌≡◌, IfOk};
+ghost use Rattle.csi_scans.specs.Failing.{FailsForMemory};
+ghost use Rattle.csi_constraints.specs.Joins.{attached_at};
+
+use crate::coded::key_at;
+use csi_keeper::Attachment;
+use csi_transactions::values::flag_at;
+use csi_types::Text;
+use sqlite::{Error, Row};
+use std::alloc::Global;
+
+/// The attachment whose cap and readonly stand in two cells.
+pub(crate) fn attached_at(
+    alloc: Global,
+    row: &Row,
+    cap: usize,
+    readonly: usize,
+) -> Result<Option<Attachment>, Error>
+    ensures value { IfOk result (λ a. a ≡ attached_at cap readonly row.now) }
+    ensures memory { FailsForMemory result }
+{
+    let Some(cap) = key_at(alloc, row, cap)? else {
+        return Ok(None);
+    };
+    let Some(readonly) = flag_at(row, readonly) else {
+        return Ok(None);
+    };
+    Ok(Some(Attachment {
+        node: Text::new(alloc),
+        cap,
+        readonly,
+    }))
+}

@@ -1,0 +1,38 @@
+//! Whether the values of a row are of the kinds of their columns.
+
+ghost use Rattle.csi_constraints.specs.Kinds.{has_attachment_kinds, has_volume_kinds};
+
+use crate::cells::{has_blob, has_integer, has_text};
+use csi_scans::RowTest;
+use sqlite::Row;
+
+/// The number and the bytes of a row of volumes are integers, its name and pool are texts in UTF-8, and
+/// its caps and params are bytes.
+#[derive(Clone, Copy, Debug)]
+pub struct HasVolumeKinds;
+
+impl RowTest for HasVolumeKinds {
+    ghost accepts = { λ _ row. has_volume_kinds row };
+
+    fn test(&self, row: &Row) -> bool {
+        has_integer(row, 0)
+            && has_text(row, 1)
+            && has_integer(row, 2)
+            && has_text(row, 3)
+            && has_blob(row, 4)
+            && has_blob(row, 5)
+    }
+}
+
+/// Behind the rowid, the number of a row of attachments is an integer, its node is a text in UTF-8, its
+/// cap is bytes, and readonly is an integer.
+#[derive(Clone, Copy, Debug)]
+pub struct HasAttachmentKinds;
+
+impl RowTest for HasAttachmentKinds {
+    ghost accepts = { λ _ row. has_attachment_kinds row };
+
+    fn test(&self, row: &Row) -> bool {
+        has_integer(row, 1) && has_text(row, 2) && has_blob(row, 3) && has_integer(row, 4)
+    }
+}

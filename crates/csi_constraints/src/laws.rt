@@ -1,0 +1,51 @@
+//! Laws of the constraints: a row that stands for a value passes a constraint exactly where a State may have the value.
+
+ghost use Rattle.std.specs.Prelude.{ℕ, List};
+ghost use Rattle.sqlite.specs.declared.types.Value.{Value};
+ghost use Rattle.csi_config.specs.declared.config.Config.{Config};
+ghost use Rattle.csi_keeper.specs.State.{Place};
+ghost use Rattle.csi_keeper.specs.declared.capability.CapKey.{CapKey};
+ghost use Rattle.csi_keeper.specs.declared.volume.Attachment.{Attachment};
+ghost use Rattle.csi_keeper.specs.declared.volume.Volume.{Volume};
+ghost use Rattle.csi_tables.specs.Encoding.{ReadsBack};
+ghost use Rattle.csi_constraints.specs.Agreement.{AttachmentAgrees, OwnerAgrees, PairAgrees, VolumeAgrees};
+
+use csi_codec::laws::{read_as_meant, round_trip};
+
+// What is written of a request that fits is read as that request.
+#[inline(always)]
+fn read_back()
+    ensures { ReadsBack }
+{
+    round_trip();
+    read_as_meant();
+}
+
+/// The constraints of a row of volumes are those of the volume that stands under the number.
+pub fn volumes()
+    ensures { (config : Config) (format next : ℕ) (e : ℕ × Volume) → VolumeAgrees config format next e }
+{
+    read_back();
+}
+
+/// The constraints of a row of attachments are those of the attachment that stands at the number and the node.
+pub fn attachments()
+    ensures { (config : Config) (rowid : Value) (e : Place × Attachment) → AttachmentAgrees config rowid e }
+{
+    read_back();
+}
+
+/// The constraint of an attachment with its volume is that its capability is one of the volume's own, and
+/// with no volume it is broken.
+pub fn owners()
+    ensures { (e : Place × Attachment) (own : List CapKey) → OwnerAgrees e own }
+{
+    read_back();
+}
+
+/// Two attachments are apart exactly where they are of one volume and cannot stand at two nodes.
+pub fn pairs()
+    ensures { (e f : Place × Attachment) → PairAgrees e f }
+{
+    read_back();
+}

@@ -1,0 +1,121 @@
+//! The first row that breaks a constraint, by its number and its text.
+
+ghost use Rattle.std.specs.Prelude.{◌≡◌, refl, None, IfOk};
+ghost use Rattle.std.specs.List.{AllByRecursion};
+ghost use Rattle.std.specs.Str.{is_utf8};
+ghost use Rattle.sqlite.specs.Order.{column};
+ghost use Rattle.csi_transactions.specs.Cells.{as_text};
+ghost use Rattle.csi_scans.specs.Failing.{FailsForMemory};
+ghost use Rattle.csi_constraints.specs.Named.{name_of};
+ghost use Rattle.csi_constraints.specs.Values.{if_passes};
+ghost use Rattle.csi_constraints.specs.facts.Starts.{still_found};
+
+use crate::cells::as_utf8;
+use crate::trial::RowTrial;
+use csi_scans::{Fold, RowTest, integer_at};
+use csi_transactions::values::text_at;
+use csi_types::Text;
+use sqlite::{Error, Row};
+use std::alloc::{AllocError, Global};
+
+/// What a row is named by.
+#[derive(Debug, PartialEq, Eq, Drop)]
+pub struct RowName {
+    /// Its number; `None` where there is no integer.
+    pub number: Option<i64>,
+    /// Its text; `None` where there is no text in UTF-8.
+    pub text: Option<Text>,
+}
+
+fn words_at(alloc: Global, row: &Row, at: usize) -> Result<Option<Text>, AllocError>
+    ensures { IfOk result (λ text. text ≡ if_passes is_utf8 (as_text (column row.now at))) }
+{
+    let Some(bytes) = text_at(row, at) else {
+        return Ok(None);
+    };
+    match as_utf8(bytes) {
+        Some(text) => Ok(Some(Text::from_str(alloc, text)?)),
+        None => Ok(None),
+    }
+}
+
+/// The name of a row, by the integer and the text in two columns.
+pub(crate) fn name_at(
+    alloc: Global,
+    row: &Row,
+    number: usize,
+    text: usize,
+) -> Result<RowName, AllocError>
+    ensures { IfOk result (λ name. name ≡ name_of number text row.now) }
+{
+    Ok(RowName {
+        number: integer_at(row, number),
+        text: words_at(alloc, row, text)?,
+    })
+}
+
+/// The first row that breaks a constraint.
+#[derive(Drop)]
+pub struct FirstBroken<T> {
+    /// What holds the text of the row.
+    pub alloc: Global,
+    /// The constraint.
+    pub test: T,
+    /// The column of the number, counted from 0.
+    pub number: usize,
+    /// The column of the text, counted from 0.
+    pub text: usize,
+    /// The first row that breaks the constraint; `None` where none has so far. It begins as `None`.
+    pub found: Option<RowName>,
+}
+
+impl<T: RowTrial> FirstBroken<T> {
+    ghost use Rattle.csi_constraints.specs.Named.{name_if};
+
+    // The name of the row, if it breaks the constraint.
+    fn name_if_broken(&self, row: &Row) -> Result<Option<RowName>, Error>
+        ensures value { IfOk result (λ name. name ≡ name_if self.now.number self.now.text (T.accepts self.now.test) row.now) }
+        ensures known { IfOk result (λ name. name ≡ None → T.knows self.now.test row.now) }
+        ensures memory { FailsForMemory result }
+    {
+        if self.test.try_test(row)? {
+            return Ok(None);
+        }
+        Ok(Some(name_at(self.alloc, row, self.number, self.text)?))
+    }
+}
+
+impl<T: RowTrial> Fold for FirstBroken<T> {
+    ghost use Rattle.csi_constraints.specs.Named.{named_out};
+
+    ghost folds = { λ first rows now.
+        (now.test ≡ first.test) × (now.number ≡ first.number) × (now.text ≡ first.text)
+        × (now.found ≡ named_out first.number first.text (T.accepts first.test) first.found rows)
+        × (now.found ≡ None → AllByRecursion (T.knows first.test) rows) };
+
+    ghost starts = { λ first. (refl, refl, refl, still_found first.found, λ none. tt) };
+
+    fn take(&mut self, row: &Row) -> Result<(), Error> {
+        if self.found.is_none() {
+            self.found = self.name_if_broken(row)?;
+        }
+        Ok(())
+    }
+}
+
+/// A test that takes no memory, as one that may.
+#[derive(Debug, Drop)]
+pub struct Sure<T> {
+    /// The test.
+    pub test: T,
+}
+
+impl<T: RowTest> RowTrial for Sure<T> {
+    ghost accepts = { λ sure row. T.accepts sure.test row };
+
+    ghost knows = { λ _ _. Unit {0} };
+
+    fn try_test(&self, row: &Row) -> Result<bool, Error> {
+        Ok(self.test.test(row))
+    }
+}

@@ -1,0 +1,122 @@
+//! The constraint of an attachment with its volume, whose capabilities are read once for all of its attachments.
+
+ghost use Rattle.std.specs.Prelude.{◌≡◌, Some, IfOk, OnOk};
+ghost use Rattle.csi_keeper.specs.Capability.{has_key};
+ghost use Rattle.csi_scans.specs.Failing.{FailsForMemory};
+ghost use Rattle.csi_constraints.specs.Coding.{keys_in};
+ghost use Rattle.csi_constraints.specs.Joins.{is_owned};
+ghost use Rattle.csi_constraints.specs.Known.{AreCached, are_last, last_keys};
+ghost use Rattle.csi_constraints.specs.Named.{named_out};
+ghost use Rattle.csi_constraints.specs.Values.{is_some_and};
+ghost use Rattle.csi_constraints.specs.facts.Starts.{still_found};
+
+use crate::coded::key_at;
+use crate::coding::keys_in;
+use crate::named::{RowName, name_at};
+use csi_keeper::{CapKey, has_key};
+use csi_scans::Fold;
+use csi_transactions::values::blob_at;
+use csi_types::Items;
+use sqlite::{Error, Row};
+use std::alloc::Global;
+
+/// The caps of a volume, and the keys that they say.
+#[derive(Debug, Drop)]
+pub struct KnownCaps {
+    /// The bytes, as they stand in the row.
+    pub bytes: Vec<u8>,
+    /// The keys; `None` where the bytes say none.
+    pub caps: Option<Items<CapKey>>,
+}
+
+impl KnownCaps {
+    // Whether they have a key.
+    fn have(&self, key: &CapKey) -> bool
+        ensures { result ≡ is_some_and (λ caps. has_key caps (Some key.now)) self.now.caps }
+    {
+        match &self.caps {
+            Some(caps) => has_key(caps.as_slice(), key),
+            None => false,
+        }
+    }
+}
+
+/// The first attachment whose volume does not stand, or has not its capability (`scan_owners`).
+///
+/// The keys of the caps that were read last are kept, and read again only where other caps come: once a
+/// volume, where its attachments come one after the other.
+#[derive(Drop)]
+pub struct FirstUnowned {
+    /// What holds the capabilities.
+    pub alloc: Global,
+    /// The caps that were read last; `None` where none were so far. It begins as `None`.
+    pub last: Option<KnownCaps>,
+    /// The first row that breaks the constraint; `None` where none has so far. It begins as `None`.
+    pub found: Option<RowName>,
+}
+
+// Whether these are the bytes that were read last.
+fn are_last(last: &Option<KnownCaps>, bytes: &[u8]) -> bool
+    ensures { result ≡ are_last last.now bytes.now }
+{
+    match last {
+        Some(known) => known.bytes.as_slice() == bytes,
+        None => false,
+    }
+}
+
+fn read_caps(alloc: Global, last: &mut Option<KnownCaps>, bytes: &[u8]) -> Result<(), Error>
+    ensures known { AreCached last.old → OnOk result (AreCached last.new) }
+    ensures read { AreCached last.old → OnOk result (last_keys last.new ≡ keys_in bytes.now) }
+    ensures memory { FailsForMemory result }
+{
+    if are_last(last, bytes) {
+        return Ok(());
+    }
+    let caps = keys_in(alloc, bytes)?;
+    let bytes = Vec::from_slice(alloc, bytes)?;
+    *last = Some(KnownCaps { bytes, caps });
+    Ok(())
+}
+
+// Whether the caps that were read last have a key.
+fn have_key(last: &Option<KnownCaps>, key: &CapKey) -> bool
+    ensures { result ≡ is_some_and (λ caps. has_key caps (Some key.now)) (last_keys last.now) }
+{
+    match last {
+        Some(known) => known.have(key),
+        None => false,
+    }
+}
+
+// Whether the volume of an attachment stands and has its capability.
+fn is_owned(alloc: Global, last: &mut Option<KnownCaps>, row: &Row) -> Result<bool, Error>
+    ensures known { AreCached last.old → OnOk result (AreCached last.new) }
+    ensures exact { AreCached last.old → IfOk result (λ owned. owned ≡ is_owned row.now) }
+    ensures memory { FailsForMemory result }
+{
+    let Some(key) = key_at(alloc, row, 2)? else {
+        return Ok(false);
+    };
+    let Some(bytes) = blob_at(row, 4) else {
+        return Ok(false);
+    };
+    read_caps(alloc, last, bytes)?;
+    Ok(have_key(last, &key))
+}
+
+impl Fold for FirstUnowned {
+    ghost folds = { λ first rows now. AreCached first.last → AreCached now.last × (now.found ≡ named_out 0 1 is_owned first.found rows) };
+
+    ghost starts = { λ first known. (known, still_found first.found) };
+
+    fn take(&mut self, row: &Row) -> Result<(), Error> {
+        if self.found.is_some() {
+            return Ok(());
+        }
+        if !is_owned(self.alloc, &mut self.last, row)? {
+            self.found = Some(name_at(self.alloc, row, 0, 1)?);
+        }
+        Ok(())
+    }
+}

@@ -1,0 +1,26 @@
+//! A test of each row by itself that takes memory.
+
+ghost use Rattle.std.specs.Prelude.{◌≡◌, Bool, IfOk, IsTrue};
+ghost use Rattle.sqlite.specs.Order.{Row as Values};
+ghost use Rattle.csi_scans.specs.Failing.{FailsForMemory};
+
+use sqlite::{Error, Row};
+
+/// A test of a row by itself that takes memory.
+pub trait RowTrial {
+    /// Whether a row passes.
+    ghost accepts: { Self → Values → Bool };
+
+    /// What is known of a row that passes.
+    ghost knows: { Self → Values → Type 0 };
+
+    /// Whether the row passes.
+    ///
+    /// # Errors
+    ///
+    /// Where memory was refused.
+    fn try_test(&self, row: &Row) -> Result<bool, Error>
+        ensures exact { IfOk result (λ passed. passed ≡ accepts self.now row.now) }
+        ensures known { IfOk result (λ passed. IsTrue passed → knows self.now row.now) }
+        ensures memory { FailsForMemory result };
+}

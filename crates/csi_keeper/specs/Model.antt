@@ -1,0 +1,16 @@
+-- What contracts see of what keeps a state.
+use Rattle.std.specs.Prelude.{ℕ, Bool}
+
+pub record Model (S : Type 0) : Type 1 where
+  -- the states that it may have
+  pub holds : S → Type 0
+  -- 0 while what it stands on has answered what was written
+  pub doubt : ℕ
+  -- how many calls were refused, up to 2 ^ 64 - 1
+  pub refusals : ℕ
+  -- the states that a stop at this moment may leave
+  pub survivors : S → Type 0
+  -- what a stop at this moment leaves is one of the survivors
+  pub tied : Type 0
+  -- its store answers nothing until it is opened again
+  pub is_down : Bool

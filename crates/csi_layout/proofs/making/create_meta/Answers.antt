@@ -1,9 +1,0 @@
-use Rattle.csi_layout.proofs.CreateLemmas.{meta_step}
-use Rattle.csi_layout.proofs.FailLemmas.{meta_told}
-use Rattle.csi_layout.proofs.making.create_meta.Goals as goal
-
-pub returns-clause-ok : goal.returns-clause-ok
-returns-clause-ok g c clean inside = meta_step _ _ c.execute.result (c.execute.ensures.runs clean inside)
-
-pub returns-clause-failed : goal.returns-clause-failed
-returns-clause-failed g c clean inside = meta_told _ _ c.execute.result (c.execute.ensures.runs clean inside)

@@ -1,4 +1,0 @@
-pub mod Failing
-pub mod Folds
-pub mod Looks
-pub mod facts

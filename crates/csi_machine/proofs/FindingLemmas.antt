@@ -1,0 +1,38 @@
+-- What is found by reads, one after the other.
+use Rattle.std.proofs.Common.{◌≡◌, ◌∙◌, sym, arith, subst, Bool, Result, Ok}
+use Rattle.csi_keeper.specs.Keeper.{Reads, count_after}
+use Rattle.csi_keeper.specs.Model.{Model}
+use Rattle.csi_keeper.specs.State.{State}
+use Rattle.csi_keeper.specs.declared.change.StoreFault.{StoreFault}
+use Rattle.csi_keeper.specs.facts.Reads.{if_ok, quiet_then}
+use Rattle.csi_machine.specs.Down.{TellsDown}
+use Rattle.csi_machine.specs.Finding.{Finds}
+
+-- what is told of a keeper that is down, where an answer tells more
+told_more : {X : Type 0} {P Q : X → Type 0} {is_down : Bool} (result : Result X StoreFault) → ((x : X) → P x → Q x) → TellsDown is_down P result → TellsDown is_down Q result
+told_more result f told = record { down = told.down; refused = told.refused; unasked = λ is. if_ok f result (told.unasked is) }
+
+-- what is found, as something else that it tells
+pub found_as : {X : Type 0} {P Q : State → X → Type 0} {a b : Model State} {result : Result X StoreFault} → ((s : State) (x : X) → P s x → Q s x) → Finds a b result P → Finds a b result Q
+found_as {result = result} f found = record {
+  value = if_ok (λ x told d s h. f s x (told d s h)) result found.value;
+  quiet = found.quiet;
+  count = found.count;
+  down = told_more result (λ x so s. f s x (so s)) found.down;
+}
+
+-- what is found behind a read
+pub found_then : {X Y : Type 0} {P : State → X → Type 0} {Q R : State → Y → Type 0} {a b c : Model State} {x : X} {result : Result Y StoreFault} → Reads a b (Ok x) P → Finds b c result Q
+    → ((s : State) → P s x → (y : Y) → Q s y → R s y) → Finds a c result R
+found_then {a = a} {b = b} {c = c} {result = result} read found f =
+    let mid : c.doubt ≡ 0 → b.doubt ≡ 0 = λ d. let clean = found.quiet.clean in omega (arith, clean, d) in
+    record {
+      value = if_ok (λ y told d s h. f s (read.value (mid d) s h) y (told d s (read.quiet.state (mid d) s h))) result found.value;
+      quiet = quiet_then read.quiet found.quiet;
+      count = subst (λ n. c.refusals ≡ count_after n result) read.count found.count;
+      down = record {
+        down = λ is. sym read.quiet.down ∙ found.down.down is;
+        refused = λ is. sym read.quiet.down ∙ found.down.refused is;
+        unasked = λ is. absurd (cc (read.down.1 is));
+      };
+    }

@@ -1,5 +1,0 @@
-use Rattle.csi_rules.proofs.AgreementLemmas.{owner_agrees}
-use Rattle.csi_rules.proofs.laws.owners.Goals as goal
-
-pub returns : goal.returns
-returns c = owner_agrees c.read_back.ensures

@@ -1,5 +1,0 @@
-use Rattle.csi_rules.proofs.AgreementLemmas.{pair_agrees}
-use Rattle.csi_rules.proofs.laws.pairs.Goals as goal
-
-pub returns : goal.returns
-returns c = pair_agrees c.read_back.ensures

@@ -1,0 +1,112 @@
+-- Steps of a query that is read row by row.
+use Rattle.std.proofs.Common.{◌≡◌, ◌⊎◌, inl, inr, ◌∙◌, List, [], ◌∷◌, ◌++◌, length, length-append, ℕ, ◌+◌, arith, sym, subst, Ok, Err, Result, IfErr, OnOk, Option, Some, None}
+use Rattle.sqlite.specs.Effect.{Database}
+use Rattle.sqlite.specs.Clock.{timed}
+use Rattle.sqlite.specs.Order.{Row}
+use Rattle.sqlite.specs.declared.error.Error.{Error}
+use Rattle.sqlite.specs.Given.{IsPlain}
+use Rattle.sqlite.specs.Listing.{understood, reads_listing, IsSourceOf}
+use Rattle.sqlite.specs.State.{State, HasCleanDisk, IsUnchanged, IsNotRun, IsRolledBack, KeepsCommit, Survives, CommitsShowing, Fails, FailsToQuery, FailsToShow, Shown, ShowsRows}
+use Rattle.sqlite_resolve.specs.declared.compiled.Compiled.{Compiled}
+use Rattle.sqlite_schema.specs.declared.command.Returning.{Returning}
+use Rattle.sqlite.proofs.StateLemmas.{survives_weaker}
+use Rattle.sqlite.proofs.Callers.{never_commits, unchanged_then}
+use Rattle.sqlite.specs.Held.{Held, state}
+use Rattle.sqlite.specs.Store.{Ghosts}
+use Rattle.csi_schema.specs.Failing.{FailsFor, for_memory, by_disk, as_shut, at_limit, as_refused, SqlRefusesToRead, Unrefused}
+use Rattle.csi_schema.specs.Tables.{schema}
+use Rattle.csi_schema.specs.facts.Failing.{IsSure, fails_behind, fails_weaker, query_fails, sure_fails}
+use Rattle.csi_scans.specs.Failing.{HasTooMany, RefusesRows}
+use Rattle.csi_scans.specs.Scans.{FoldsOver, HasFolded}
+
+pub commits_nothing : (sql : List ℕ) (params : Row) (old new : State) → (HasCleanDisk new → IsPlain (understood old.now.schema sql)) → Survives old new (CommitsShowing sql params old) → Survives old new (λ _. ⊥)
+commits_nothing sql params old new plain = survives_weaker old new _ _ (λ clean db. never_commits sql params old db (plain clean))
+
+pub unchanged_keeps : (old new : State) → IsUnchanged old new → KeepsCommit old new
+unchanged_keeps old new h = record { was_open = λ _. h.0.was_open; committed = λ _. h.0.committed_is }
+
+pub failed_keeps : (old new : State) (e : Error) → Fails old new ⊥ e ⊎ IsUnchanged old new → KeepsCommit old new
+failed_keeps old new e (inl h) = record { was_open = h.3.was_open; committed = λ is_open. (h.3.undone is_open).1 }
+failed_keeps old new e (inr h) = unchanged_keeps old new h
+
+rolled_back_keeps : (old new : State) → IsRolledBack old new → KeepsCommit old new
+rolled_back_keeps old new h = record { was_open = h.was_open; committed = λ is_open. (h.undone is_open).1 }
+
+unshown_keeps : (old new : State) (sql : List ℕ) (c : Compiled) (params : Row) (e : Error) (what : Option Returning) → FailsToShow old new sql c params e what → KeepsCommit old new
+unshown_keeps old new sql c params e None h = unchanged_keeps old new h.3
+unshown_keeps old new sql c params e (Some what) (inl h) = unchanged_keeps old new h.1
+unshown_keeps old new sql c params e (Some what) (inr h) = rolled_back_keeps old new h.3
+
+-- a query that does not begin
+pub fails_keeps : (sql : List ℕ) (params : Row) (old new : State) (e : Error) → FailsToQuery sql params old new e → KeepsCommit old new
+unfolding FailsToQuery IsNotRun
+fails_keeps sql params old new e (inl (inl h)) = unchanged_keeps old new h.1
+fails_keeps sql params old new e (inl (inr h)) = rolled_back_keeps old new h.3
+fails_keeps sql params old new e (inr h) = unshown_keeps old new sql h.0 _ e h.0.returning h.2
+
+pub keeps_then : (a b c : State) → KeepsCommit a b → KeepsCommit b c → KeepsCommit a c
+keeps_then a b c p q = record { was_open = λ is_open. p.was_open (q.was_open is_open); committed = λ is_open. q.committed is_open ∙ p.committed (q.was_open is_open) }
+
+pub shown_from : (sql : List ℕ) (params : Row) (a b c : State) (rows : List Row) → IsPlain (understood a.now.schema sql) → IsUnchanged a b → Shown sql params b c rows → Shown sql params a c rows
+unfolding Shown
+shown_from sql params a b c rows plain same h =
+    let now : b.now ≡ a.now = same.0.now_is in
+    let none = (subst IsPlain h.1.is (subst (λ (d : Database). IsPlain (understood d.schema sql)) (sym now) plain)).0 in
+    let full = timed params h.0.formats h.1.now in
+    let it = subst (ShowsRows b c sql h.0 full rows) none h.2 in (
+      h.0,
+      record { is = subst (λ (d : Database). understood d.schema sql ≡ Ok h.0) now h.1.is; whole = h.1.whole; given = h.1.given; now = h.1.now },
+      subst (ShowsRows a c sql h.0 full rows) (sym none) (it.0, subst (λ (d : Database). IsSourceOf (reads_listing d.schema sql) d it.0) now it.1, it.2, unchanged_then a b c same it.3),
+    )
+
+-- ---- what was folded of rows, in other words of them
+
+scanned : {F X E : Type 0} (folds : F → List Row → F → Type 0) (old new : F) (P Q : List Row → Type 0) (r : Result X E) → ((rows : List Row) → P rows → Q rows)
+    → OnOk r (HasFolded folds old new P) → OnOk r (HasFolded folds old new Q)
+scanned folds old new P Q (Ok x) f h = (h.0, f h.0 h.1, h.2)
+scanned folds old new P Q (Err e) f h = tt
+
+-- ---- why it failed
+
+-- behind rows that were read
+pub behind_rows : (text : List ℕ) (old mid new : State) (e : Error) → IsPlain (understood old.now.schema text) → Survives old mid (λ _. ⊥) → IsUnchanged old mid → FailsToQuery text [] mid new e
+    → FailsFor (SqlRefusesToRead text [] old) old new e
+behind_rows text old mid new e plain left same h =
+    let now : mid.now ≡ old.now = same.0.now_is in
+    let told : FailsFor (SqlRefusesToRead text [] mid) mid new e = query_fails text [] mid new e (subst (λ (d : Database). IsPlain (understood d.schema text)) (sym now) plain) h in
+    fails_behind (SqlRefusesToRead text [] mid) (SqlRefusesToRead text [] old) old mid new e left.counts same.0.is_open left.limit
+    (λ why. subst (λ (l : Option ℕ). SqlRefusesToRead text [] (record old { step_limit = l }) e) left.limit (subst (λ (d : Database). SqlRefusesToRead text [] (record old { now = d; step_limit = mid.step_limit }) e) now why)) told
+
+pub one_longer : {X : Type 0} (xs : List X) (x : X) (n : ℕ) → length xs ≡ n → length (xs ++ x ∷ []) ≡ n + 1
+one_longer xs x n h = let e = length-append xs (x ∷ []) in omega (arith, e, h)
+
+pub fails_at : (P : Error → Type 0) (old new mid : State) (e : Error) → mid ≡ new → FailsFor P old mid e → FailsFor P old new e
+fails_at P old new mid e same h = subst (λ (s : State). FailsFor P old s e) same h
+
+-- a scan is refused for nothing but its rows
+scan_fails : {S X : Type 0} (g : Ghosts S) (text : List ℕ) → IsSure schema text [] → (old : Held S) (new : State) (r : Result X Error) → old.schema ≡ schema
+    → IfErr r (FailsFor (RefusesRows g text old) (state g old) new) → IfErr r (FailsFor (HasTooMany g old) (state g old) new)
+scan_fails g text sure old new (Ok x) has h = tt
+scan_fails g text sure old new (Err e) has h = go h
+  where
+    go : FailsFor (RefusesRows g text old) (state g old) new e → FailsFor (HasTooMany g old) (state g old) new e
+    go (for_memory is) = for_memory is
+    go (by_disk is more) = by_disk is more
+    go (as_shut is shut) = as_shut is shut
+    go (at_limit is some) = at_limit is some
+    go (as_refused (inl why)) = fails_weaker Unrefused (HasTooMany g old) (state g old) new e (λ none. absurd none) (sure_fails schema text [] sure (state g old) new e has (as_refused why))
+    go (as_refused (inr many)) = as_refused (text, many)
+
+-- ---- a scan: a query of a fixed text
+
+pub looks_as : {S F X : Type 0} {g : Ghosts S} {old new : Held S} {folds : F → List Row → F → Type 0} {before after : F} {What : List Row → Type 0} {r : Result X Error}
+    → (text : List ℕ) → IsSure schema text [] → (HasCleanDisk (state g old) → old.schema ≡ schema) → ((rows : List Row) → old.schema ≡ schema → Shown text [] (state g old) (state g new) rows → What rows)
+    → FoldsOver g old new folds before after (Shown text [] (state g old) (state g new)) (RefusesRows g text old) r → FoldsOver g old new folds before after What (HasTooMany g old) r
+looks_as {g = g} {old = old} {new = new} {folds = folds} {before = before} {after = after} {r = r} text sure ours shows h = record {
+  idle = h.idle;
+  ok = λ clean. scanned folds before after _ _ r (λ rows. shows rows (ours (omega (arith, h.survives.clean)))) (h.ok clean);
+  failed = λ clean. scan_fails g text sure old (state g new) r (ours (omega (arith, h.survives.clean))) (h.failed clean);
+  same = h.same;
+  kept = h.kept;
+  survives = h.survives;
+}

@@ -1,0 +1,205 @@
+-- What a scan over one table shows: each row once, and in order where it is asked.
+use Rattle.std.proofs.Common.{◌≡◌, ◌∙◌, refl, sym, ap, subst, zero, suc, ℕ, ◌+◌, false, List, [], ◌∷◌, map, flat_map, length, slice_index_or, codes, arith, IsPermutation, IsSorted, inl, inr, true≢false}
+use Rattle.std.specs.declared.cmp.Ordering.{Ordering}
+use Rattle.std.specs.declared.cmp.Ordering.TheVariants.{Less, Equal, Greater}
+use Rattle.std.specs.Ordering.{is_lt, ordering_then}
+use Rattle.std.specs.List.{AllByRecursion}
+use Rattle.std.proofs.lemmas.List.Sorted.{IsPermutation-map}
+use Rattle.sqlite.specs.Command.TheVariants.{Select}
+use Rattle.sqlite.specs.Listing.{understood, reads_listing}
+use Rattle.sqlite.specs.Order.{Row, column, value_cmp}
+use Rattle.sqlite.specs.Program.{overlay}
+use Rattle.sqlite.specs.Query.{Query, Output, output, output_cmp, inner, end, IsAnswer}
+use Rattle.sqlite.specs.State.{State, Shown}
+use Rattle.sqlite.specs.Term.{Term, col}
+use Rattle.sqlite.specs.Tree.{Trees}
+use Rattle.sqlite.specs.declared.types.Value.TheVariants.{Null}
+use Rattle.sqlite.proofs.Callers.{IsPlain, command_of, reads_as}
+use Rattle.sqlite_tied.specs.Compute.{everything}
+use Rattle.sqlite_trees.proofs.ListLemmas.{all-permutation}
+use Rattle.sqlite_value.specs.declared.keys.Key.{Key}
+use Rattle.csi_schema.specs.Rows.{seen_attachment, seen_meta, seen_volume}
+use Rattle.csi_schema.specs.Tables.{schema}
+use Rattle.csi_schema.specs.facts.Failing.{IsSure}
+use Rattle.csi_transactions.specs.Statements.{plain_query, rising}
+use Rattle.csi_scans.specs.Scans.{IsInOrder, first_cmp, keyed_attachment}
+
+-- ---- the texts
+
+pub record IsSelect (text : List ℕ) (q : Query) : Type 0 where
+  pub names : List (List ℕ)
+  pub is : command_of (understood schema text) ≡ Select (record { lets = []; body = q }) names
+  pub plain : IsPlain (understood schema text)
+  pub unlisted : reads_listing schema text ≡ false
+
+abbrev pub table_query : ℕ → List Term → List (Term × Key) → Query
+table_query t shown order = record plain_query { from = inner t end; project = shown; order = order }
+
+-- in the order of the first column that is shown
+abbrev pub ordered_query : ℕ → Term → List Term → Query
+ordered_query t first more = table_query t (first ∷ more) ((first, rising) ∷ [])
+
+abbrev pub meta_text : List ℕ
+meta_text = codes "SELECT k, format_no, next_number FROM meta"
+
+pub meta_select : IsSelect meta_text (table_query 0 (col 1 0 ∷ col 1 2 ∷ col 1 3 ∷ []) [])
+unfolding understood everything
+meta_select = record { names = codes "k" ∷ codes "format_no" ∷ codes "next_number" ∷ []; is = refl; plain = (refl, refl); unlisted = refl }
+
+pub meta_sure : IsSure schema meta_text []
+unfolding understood everything
+meta_sure = record {
+  query = _;
+  names = meta_select.names;
+  is = meta_select.is;
+  plain = meta_select.plain;
+  unlisted = meta_select.unlisted;
+  alone = (omega arith, refl, refl);
+  unrefused = λ limit db e h. elim h [ inl typed ↦ absurd (true≢false typed.1) | inr (inl (is, inl none)) ↦ absurd none | inr (inl (is, inr over)) ↦ absurd over.4 | inr (inr limited) ↦ limited ];
+}
+
+abbrev pub volumes_text : List ℕ
+volumes_text = codes "SELECT number, name, bytes, pool, caps, params FROM volumes ORDER BY number"
+
+pub volumes_select : IsSelect volumes_text (ordered_query 1 (col 1 0) (col 1 2 ∷ col 1 3 ∷ col 1 4 ∷ col 1 5 ∷ col 1 6 ∷ []))
+unfolding understood everything
+volumes_select = record { names = codes "number" ∷ codes "name" ∷ codes "bytes" ∷ codes "pool" ∷ codes "caps" ∷ codes "params" ∷ []; is = refl; plain = (refl, refl); unlisted = refl }
+
+pub volumes_sure : IsSure schema volumes_text []
+unfolding understood everything
+volumes_sure = record {
+  query = _;
+  names = volumes_select.names;
+  is = volumes_select.is;
+  plain = volumes_select.plain;
+  unlisted = volumes_select.unlisted;
+  alone = (omega arith, refl, refl);
+  unrefused = λ limit db e h. elim h [ inl typed ↦ absurd (true≢false typed.1) | inr (inl (is, inl none)) ↦ absurd none | inr (inl (is, inr over)) ↦ absurd over.4 | inr (inr limited) ↦ limited ];
+}
+
+abbrev pub attachments_text : List ℕ
+attachments_text = codes "SELECT rowid, number, node, cap, readonly FROM attachments ORDER BY rowid"
+
+pub attachments_select : IsSelect attachments_text (ordered_query 3 (col 1 0) (col 1 1 ∷ col 1 2 ∷ col 1 3 ∷ col 1 4 ∷ []))
+unfolding understood everything
+attachments_select = record { names = codes "rowid" ∷ codes "number" ∷ codes "node" ∷ codes "cap" ∷ codes "readonly" ∷ []; is = refl; plain = (refl, refl); unlisted = refl }
+
+pub attachments_sure : IsSure schema attachments_text []
+unfolding understood everything
+attachments_sure = record {
+  query = _;
+  names = attachments_select.names;
+  is = attachments_select.is;
+  plain = attachments_select.plain;
+  unlisted = attachments_select.unlisted;
+  alone = (omega arith, refl, refl);
+  unrefused = λ limit db e h. elim h [ inl typed ↦ absurd (true≢false typed.1) | inr (inl (is, inl none)) ↦ absurd none | inr (inl (is, inr over)) ↦ absurd over.4 | inr (inr limited) ↦ limited ];
+}
+
+abbrev pub places_text : List ℕ
+places_text = codes "SELECT number, node, cap, readonly FROM attachments ORDER BY number"
+
+pub places_select : IsSelect places_text (ordered_query 3 (col 1 1) (col 1 2 ∷ col 1 3 ∷ col 1 4 ∷ []))
+unfolding understood everything
+places_select = record { names = codes "number" ∷ codes "node" ∷ codes "cap" ∷ codes "readonly" ∷ []; is = refl; plain = (refl, refl); unlisted = refl }
+
+pub places_sure : IsSure schema places_text []
+unfolding understood everything
+places_sure = record {
+  query = _;
+  names = places_select.names;
+  is = places_select.is;
+  plain = places_select.plain;
+  unlisted = places_select.unlisted;
+  alone = (omega arith, refl, refl);
+  unrefused = λ limit db e h. elim h [ inl typed ↦ absurd (true≢false typed.1) | inr (inl (is, inl none)) ↦ absurd none | inr (inl (is, inr over)) ↦ absurd over.4 | inr (inr limited) ↦ limited ];
+}
+
+-- ---- each row once
+
+outputs : (q : Query) (rows : List Row) → map (output q) (flat_map (λ r. ([] ∷ r ∷ []) ∷ []) rows) ≡ map (λ r. output q ([] ∷ r ∷ [])) rows
+outputs q [] = refl
+outputs q (r ∷ rows) = ap (λ l. output q ([] ∷ r ∷ []) ∷ l) (outputs q rows)
+
+seen_of : (q : Query) (rows : List Row) → map (λ (o : Output). o.1) (map (λ r. output q ([] ∷ r ∷ [])) rows) ≡ map (λ r. (output q ([] ∷ r ∷ [])).1) rows
+seen_of q [] = refl
+seen_of q (r ∷ rows) = ap (λ l. (output q ([] ∷ r ∷ [])).1 ∷ l) (seen_of q rows)
+
+module _ (t : ℕ) (shown : List Term) (order : List (Term × Key)) (db : Trees) (rows : List Row) (a : IsAnswer (table_query t shown order) db [] rows) where
+  kept_is : a.kept ≡ map (λ r. output (table_query t shown order) ([] ∷ r ∷ [])) (db t)
+  kept_is = a.distinct ∙ ap (map (output (table_query t shown order))) a.grouped ∙ outputs (table_query t shown order) (db t)
+
+  pub shows_each : IsPermutation (map (λ r. (output (table_query t shown order) ([] ∷ r ∷ [])).1) (db t)) rows
+  shows_each = subst (λ xs. IsPermutation xs rows) (ap (map (λ (o : Output). o.1)) kept_is ∙ seen_of (table_query t shown order) (db t))
+      (subst (IsPermutation (map (λ (o : Output). o.1) a.kept)) (sym a.shown) (IsPermutation-map (λ (o : Output). o.1) _ _ a.same))
+
+-- ---- in order
+
+-- a row is sorted by the first column that it shows
+abbrev pub IsKeyed : Output → Type 0
+IsKeyed o = o.0 ≡ column o.1 0 ∷ []
+
+keyed_at : (outs : List Output) (k : ℕ) (d : Output) → AllByRecursion IsKeyed outs → IsKeyed d → IsKeyed (slice_index_or outs k d)
+keyed_at [] k d all e = e
+keyed_at (o ∷ outs) zero d all e = all.0
+keyed_at (o ∷ outs) (suc k) d all e = keyed_at outs k d all.1 e
+
+shown_at : (outs : List Output) (k : ℕ) (d : Output) → slice_index_or (map (λ (o : Output). o.1) outs) k d.1 ≡ (slice_index_or outs k d).1
+shown_at [] k d = refl
+shown_at (o ∷ outs) zero d = refl
+shown_at (o ∷ outs) (suc k) d = shown_at outs k d
+
+as_many : (outs : List Output) → length (map (λ (o : Output). o.1) outs) ≡ length outs
+as_many [] = refl
+as_many (o ∷ outs) = ap suc (as_many outs)
+
+is_lt_then : (o : Ordering) → is_lt (ordering_then o Equal) ≡ is_lt o
+is_lt_then Less = refl
+is_lt_then Equal = refl
+is_lt_then Greater = refl
+
+-- a query whose rows are sorted by one term
+module _ (q : Query) (first : Term) (is : q.order ≡ (first, rising) ∷ []) where
+  same_test : (a b : Output) → IsKeyed a → IsKeyed b → is_lt (output_cmp q a b) ≡ is_lt (first_cmp a.1 b.1)
+  same_test a b x y = rw (is, x, y) (is_lt_then (value_cmp (column a.1 0) (column b.1 0)))
+
+  sorted_shown : (outs : List Output) → AllByRecursion IsKeyed outs → IsSorted (output_cmp q) outs → IsSorted first_cmp (map (λ (o : Output). o.1) outs)
+  sorted_shown outs all sorted k d from below =
+      let e : Output = (column d 0 ∷ [], d) in
+      let x = slice_index_or outs (k + 1) e in
+      let y = slice_index_or outs k e in
+      let was = sorted k e from (omega (arith, below, as_many outs)) in
+      rw (shown_at outs (k + 1) e, shown_at outs k e) (sym (same_test x y (keyed_at outs (k + 1) e all refl) (keyed_at outs k e all refl)) ∙ was)
+
+  -- what it shows is sorted, where each row shows the term first
+  pub sorted_by_first : (kept ordered : List Output) → AllByRecursion IsKeyed kept → IsPermutation kept ordered → IsSorted (output_cmp q) ordered → (shown : List Row) → shown ≡ map (λ (o : Output). o.1) ordered → IsSorted first_cmp shown
+  sorted_by_first kept ordered all same sorted shown e = subst (IsSorted first_cmp) (sym e) (sorted_shown ordered (all-permutation IsKeyed kept ordered same all) sorted)
+
+all_keyed : (t : ℕ) (first : Term) (more : List Term) (rows : List Row) → AllByRecursion IsKeyed (map (λ r. output (ordered_query t first more) ([] ∷ r ∷ [])) rows)
+all_keyed t first more [] = tt
+all_keyed t first more (r ∷ rows) = (refl, all_keyed t first more rows)
+
+shows_in_order : (t : ℕ) (first : Term) (more : List Term) (db : Trees) (rows : List Row) → IsAnswer (ordered_query t first more) db [] rows
+    → IsInOrder (map (λ r. (output (ordered_query t first more) ([] ∷ r ∷ [])).1) (db t)) rows
+shows_in_order t first more db rows a = record {
+  same = shows_each t (first ∷ more) ((first, rising) ∷ []) db rows a;
+  sorted = sorted_by_first (ordered_query t first more) first refl a.kept a.ordered
+      (subst (AllByRecursion IsKeyed) (sym (kept_is t (first ∷ more) ((first, rising) ∷ []) db rows a)) (all_keyed t first more (db t))) a.same a.sorted rows a.shown;
+}
+
+-- ---- the scans
+
+pub answer_of : (text : List ℕ) (q : Query) → IsSelect text q → (old new : State) (rows : List Row) → old.now.schema ≡ schema → Shown text [] old new rows → IsAnswer q (overlay old.now.trees []) [] rows
+answer_of text q it old new rows has h = (reads_as text [] old new schema has _ it.is it.plain it.unlisted rows h).answer Null
+
+pub meta_rows : (old new : State) (rows : List Row) → old.now.schema ≡ schema → Shown meta_text [] old new rows → IsPermutation (map seen_meta (old.now.trees 0)) rows
+meta_rows old new rows has h = shows_each 0 (col 1 0 ∷ col 1 2 ∷ col 1 3 ∷ []) [] (overlay old.now.trees []) rows (answer_of meta_text _ meta_select old new rows has h)
+
+pub volume_rows : (old new : State) (rows : List Row) → old.now.schema ≡ schema → Shown volumes_text [] old new rows → IsInOrder (map seen_volume (old.now.trees 1)) rows
+volume_rows old new rows has h = shows_in_order 1 (col 1 0) (col 1 2 ∷ col 1 3 ∷ col 1 4 ∷ col 1 5 ∷ col 1 6 ∷ []) (overlay old.now.trees []) rows (answer_of volumes_text _ volumes_select old new rows has h)
+
+pub attachment_rows : (old new : State) (rows : List Row) → old.now.schema ≡ schema → Shown attachments_text [] old new rows → IsInOrder (map keyed_attachment (old.now.trees 3)) rows
+attachment_rows old new rows has h = shows_in_order 3 (col 1 0) (col 1 1 ∷ col 1 2 ∷ col 1 3 ∷ col 1 4 ∷ []) (overlay old.now.trees []) rows (answer_of attachments_text _ attachments_select old new rows has h)
+
+pub place_rows : (old new : State) (rows : List Row) → old.now.schema ≡ schema → Shown places_text [] old new rows → IsInOrder (map seen_attachment (old.now.trees 3)) rows
+place_rows old new rows has h = shows_in_order 3 (col 1 1) (col 1 2 ∷ col 1 3 ∷ col 1 4 ∷ []) (overlay old.now.trees []) rows (answer_of places_text _ places_select old new rows has h)

@@ -1,0 +1,4 @@
+pub mod Failing
+pub mod Folds
+pub mod Scans
+pub mod facts

@@ -1,0 +1,42 @@
+-- How the tables come to be: three CREATEs, and the first row of meta.
+use Rattle.std.specs.Prelude.{◌≡◌, ◌⊎◌, [], ◌∷◌, map}
+use Rattle.sqlite.specs.Change.{created, next_tree, KeepsRows}
+use Rattle.sqlite.specs.Effect.{Database, IsDatabase}
+use Rattle.sqlite.specs.Schema.{Schema}
+use Rattle.sqlite.specs.State.{State}
+use Rattle.sqlite.specs.Table.{Table}
+use Rattle.sqlite.specs.declared.error.Error.{Error}
+use Rattle.csi_schema.specs.Failing.{SqlRefuses}
+use Rattle.csi_schema.specs.Rows.{seen_meta, meta_row}
+use Rattle.csi_schema.specs.declared.formats.TheConstants.{LATEST_FORMAT}
+use Rattle.csi_schema.specs.Tables.{schema, one_schema, two_schema, meta_text, volumes_text, attachments_text, first_text}
+
+-- an empty table is made
+pub record Creates (before : Schema) (table : Table) (old new : Database) : Type 0 where
+  pub schema : new.schema ≡ created before table
+  pub empty : new.trees (next_tree before) ≡ []
+  pub others : KeepsRows before.tables old.trees new.trees
+
+-- the first row of meta is put into the empty table: the latest format, and the next number is 1
+pub record AddsFirst (old new : Database) : Type 0 where
+  pub schema : new.schema ≡ old.schema
+  pub sound : IsDatabase new
+  pub meta : old.trees 0 ≡ [] → map seen_meta (new.trees 0) ≡ meta_row LATEST_FORMAT 1 ∷ []
+  pub volumes : new.trees 1 ≡ old.trees 1
+  pub attachments : new.trees 3 ≡ old.trees 3
+
+-- the three tables are there, with the first row of meta, no volume and no attachment
+pub record MakesTables (old new : Database) : Type 0 where
+  pub schema : new.schema ≡ schema
+  pub sound : IsDatabase new
+  pub meta : map seen_meta (new.trees 0) ≡ meta_row LATEST_FORMAT 1 ∷ []
+  pub volumes : new.trees 1 ≡ []
+  pub attachments : new.trees 3 ≡ []
+
+-- a statement of those that make the tables is refused, behind those before it
+abbrev pub RefusesTables : State → Error → Type 0
+RefusesTables s e =
+    SqlRefuses meta_text [] s e
+    ⊎ (((db : Database) × (db.schema ≡ one_schema) × SqlRefuses volumes_text [] (record s { now = db }) e)
+    ⊎ (((db : Database) × (db.schema ≡ two_schema) × SqlRefuses attachments_text [] (record s { now = db }) e)
+    ⊎ ((db : Database) × (db.schema ≡ schema) × SqlRefuses first_text [] (record s { now = db }) e)))

@@ -1,0 +1,219 @@
+//! Each change over a connection, with the totals that are kept beside it.
+//!
+//! Each function asks that no transaction is open on the connection, and leaves it so. After `Ok` the
+//! change is made and committed; after a fault the State stays, and a stop may leave the change made.
+//! The totals are moved only once the change is committed, and that takes no memory.
+
+ghost use Rattle.std.specs.Prelude.{◌≡◌, ◌<◌, ◌^◌, [], ◌∷◌, List, ℕ, false, IsErrOf, IsUtf8, OnOk};
+ghost use Rattle.sqlite.specs.Held.{state};
+ghost use Rattle.csi_keeper.specs.State.{State, IsBounded, changed};
+ghost use Rattle.csi_keeper.specs.Totals.{HasRoom, IsReserved, total_of};
+ghost use Rattle.csi_keeper.specs.declared.change.Change.TheVariants.{AddVolume, RemoveVolume, Attach, Detach, DetachAll, SetMutable};
+ghost use Rattle.csi_tables.specs.Encoding.{FitCaps};
+ghost use Rattle.csi_tables.specs.Holding.{conn_doubt, conn_holds, IsStorable};
+ghost use Rattle.csi_tables.specs.Refusing.{ConnChanges, ConnStays, StoreChanges, RefusesAdding, RefusesAttaching, RefusesChange, RefusesDetach, RefusesDetachAll, RefusesMutable, RefusesRemoving};
+ghost use Rattle.csi_tables.specs.declared.fault.Fault.TheVariants.{Refused};
+
+use crate::encoding::{read_back, write_caps, write_params};
+use crate::fault::Fault;
+use crate::read::by_number;
+use csi_keeper::{Attachment, Change, Totals, Volume};
+use csi_transactions::changes::{
+    add_volume, attach, detach, detach_all, remove_volume, set_params,
+};
+use csi_transactions::reads;
+use csi_types::{Map, Text, copy_text};
+use sqlite::{Alter, Connection};
+use std::alloc::Global;
+use std::slice::from_ref;
+
+/// SQL integers end before it, so no row has such a number.
+pub(crate) const NUMBERS: u64 = 1 << 63;
+
+// Makes sure that one volume more can be counted in a pool without memory.
+fn reserve(alloc: Global, totals: &mut Totals, pool: &Text, bytes: u64) -> Result<(), Fault>
+    ensures room { OnOk result (HasRoom (total_of totals.old pool.now) bytes) }
+    ensures reserved { OnOk result (IsReserved totals.new pool.now) }
+    ensures same { (q : List ℕ) → total_of totals.new q ≡ total_of totals.old q }
+    ensures refused { IsErrOf result Refused → ¬ HasRoom (total_of totals.old pool.now) bytes }
+{
+    if !totals.has_room(pool, bytes) {
+        return Err(Fault::Refused);
+    }
+    totals.reserve(copy_text(alloc, pool.as_str())?)?;
+    Ok(())
+}
+
+/// Adds a volume.
+pub(crate) fn make_volume<S: Alter>(
+    alloc: Global,
+    conn: &mut Connection<S>,
+    totals: &mut Totals,
+    volume: &Volume,
+) -> Result<(), Fault>
+    requires idle { conn.old.in_transaction ≡ false }
+    requires bounded { IsBounded (AddVolume volume.now) }
+    ensures { StoreChanges S.Store (conn.old, totals.old) (conn.new, totals.new) (AddVolume volume.now)
+        (RefusesAdding volume.now totals.old (state S.Store conn.old)) result }
+{
+    read_back();
+    let caps = write_caps(alloc, volume.caps.as_slice())?;
+    let params = write_params(alloc, &volume.params, &volume.mutable)?;
+    reserve(alloc, totals, &volume.pool, volume.bytes)?;
+    add_volume(
+        conn,
+        volume.number,
+        volume.name.as_str(),
+        volume.bytes,
+        volume.pool.as_str(),
+        &caps,
+        &params,
+    )?;
+    totals.count(&volume.pool, volume.bytes);
+    Ok(())
+}
+
+// A change that changes nothing, as that of a number that no row has. A read tells whether the
+// connection is open, and what a stop leaves is the State then.
+fn make_nothing<S: Alter>(conn: &mut Connection<S>) -> Result<(), Fault>
+    requires idle { conn.old.in_transaction ≡ false }
+    ensures { ConnStays S.Store conn.old conn.new result }
+{
+    read_back();
+    reads::next_number(conn)?;
+    Ok(())
+}
+
+/// Attaches a volume at a node.
+pub(crate) fn make_attachment<S: Alter>(
+    alloc: Global,
+    conn: &mut Connection<S>,
+    number: u64,
+    attachment: &Attachment,
+) -> Result<(), Fault>
+    requires idle { conn.old.in_transaction ≡ false }
+    ensures changes { ConnChanges S.Store conn.old conn.new (Attach number attachment.now)
+        (RefusesAttaching number attachment.now (state S.Store conn.old)) result }
+    ensures stored { OnOk result ((number < 2 ^ 63) × IsUtf8 attachment.now.node × FitCaps (attachment.now.cap ∷ [])) }
+{
+    read_back();
+    if number >= NUMBERS {
+        return Err(Fault::Refused);
+    }
+    let cap = write_caps(alloc, from_ref(&attachment.cap))?;
+    attach(
+        conn,
+        number,
+        attachment.node.as_str(),
+        &cap,
+        attachment.readonly,
+    )?;
+    Ok(())
+}
+
+/// Detaches a volume at a node.
+pub(crate) fn unmake_attachment<S: Alter>(
+    conn: &mut Connection<S>,
+    number: u64,
+    node: &Text,
+) -> Result<(), Fault>
+    requires idle { conn.old.in_transaction ≡ false }
+    ensures { ConnChanges S.Store conn.old conn.new (Detach number node.now) (RefusesDetach number node.now (state S.Store conn.old)) result }
+{
+    read_back();
+    if number >= NUMBERS {
+        return make_nothing(conn);
+    }
+    detach(conn, number, node.as_str())?;
+    Ok(())
+}
+
+/// Detaches a volume at each node.
+pub(crate) fn unmake_attachments<S: Alter>(
+    conn: &mut Connection<S>,
+    number: u64,
+) -> Result<(), Fault>
+    requires idle { conn.old.in_transaction ≡ false }
+    ensures { ConnChanges S.Store conn.old conn.new (DetachAll number) (RefusesDetachAll number (state S.Store conn.old)) result }
+{
+    read_back();
+    if number >= NUMBERS {
+        return make_nothing(conn);
+    }
+    detach_all(conn, number)?;
+    Ok(())
+}
+
+/// Removes a volume. Its pool and its bytes are read first, so that the total takes no memory once
+/// the volume is removed.
+pub(crate) fn unmake_volume<S: Alter>(
+    alloc: Global,
+    conn: &mut Connection<S>,
+    totals: &mut Totals,
+    number: u64,
+) -> Result<(), Fault>
+    requires idle { conn.old.in_transaction ≡ false }
+    ensures { StoreChanges S.Store (conn.old, totals.old) (conn.new, totals.new) (RemoveVolume number)
+        (RefusesRemoving number (state S.Store conn.old)) result }
+{
+    read_back();
+    if number >= NUMBERS {
+        return make_nothing(conn);
+    }
+    let found = by_number(alloc, conn, number)?;
+    remove_volume(conn, number)?;
+    let Some(volume) = found else {
+        return Ok(());
+    };
+    totals.remove(&volume.pool, volume.bytes);
+    Ok(())
+}
+
+/// Gives a volume other mutable parameters. The volume is read first, since they stand in one column
+/// with its parameters, which stay.
+pub(crate) fn make_mutable<S: Alter>(
+    alloc: Global,
+    conn: &mut Connection<S>,
+    number: u64,
+    mutable: &Map,
+) -> Result<(), Fault>
+    requires idle { conn.old.in_transaction ≡ false }
+    ensures changes { ConnChanges S.Store conn.old conn.new (SetMutable number mutable.now)
+        (RefusesMutable number mutable.now (state S.Store conn.old)) result }
+    ensures stored { OnOk result (conn_doubt S.Store conn.new ≡ 0 → (s : State) → conn_holds S.Store conn.old s → IsStorable s
+        → IsStorable (changed s (SetMutable number mutable.now))) }
+{
+    read_back();
+    if number >= NUMBERS {
+        return make_nothing(conn);
+    }
+    let stands = by_number(alloc, conn, number)?;
+    let Some(volume) = stands else {
+        return Ok(());
+    };
+    let params = write_params(alloc, &volume.params, mutable)?;
+    set_params(conn, number, &params)?;
+    Ok(())
+}
+
+/// Makes a change.
+pub(crate) fn make<S: Alter>(
+    alloc: Global,
+    conn: &mut Connection<S>,
+    totals: &mut Totals,
+    change: &Change,
+) -> Result<(), Fault>
+    requires idle { conn.old.in_transaction ≡ false }
+    requires bounded { IsBounded change.now }
+    ensures { StoreChanges S.Store (conn.old, totals.old) (conn.new, totals.new) change.now
+        (RefusesChange change.now totals.old (state S.Store conn.old)) result }
+{
+    match change {
+        Change::AddVolume(volume) => make_volume(alloc, conn, totals, volume),
+        Change::RemoveVolume(number) => unmake_volume(alloc, conn, totals, *number),
+        Change::Attach(number, attachment) => make_attachment(alloc, conn, *number, attachment),
+        Change::Detach(number, node) => unmake_attachment(conn, *number, node),
+        Change::DetachAll(number) => unmake_attachments(conn, *number),
+        Change::SetMutable(number, mutable) => make_mutable(alloc, conn, *number, mutable),
+    }
+}

@@ -1,0 +1,36 @@
+//! The statements over meta.
+
+ghost use Rattle.std.specs.Prelude.{◌≡◌, ◌<◌, ◌^◌};
+ghost use Rattle.csi_schema.specs.Transactions.{RunsOver};
+ghost use Rattle.csi_transactions.specs.Failing.{HasNoNext, RefusesFormat, RefusesNext};
+ghost use Rattle.csi_transactions.specs.Rows.{Selects, SetsFormat, SetsNext};
+ghost use Rattle.csi_transactions.specs.Shown.{IsNext};
+ghost use Rattle.csi_transactions.specs.Tables.{schema};
+
+use crate::values::integer;
+use sqlite::{Alter, Error, Row, Transaction};
+
+/// Sets the next number. The format stays.
+pub(crate) fn set_next<S: Alter>(tx: &mut Transaction<'_, S>, next: u64) -> Result<usize, Error>
+    requires { next < 2 ^ 63 }
+    ensures same_reference { tx.new.conn.ghost_name ≡ tx.old.conn.ghost_name }
+    ensures runs { RunsOver S.Store tx.old.conn.now tx.new.conn.now schema (SetsNext next) (RefusesNext next) result }
+{
+    tx.execute("UPDATE meta SET next_number = ?1", &[integer(next)])
+}
+
+/// Sets the format to the latest. The next number stays.
+pub(crate) fn update_format<S: Alter>(tx: &mut Transaction<'_, S>) -> Result<usize, Error>
+    ensures same_reference { tx.new.conn.ghost_name ≡ tx.old.conn.ghost_name }
+    ensures runs { RunsOver S.Store tx.old.conn.now tx.new.conn.now schema SetsFormat RefusesFormat result }
+{
+    tx.execute("UPDATE meta SET format_no = 2", &[])
+}
+
+/// The next number.
+pub(crate) fn select_next<S: Alter>(tx: &mut Transaction<'_, S>) -> Result<Row, Error>
+    ensures same_reference { tx.new.conn.ghost_name ≡ tx.old.conn.ghost_name }
+    ensures selects { Selects S.Store tx.old.conn.now tx.new.conn.now IsNext HasNoNext result }
+{
+    tx.query_row("SELECT next_number FROM meta", &[])
+}

@@ -1,0 +1,151 @@
+//! Why the program ends otherwise than well, and the status that it ends with.
+
+ghost use Rattle.std.specs.Prelude.{◌≡◌, false, IsTrue};
+ghost use Rattle.csictl.specs.Statuses.{ended_status, failure_status};
+
+use csi_types::Method;
+use frames_core::ReplyFault;
+use std::alloc::{AllocError, AllocFailed, Global};
+use std::fmt::Display;
+use std::io::{self, ErrorKind};
+use thiserror::Error;
+
+/// How the program ends where nothing fails.
+#[derive(Clone, Copy, Debug, PartialEq, Eq)]
+pub(crate) enum Ended {
+    /// All went well.
+    Done,
+    /// A reply was a refusal, or a vector failed.
+    Refused,
+}
+
+impl Ended {
+    /// How a run over replies or vectors ends, of which one may have been a refusal, or failed.
+    pub(crate) fn with(is_refused: bool) -> Ended
+        ensures refused { IsTrue is_refused → result ≡ Ended.Refused }
+        ensures done { is_refused ≡ false → result ≡ Ended.Done }
+    {
+        if is_refused {
+            Ended::Refused
+        } else {
+            Ended::Done
+        }
+    }
+
+    /// The exit status.
+    pub(crate) fn status(self) -> u8
+        ensures { result ≡ ended_status self }
+    {
+        match self {
+            Ended::Done => 0,
+            Ended::Refused => 1,
+        }
+    }
+}
+
+/// Why the program ends otherwise. Its `Display` is the line that is said.
+#[derive(Debug, Drop, Error)]
+pub(crate) enum Failure {
+    /// An argument is not UTF-8.
+    #[error("a word is no text")]
+    NotText,
+    /// The arguments are not understood.
+    #[error("{0}")]
+    Arguments(String),
+    /// No method has this name.
+    #[error("{0}: no such method")]
+    NoMethod(String),
+    /// The method has no field for an option.
+    #[error("{method:?} has no field for --{option}")]
+    NoField {
+        method: Method,
+        option: &'static str,
+    },
+    /// The message is given beside this option.
+    #[error("--{0} beside --message")]
+    BesideMessage(&'static str),
+    /// The message is not an even number of hexadecimal digits.
+    #[error("--message: not an even number of hexadecimal digits")]
+    NotHex,
+    /// The value of this option is no number in decimal digits alone.
+    #[error("--{0}: not decimal digits alone")]
+    NotDecimal(&'static str),
+    /// A pair has no `=`.
+    #[error("a pair without '=': write KEY=VALUE,KEY=VALUE")]
+    NotPair,
+    /// The message has more bytes than a frame holds.
+    #[error("the message has more than 1048576 bytes")]
+    TooLong,
+    /// A line of a file is no vector: the file, and the line.
+    #[error("{0}")]
+    NotVector(String),
+    /// A reply is malformed.
+    #[error("{0}")]
+    Malformed(ReplyFault),
+    /// A body is no response of its method.
+    #[error("the body is no response of the method")]
+    BadBody,
+    /// A file, standard output or the socket failed: its name, and why.
+    #[error("{0}")]
+    System(String),
+    /// Standard input cannot be read.
+    #[error("a read of standard input failed")]
+    ReadFailed,
+    /// Standard output cannot be written.
+    #[error("a write to standard output failed")]
+    WriteFailed,
+    /// There is no memory.
+    #[error("out of memory")]
+    NoMemory,
+}
+
+impl From<AllocError> for Failure {
+    fn from(_: AllocError) -> Failure {
+        Failure::NoMemory
+    }
+}
+
+impl<T: Drop> From<AllocFailed<T>> for Failure {
+    fn from(_: AllocFailed<T>) -> Failure {
+        Failure::NoMemory
+    }
+}
+
+impl Failure {
+    /// Something of the system failed.
+    pub(crate) fn of_system(alloc: Global, name: &str, error: &io::Error) -> Failure {
+        match error.kind() {
+            ErrorKind::OutOfMemory => Failure::NoMemory,
+            _ => Failure::of_name(alloc, name, error),
+        }
+    }
+
+    /// A file or a socket failed.
+    pub(crate) fn of_name<T: Display>(alloc: Global, name: &str, why: &T) -> Failure {
+        match format!(in alloc; "{name}: {why}") {
+            Ok(line) => Failure::System(line),
+            Err(_) => Failure::NoMemory,
+        }
+    }
+
+    /// The exit status.
+    pub(crate) fn status(&self) -> u8
+        ensures { result ≡ failure_status self.now }
+    {
+        match self {
+            Failure::NotText
+            | Failure::Arguments(_)
+            | Failure::NoMethod(_)
+            | Failure::NoField { .. }
+            | Failure::BesideMessage(_)
+            | Failure::NotHex
+            | Failure::NotDecimal(_)
+            | Failure::NotPair
+            | Failure::TooLong
+            | Failure::NotVector(_) => 2,
+            Failure::Malformed(_) | Failure::BadBody => 3,
+            Failure::System(_) | Failure::ReadFailed | Failure::WriteFailed => 5,
+            Failure::NoMemory => 6,
+        }
+    }
+}

@@ -1,0 +1,125 @@
+//! Scans tables in memory.
+
+mod folds;
+mod scan;
+
+use crate::cells::or_none;
+use crate::database::{run, with_tables, without_tables};
+use crate::numbers::count_at;
+use csi_scans::{Each, Rising, TextSum, Weight};
+use csi_schema::is_our_schema;
+use folds::Showing;
+pub(crate) use scan::Scan;
+use sqlite::{Connection, MemStore};
+use std::alloc::Global;
+use test_kit::{RowFault, word_at, words_of};
+
+/// The answer to a row: what a database begins as, what is asked of it, and the statements that come
+/// before.
+pub(crate) fn answer(alloc: Global, row: &str) -> Result<String, RowFault> {
+    let (start, rest) = row.split_once(" | ").ok_or(RowFault::NotRow)?;
+    let (question, statements) = rest.split_once(" | ").ok_or(RowFault::NotRow)?;
+    let mut conn = match start {
+        "empty" => without_tables(alloc)?,
+        "tables" => with_tables(alloc)?,
+        _ => return Err(RowFault::NotRow),
+    };
+    if statements != "-" {
+        run(&mut conn, statements)?;
+    }
+    match question {
+        "ours" => is_ours(alloc, &conn),
+        _ => ask(alloc, &mut conn, question),
+    }
+}
+
+// Whether the tables are ours, and nothing else is there.
+fn is_ours(alloc: Global, conn: &Connection<MemStore>) -> Result<String, RowFault> {
+    let word = if is_our_schema(conn.schema()) {
+        "ours"
+    } else {
+        "other"
+    };
+    Ok(String::from_str(alloc, word)?)
+}
+
+// What is asked of the rows of our tables.
+fn ask(alloc: Global, conn: &mut Connection<MemStore>, question: &str) -> Result<String, RowFault> {
+    let words = words_of(alloc, question)?;
+    let scan = Scan::named(word_at(&words, 0)?)?;
+    match word_at(&words, 1)? {
+        "rows" => shown(alloc, conn, scan),
+        "judged" => judged(alloc, conn, scan, count_at(&words, 2)? as usize),
+        _ => {
+            let sums = sums_of(alloc, &words)?;
+            summed(alloc, conn, scan, sums)
+        }
+    }
+}
+
+// Each row.
+fn shown(alloc: Global, conn: &mut Connection<MemStore>, scan: Scan) -> Result<String, RowFault> {
+    let mut fold = Showing {
+        alloc,
+        text: String::new(alloc),
+    };
+    scan.over(conn, &mut fold)?;
+    Ok(or_none(fold.text)?)
+}
+
+// Whether each row has an integer in a column, and each is above those before it.
+fn judged(
+    alloc: Global,
+    conn: &mut Connection<MemStore>,
+    scan: Scan,
+    column: usize,
+) -> Result<String, RowFault> {
+    let mut fold = Rising {
+        column,
+        last: None,
+        good: true,
+    };
+    scan.over(conn, &mut fold)?;
+    let word = if fold.good { "rising" } else { "not rising" };
+    Ok(String::from_str(alloc, word)?)
+}
+
+// A sum for each of the texts in the last word, which have a comma between them.
+fn sums_of(alloc: Global, words: &[&str]) -> Result<Vec<TextSum>, RowFault> {
+    let (weight, place) = match word_at(words, 1)? {
+        "count" => (Weight::One, 2),
+        "sum" => (Weight::Number(count_at(words, 2)? as usize), 3),
+        _ => return Err(RowFault::NotRow),
+    };
+    let column = count_at(words, place)? as usize;
+    let mut sums = Vec::new(alloc);
+    for word in word_at(words, place + 1)?.split(',') {
+        let mut text = Vec::new(alloc);
+        text.extend_from_slice(word.as_bytes())?;
+        sums.push(TextSum {
+            column,
+            text,
+            weight,
+            sum: 0,
+        })?;
+    }
+    Ok(sums)
+}
+
+fn summed(
+    alloc: Global,
+    conn: &mut Connection<MemStore>,
+    scan: Scan,
+    sums: Vec<TextSum>,
+) -> Result<String, RowFault> {
+    let mut fold = Each { parts: sums };
+    scan.over(conn, &mut fold)?;
+    let mut text = String::new(alloc);
+    for part in &fold.parts {
+        if !text.is_empty() {
+            text.push(' ')?;
+        }
+        text.push_str(&format!(in alloc; "{}", part.sum)?)?;
+    }
+    Ok(text)
+}

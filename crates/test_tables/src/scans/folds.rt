@@ -1,0 +1,25 @@
+//! A fold that shows rows.
+
+use crate::cells::put_row;
+use csi_scans::Fold;
+use sqlite::{Error, Row};
+use std::alloc::Global;
+
+/// The rows as a text.
+#[derive(Drop)]
+pub(crate) struct Showing {
+    /// What holds the text.
+    pub(crate) alloc: Global,
+    /// The text.
+    pub(crate) text: String,
+}
+
+impl Fold for Showing {
+    ghost folds = { λ _ _ _. Unit {0} };
+
+    ghost starts = { λ _. tt };
+
+    fn take(&mut self, row: &Row) -> Result<(), Error> {
+        Ok(put_row(&mut self.text, self.alloc, row)?)
+    }
+}

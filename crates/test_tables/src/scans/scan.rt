@@ -1,0 +1,53 @@
+//! Which scan is taken.
+
+use crate::database::refused;
+use csi_scans::{Fold, scan_attachments, scan_meta, scan_owners, scan_places, scan_volumes};
+use csi_schema::is_our_schema;
+use sqlite::{Connection, MemStore};
+use test_kit::RowFault;
+
+/// A scan over our tables.
+#[derive(Clone, Copy)]
+pub(crate) enum Scan {
+    Meta,
+    Volumes,
+    Attachments,
+    Owners,
+    Places,
+}
+
+impl Scan {
+    /// The scan of a name.
+    pub(crate) fn named(name: &str) -> Result<Scan, RowFault> {
+        match name {
+            "meta" => Ok(Scan::Meta),
+            "volumes" => Ok(Scan::Volumes),
+            "attachments" => Ok(Scan::Attachments),
+            "owners" => Ok(Scan::Owners),
+            "places" => Ok(Scan::Places),
+            _ => Err(RowFault::NotRow),
+        }
+    }
+
+    /// Folds each row that the scan shows, between two transactions and over our tables alone.
+    pub(crate) fn over<F: Fold>(
+        self,
+        conn: &mut Connection<MemStore>,
+        fold: &mut F,
+    ) -> Result<(), RowFault> {
+        if !conn.is_autocommit() {
+            return Err(RowFault::Refused("refused"));
+        }
+        if !is_our_schema(conn.schema()) {
+            return Err(RowFault::Refused("other tables"));
+        }
+        let looked = match self {
+            Scan::Meta => scan_meta(conn, fold),
+            Scan::Volumes => scan_volumes(conn, fold),
+            Scan::Attachments => scan_attachments(conn, fold),
+            Scan::Owners => scan_owners(conn, fold),
+            Scan::Places => scan_places(conn, fold),
+        };
+        looked.map_err(refused)
+    }
+}
