@@ -2,7 +2,7 @@
 use Rattle.std.proofs.Common.{◌≡◌, ◌≢◌, ◌∙◌, inl, inr, refl, sym, ap, subst, arith, ◌≤◌, true, false, true≢false, None, IsTrue}
 use Rattle.sqlite.specs.Effect.{Database}
 use Rattle.sqlite.specs.Held.{Held, state}
-use Rattle.sqlite.specs.State.{HasCleanDisk, IsLive, IsUnchanged, KeepsCommit, Survives}
+use Rattle.sqlite.specs.State.{HasCleanDisk, IsLive, KeepsCommit, Survives}
 use Rattle.sqlite.specs.Store.{Ghosts}
 use Rattle.sqlite.specs.Tree.{Trees}
 use Rattle.sqlite_catalog.specs.Listing.{IsSound}
@@ -17,13 +17,13 @@ use Rattle.csi_schema.specs.Transactions.{LeavesFrom}
 use Rattle.csi_transactions.specs.Rows.{IsUndone}
 use Rattle.csi_tables.specs.Holding.{IsEitherRows, IsFirstRows, IsRows, Shows, conn_doubt, store_doubt, store_holds, store_survivors, store_tied}
 use Rattle.csi_tables.specs.Keeping.{is_down, refusals, store_of, IsNewOver}
+use Rattle.csi_tables.specs.Laws.{OneState}
 use Rattle.csi_tables.specs.declared.tables.Tables.{Tables}
 use Rattle.csi_adoption.specs.Adopting.{committed, IsAdopted, IsNotRefused, IsStateOf, IsTaken, IsUnadopted, LeavesLatest}
 use Rattle.csi_adoption.specs.Judging.{is_failure, IsFaultOf}
 use Rattle.csi_adoption.specs.declared.fault.AdoptFault.{AdoptFault}
 use Rattle.csi_adoption.specs.declared.fault.AdoptFault.TheVariants.{Foreign}
 use Rattle.csi_adoption.specs.declared.fault.Foreign.TheVariants as foreign
-use Rattle.csi_adoption.proofs.AgainLemmas.{OneState}
 
 -- ---- a connection that was settled
 
@@ -47,6 +47,14 @@ module _ {S : Type 0} (g : Ghosts S) (conn one two : Held S) (limit : one ≡ re
         kept = λ clean is_open. (undone clean).committed is_open;
         crash = λ clean db may. elim (survives.crash clean db may) [ inl before ↦ before | inr none ↦ absurd none ];
       }
+
+-- what is committed behind it stays
+still_kept : {S : Type 0} {g : Ghosts S} {conn two : Held S} → IsSettled g conn two → (back : Held S) → (HasCleanDisk (state g back) → HasCleanDisk (state g two)) → (HasCleanDisk (state g back) → KeepsCommit (state g two) (state g back))
+    → HasCleanDisk (state g back) → KeepsCommit (state g conn) (state g back)
+still_kept settled back before keeps clean = record {
+  was_open = λ is_open. settled.was_open (before clean) ((keeps clean).was_open is_open);
+  committed = λ is_open. (keeps clean).committed is_open ∙ settled.kept (before clean) ((keeps clean).was_open is_open);
+}
 
 -- ---- tables that stood
 
@@ -113,10 +121,7 @@ module _ {S : Type 0} (g : Ghosts S) (config : Config) (conn two back : Held S) 
       record {
         idle = idle;
         clean = omega (arith, settled.clean, survives.clean);
-        kept = λ clean. record {
-          was_open = λ is_open. settled.was_open (before clean) ((keeps clean).was_open is_open);
-          committed = λ is_open. (keeps clean).committed is_open ∙ settled.kept (before clean) ((keeps clean).was_open is_open);
-        };
+        kept = still_kept settled back before keeps;
         crash = λ clean db may. elim (survives.crash clean db may) [
           | inl there ↦ inl (settled.crash (before clean) db there)
           | inr left ↦
@@ -156,10 +161,7 @@ module _ {S : Type 0} (g : Ghosts S) (config : Config) (conn two : Held S) (sett
       record {
         idle = idle;
         clean = omega (arith, settled.clean, survives.clean);
-        kept = λ clean. record {
-          was_open = λ is_open. settled.was_open (before clean) ((undone clean).was_open is_open);
-          committed = λ is_open. (undone clean).committed is_open ∙ settled.kept (before clean) ((undone clean).was_open is_open);
-        };
+        kept = still_kept settled back before (λ clean. record { was_open = (undone clean).was_open; committed = (undone clean).committed });
         crash = λ clean db may. elim (survives.crash clean db may) [
           | inl there ↦ inl (settled.crash (before clean) db there)
           | inr left ↦

@@ -4,18 +4,15 @@ use Rattle.sqlite.specs.Effect.{Database}
 use Rattle.sqlite.specs.Held.{Held, state}
 use Rattle.sqlite.specs.State.{HasCleanDisk}
 use Rattle.sqlite.specs.Store.{Ghosts}
-use Rattle.sqlite.specs.Tree.{Trees}
 use Rattle.csi_config.specs.declared.config.Config.{Config}
 use Rattle.csi_keeper.specs.Invariant.{IsInvariant}
 use Rattle.csi_keeper.specs.State.{State}
 use Rattle.csi_schema.specs.Tables.{no_schema, schema}
 use Rattle.csi_tables.specs.Holding.{IsEitherRows, IsRows, store_holds}
 use Rattle.csi_tables.specs.Keeping.{connection_of, store_of}
+use Rattle.csi_tables.specs.Laws.{OneState}
 use Rattle.csi_adoption.specs.Adopting.{committed, IsStateOf}
 use Rattle.csi_adoption.specs.Again.{EitherTaken, EndsTaken, IsTakenAs, StopsTaken}
-
-abbrev pub OneState : Type 0
-OneState = (s t : State) (db : Trees) → IsEitherRows s db → IsEitherRows t db → s ≡ t
 
 not_none : schema ≡ no_schema → ⊥
 not_none e = let tables = ap (λ s. s.tables) e in absurd cc

@@ -47,7 +47,8 @@ use Rattle.csi_constraints.specs.Values.{is_some_and}
 use Rattle.csi_adoption.specs.FoundAttachments.{AttachmentsAreFound, FoundAttachments, StandsAmong}
 use Rattle.csi_adoption.specs.Passing.{AttachmentsAreKnown, AttachmentsPass}
 use Rattle.csi_adoption.proofs.AttachmentCellLemmas.{flag_cell, key_cell, text_cell}
-use Rattle.csi_adoption.proofs.AttachmentMapLemmas.{AreApart, got_has, has_permuted, made_of, shown_by}
+use Rattle.csi_tables.specs.facts.Entries.{has_permuted}
+use Rattle.csi_adoption.proofs.AttachmentMapLemmas.{AreApart, got_has, made_of, shown_by}
 use Rattle.csi_adoption.proofs.PlaceLemmas.{ascending_has, not_not, one_way}
 use Rattle.csi_adoption.proofs.AttachmentRowLemmas.{counted, not_twice, numbered}
 

@@ -1,39 +1,25 @@
 -- Finite maps that are made of entries with keys of their own.
-use Rattle.std.proofs.Common.{◌≡◌, ◌∙◌, refl, sym, subst, inl, inr, cond, true, false, List, [], ◌∷◌, map, Some, None, Ordering, Less, Equal, Greater, is_eq, IsPermutation}
+use Rattle.std.proofs.Common.{◌≡◌, ◌∙◌, refl, sym, subst, inl, inr, cond, true, false, List, [], ◌∷◌, map, Some, None, Ordering, IsPermutation}
 use Rattle.std.specs.Cmp.{IsTotalOrder}
-use Rattle.std.specs.FinMap.{FinMap, entries, find, put, get, insert, from_entries, entries-insert, get-entries, get-from_entries, IsAntisymmetric}
-use Rattle.std.specs.FinMap.Entries.{by_order}
+use Rattle.std.specs.FinMap.{FinMap, entries, find, get, insert, from_entries, entries-insert, get-entries, get-from_entries, IsAntisymmetric}
 use Rattle.std.specs.List.{AllByRecursion}
 use Rattle.std.specs.Ordering.{eq_by_cmp}
-use Rattle.std.proofs.lemmas.List.Sorted.{IsPermutation-cons, IsPermutation-middle, IsPermutation-refl, IsPermutation-sym, IsPermutation-trans}
+use Rattle.std.proofs.lemmas.List.Sorted.{IsPermutation-cons, IsPermutation-trans}
 use Rattle.sqlite.specs.Tree.{IsAscending}
 use Rattle.sqlite_rules.specs.Lists.{Has}
-use Rattle.sqlite_rules.proofs.ListLemmas.{all_from, all_has}
+use Rattle.sqlite_rules.proofs.ListLemmas.{all_has}
 use Rattle.sqlite_rules.proofs.ProbeLemmas.{has_mapped, mapped_has}
-use Rattle.sqlite_trees.proofs.ListLemmas.{all-permutation, IsPermutation-same}
+use Rattle.sqlite_trees.proofs.ListLemmas.{IsPermutation-same}
+use Rattle.csi_tables.specs.facts.Entries.{has_permuted, put_fresh}
 use Rattle.csi_keeper.specs.facts.Finite.{all_entries, none_listed, none_some, same_some, tied}
 
 -- ---- one of a permuted list
-
-pub has_permuted : {X : Type 0} (xs ys : List X) (x : X) → IsPermutation xs ys → Has ys x → Has xs x
-has_permuted xs ys x same = all_has (Has xs) ys x (all-permutation (Has xs) xs ys same (all_from (Has xs) xs (λ e h. h)))
 
 -- what one list shows, the other does
 pub shown_by : {A B C : Type 0} (f : A → C) (g : B → C) (xs : List A) (ys : List B) → IsPermutation (map f xs) (map g ys) → (y : B) → Has ys y → (x : A) × Has xs x × (g y ≡ f x)
 shown_by f g xs ys same y has = has_mapped f xs (g y) (has_permuted (map f xs) (map g ys) (g y) same (mapped_has g ys y has))
 
 -- ---- entries
-
-module _ {K X : Type 0} (R : K → K → Ordering) where
-  put_fresh : (k : K) (v : X) (es : List (K × X)) → find R k es ≡ None → IsPermutation ((k, v) ∷ es) (put R k v es)
-  put_fresh k v [] none = IsPermutation-refl _
-  put_fresh k v (e ∷ es) none = go (R k e.0) none (put_fresh k v es)
-    where
-      go : (o : Ordering) → cond (is_eq o) (Some e.1) (find R k es) ≡ None → (find R k es ≡ None → IsPermutation ((k, v) ∷ es) (put R k v es))
-          → IsPermutation ((k, v) ∷ e ∷ es) (by_order o ((k, v) ∷ e ∷ es) ((e.0, v) ∷ es) (e ∷ put R k v es))
-      go Less h more = IsPermutation-refl _
-      go Equal h more = absurd (none_some e.1 (sym h))
-      go Greater h more = IsPermutation-trans _ _ _ (IsPermutation-sym _ _ (IsPermutation-middle (e ∷ []) (k, v) es)) (IsPermutation-cons e _ _ (more h))
 
 -- no two entries have one key
 abbrev pub AreApart : {K X : Type 0} → List (K × X) → Type 0

@@ -9,7 +9,7 @@ use Rattle.sqlite.specs.Query.{or_nulls}
 use Rattle.sqlite.specs.Tree.{Trees}
 use Rattle.sqlite.specs.declared.types.Value.{Value}
 use Rattle.sqlite_rules.specs.Lists.{Has}
-use Rattle.sqlite_rules.proofs.ListLemmas.{all_has, has_filtered, has_kept, test_from, test_has}
+use Rattle.sqlite_rules.proofs.ListLemmas.{all_has, has_filtered, has_kept, test_from}
 use Rattle.sqlite_rules.proofs.ProbeLemmas.{has_mapped}
 use Rattle.sqlite_trees.proofs.ListLemmas.{ascending-map}
 use Rattle.std.proofs.lemmas.Cmp.{tied_itself}
@@ -39,7 +39,8 @@ use Rattle.csi_constraints.specs.Joins.{is_owned}
 use Rattle.csi_constraints.specs.Kinds.{has_attachment_kinds}
 use Rattle.csi_adoption.specs.Passing.{AttachmentsPass}
 use Rattle.csi_adoption.proofs.AttachmentCellLemmas.{number_itself, same_number}
-use Rattle.csi_adoption.proofs.AttachmentMapLemmas.{got_has, has_got, has_permuted, shown_by}
+use Rattle.csi_tables.specs.facts.Entries.{has_permuted}
+use Rattle.csi_adoption.proofs.AttachmentMapLemmas.{got_has, has_got, shown_by}
 use Rattle.csi_adoption.proofs.PlaceLemmas.{apart_permuted, ascending_has, keys_rise, less_equal}
 use Rattle.csi_adoption.proofs.AttachmentRowLemmas.{counted, owned_is}
 

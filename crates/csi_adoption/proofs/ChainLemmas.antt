@@ -1,9 +1,11 @@
 -- One scan after another.
-use Rattle.std.proofs.Common.{◌≡◌, ◌∙◌, ap, arith, Result, Ok, Err, IsErr, OnOk}
+use Rattle.std.proofs.Common.{◌≡◌, ◌∙◌, ap, subst, arith, List, Result, Ok, Err, IsErr, OnOk}
 use Rattle.sqlite.specs.Effect.{Database}
 use Rattle.sqlite.specs.Held.{Held, state}
+use Rattle.sqlite.specs.Order.{Row}
 use Rattle.sqlite.specs.State.{State, HasCleanDisk, IsUnchanged, KeepsCommit}
 use Rattle.sqlite.specs.Store.{Ghosts}
+use Rattle.sqlite.specs.Tree.{Trees}
 use Rattle.sqlite.proofs.Callers.{unchanged_then}
 use Rattle.sqlite.proofs.StateLemmas.{survives_then}
 use Rattle.csi_adoption.specs.Scanning.{Scans}
@@ -38,6 +40,11 @@ module _ {S : Type 0} (g : Ghosts S) where
     kept = λ clean. keeps_then (state g a) (state g b) (state g c) (one.kept (clean_before b c r two clean)) (two.kept clean);
     survives = survives_then (state g a) (state g b) (state g c) (λ _. ⊥) (λ _. ⊥) (λ _. ⊥) (λ _ db none. none) (λ _ db none. none) one.survives two.survives;
   }
+
+  -- what a scan behind another shows is of the trees before both
+  pub shown_behind : {X Y E F : Type 0} (a b c : Held S) (x : X) (r : Result Y F) (What : Trees → List Row → Type 0) {Told : List Row → Type 0} → Scans g a b {E = E} (Ok x) → Scans g b c r
+      → (HasCleanDisk (state g c) → (rows : List Row) × What (state g b).now.trees rows × Told rows) → HasCleanDisk (state g c) → (rows : List Row) × What (state g a).now.trees rows × Told rows
+  shown_behind a b c x r What one two seen clean = let it = seen clean in (it.0, subst (λ (t : Trees). What t it.0) (same_trees a b (one.same (clean_before b c r two clean))) it.1, it.2)
 
   -- what was looked at so far stays, whatever is answered then
   pub ended : {X Y E F : Type 0} (a b : Held S) (x : X) (r : Result Y F) → Scans g a b {E = E} (Ok x) → Scans g a b r

@@ -1,5 +1,5 @@
 -- The fault of rows, from what was seen of them.
-use Rattle.std.proofs.Common.{◌≡◌, ◌∙◌, inr, refl, sym, ap, ap₂, ℕ, false, true≢false, List, map, Option, Some, None, Result, Ok, Err, IsErrAnd, IsPermutation}
+use Rattle.std.proofs.Common.{◌≡◌, ◌∙◌, inr, refl, sym, ap, ap₂, false, true≢false, List, map, Option, Some, None, Result, Ok, Err, IsErrAnd, IsPermutation}
 use Rattle.std.proofs.lemmas.List.Sorted.{IsPermutation-refl}
 use Rattle.sqlite.specs.Order.{Row}
 use Rattle.sqlite.specs.Tree.{Trees}

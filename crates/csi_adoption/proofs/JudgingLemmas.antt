@@ -5,11 +5,9 @@ use Rattle.std.specs.Option.{option_map}
 use Rattle.std.proofs.lemmas.Bool.Decides.{nat_tests}
 use Rattle.sqlite.specs.Order.{Row}
 use Rattle.csi_types.specs.declared.limits.TheConstants.{MAX_NUMBER, MAX_VOLUMES}
-use Rattle.csi_config.specs.declared.nodes.Node.{Node}
-use Rattle.csi_config.specs.declared.pools.Pool.{Pool}
 use Rattle.csi_constraints.specs.Named.{first_out, name_of}
 use Rattle.csi_constraints.specs.declared.broken.BrokenConstraint.TheVariants as broken
-use Rattle.csi_adoption.specs.Judging.{count_fault, first_fault, first_named, full_node, full_pool, next_fault, valid_next}
+use Rattle.csi_adoption.specs.Judging.{count_fault, first_fault, first_full, first_named, next_fault, valid_next}
 use Rattle.csi_adoption.specs.declared.fault.AdoptFault.{AdoptFault}
 use Rattle.csi_adoption.specs.declared.fault.AdoptFault.TheVariants.{Broken}
 
@@ -77,21 +75,13 @@ not_above m n e = grind (arith, nat_tests)
 not_below : (m n : ℕ) → n ≤ m → nat_lt m n ≡ false
 not_below m n low = grind (arith, nat_tests)
 
-pub no_full_pool : (sum : Pool → ℕ) (pools : List Pool) → full_pool pools (map sum pools) ≡ None → AllByRecursion (λ p. sum p ≤ p.bytes) pools
-no_full_pool sum [] e = tt
-no_full_pool sum (p ∷ pools) e = let parts = no_first (nat_lt p.bytes (sum p)) p (full_pool pools (map sum pools)) e in (not_above p.bytes (sum p) parts.0, no_full_pool sum pools parts.1)
+pub none_full : {X : Type 0} (room sum : X → ℕ) (xs : List X) → first_full room xs (map sum xs) ≡ None → AllByRecursion (λ x. sum x ≤ room x) xs
+none_full room sum [] e = tt
+none_full room sum (x ∷ xs) e = let parts = no_first (nat_lt (room x) (sum x)) x (first_full room xs (map sum xs)) e in (not_above (room x) (sum x) parts.0, none_full room sum xs parts.1)
 
-pub roomy_pools : (sum : Pool → ℕ) (pools : List Pool) → AllByRecursion (λ p. sum p ≤ p.bytes) pools → full_pool pools (map sum pools) ≡ None
-roomy_pools sum [] all = refl
-roomy_pools sum (p ∷ pools) all = neither (nat_lt p.bytes (sum p)) p (full_pool pools (map sum pools)) (not_below p.bytes (sum p) all.0) (roomy_pools sum pools all.1)
-
-pub no_full_node : (sum : Node → ℕ) (nodes : List Node) → full_node nodes (map sum nodes) ≡ None → AllByRecursion (λ m. sum m ≤ m.max_volumes) nodes
-no_full_node sum [] e = tt
-no_full_node sum (m ∷ nodes) e = let parts = no_first (nat_lt m.max_volumes (sum m)) m (full_node nodes (map sum nodes)) e in (not_above m.max_volumes (sum m) parts.0, no_full_node sum nodes parts.1)
-
-pub roomy_nodes : (sum : Node → ℕ) (nodes : List Node) → AllByRecursion (λ m. sum m ≤ m.max_volumes) nodes → full_node nodes (map sum nodes) ≡ None
-roomy_nodes sum [] all = refl
-roomy_nodes sum (m ∷ nodes) all = neither (nat_lt m.max_volumes (sum m)) m (full_node nodes (map sum nodes)) (not_below m.max_volumes (sum m) all.0) (roomy_nodes sum nodes all.1)
+pub all_roomy : {X : Type 0} (room sum : X → ℕ) (xs : List X) → AllByRecursion (λ x. sum x ≤ room x) xs → first_full room xs (map sum xs) ≡ None
+all_roomy room sum [] all = refl
+all_roomy room sum (x ∷ xs) all = neither (nat_lt (room x) (sum x)) x (first_full room xs (map sum xs)) (not_below (room x) (sum x) all.0) (all_roomy room sum xs all.1)
 
 -- ---- the next number
 

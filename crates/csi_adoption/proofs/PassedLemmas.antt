@@ -15,7 +15,7 @@ use Rattle.csi_constraints.specs.facts.Aparts.{none_unnamed, unnamed_none}
 use Rattle.csi_adoption.specs.Judging.{all_faults, code_faults, count_faults, first_named, in_attachments, in_volumes, kinds_faults, next_fault, number_faults, owner_fault, size_faults, table_faults, AttachmentsFound, VolumesFound}
 use Rattle.csi_adoption.specs.Passing.{AttachmentsPass, VolumesPass}
 use Rattle.csi_adoption.specs.declared.meta.Meta.{Meta}
-use Rattle.csi_adoption.proofs.JudgingLemmas.{all_unnamed, few_rows, is_next, rows_few, no_full_node, no_full_pool, no_next_fault, none_both, none_first, none_named, roomy_nodes, roomy_pools, unmapped}
+use Rattle.csi_adoption.proofs.JudgingLemmas.{all_roomy, all_unnamed, few_rows, is_next, rows_few, no_next_fault, none_both, none_first, none_full, none_named, unmapped}
 use Rattle.csi_adoption.proofs.SumLemmas.{room_kept, room_told}
 
 -- what every constraint of the rows behind meta asks
@@ -98,7 +98,7 @@ module _ (config : Config) (small : IsSmall config) (volumes attachments owned p
               names = none_named 0 1 _ volumes (unmapped _ _ n3.0);
               pools = none_named 0 1 _ volumes (unmapped _ _ s1.0);
               sizes = none_named 0 1 _ volumes (unmapped _ _ s2.0);
-              rooms = told_pools volumes config.pools small.pools (no_full_pool (λ p. sum_after 3 p.name (Number 2) 0 volumes) config.pools (unmapped _ _ s3.0));
+              rooms = told_pools volumes config.pools small.pools (none_full (λ p. p.bytes) (λ p. sum_after 3 p.name (Number 2) 0 volumes) config.pools (unmapped _ _ s3.0));
               caps = none_named 0 1 _ volumes (unmapped _ _ c1.0);
               params = none_named 0 1 _ volumes (unmapped _ _ c2.0);
               few = few_rows (length volumes) p3.0;
@@ -108,7 +108,7 @@ module _ (config : Config) (small : IsSmall config) (volumes attachments owned p
               caps = none_named 1 2 _ attachments (unmapped _ _ c3.0);
               flags = none_named 1 2 _ attachments (unmapped _ _ c4.0);
               nodes = none_named 1 2 _ attachments (unmapped _ _ c5.0);
-              counts = told_nodes attachments config.nodes small.nodes (no_full_node (λ m. sum_after 2 m.id One 0 attachments) config.nodes (unmapped _ _ p2.0));
+              counts = told_nodes attachments config.nodes small.nodes (none_full (λ m. m.max_volumes) (λ m. sum_after 2 m.id One 0 attachments) config.nodes (unmapped _ _ p2.0));
             };
             owned = none_named 0 1 _ owned (unmapped _ _ b.0);
             beside = unnamed_none places (unmapped _ _ p1.0);
@@ -123,8 +123,8 @@ module _ (config : Config) (small : IsSmall config) (volumes attachments owned p
       none_both _ _
       (none_both _ _ (none_both _ _ (named _ 0 1 _ volumes v.kinds) (none_both _ _ (named _ 0 2 _ attachments a.kinds) refl))
       (none_both _ _ (none_both _ _ (is_next m.next some) (none_both _ _ (named _ 0 1 _ volumes v.numbers) (none_both _ _ (named _ 0 1 _ volumes v.names) refl)))
-      (none_both _ _ (none_both _ _ (named _ 0 1 _ volumes v.pools) (none_both _ _ (named _ 0 1 _ volumes v.sizes) (none_both _ _ (mapped _ _ (roomy_pools (λ p. sum_after 3 p.name (Number 2) 0 volumes) config.pools (kept_pools volumes config.pools v.rooms))) refl)))
+      (none_both _ _ (none_both _ _ (named _ 0 1 _ volumes v.pools) (none_both _ _ (named _ 0 1 _ volumes v.sizes) (none_both _ _ (mapped _ _ (all_roomy (λ p. p.bytes) (λ p. sum_after 3 p.name (Number 2) 0 volumes) config.pools (kept_pools volumes config.pools v.rooms))) refl)))
       (none_both _ _ (none_both _ _ (named _ 0 1 _ volumes v.caps) (none_both _ _ (named _ 0 1 _ volumes v.params) (none_both _ _ (named _ 1 2 _ attachments a.caps) (none_both _ _ (named _ 1 2 _ attachments a.flags) (none_both _ _ (named _ 1 2 _ attachments a.nodes) refl))))) refl))))
       (none_both _ _ (named _ 0 1 _ owned pass.owned)
-      (none_both _ _ (none_both _ _ (mapped _ _ (none_unnamed places pass.beside)) (none_both _ _ (mapped _ _ (roomy_nodes (λ m. sum_after 2 m.id One 0 attachments) config.nodes (kept_nodes attachments config.nodes a.counts)))
+      (none_both _ _ (none_both _ _ (mapped _ _ (none_unnamed places pass.beside)) (none_both _ _ (mapped _ _ (all_roomy (λ m. m.max_volumes) (λ m. sum_after 2 m.id One 0 attachments) config.nodes (kept_nodes attachments config.nodes a.counts)))
       (none_both _ _ (rows_few (length volumes) v.few) refl))) refl))

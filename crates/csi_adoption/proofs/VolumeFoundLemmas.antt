@@ -1,5 +1,5 @@
 -- Rows of volumes that pass are those of the volumes of a State.
-use Rattle.std.proofs.Common.{◌≡◌, ◌∙◌, sym, ap, subst, ℕ, ◌≤◌, pos, List, map, length, sum, sum_by, Some, None, Less, IsPermutation, arith}
+use Rattle.std.proofs.Common.{◌≡◌, ◌∙◌, sym, ap, subst, ℕ, ◌≤◌, pos, List, map, length, sum, sum_by, Some, None, Less, arith}
 use Rattle.std.specs.FinMap.{FinMap, empty, entries, entries-from_sorted, from_sorted, get, get-entries, len-entries}
 use Rattle.std.specs.List.{AllByRecursion}
 use Rattle.std.specs.Ordering.{int_cmp, nat_cmp}
@@ -12,8 +12,9 @@ use Rattle.sqlite_catalog.specs.Listing.{IsSound}
 use Rattle.sqlite_rules.specs.Lists.{Has}
 use Rattle.sqlite_rules.proofs.ListLemmas.{all_from, all_has, test_has}
 use Rattle.sqlite_rules.proofs.ProbeLemmas.{has_mapped, mapped_has}
-use Rattle.sqlite_trees.proofs.ListLemmas.{all-permutation, ascending_from_map, ascending_weaker}
+use Rattle.sqlite_trees.proofs.ListLemmas.{ascending_from_map, ascending_weaker}
 use Rattle.sqlite_value.proofs.OrderLemmas.{value_cmp-Int}
+use Rattle.csi_tables.specs.facts.Entries.{has_permuted}
 use Rattle.csi_types.specs.declared.limits.TheConstants.{MAX_NUMBER}
 use Rattle.csi_config.specs.declared.config.Config.{Config}
 use Rattle.csi_keeper.specs.Invariant.{IsVolume}
@@ -33,9 +34,6 @@ use Rattle.csi_adoption.proofs.VolumeMapLemmas.{found_has, sorted}
 use Rattle.csi_adoption.proofs.VolumeNameLemmas.{one_name}
 use Rattle.csi_adoption.proofs.VolumeRowLemmas.{AreEntries, IsEntry, row_entry, rows_entries}
 use Rattle.csi_adoption.proofs.VolumeSumLemmas.{all_of, count_of, sum_of}
-
-has_permuted : {X : Type 0} (xs ys : List X) (x : X) → IsPermutation xs ys → Has ys x → Has xs x
-has_permuted xs ys x same = all_has (Has xs) ys x (all-permutation (Has xs) xs ys same (all_from (Has xs) xs (λ e h. h)))
 
 number_less : (a b : ℕ) → value_cmp (number_value a) (number_value b) ≡ Less → nat_cmp a b ≡ Less
 number_less a b e = go (sym (value_cmp-Int (pos a) (pos b)) ∙ e)

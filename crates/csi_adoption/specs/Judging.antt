@@ -196,20 +196,22 @@ volume_kinds_fault found = option_map (λ name. Foreign (foreign.Volume (number_
 abbrev pub attachment_kinds_fault : Option RowName → Option AdoptFault
 attachment_kinds_fault found = option_map (λ name. Foreign (foreign.Attachment (number_of name))) found
 
+-- the first that holds less than the sum beside it
+abbrev pub first_full : {X : Type 0} → (X → ℕ) → List X → List ℕ → Option X
+first_full room [] sums = None
+first_full room (x ∷ xs) [] = None
+first_full room (x ∷ xs) (sum ∷ sums) = if nat_lt (room x) sum then Some x else first_full room xs sums
+
 -- the first pool that has fewer bytes than its volumes
 abbrev pub full_pool : List Pool → List ℕ → Option Pool
-full_pool [] sums = None
-full_pool (p ∷ pools) [] = None
-full_pool (p ∷ pools) (sum ∷ sums) = if nat_lt p.bytes sum then Some p else full_pool pools sums
+full_pool = first_full (λ p. p.bytes)
 
 abbrev pub pool_fault : List Pool → List ℕ → Option AdoptFault
 pool_fault pools sums = option_map (λ p. Broken (broken.Pool p.name)) (full_pool pools sums)
 
 -- the first node that has more attachments than it can
 abbrev pub full_node : List Node → List ℕ → Option Node
-full_node [] sums = None
-full_node (m ∷ nodes) [] = None
-full_node (m ∷ nodes) (sum ∷ sums) = if nat_lt m.max_volumes sum then Some m else full_node nodes sums
+full_node = first_full (λ m. m.max_volumes)
 
 abbrev pub node_fault : List Node → List ℕ → Option AdoptFault
 node_fault nodes sums = option_map (λ m. Broken (broken.Node m.id)) (full_node nodes sums)

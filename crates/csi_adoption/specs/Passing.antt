@@ -1,5 +1,5 @@
 -- What scans over the tables have to show for adoption.
-use Rattle.std.specs.Prelude.{◌≡◌, ℕ, ◌≤◌, true, List, None, IfSome, IsPermutation, [], ◌∷◌, length, map, sum_by}
+use Rattle.std.specs.Prelude.{◌≡◌, ◌≤◌, true, List, None, IfSome, IsPermutation, [], ◌∷◌, length, map, sum_by}
 use Rattle.std.specs.List.{AllByRecursion, list_all}
 use Rattle.sqlite.specs.Order.{Row}
 use Rattle.sqlite.specs.Tree.{Trees}

@@ -7,7 +7,7 @@ use Rattle.std.proofs.lemmas.Bool.{leb-true}
 use Rattle.frames_core.specs.declared.limits.TheConstants.{MAX_PATH_BYTES, MAX_MESSAGE_BYTES}
 use Rattle.frames_core.specs.Envelope.{IsCall, IsPathByte}
 use Rattle.csi_types.specs.declared.method.Method.{Method}
-use Rattle.csi_types.specs.declared.method.Method.TheVariants.{GetPluginInfo, GetPluginCapabilities, Probe, CreateVolume, DeleteVolume, ControllerPublishVolume, ControllerUnpublishVolume, ValidateVolumeCapabilities, ListVolumes, GetCapacity, ControllerGetCapabilities, ControllerModifyVolume}
+use Rattle.csi_types.specs.declared.method.Method.TheVariants.{GetPluginInfo}
 use Rattle.csi_types.specs.Methods.{path_of}
 
 both : (a b : Bool) → (a && b) ≡ true → (a ≡ true) × (b ≡ true)
@@ -27,17 +27,7 @@ all_path bytes e k d lt =
 
 passes : (method : Method) → is_path (path_of method) ≡ true
 passes GetPluginInfo = refl
-passes GetPluginCapabilities = refl
-passes Probe = refl
-passes CreateVolume = refl
-passes DeleteVolume = refl
-passes ControllerPublishVolume = refl
-passes ControllerUnpublishVolume = refl
-passes ValidateVolumeCapabilities = refl
-passes ListVolumes = refl
-passes GetCapacity = refl
-passes ControllerGetCapabilities = refl
-passes ControllerModifyVolume = refl
+passes method = refl
 
 call_passes : (path message : List ℕ) → is_path path ≡ true → length message ≤ MAX_MESSAGE_BYTES → IsCall (record { path = path; message = message })
 call_passes path message e short =

@@ -8,13 +8,13 @@ use Rattle.std.proofs.lemmas.Bool.{and_from, and_parts}
 use Rattle.std.proofs.lemmas.Bool.Decides.{Decides-int_eq}
 use Rattle.std.proofs.lemmas.List.{append-nil, append_assoc}
 use Rattle.sqlite.specs.Order.{Row, column}
-use Rattle.sqlite.specs.Tree.{IsAscending}
 use Rattle.sqlite_rules.specs.Lists.{Has}
 use Rattle.sqlite_rules.proofs.ListLemmas.{all_from, all_has, has_left, has_right, some_from}
 use Rattle.sqlite_trees.proofs.ListLemmas.{all-append, all_weaker}
 use Rattle.csi_keeper.specs.Coexistence.{coexist, is_shared}
 use Rattle.csi_keeper.specs.declared.volume.Attachment.{Attachment}
 use Rattle.csi_scans.specs.Folds.{as_integer}
+use Rattle.csi_scans.specs.facts.Fronts.{ascending_front}
 use Rattle.csi_constraints.specs.Apart.{admits, apart_named, are_apart, are_beside, falls, first_apart, is_written, led_at, stays, AreLed, DoNotFall, IsLed, Leads}
 use Rattle.csi_constraints.specs.Joins.{attached_at}
 use Rattle.csi_constraints.specs.Named.{name_of}
@@ -137,17 +137,6 @@ now_apart rows r b none is =
     ap (λ t. cond t (Some (name_of 0 1 r)) None) (sym is) ∙ ap (λ o. option_or o (cond (list_any (λ e. are_apart e r) rows) (Some (name_of 0 1 r)) None)) none ∙ sym (named-push rows r)
 
 -- ---- rows in order
-
-all_front : {X : Type 0} (P : X → Type 0) (xs : List X) (y : X) → AllByRecursion P (xs ++ y ∷ []) → AllByRecursion P xs × P y
-all_front P [] y all = (tt, all.0)
-all_front P (x ∷ xs) y all = let rest = all_front P xs y all.1 in ((all.0, rest.0), rest.1)
-
-ascending_front : {X : Type 0} (R : X → X → Type 0) (xs : List X) (y : X) → IsAscending R (xs ++ y ∷ []) → IsAscending R xs × AllByRecursion (λ x. R x y) xs
-ascending_front R [] y up = (tt, tt)
-ascending_front R (x ∷ xs) y up =
-    let first = all_front (R x) xs y up.0 in
-    let rest = ascending_front R xs y up.1 in
-    ((first.0, rest.0), (first.1, rest.1))
 
 pub fall_front : (rows : List Row) (r : Row) → DoNotFall (rows ++ r ∷ []) → DoNotFall rows × AllByRecursion (λ e. falls e r ≡ false) rows
 fall_front rows r up = ascending_front (λ a b. falls a b ≡ false) rows r up
@@ -302,3 +291,16 @@ module _ (rows : List Row) (r : Row) (next : Led) (number : as_integer (column r
         of = led.of;
         is = led.is;
       }
+
+-- a row that is led and admitted is apart from none, and it or what stood so far stands on
+pub goes_on : (rows : List Row) (r : Row) (next : Led) (found : Option RowName) (last : Option Led) → DoNotFall (rows ++ r ∷ []) → (DoNotFall rows → (found ≡ apart_named rows) × (found ≡ None → AreLed last rows))
+    → led_at r ≡ Some next → found ≡ None → admits last next ≡ true → (b : Bool) → stays last next ≡ b → (found ≡ apart_named (rows ++ r ∷ [])) × (found ≡ None → AreLed (cond b last (Some next)) (rows ++ r ∷ []))
+goes_on rows r next found last order so led none fine b stands =
+    let falls = fall_front rows r order in
+    let was = so falls.0 in
+    let is = led_is r next led in
+    (none ∙ now_apart rows r false (sym none ∙ was.0) (far_from_all rows r next is.0 is.1 falls.1 last (was.1 none) fine), λ _. go b stands falls.1 is (was.1 none))
+  where
+    go : (b : Bool) → stays last next ≡ b → AllByRecursion (λ e. falls e r ≡ false) rows → (as_integer (column r 0) ≡ Some next.number) × (attached_at 2 3 r ≡ next.attachment) → AreLed last rows → AreLed (cond b last (Some next)) (rows ++ r ∷ [])
+    go true stands low is were = led_still rows r next is.0 is.1 low last were fine stands
+    go false stands low is were = led_next rows r next is.0 is.1 low last were fine stands

@@ -17,6 +17,7 @@ use Rattle.csi_keeper.specs.declared.capability.CapKey.{CapKey}
 use Rattle.csi_keeper.specs.declared.capability.Kind.{Kind}
 use Rattle.csi_keeper.specs.declared.capability.Kind.TheVariants.{Block, Mount}
 use Rattle.csi_schema.specs.declared.formats.TheConstants.{FIRST_FORMAT}
+use Rattle.csi_tables.specs.facts.Keys.{some_key}
 use Rattle.csi_tables.specs.Encoding.{caps_bytes, params_bytes, FitCaps, FitParams, ReadsBack, with_caps, with_params}
 use Rattle.csi_constraints.specs.Coding.{are_keys, are_params, is_small, created, each_key, in_front, key_in, keys_in, only, params_in, rise}
 use Rattle.csi_constraints.specs.Values.{if_passes, is_some_and}
@@ -41,14 +42,6 @@ each_back [] all = refl
 each_back (k ∷ ks) all =
     let p = parts (is_supported_key k) (list_all is_supported_key ks) all in
     ap (λ o. in_front o (each_key (map capability_of ks))) (key_back k p.0) ∙ ap (in_front (Some k)) (each_back ks p.1)
-
-some_key : (b : Bool) (k j : CapKey) → key_with (access_of k.kind) (cond b (Some k.mode) None) ≡ Some j → j ≡ k
-some_key false k j e = absurd (cc)
-some_key true k j e = go k.kind refl e
-  where
-    go : (d : Kind) → k.kind ≡ d → key_with (access_of d) (Some k.mode) ≡ Some j → j ≡ k
-    go Block is e = let made : record { kind = Block; mode = k.mode } ≡ j = cc in sym made ∙ (λ i. record { kind = sym is i; mode = k.mode })
-    go (Mount t) is e = let made : record { kind = Mount t; mode = k.mode } ≡ j = cc in sym made ∙ (λ i. record { kind = sym is i; mode = k.mode })
 
 -- and else no others
 pub each_same : (ks js : List CapKey) → each_key (map capability_of ks) ≡ Some js → js ≡ ks

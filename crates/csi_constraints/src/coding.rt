@@ -141,8 +141,13 @@ pub(crate) fn params_in(alloc: Global, bytes: &[u8]) -> Result<Option<(Map, Map)
     let Some(message) = message_in(alloc, bytes)? else {
         return Ok(None);
     };
-    if are_params_of(alloc, &message.parameters, &message.mutable, bytes)? {
-        Ok(Some((message.parameters, message.mutable)))
+    let CreateVolume {
+        parameters,
+        mutable,
+        ..
+    } = message;
+    if are_params_of(alloc, &parameters, &mutable, bytes)? {
+        Ok(Some((parameters, mutable)))
     } else {
         Ok(None)
     }

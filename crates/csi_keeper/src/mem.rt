@@ -5,14 +5,15 @@ mod names;
 mod nodes;
 mod rows;
 
-ghost use Rattle.std.specs.Prelude.{◌≡◌, ◌≤◌, ◌<◌, ◌^◌, IfOk, OnOk, OnErr};
+ghost use Rattle.std.specs.Prelude.{◌≡◌, ◌≤◌, ◌<◌, ◌^◌, ℕ, List, IfOk, OnOk, OnErr, if◌then◌else◌};
+ghost use Rattle.csi_types.specs.Maps.{same_text};
 ghost use Rattle.csi_keeper.specs.State.{State, Allows, changed};
 ghost use Rattle.csi_keeper.specs.declared.change.Change.TheVariants.{AddVolume, RemoveVolume, Attach, Detach, DetachAll, SetMutable};
 ghost use Rattle.csi_keeper.specs.Holding.{Holds};
 ghost use Rattle.csi_keeper.specs.Memory.{first_state};
+ghost use Rattle.csi_keeper.specs.Totals.{total_of, more, HasRoom};
 
 use crate::change::{Change, StoreFault, Usage};
-use crate::copies::{copy_attachment, copy_volume};
 use crate::keeper::Keeper;
 use crate::mem::attachments::{attached_to, put_place, take_attachment, take_places};
 use crate::mem::names::{drop_name, set_name, volume_named};
@@ -71,15 +72,12 @@ impl MemKeeper {
         ensures made { OnOk result ((s : State) → Holds self.old s → Allows s (AddVolume volume.now) → Holds self.new (changed s (AddVolume volume.now))) }
         ensures same { OnErr result ((s : State) → Holds self.old s → Allows s (AddVolume volume.now) → Holds self.new s) }
     {
-        let copy = copy_volume(alloc, volume)?;
-        let name = copy_text(alloc, volume.name.as_str())?;
-        let pool = copy_text(alloc, volume.pool.as_str())?;
-        set_name(&mut self.names, name, volume.number)?;
-        if let Err(refused) = put_volume(&mut self.volumes, copy) {
+        set_name(alloc, &mut self.names, &volume.name, volume.number)?;
+        if let Err(refused) = put_volume(alloc, &mut self.volumes, volume) {
             drop_name(&mut self.names, &volume.name);
             return Err(refused);
         }
-        if let Err(refused) = self.pools.add(pool, volume.bytes) {
+        if let Err(refused) = count_in(alloc, &mut self.pools, volume) {
             take_volume(&mut self.volumes, volume.number);
             drop_name(&mut self.names, &volume.name);
             return Err(refused);
@@ -103,14 +101,12 @@ impl MemKeeper {
         number: u64,
         attachment: &Attachment,
     ) -> Result<(), AllocError>
-        ensures made { OnOk result ((s : State) → Holds self.old s → Allows s (Attach number attachment.now) → Holds self.new (changed s (Attach number attachment.now))) }
+        ensures made { OnOk result ((s : State) → Holds self.old s → Allows s (Attach number attachment.now)
+            → Holds self.new (changed s (Attach number attachment.now))) }
         ensures same { OnErr result ((s : State) → Holds self.old s → Allows s (Attach number attachment.now) → Holds self.new s) }
     {
-        let copy = copy_attachment(alloc, attachment)?;
-        let place = (number, copy_text(alloc, attachment.node.as_str())?);
-        let spot = copy_text(alloc, attachment.node.as_str())?;
-        put_spot(&mut self.nodes, (spot, number))?;
-        put_place(&mut self.attachments, place, copy)?;
+        put_spot(alloc, &mut self.nodes, &attachment.node, number)?;
+        put_place(alloc, &mut self.attachments, number, attachment)?;
         Ok(())
     }
 
@@ -132,13 +128,23 @@ impl MemKeeper {
 
     #[tactic(auto, using(crate::proofs::ChangeLemmas::kept_mutable))]
     fn set_mutable(&mut self, alloc: Global, number: u64, mutable: &Map) -> Result<(), AllocError>
-        ensures made { OnOk result ((s : State) → Holds self.old s → Allows s (SetMutable number mutable.now) → Holds self.new (changed s (SetMutable number mutable.now))) }
+        ensures made { OnOk result ((s : State) → Holds self.old s → Allows s (SetMutable number mutable.now)
+            → Holds self.new (changed s (SetMutable number mutable.now))) }
         ensures same { OnErr result ((s : State) → Holds self.old s → Allows s (SetMutable number mutable.now) → Holds self.new s) }
     {
         let copy = copy_map(alloc, mutable)?;
         set_mutable(&mut self.volumes, number, copy);
         Ok(())
     }
+}
+
+// Counts a volume in its pool. Where memory is refused each total stays.
+fn count_in(alloc: Global, pools: &mut Totals, volume: &Volume) -> Result<(), AllocError>
+    ensures counted { OnOk result (HasRoom (total_of pools.old volume.now.pool) volume.now.bytes → (q : List ℕ)
+        → total_of pools.new q ≡ (if same_text volume.now.pool q then more (total_of pools.old volume.now.pool) volume.now.bytes else total_of pools.old q)) }
+    ensures same { OnErr result ((q : List ℕ) → total_of pools.new q ≡ total_of pools.old q) }
+{
+    pools.add(copy_text(alloc, volume.pool.as_str())?, volume.bytes)
 }
 
 impl Keeper for MemKeeper {

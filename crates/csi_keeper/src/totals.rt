@@ -75,7 +75,8 @@ impl Totals {
     /// would pass the greatest `u128`.
     #[tactic(auto, using(crate::proofs::TreeLemmas::total_set))]
     pub fn add(&mut self, pool: Text, bytes: u64) -> Result<(), AllocError>
-        ensures counted { OnOk result (HasRoom (total_of self.old pool) bytes → (q : List ℕ) → total_of self.new q ≡ (if same_text pool q then more (total_of self.old pool) bytes else total_of self.old q)) }
+        ensures counted { OnOk result (HasRoom (total_of self.old pool) bytes → (q : List ℕ)
+            → total_of self.new q ≡ (if same_text pool q then more (total_of self.old pool) bytes else total_of self.old q)) }
         ensures same { OnErr result ((q : List ℕ) → total_of self.new q ≡ total_of self.old q) }
     {
         let total = more_total(self.get(&pool), bytes);
@@ -108,7 +109,8 @@ impl Totals {
     #[tactic(auto, using(crate::proofs::TreeLemmas::total_set))]
     pub fn count(&mut self, pool: &Text, bytes: u64)
         requires { IsReserved self.old pool.now }
-        ensures { HasRoom (total_of self.old pool.now) bytes → (q : List ℕ) → total_of self.new q ≡ (if same_text pool.now q then more (total_of self.old pool.now) bytes else total_of self.old q) }
+        ensures { HasRoom (total_of self.old pool.now) bytes → (q : List ℕ)
+            → total_of self.new q ≡ (if same_text pool.now q then more (total_of self.old pool.now) bytes else total_of self.old q) }
     {
         if let Some(total) = self.tree.get_mut(pool) {
             *total = more_total(*total, bytes);

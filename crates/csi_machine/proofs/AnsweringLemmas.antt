@@ -2,6 +2,8 @@
 use Rattle.std.proofs.Common.{◌≡◌, ◌∙◌, ◌⊎◌, inl, inr, ap, sym, subst, arith, refl, ℕ, ◌≤◌, ◌==◌, ◌&&◌, ◌||◌, ◌++◌, ◌∷◌, [], List, length, sum_by, nat_le, Bool, true, false, cond, Option, Some, None, Result, Ok, Err, IfSome, IsSome, OnOk, OnErr}
 use Rattle.std.specs.FinMap as fin
 use Rattle.std.specs.List.{list_all}
+use Rattle.csi_types.specs.declared.reason.Reason.{Reason}
+use Rattle.csi_types.specs.declared.responses.Response.{Response}
 use Rattle.csi_codec.specs.Methods.{response_bytes}
 use Rattle.csi_types.specs.Checks.{checked, is_supported}
 use Rattle.csi_types.specs.Maps.{same_map}
@@ -17,8 +19,6 @@ use Rattle.csi_machine.specs.declared.body.Verdict.TheVariants as verdict
 use Rattle.csi_keeper.specs.declared.change.Change.{Change}
 use Rattle.csi_keeper.specs.declared.change.StoreFault.{StoreFault}
 use Rattle.csi_keeper.specs.declared.change.StoreFault.TheVariants.{NoMemory, Refused, Down}
-use Rattle.csi_machine.specs.declared.plan.Outcome.{Outcome}
-use Rattle.csi_machine.specs.declared.plan.Outcome.TheVariants as outcome
 use Rattle.csi_machine.specs.declared.plan.Plan.{Plan}
 use Rattle.csi_keeper.specs.declared.volume.Volume.{Volume}
 use Rattle.csi_machine.specs.Answering.{Answered, Carries, IsOfAll, Performs, state_after, Leaves, Promises, verdict_of, body_of}
@@ -55,11 +55,11 @@ no_more [] = refl
 no_more (x ∷ xs) = ap (λ l. x ∷ l) (no_more xs)
 
 -- the body that is told is appended
-pub appended_by : (x y : List ℕ) (o : Outcome) (v : Verdict) → v ≡ verdict_of o → y ≡ x ++ body_of o → length (body_of o) ≤ MAX_BODY_BYTES → Appended {E = StoreFault} x y (Ok v)
-appended_by x y (outcome.Done r) verdict.Done e b l = (response_bytes r, b, l)
-appended_by x y (outcome.Done r) (verdict.Refused q) e b l = absurd (cc)
-appended_by x y (outcome.Refused q) verdict.Done e b l = absurd (cc)
-appended_by x y (outcome.Refused q) (verdict.Refused p) e b l = b ∙ no_more x
+pub appended_by : (x y : List ℕ) (o : Result Response Reason) (v : Verdict) → v ≡ verdict_of o → y ≡ x ++ body_of o → length (body_of o) ≤ MAX_BODY_BYTES → Appended {E = StoreFault} x y (Ok v)
+appended_by x y (Ok r) verdict.Done e b l = (response_bytes r, b, l)
+appended_by x y (Ok r) (verdict.Refused q) e b l = absurd (cc)
+appended_by x y (Err q) verdict.Done e b l = absurd (cc)
+appended_by x y (Err q) (verdict.Refused p) e b l = b ∙ no_more x
 
 -- what a stop leaves of a plan is left of an equal one
 left_of : (p q : Plan) (s t : State) (Old : Type 0) → p ≡ q → Old ⊎ (IsSome p.change × (t ≡ after s p.change)) → Old ⊎ (IsSome q.change × (t ≡ after s q.change))
@@ -120,9 +120,9 @@ carried config plan a b c p x y (Ok v) sound q tells alone k before ok err small
     }
 
 -- a plan whose body may be too large changes no more
-limited_change : (p : Plan) (o : Outcome) (c : Change) → (limited_by p o).change ≡ Some c → p.change ≡ Some c
-limited_change p (outcome.Refused q) c e = absurd (none_some c e)
-limited_change p (outcome.Done r) c e = go (nat_le (length (response_bytes r)) MAX_BODY_BYTES) e
+limited_change : (p : Plan) (o : Result Response Reason) (c : Change) → (limited_by p o).change ≡ Some c → p.change ≡ Some c
+limited_change p (Err q) c e = absurd (none_some c e)
+limited_change p (Ok r) c e = go (nat_le (length (response_bytes r)) MAX_BODY_BYTES) e
   where
     go : (b : Bool) → (cond b p (refuse ReplyTooLarge)).change ≡ Some c → p.change ≡ Some c
     go false h = absurd (none_some c h)
@@ -134,9 +134,9 @@ limited_sound config plan sound = sound_by config (λ s. limited (plan s)) (λ s
     (subst (λ (o : Option Change). IfSome o (Allows s)) is (sound.allows s inv), subst (λ (o : Option Change). IsInvariant config (after s o)) is (sound.keeps s inv)))
 
 -- the State after a reply is the one after the step
-moved_by : (s : State) (p : Plan) (o : Outcome) → after s (limited_by p o).change ≡ moved s (after s p.change) (told_of o)
-moved_by s p (outcome.Refused q) = refl
-moved_by s p (outcome.Done r) = go (nat_le (length (response_bytes r)) MAX_BODY_BYTES)
+moved_by : (s : State) (p : Plan) (o : Result Response Reason) → after s (limited_by p o).change ≡ moved s (after s p.change) (told_of o)
+moved_by s p (Err q) = refl
+moved_by s p (Ok r) = go (nat_le (length (response_bytes r)) MAX_BODY_BYTES)
   where
     go : (b : Bool) → after s (cond b p (refuse ReplyTooLarge)).change ≡ moved s (after s p.change) (cond b (Says (response_bytes r)) (Denies ReplyTooLarge))
     go true = refl
@@ -145,14 +145,14 @@ moved_by s p (outcome.Done r) = go (nat_le (length (response_bytes r)) MAX_BODY_
 pub moved_is : (config : Config) (s : State) (r : Request) → after s (settled_plan config s r).change ≡ (step config s r).1
 moved_is config s r = moved_by s (plan config s r) (plan config s r).outcome
 
-said : Outcome → Told
-said (outcome.Done r) = Says (response_bytes r)
-said (outcome.Refused q) = Denies q
+said : Result Response Reason → Told
+said (Ok r) = Says (response_bytes r)
+said (Err q) = Denies q
 
-said_by : (p : Plan) (o : Outcome) → p.outcome ≡ o → told_of o ≡ said (limited_by p o).outcome
+said_by : (p : Plan) (o : Result Response Reason) → p.outcome ≡ o → told_of o ≡ said (limited_by p o).outcome
 unfolding said
-said_by p (outcome.Refused q) e = refl
-said_by p (outcome.Done r) e = go (nat_le (length (response_bytes r)) MAX_BODY_BYTES)
+said_by p (Err q) e = refl
+said_by p (Ok r) e = go (nat_le (length (response_bytes r)) MAX_BODY_BYTES)
   where
     go : (b : Bool) → cond b (Says (response_bytes r)) (Denies ReplyTooLarge) ≡ said (cond b p (refuse ReplyTooLarge)).outcome
     go true = sym (ap said e)
@@ -161,12 +161,12 @@ said_by p (outcome.Done r) e = go (nat_le (length (response_bytes r)) MAX_BODY_B
 said_is : (config : Config) (s : State) (r : Request) → (step config s r).0 ≡ said (settled_plan config s r).outcome
 said_is config s r = said_by (plan config s r) (plan config s r).outcome refl
 
-told_by : (o : Outcome) (w : Told) (v : Verdict) (x y : List ℕ) → w ≡ said o → v ≡ verdict_of o → y ≡ x ++ body_of o → IsTold {E = StoreFault} w x y (Ok v)
+told_by : (o : Result Response Reason) (w : Told) (v : Verdict) (x y : List ℕ) → w ≡ said o → v ≡ verdict_of o → y ≡ x ++ body_of o → IsTold {E = StoreFault} w x y (Ok v)
 unfolding said
-told_by (outcome.Done r) w verdict.Done x y e f b = (response_bytes r, e, b)
-told_by (outcome.Done r) w (verdict.Refused q) x y e f b = absurd (cc)
-told_by (outcome.Refused q) w verdict.Done x y e f b = absurd (cc)
-told_by (outcome.Refused q) w (verdict.Refused t) x y e f b = e ∙ ap Denies (sym (same t q f))
+told_by (Ok r) w verdict.Done x y e f b = (response_bytes r, e, b)
+told_by (Ok r) w (verdict.Refused q) x y e f b = absurd (cc)
+told_by (Err q) w verdict.Done x y e f b = absurd (cc)
+told_by (Err q) w (verdict.Refused t) x y e f b = e ∙ ap Denies (sym (same t q f))
   where
     same : (a b : _) → verdict.Refused a ≡ verdict.Refused b → a ≡ b
     same a b h = cc

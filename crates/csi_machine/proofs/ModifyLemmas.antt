@@ -1,10 +1,12 @@
 -- Changing a volume's mutable parameters keeps the invariant, and doing it again changes nothing.
-use Rattle.std.proofs.Common.{◌≡◌, ◌∙◌, ◌⊎◌, inl, inr, ap, sym, subst, cond, arith, ℕ, ◌≤◌, nat_lt, Bool, true, false, Option, Some, None, IsSome, refl}
+use Rattle.std.proofs.Common.{◌≡◌, ◌∙◌, ◌⊎◌, inl, inr, ap, sym, subst, cond, arith, ℕ, ◌≤◌, nat_lt, Bool, true, false, Option, Some, None, IsSome, refl, Result, Ok}
 use Rattle.std.specs.Cmp.{nat_cmp_total}
 use Rattle.std.specs.FinMap as fin
 use Rattle.std.specs.Ordering.{is_eq}
 use Rattle.std.proofs.lemmas.Bool.{ltb-false}
 use Rattle.std.proofs.lemmas.Cmp.{tied_itself}
+use Rattle.csi_types.specs.declared.reason.Reason.{Reason}
+use Rattle.csi_types.specs.declared.responses.Response.{Response}
 use Rattle.csi_types.specs.Checks.{map_bytes}
 use Rattle.csi_types.specs.Maps.{TextMap}
 use Rattle.csi_types.specs.Overlays.{has_each, laid_over}
@@ -21,8 +23,6 @@ use Rattle.csi_keeper.specs.Invariant.{IsInvariant, IsVolume}
 use Rattle.csi_keeper.specs.State.{State, changed, with_mutable, mutable_set}
 use Rattle.csi_keeper.specs.facts.Finite.{none_some, same_some}
 use Rattle.csi_keeper.specs.facts.Mutable.{stood, stands, as_many, same_sum}
-use Rattle.csi_machine.specs.declared.plan.Outcome.{Outcome}
-use Rattle.csi_machine.specs.declared.plan.Outcome.TheVariants.{Done}
 use Rattle.csi_machine.specs.declared.plan.Plan.{Plan}
 use Rattle.csi_machine.specs.Ids.{number_of_id}
 use Rattle.csi_machine.specs.Plan.{refuse, respond, make}
@@ -118,17 +118,17 @@ done_with laws n own given small =
     ∙ ap (λ b. cond b (respond response.Modify) (make response.Modify (SetMutable n laid))) (laws.given own given)
 
 -- the plan that made a change, without it
-quiet_by : (n : ℕ) (own given : TextMap) (c : Change) → (modify_own n own given).change ≡ Some c → (modify_own n own given).outcome ≡ Done response.Modify
+quiet_by : (n : ℕ) (own given : TextMap) (c : Change) → (modify_own n own given).change ≡ Some c → (modify_own n own given).outcome ≡ Ok response.Modify
 quiet_by n own given c e = go (nat_lt MAX_MAP_BYTES (map_bytes (laid_over own given))) (has_each own given) e
   where
     go : (b h : Bool) → (cond b (refuse MutableTooLarge) (cond h (respond response.Modify) (make response.Modify (SetMutable n (laid_over own given))))).change ≡ Some c
-        → (cond b (refuse MutableTooLarge) (cond h (respond response.Modify) (make response.Modify (SetMutable n (laid_over own given))))).outcome ≡ Done response.Modify
+        → (cond b (refuse MutableTooLarge) (cond h (respond response.Modify) (make response.Modify (SetMutable n (laid_over own given))))).outcome ≡ Ok response.Modify
     go true h k = absurd (none_some c k)
     go false true k = absurd (none_some c k)
     go false false k = refl
 
 -- what is answered, without a change
-abbrev pub told_still : Outcome → Plan
+abbrev pub told_still : Result Response Reason → Plan
 told_still o = record { outcome = o; change = None }
 
 -- the plan after a change is the same, and makes none

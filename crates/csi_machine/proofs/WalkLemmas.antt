@@ -1,5 +1,5 @@
 -- Walks over the pages of a listing, with other requests among them.
-use Rattle.std.proofs.Common.{◌≡◌, ◌∙◌, ◌⊎◌, inl, inr, ap, sym, subst, cond, arith, refl, ℕ, ◌<◌, ◌≤◌, ◌^◌, ◌&&◌, nat_le, nat_lt, zero, suc, List, [], ◌∷◌, ◌++◌, map, filter, take, length, Bool, true, false, Option, Some, None}
+use Rattle.std.proofs.Common.{◌≡◌, ◌∙◌, ◌⊎◌, inl, inr, ap, sym, subst, cond, arith, refl, ℕ, ◌<◌, ◌≤◌, ◌^◌, ◌&&◌, nat_le, nat_lt, zero, suc, List, [], ◌∷◌, ◌++◌, map, filter, take, length, Bool, true, false, Option, Some, None, Ok}
 use Rattle.std.specs.Cmp.{nat_cmp_total}
 use Rattle.std.specs.FinMap as fin
 use Rattle.std.specs.Fmt.{decimal}
@@ -20,7 +20,6 @@ use Rattle.csi_config.specs.declared.config.Config.{Config}
 use Rattle.frames_core.specs.declared.limits.TheConstants.{MAX_BODY_BYTES}
 use Rattle.csi_keeper.specs.declared.change.Change.{Change}
 use Rattle.csi_keeper.specs.declared.change.Change.TheVariants.{AddVolume, RemoveVolume, Attach, Detach, DetachAll, SetMutable}
-use Rattle.csi_machine.specs.declared.plan.Outcome.TheVariants as outcome
 use Rattle.csi_keeper.specs.declared.volume.Volume.{Volume}
 use Rattle.csi_machine.specs.Ids.{number_of, number_of_id, id}
 use Rattle.csi_keeper.specs.Invariant.{IsInvariant}
@@ -171,7 +170,7 @@ module _ (config : Config) where
   shown_is s token after most e =
       ap (λ o. listing_told (list_after config s most o).outcome (told_of (list_after config s most o).outcome)) e ∙ by (fits s after most)
     where
-      by : (b : Bool) → listing_told (outcome.Done (reply_after s after most)) (cond b (Says (response_bytes (reply_after s after most))) (Denies ReplyTooLarge)) ≡ page_shown s after most b
+      by : (b : Bool) → listing_told (Ok (reply_after s after most)) (cond b (Says (response_bytes (reply_after s after most))) (Denies ReplyTooLarge)) ≡ page_shown s after most b
       by true = refl
       by false = refl
 

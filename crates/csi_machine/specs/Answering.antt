@@ -1,12 +1,12 @@
 -- What a request does to a keeper, by the plan that the State gives it.
 use Rattle.std.specs.Prelude.{◌≡◌, ◌⊎◌, true, ℕ, ◌≤◌, ◌++◌, List, [], Result, Ok, Err, None, IsSome, IfSome, IfOk, OnOk, OnErr}
+use Rattle.csi_types.specs.declared.reason.Reason.{Reason}
+use Rattle.csi_types.specs.declared.responses.Response.{Response}
 use Rattle.csi_codec.specs.Methods.{response_bytes}
 use Rattle.csi_config.specs.declared.config.Config.{Config}
 use Rattle.csi_types.specs.declared.requests.Request.{Request}
 use Rattle.csi_keeper.specs.declared.change.StoreFault.{StoreFault}
 use Rattle.csi_keeper.specs.declared.change.StoreFault.TheVariants.{NoMemory, Refused, Down}
-use Rattle.csi_machine.specs.declared.plan.Outcome.{Outcome}
-use Rattle.csi_machine.specs.declared.plan.Outcome.TheVariants as outcome
 use Rattle.csi_machine.specs.declared.body.Verdict.{Verdict}
 use Rattle.csi_machine.specs.declared.body.Verdict.TheVariants as verdict
 use Rattle.csi_machine.specs.declared.plan.Plan.{Plan}
@@ -20,13 +20,13 @@ use Rattle.csi_machine.specs.Step.{step}
 use Rattle.csi_machine.specs.Verdicts.{Appended, IsTold}
 
 -- the verdict of an outcome, and the body that is written
-abbrev pub verdict_of : Outcome → Verdict
-verdict_of (outcome.Done r) = verdict.Done
-verdict_of (outcome.Refused reason) = verdict.Refused reason
+abbrev pub verdict_of : Result Response Reason → Verdict
+verdict_of (Ok r) = verdict.Done
+verdict_of (Err reason) = verdict.Refused reason
 
-abbrev pub body_of : Outcome → List ℕ
-body_of (outcome.Done r) = response_bytes r
-body_of (outcome.Refused reason) = []
+abbrev pub body_of : Result Response Reason → List ℕ
+body_of (Ok r) = response_bytes r
+body_of (Err reason) = []
 
 -- where it is answered the State is the one after the request, and else the one before it
 abbrev pub state_after : State → State → Result Verdict StoreFault → State

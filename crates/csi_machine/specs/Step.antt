@@ -1,13 +1,13 @@
 -- One step of the volume machine: what each request is answered, and the State after it.
-use Rattle.std.specs.Prelude.{nat_le, length, if◌then◌else◌}
+use Rattle.std.specs.Prelude.{nat_le, length, if◌then◌else◌, Result, Ok, Err}
+use Rattle.csi_types.specs.declared.reason.Reason.{Reason}
+use Rattle.csi_types.specs.declared.responses.Response.{Response}
 use Rattle.csi_types.specs.declared.reason.Reason.TheVariants.{ReplyTooLarge}
 use Rattle.csi_types.specs.declared.requests.Request.{Request}
 use Rattle.csi_types.specs.declared.requests.Request.TheVariants as request
 use Rattle.csi_codec.specs.Methods.{response_bytes}
 use Rattle.csi_config.specs.declared.config.Config.{Config}
 use Rattle.frames_core.specs.declared.limits.TheConstants.{MAX_BODY_BYTES}
-use Rattle.csi_machine.specs.declared.plan.Outcome.{Outcome}
-use Rattle.csi_machine.specs.declared.plan.Outcome.TheVariants as outcome
 use Rattle.csi_machine.specs.declared.plan.Plan.{Plan}
 use Rattle.csi_machine.specs.declared.body.Verdict.{Verdict}
 use Rattle.csi_machine.specs.declared.body.Verdict.TheVariants as verdict
@@ -50,9 +50,9 @@ step config s r = (told_of (plan config s r).outcome, moved s (after s (plan con
 
 -- The same as a plan: one whose body no reply holds is a refusal.
 
-abbrev pub limited_by : Plan → Outcome → Plan
-limited_by p (outcome.Refused reason) = refuse reason
-limited_by p (outcome.Done r) = if nat_le (length (response_bytes r)) MAX_BODY_BYTES then p else refuse ReplyTooLarge
+abbrev pub limited_by : Plan → Result Response Reason → Plan
+limited_by p (Err reason) = refuse reason
+limited_by p (Ok r) = if nat_le (length (response_bytes r)) MAX_BODY_BYTES then p else refuse ReplyTooLarge
 
 -- what is left of a plan by what its body is told as
 abbrev pub by_verdict : Plan → Verdict → Plan

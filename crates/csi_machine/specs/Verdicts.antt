@@ -1,13 +1,12 @@
 -- How a request is answered in a reply: by the body of its response, or by the reason of a refusal.
 use Rattle.std.specs.Prelude.{◌≡◌, ℕ, ◌≤◌, nat_le, List, ◌++◌, length, Result, Ok, Err, if◌then◌else◌}
+use Rattle.csi_types.specs.declared.responses.Response.{Response}
 use Rattle.csi_types.specs.declared.reason.Reason.{Reason}
 use Rattle.csi_types.specs.declared.reason.Reason.TheVariants.{ReplyTooLarge}
 use Rattle.csi_codec.specs.Methods.{response_bytes}
 use Rattle.frames_core.specs.declared.limits.TheConstants.{MAX_BODY_BYTES}
 use Rattle.csi_machine.specs.declared.body.Verdict.{Verdict}
 use Rattle.csi_machine.specs.declared.body.Verdict.TheVariants as verdict
-use Rattle.csi_machine.specs.declared.plan.Outcome.{Outcome}
-use Rattle.csi_machine.specs.declared.plan.Outcome.TheVariants as outcome
 
 -- a body that a reply holds, or the reason of a refusal
 pub data Told : Type 0 where
@@ -18,9 +17,9 @@ pub data Told : Type 0 where
 abbrev pub within : List ℕ → Told
 within body = if nat_le (length body) MAX_BODY_BYTES then Says body else Denies ReplyTooLarge
 
-abbrev pub told_of : Outcome → Told
-told_of (outcome.Done r) = within (response_bytes r)
-told_of (outcome.Refused reason) = Denies reason
+abbrev pub told_of : Result Response Reason → Told
+told_of (Ok r) = within (response_bytes r)
+told_of (Err reason) = Denies reason
 
 -- a body comes behind what stood in the vector, and anything else leaves the vector as it was
 abbrev pub Appended : {E : Type 0} → List ℕ → List ℕ → Result Verdict E → Type 0

@@ -1,7 +1,8 @@
 -- A walk over the pages of a listing, with other requests among them (CSI specification, 'ListVolumes').
-use Rattle.std.specs.Prelude.{◌≡◌, ℕ, pos, List, [], ◌∷◌, ◌++◌, map, Option, None, Some}
+use Rattle.std.specs.Prelude.{◌≡◌, ℕ, pos, List, [], ◌∷◌, ◌++◌, map, Option, None, Some, Result, Ok, Err}
 use Rattle.std.specs.FinMap.{get}
 use Rattle.std.specs.List.{AllByRecursion}
+use Rattle.csi_types.specs.declared.reason.Reason.{Reason}
 use Rattle.csi_types.specs.Checks.{checked}
 use Rattle.csi_types.specs.declared.reason.Reason.TheVariants.{BadToken}
 use Rattle.csi_types.specs.declared.requests.Request.{Request}
@@ -12,8 +13,6 @@ use Rattle.csi_types.specs.declared.volume.Entry.{Entry}
 use Rattle.csi_types.specs.declared.volume.VolumeInfo.{VolumeInfo}
 use Rattle.csi_config.specs.Values.{Has}
 use Rattle.csi_config.specs.declared.config.Config.{Config}
-use Rattle.csi_machine.specs.declared.plan.Outcome.{Outcome}
-use Rattle.csi_machine.specs.declared.plan.Outcome.TheVariants as outcome
 use Rattle.csi_keeper.specs.declared.volume.Volume.{Volume}
 use Rattle.csi_machine.specs.calls.Listing.{entry_of}
 use Rattle.csi_keeper.specs.State.{State}
@@ -31,11 +30,11 @@ abbrev pub listing_of : Response → Option (List Entry × Text)
 listing_of (response.List entries token) = Some (entries, token)
 listing_of _ = None
 
-abbrev pub listing_in : Outcome → Option (List Entry × Text)
-listing_in (outcome.Done r) = listing_of r
-listing_in (outcome.Refused reason) = None
+abbrev pub listing_in : Result Response Reason → Option (List Entry × Text)
+listing_in (Ok r) = listing_of r
+listing_in (Err reason) = None
 
-abbrev pub listing_told : Outcome → Told → Option (List Entry × Text)
+abbrev pub listing_told : Result Response Reason → Told → Option (List Entry × Text)
 listing_told o (Says body) = listing_in o
 listing_told o (Denies reason) = None
 

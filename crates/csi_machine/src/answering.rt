@@ -23,10 +23,10 @@ use crate::calls::publish::plan_publish;
 use crate::calls::unpublish::plan_unpublish;
 use crate::calls::validate::plan_validate;
 use crate::configured::configured;
-use crate::plan::{Outcome, Plan};
+use crate::plan::Plan;
 use csi_config::Config;
 use csi_keeper::{Keeper, StoreFault};
-use csi_types::Request;
+use csi_types::{Reason, Request, Response};
 use std::alloc::{AllocError, Global};
 
 // The plan of a request, by reads alone.
@@ -56,16 +56,6 @@ fn plan_of<K: Keeper>(
     }
 }
 
-fn append_outcome(outcome: &Outcome, out: &mut Vec<u8>) -> Result<Verdict, AllocError>
-    ensures appended { Appended out.old.items out.new.items result }
-    ensures told { IsTold (told_of outcome.now) out.old.items out.new.items result }
-{
-    match outcome {
-        Outcome::Done(response) => append_body(response, out),
-        Outcome::Refused(reason) => Ok(Verdict::Refused(*reason)),
-    }
-}
-
 // Appends the body of a plan's response. A body that no reply holds is a refusal, and then the plan
 // makes no change.
 fn append_plan(plan: &Plan, out: &mut Vec<u8>) -> Result<Verdict, AllocError>
@@ -74,15 +64,18 @@ fn append_plan(plan: &Plan, out: &mut Vec<u8>) -> Result<Verdict, AllocError>
     ensures small { OnOk result (length (body_of (limited plan.now).outcome) ≤ MAX_BODY_BYTES) }
     ensures err { OnErr result (out.new.items ≡ out.old.items) }
 {
-    append_outcome(&plan.outcome, out)
+    match &plan.outcome {
+        Ok(response) => append_body(response, out),
+        Err(reason) => Ok(Verdict::Refused(*reason)),
+    }
 }
 
-fn verdict_of(outcome: &Outcome) -> Verdict
+fn verdict_of(outcome: &Result<Response, Reason>) -> Verdict
     ensures { result ≡ verdict_of outcome.now }
 {
     match outcome {
-        Outcome::Done(_) => Verdict::Done,
-        Outcome::Refused(reason) => Verdict::Refused(*reason),
+        Ok(_) => Verdict::Done,
+        Err(reason) => Verdict::Refused(*reason),
     }
 }
 

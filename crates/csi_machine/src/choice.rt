@@ -67,7 +67,8 @@ fn fits(room: &Room<'_>, term: &Map, size: u64) -> bool
 
 // The first pool that serves the term and has room.
 fn first_for<'a>(rooms: &[Room<'a>], term: &Map, size: u64) -> Option<&'a Pool>
-    ensures { option_map (λ p. p.now) result ≡ option_map (λ r. r.pool.now) (find (λ r. serves r.pool.now.segments term.now && nat_le size (free (room_value r))) rooms.now) }
+    ensures { option_map (λ p. p.now) result
+        ≡ option_map (λ r. r.pool.now) (find (λ r. serves r.pool.now.segments term.now && nat_le size (free (room_value r))) rooms.now) }
 {
     let room = rooms.iter().find(|room| fits(room, term, size))?;
     Some(room.pool)

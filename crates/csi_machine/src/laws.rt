@@ -54,8 +54,10 @@ pub fn kept(config: &Config)
 pub fn walk(config: &Config)
     ensures read { (s : State) (calls : List Call) → IsInvariant config.now s → AreChecked calls → AreRead config.now s [] calls }
     ensures stood { (s : State) (calls : List Call) → AllByRecursion (AreOfVolumes config.now) (pages config.now s [] calls) }
-    ensures once { (s : State) (calls : List Call) → IsInvariant config.now s → AreChecked calls → GoOn (pages config.now s [] calls) → AreApart (listed_ids (pages config.now s [] calls)) }
-    ensures each { (s : State) (calls : List Call) (n : ℕ) → IsInvariant config.now s → AreChecked calls → GoOn (pages config.now s [] calls) → End (pages config.now s [] calls) → Stood n (pages config.now s [] calls) → Has (listed_ids (pages config.now s [] calls)) (id n) }
+    ensures once { (s : State) (calls : List Call) → IsInvariant config.now s → AreChecked calls → GoOn (pages config.now s [] calls)
+        → AreApart (listed_ids (pages config.now s [] calls)) }
+    ensures each { (s : State) (calls : List Call) (n : ℕ) → IsInvariant config.now s → AreChecked calls → GoOn (pages config.now s [] calls)
+        → End (pages config.now s [] calls) → Stood n (pages config.now s [] calls) → Has (listed_ids (pages config.now s [] calls)) (id n) }
 {
     configured(config);
 }
@@ -69,8 +71,11 @@ pub fn walk(config: &Config)
 /// be used up.
 #[inline(always)]
 pub fn room(config: &Config)
-    ensures chosen { (s : State) (g : GetCapacity) (available n : ℕ) → IsInvariant config.now s → capacity config.now s g ≡ tell_capacity available n → 0 < n → (pool : Pool) × Has config.now.pools pool × (choice (rooms config.now s) (term_of g.topology ∷ []) n ≡ Some pool) }
-    ensures made { (s : State) (g : GetCapacity) (available n : ℕ) (r : CreateVolume) → IsInvariant config.now s → capacity config.now s g ≡ tell_capacity available n → 0 < n → AsksFor r g.topology n → IsNew config.now s r.name → (pool : Pool) × Has config.now.pools pool × (create config.now s r ≡ place_in r s.next n (Some pool)) }
+    ensures chosen { (s : State) (g : GetCapacity) (available n : ℕ) → IsInvariant config.now s → capacity config.now s g ≡ tell_capacity available n → 0 < n
+        → (pool : Pool) × Has config.now.pools pool × (choice (rooms config.now s) (term_of g.topology ∷ []) n ≡ Some pool) }
+    ensures made { (s : State) (g : GetCapacity) (available n : ℕ) (r : CreateVolume) → IsInvariant config.now s
+        → capacity config.now s g ≡ tell_capacity available n → 0 < n → AsksFor r g.topology n → IsNew config.now s r.name → (pool : Pool)
+        × Has config.now.pools pool × (create config.now s r ≡ place_in r s.next n (Some pool)) }
 {
     configured(config);
 }
@@ -98,7 +103,9 @@ pub fn repeat(config: &Config)
 /// and each State that may be left in the end, are those of the requests taken once each.
 #[inline(always)]
 pub fn retry(config: &Config)
-    ensures { (s t : State) (requests : List Request) (sessions : List (List Try)) (told : List Told) → IsInvariant config.now s → AllByRecursion (λ r. checked r ≡ None) requests → AreTriesOf requests (all_tries sessions) → IsLife config.now s sessions told t → (told ≡ told_once config.now s requests) × (t ≡ after_once config.now s requests) }
+    ensures { (s t : State) (requests : List Request) (sessions : List (List Try)) (told : List Told) → IsInvariant config.now s
+        → AllByRecursion (λ r. checked r ≡ None) requests → AreTriesOf requests (all_tries sessions) → IsLife config.now s sessions told t
+        → (told ≡ told_once config.now s requests) × (t ≡ after_once config.now s requests) }
 {
     configured(config);
     equal_topologies();

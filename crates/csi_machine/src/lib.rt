@@ -29,4 +29,4 @@ mod topology;
 
 pub use answering::{answer, append_answer};
 pub use body::{Verdict, append_body};
-pub use plan::{Outcome, Plan};
+pub use plan::Plan;

@@ -1,25 +1,16 @@
 //! What a request is answered, and the one change that it makes.
 
 ghost use Rattle.std.specs.Prelude.{◌≡◌};
-ghost use Rattle.csi_machine.specs.Plan.{refuse, respond};
+ghost use Rattle.csi_machine.specs.Plan.{make, refuse, respond};
 
 use csi_keeper::Change;
 use csi_types::{Reason, Response};
 
-/// What a request is answered.
-#[derive(Debug, Drop)]
-pub enum Outcome {
-    /// It is done.
-    Done(Response),
-    /// It is refused, and changes nothing.
-    Refused(Reason),
-}
-
 /// What a request is answered, and the change that is made before it is.
 #[derive(Debug, Drop)]
 pub struct Plan {
-    /// What is answered.
-    pub outcome: Outcome,
+    /// The response, or the reason for which the request is refused and changes nothing.
+    pub outcome: Result<Response, Reason>,
     /// What changes, if anything.
     pub change: Option<Change>,
 }
@@ -29,8 +20,18 @@ pub(crate) fn refuse(reason: Reason) -> Plan
     ensures { result ≡ refuse reason }
 {
     Plan {
-        outcome: Outcome::Refused(reason),
+        outcome: Err(reason),
         change: None,
+    }
+}
+
+/// A response behind a change.
+pub(crate) fn make(response: Response, change: Change) -> Plan
+    ensures { result ≡ make response change }
+{
+    Plan {
+        outcome: Ok(response),
+        change: Some(change),
     }
 }
 
@@ -39,7 +40,7 @@ pub(crate) fn respond(response: Response) -> Plan
     ensures { result ≡ respond response }
 {
     Plan {
-        outcome: Outcome::Done(response),
+        outcome: Ok(response),
         change: None,
     }
 }

@@ -1,52 +1,19 @@
 -- What a scan over two tables shows.
-use Rattle.std.proofs.Common.{◌≡◌, ◌∙◌, refl, sym, ap, ap₂, subst, codes, ℕ, List, [], ◌∷◌, ◌++◌, map, filter, flat_map, Bool, true, false, ◌&&◌, IsPermutation, inl, inr, true≢false, arith}
+use Rattle.std.proofs.Common.{◌≡◌, ◌∙◌, refl, sym, ap, ap₂, subst, List, [], ◌∷◌, ◌++◌, map, filter, flat_map, Bool, true, false, ◌&&◌, IsPermutation}
 use Rattle.std.specs.List.{AllByRecursion, list_all}
 use Rattle.std.proofs.lemmas.List.Sorted.{IsPermutation-map}
-use Rattle.sqlite.specs.Collation.TheVariants.{Binary}
 use Rattle.sqlite.specs.Order.{Row}
 use Rattle.sqlite.specs.Program.{overlay}
-use Rattle.sqlite.specs.Query.{Query, Output, output, inner, left, end, IsAnswer, or_nulls}
+use Rattle.sqlite.specs.Query.{Query, Output, output, IsAnswer, or_nulls}
 use Rattle.sqlite.specs.State.{State, Shown}
-use Rattle.sqlite.specs.Term.{Term, col, op2, holds}
+use Rattle.sqlite.specs.Term.{col, holds}
 use Rattle.sqlite.specs.Tree.{Trees}
-use Rattle.sqlite.specs.Listing.{understood}
-use Rattle.sqlite_sql.specs.declared.ops.BinaryOp.TheVariants.{Compare}
-use Rattle.sqlite_sql.specs.declared.ops.CompareOp.TheVariants.{Eq}
-use Rattle.sqlite_tied.specs.Compute.{everything}
 use Rattle.csi_schema.specs.Tables.{schema}
-use Rattle.csi_schema.specs.facts.Failing.{IsSure}
-use Rattle.csi_transactions.specs.Statements.{plain_query, rising}
 use Rattle.csi_scans.specs.Scans.{IsInOrder, owns, with_owner, owners}
-use Rattle.csi_scans.proofs.TableLemmas.{IsKeyed, IsSelect, answer_of, sorted_by_first}
-
-abbrev pub owners_text : List ℕ
-owners_text = codes "SELECT a.number, a.node, a.cap, a.readonly, v.caps FROM attachments AS a LEFT JOIN volumes AS v ON v.number = a.number ORDER BY a.number"
-
-abbrev owner_on : List Term
-owner_on = op2 (Compare Eq Binary) (col 2 0) (col 1 1) ∷ []
+use Rattle.csi_scans.proofs.TableLemmas.{IsKeyed, Owners, answer_of, owner_on, query, sorted_by_first, text}
 
 abbrev owners_query : Query
-owners_query = record plain_query {
-  from = inner 3 (left 1 owner_on end);
-  project = col 1 1 ∷ col 1 2 ∷ col 1 3 ∷ col 1 4 ∷ col 2 5 ∷ [];
-  order = (col 1 1, rising) ∷ [];
-}
-
-pub owners_select : IsSelect owners_text owners_query
-unfolding understood everything
-owners_select = record { names = codes "number" ∷ codes "node" ∷ codes "cap" ∷ codes "readonly" ∷ codes "caps" ∷ []; is = refl; plain = (refl, refl); unlisted = refl }
-
-pub owners_sure : IsSure schema owners_text []
-unfolding understood everything
-owners_sure = record {
-  query = _;
-  names = owners_select.names;
-  is = owners_select.is;
-  plain = owners_select.plain;
-  unlisted = owners_select.unlisted;
-  alone = (omega arith, refl, refl);
-  unrefused = λ limit db e h. elim h [ inl typed ↦ absurd (true≢false typed.1) | inr (inl (is, inl none)) ↦ absurd none | inr (inl (is, inr over)) ↦ absurd over.4.4 | inr (inr limited) ↦ limited ];
-}
+owners_query = query Owners
 
 map-append : {A B : Type 0} (f : A → B) (xs ys : List A) → map f (xs ++ ys) ≡ map f xs ++ map f ys
 map-append f [] ys = refl
@@ -87,5 +54,5 @@ shows_owners db rows a = record {
   sorted = sorted_by_first owners_query (col 1 1) refl a.kept a.ordered (subst (AllByRecursion IsKeyed) (sym (a.distinct ∙ ap (map (output owners_query)) a.grouped)) (keyed_owners _)) a.same a.sorted rows a.shown;
 }
 
-pub owner_rows : (old new : State) (rows : List Row) → old.now.schema ≡ schema → Shown owners_text [] old new rows → IsInOrder (owners (old.now.trees 3) (old.now.trees 1)) rows
-owner_rows old new rows has h = shows_owners (overlay old.now.trees []) rows (answer_of owners_text _ owners_select old new rows has h)
+pub owner_rows : (old new : State) (rows : List Row) → old.now.schema ≡ schema → Shown (text Owners) [] old new rows → IsInOrder (owners (old.now.trees 3) (old.now.trees 1)) rows
+owner_rows old new rows has h = shows_owners (overlay old.now.trees []) rows (answer_of Owners old new rows has h)

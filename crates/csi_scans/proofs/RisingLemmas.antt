@@ -8,15 +8,12 @@ use Rattle.sqlite.specs.View.{is_int}
 use Rattle.sqlite.specs.declared.types.Value.{Value}
 use Rattle.sqlite.specs.declared.types.Value.TheVariants.{Null, Int, Real, Text, Blob}
 use Rattle.sqlite_value.proofs.OrderLemmas.{value_cmp_total, value_cmp-Int}
+use Rattle.csi_scans.specs.facts.Fronts.{all_front, ascending_front}
 use Rattle.csi_scans.specs.Folds.{as_integer, before, is_above, values_from, IsLast, IsRising, Rises}
 
 all_push : {X : Type 0} (P : X → Type 0) (xs : List X) (y : X) → AllByRecursion P xs → P y → AllByRecursion P (xs ++ y ∷ [])
 all_push P [] y all p = (p, tt)
 all_push P (x ∷ xs) y all p = (all.0, all_push P xs y all.1 p)
-
-all_front : {X : Type 0} (P : X → Type 0) (xs : List X) (y : X) → AllByRecursion P (xs ++ y ∷ []) → AllByRecursion P xs × P y
-all_front P [] y all = (tt, all.0)
-all_front P (x ∷ xs) y all = let rest = all_front P xs y all.1 in ((all.0, rest.0), rest.1)
 
 all_weaker : {X : Type 0} (P Q : X → Type 0) → ((x : X) → P x → Q x) → (xs : List X) → AllByRecursion P xs → AllByRecursion Q xs
 all_weaker P Q f [] all = tt
@@ -25,13 +22,6 @@ all_weaker P Q f (x ∷ xs) all = (f x all.0, all_weaker P Q f xs all.1)
 ascending_push : {X : Type 0} (R : X → X → Type 0) (xs : List X) (y : X) → IsAscending R xs → AllByRecursion (λ x. R x y) xs → IsAscending R (xs ++ y ∷ [])
 ascending_push R [] y up all = (tt, tt)
 ascending_push R (x ∷ xs) y up all = (all_push (R x) xs y up.0 all.0, ascending_push R xs y up.1 all.1)
-
-ascending_front : {X : Type 0} (R : X → X → Type 0) (xs : List X) (y : X) → IsAscending R (xs ++ y ∷ []) → IsAscending R xs × AllByRecursion (λ x. R x y) xs
-ascending_front R [] y up = (tt, tt)
-ascending_front R (x ∷ xs) y up =
-    let first = all_front (R x) xs y up.0 in
-    let rest = ascending_front R xs y up.1 in
-    ((first.0, rest.0), (first.1, rest.1))
 
 -- SQL's order of values
 abbrev Below : Value → Value → Type 0

@@ -1,36 +1,39 @@
 -- What a scan over one table shows: each row once, and in order where it is asked.
-use Rattle.std.proofs.Common.{◌≡◌, ◌∙◌, refl, sym, ap, subst, zero, suc, ℕ, ◌+◌, false, List, [], ◌∷◌, map, flat_map, length, slice_index_or, codes, arith, IsPermutation, IsSorted, inl, inr, true≢false}
+use Rattle.std.proofs.Common.{◌≡◌, ◌∙◌, refl, sym, ap, subst, zero, suc, ℕ, ◌+◌, List, [], ◌∷◌, map, flat_map, length, slice_index_or, codes, arith, IsPermutation, IsSorted}
 use Rattle.std.specs.declared.cmp.Ordering.{Ordering}
 use Rattle.std.specs.declared.cmp.Ordering.TheVariants.{Less, Equal, Greater}
 use Rattle.std.specs.Ordering.{is_lt, ordering_then}
 use Rattle.std.specs.List.{AllByRecursion}
 use Rattle.std.proofs.lemmas.List.Sorted.{IsPermutation-map}
-use Rattle.sqlite.specs.Command.TheVariants.{Select}
-use Rattle.sqlite.specs.Listing.{understood, reads_listing}
+use Rattle.sqlite.specs.Collation.TheVariants.{Binary}
+use Rattle.sqlite.specs.Listing.{understood}
 use Rattle.sqlite.specs.Order.{Row, column, value_cmp}
 use Rattle.sqlite.specs.Program.{overlay}
-use Rattle.sqlite.specs.Query.{Query, Output, output, output_cmp, inner, end, IsAnswer}
+use Rattle.sqlite.specs.Query.{Query, Output, output, output_cmp, inner, left, end, IsAnswer}
 use Rattle.sqlite.specs.State.{State, Shown}
-use Rattle.sqlite.specs.Term.{Term, col}
+use Rattle.sqlite.specs.Term.{Term, col, op2}
 use Rattle.sqlite.specs.Tree.{Trees}
 use Rattle.sqlite.specs.declared.types.Value.TheVariants.{Null}
-use Rattle.sqlite.proofs.Callers.{IsPlain, command_of, reads_as}
+use Rattle.sqlite.proofs.Callers.{reads_as}
+use Rattle.sqlite_sql.specs.declared.ops.BinaryOp.TheVariants.{Compare}
+use Rattle.sqlite_sql.specs.declared.ops.CompareOp.TheVariants.{Eq}
 use Rattle.sqlite_tied.specs.Compute.{everything}
 use Rattle.sqlite_trees.proofs.ListLemmas.{all-permutation}
 use Rattle.sqlite_value.specs.declared.keys.Key.{Key}
 use Rattle.csi_schema.specs.Rows.{seen_attachment, seen_meta, seen_volume}
 use Rattle.csi_schema.specs.Tables.{schema}
-use Rattle.csi_schema.specs.facts.Failing.{IsSure}
+use Rattle.csi_schema.specs.facts.Failing.{IsSelect, IsSure, only_limit, sure_of}
 use Rattle.csi_transactions.specs.Statements.{plain_query, rising}
 use Rattle.csi_scans.specs.Scans.{IsInOrder, first_cmp, keyed_attachment}
 
--- ---- the texts
+-- ---- the scans, their texts and what these compute to
 
-pub record IsSelect (text : List ℕ) (q : Query) : Type 0 where
-  pub names : List (List ℕ)
-  pub is : command_of (understood schema text) ≡ Select (record { lets = []; body = q }) names
-  pub plain : IsPlain (understood schema text)
-  pub unlisted : reads_listing schema text ≡ false
+pub data Scan : Type 0 where
+  Meta : Scan
+  Volumes : Scan
+  Attachments : Scan
+  Places : Scan
+  Owners : Scan
 
 abbrev pub table_query : ℕ → List Term → List (Term × Key) → Query
 table_query t shown order = record plain_query { from = inner t end; project = shown; order = order }
@@ -39,81 +42,42 @@ table_query t shown order = record plain_query { from = inner t end; project = s
 abbrev pub ordered_query : ℕ → Term → List Term → Query
 ordered_query t first more = table_query t (first ∷ more) ((first, rising) ∷ [])
 
-abbrev pub meta_text : List ℕ
-meta_text = codes "SELECT k, format_no, next_number FROM meta"
+abbrev pub owner_on : List Term
+owner_on = op2 (Compare Eq Binary) (col 2 0) (col 1 1) ∷ []
 
-pub meta_select : IsSelect meta_text (table_query 0 (col 1 0 ∷ col 1 2 ∷ col 1 3 ∷ []) [])
+-- the text, and the query that it is
+abbrev pub asks : Scan → List ℕ × Query
+asks Meta = (codes "SELECT k, format_no, next_number FROM meta", table_query 0 (col 1 0 ∷ col 1 2 ∷ col 1 3 ∷ []) [])
+asks Volumes = (codes "SELECT number, name, bytes, pool, caps, params FROM volumes ORDER BY number", ordered_query 1 (col 1 0) (col 1 2 ∷ col 1 3 ∷ col 1 4 ∷ col 1 5 ∷ col 1 6 ∷ []))
+asks Attachments = (codes "SELECT rowid, number, node, cap, readonly FROM attachments ORDER BY rowid", ordered_query 3 (col 1 0) (col 1 1 ∷ col 1 2 ∷ col 1 3 ∷ col 1 4 ∷ []))
+asks Places = (codes "SELECT number, node, cap, readonly FROM attachments ORDER BY number", ordered_query 3 (col 1 1) (col 1 2 ∷ col 1 3 ∷ col 1 4 ∷ []))
+asks Owners = (
+  codes "SELECT a.number, a.node, a.cap, a.readonly, v.caps FROM attachments AS a LEFT JOIN volumes AS v ON v.number = a.number ORDER BY a.number",
+  record (ordered_query 3 (col 1 1) (col 1 2 ∷ col 1 3 ∷ col 1 4 ∷ col 2 5 ∷ [])) { from = inner 3 (left 1 owner_on end) },
+)
+
+abbrev pub text : Scan → List ℕ
+text scan = (asks scan).0
+
+abbrev pub query : Scan → Query
+query scan = (asks scan).1
+
+is_select : (scan : Scan) → IsSelect schema (text scan) (query scan)
 unfolding understood everything
-meta_select = record { names = codes "k" ∷ codes "format_no" ∷ codes "next_number" ∷ []; is = refl; plain = (refl, refl); unlisted = refl }
+is_select Meta = record { names = codes "k" ∷ codes "format_no" ∷ codes "next_number" ∷ []; is = refl; plain = (refl, refl); unlisted = refl }
+is_select Volumes = record { names = codes "number" ∷ codes "name" ∷ codes "bytes" ∷ codes "pool" ∷ codes "caps" ∷ codes "params" ∷ []; is = refl; plain = (refl, refl); unlisted = refl }
+is_select Attachments = record { names = codes "rowid" ∷ codes "number" ∷ codes "node" ∷ codes "cap" ∷ codes "readonly" ∷ []; is = refl; plain = (refl, refl); unlisted = refl }
+is_select Places = record { names = codes "number" ∷ codes "node" ∷ codes "cap" ∷ codes "readonly" ∷ []; is = refl; plain = (refl, refl); unlisted = refl }
+is_select Owners = record { names = codes "number" ∷ codes "node" ∷ codes "cap" ∷ codes "readonly" ∷ codes "caps" ∷ []; is = refl; plain = (refl, refl); unlisted = refl }
 
-pub meta_sure : IsSure schema meta_text []
+-- nothing but a limit on its steps refuses it
+pub is_sure : (scan : Scan) → IsSure schema (text scan) []
 unfolding understood everything
-meta_sure = record {
-  query = _;
-  names = meta_select.names;
-  is = meta_select.is;
-  plain = meta_select.plain;
-  unlisted = meta_select.unlisted;
-  alone = (omega arith, refl, refl);
-  unrefused = λ limit db e h. elim h [ inl typed ↦ absurd (true≢false typed.1) | inr (inl (is, inl none)) ↦ absurd none | inr (inl (is, inr over)) ↦ absurd over.4 | inr (inr limited) ↦ limited ];
-}
-
-abbrev pub volumes_text : List ℕ
-volumes_text = codes "SELECT number, name, bytes, pool, caps, params FROM volumes ORDER BY number"
-
-pub volumes_select : IsSelect volumes_text (ordered_query 1 (col 1 0) (col 1 2 ∷ col 1 3 ∷ col 1 4 ∷ col 1 5 ∷ col 1 6 ∷ []))
-unfolding understood everything
-volumes_select = record { names = codes "number" ∷ codes "name" ∷ codes "bytes" ∷ codes "pool" ∷ codes "caps" ∷ codes "params" ∷ []; is = refl; plain = (refl, refl); unlisted = refl }
-
-pub volumes_sure : IsSure schema volumes_text []
-unfolding understood everything
-volumes_sure = record {
-  query = _;
-  names = volumes_select.names;
-  is = volumes_select.is;
-  plain = volumes_select.plain;
-  unlisted = volumes_select.unlisted;
-  alone = (omega arith, refl, refl);
-  unrefused = λ limit db e h. elim h [ inl typed ↦ absurd (true≢false typed.1) | inr (inl (is, inl none)) ↦ absurd none | inr (inl (is, inr over)) ↦ absurd over.4 | inr (inr limited) ↦ limited ];
-}
-
-abbrev pub attachments_text : List ℕ
-attachments_text = codes "SELECT rowid, number, node, cap, readonly FROM attachments ORDER BY rowid"
-
-pub attachments_select : IsSelect attachments_text (ordered_query 3 (col 1 0) (col 1 1 ∷ col 1 2 ∷ col 1 3 ∷ col 1 4 ∷ []))
-unfolding understood everything
-attachments_select = record { names = codes "rowid" ∷ codes "number" ∷ codes "node" ∷ codes "cap" ∷ codes "readonly" ∷ []; is = refl; plain = (refl, refl); unlisted = refl }
-
-pub attachments_sure : IsSure schema attachments_text []
-unfolding understood everything
-attachments_sure = record {
-  query = _;
-  names = attachments_select.names;
-  is = attachments_select.is;
-  plain = attachments_select.plain;
-  unlisted = attachments_select.unlisted;
-  alone = (omega arith, refl, refl);
-  unrefused = λ limit db e h. elim h [ inl typed ↦ absurd (true≢false typed.1) | inr (inl (is, inl none)) ↦ absurd none | inr (inl (is, inr over)) ↦ absurd over.4 | inr (inr limited) ↦ limited ];
-}
-
-abbrev pub places_text : List ℕ
-places_text = codes "SELECT number, node, cap, readonly FROM attachments ORDER BY number"
-
-pub places_select : IsSelect places_text (ordered_query 3 (col 1 1) (col 1 2 ∷ col 1 3 ∷ col 1 4 ∷ []))
-unfolding understood everything
-places_select = record { names = codes "number" ∷ codes "node" ∷ codes "cap" ∷ codes "readonly" ∷ []; is = refl; plain = (refl, refl); unlisted = refl }
-
-pub places_sure : IsSure schema places_text []
-unfolding understood everything
-places_sure = record {
-  query = _;
-  names = places_select.names;
-  is = places_select.is;
-  plain = places_select.plain;
-  unlisted = places_select.unlisted;
-  alone = (omega arith, refl, refl);
-  unrefused = λ limit db e h. elim h [ inl typed ↦ absurd (true≢false typed.1) | inr (inl (is, inl none)) ↦ absurd none | inr (inl (is, inr over)) ↦ absurd over.4 | inr (inr limited) ↦ limited ];
-}
+is_sure Meta = sure_of [] (is_select Meta) (omega arith, refl, refl) (λ limit db e h. only_limit h (λ over. over.4))
+is_sure Volumes = sure_of [] (is_select Volumes) (omega arith, refl, refl) (λ limit db e h. only_limit h (λ over. over.4))
+is_sure Attachments = sure_of [] (is_select Attachments) (omega arith, refl, refl) (λ limit db e h. only_limit h (λ over. over.4))
+is_sure Places = sure_of [] (is_select Places) (omega arith, refl, refl) (λ limit db e h. only_limit h (λ over. over.4))
+is_sure Owners = sure_of [] (is_select Owners) (omega arith, refl, refl) (λ limit db e h. only_limit h (λ over. over.4.4))
 
 -- ---- each row once
 
@@ -189,17 +153,17 @@ shows_in_order t first more db rows a = record {
 
 -- ---- the scans
 
-pub answer_of : (text : List ℕ) (q : Query) → IsSelect text q → (old new : State) (rows : List Row) → old.now.schema ≡ schema → Shown text [] old new rows → IsAnswer q (overlay old.now.trees []) [] rows
-answer_of text q it old new rows has h = (reads_as text [] old new schema has _ it.is it.plain it.unlisted rows h).answer Null
+pub answer_of : (scan : Scan) (old new : State) (rows : List Row) → old.now.schema ≡ schema → Shown (text scan) [] old new rows → IsAnswer (query scan) (overlay old.now.trees []) [] rows
+answer_of scan old new rows has h = let it = is_select scan in (reads_as (text scan) [] old new schema has _ it.is it.plain it.unlisted rows h).answer Null
 
-pub meta_rows : (old new : State) (rows : List Row) → old.now.schema ≡ schema → Shown meta_text [] old new rows → IsPermutation (map seen_meta (old.now.trees 0)) rows
-meta_rows old new rows has h = shows_each 0 (col 1 0 ∷ col 1 2 ∷ col 1 3 ∷ []) [] (overlay old.now.trees []) rows (answer_of meta_text _ meta_select old new rows has h)
+pub meta_rows : (old new : State) (rows : List Row) → old.now.schema ≡ schema → Shown (text Meta) [] old new rows → IsPermutation (map seen_meta (old.now.trees 0)) rows
+meta_rows old new rows has h = shows_each 0 (col 1 0 ∷ col 1 2 ∷ col 1 3 ∷ []) [] (overlay old.now.trees []) rows (answer_of Meta old new rows has h)
 
-pub volume_rows : (old new : State) (rows : List Row) → old.now.schema ≡ schema → Shown volumes_text [] old new rows → IsInOrder (map seen_volume (old.now.trees 1)) rows
-volume_rows old new rows has h = shows_in_order 1 (col 1 0) (col 1 2 ∷ col 1 3 ∷ col 1 4 ∷ col 1 5 ∷ col 1 6 ∷ []) (overlay old.now.trees []) rows (answer_of volumes_text _ volumes_select old new rows has h)
+pub volume_rows : (old new : State) (rows : List Row) → old.now.schema ≡ schema → Shown (text Volumes) [] old new rows → IsInOrder (map seen_volume (old.now.trees 1)) rows
+volume_rows old new rows has h = shows_in_order 1 (col 1 0) (col 1 2 ∷ col 1 3 ∷ col 1 4 ∷ col 1 5 ∷ col 1 6 ∷ []) (overlay old.now.trees []) rows (answer_of Volumes old new rows has h)
 
-pub attachment_rows : (old new : State) (rows : List Row) → old.now.schema ≡ schema → Shown attachments_text [] old new rows → IsInOrder (map keyed_attachment (old.now.trees 3)) rows
-attachment_rows old new rows has h = shows_in_order 3 (col 1 0) (col 1 1 ∷ col 1 2 ∷ col 1 3 ∷ col 1 4 ∷ []) (overlay old.now.trees []) rows (answer_of attachments_text _ attachments_select old new rows has h)
+pub attachment_rows : (old new : State) (rows : List Row) → old.now.schema ≡ schema → Shown (text Attachments) [] old new rows → IsInOrder (map keyed_attachment (old.now.trees 3)) rows
+attachment_rows old new rows has h = shows_in_order 3 (col 1 0) (col 1 1 ∷ col 1 2 ∷ col 1 3 ∷ col 1 4 ∷ []) (overlay old.now.trees []) rows (answer_of Attachments old new rows has h)
 
-pub place_rows : (old new : State) (rows : List Row) → old.now.schema ≡ schema → Shown places_text [] old new rows → IsInOrder (map seen_attachment (old.now.trees 3)) rows
-place_rows old new rows has h = shows_in_order 3 (col 1 1) (col 1 2 ∷ col 1 3 ∷ col 1 4 ∷ []) (overlay old.now.trees []) rows (answer_of places_text _ places_select old new rows has h)
+pub place_rows : (old new : State) (rows : List Row) → old.now.schema ≡ schema → Shown (text Places) [] old new rows → IsInOrder (map seen_attachment (old.now.trees 3)) rows
+place_rows old new rows has h = shows_in_order 3 (col 1 1) (col 1 2 ∷ col 1 3 ∷ col 1 4 ∷ []) (overlay old.now.trees []) rows (answer_of Places old new rows has h)

@@ -1,3 +1,4 @@
+pub mod Fronts
 pub mod Joins
 pub mod Keyed
 pub mod Rises

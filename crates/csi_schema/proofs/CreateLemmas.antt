@@ -1,5 +1,5 @@
 -- What CREATE TABLE makes.
-use Rattle.std.proofs.Common.{◌≡◌, ℕ, List, [], false, None, Ok, Err, Result, OnOk, refl, sym, ap, subst, ◌∙◌}
+use Rattle.std.proofs.Common.{◌≡◌, ℕ, List, [], false, None, Ok, refl, sym, ap, subst, ◌∙◌}
 use Rattle.sqlite.specs.Schema.{Schema}
 use Rattle.sqlite.specs.Table.{Table}
 use Rattle.sqlite.specs.Command.TheVariants.{CreateTable}
@@ -7,13 +7,11 @@ use Rattle.sqlite.specs.Compile.{table_defined_by}
 use Rattle.sqlite.specs.Change.{created, next_tree, KeepsRows}
 use Rattle.sqlite.specs.Does.{Tally, lacks_sequence}
 use Rattle.sqlite.specs.Effect.{Database}
-use Rattle.sqlite.specs.declared.error.Error.{Error}
 use Rattle.sqlite.specs.Listing.{understood}
-use Rattle.sqlite.specs.State.{State, Writes, Executes, ExecutesInside}
+use Rattle.sqlite.specs.State.{State, Writes, Executes}
 use Rattle.sqlite.proofs.Callers.{IsPlain, command_of, statement_of, runs_as}
 use Rattle.sqlite_tied.specs.Compute.{everything}
 use Rattle.csi_schema.specs.Tables.{no_schema, one_schema, two_schema, schema, meta, volumes, attachments, meta_text, volumes_text, attachments_text}
-use Rattle.csi_schema.specs.Transactions.{StepsFrom}
 use Rattle.csi_schema.specs.Making.{Creates, AddsFirst, MakesTables}
 use Rattle.csi_schema.proofs.TablesLemmas.{meta_is, volumes_is, attachments_is}
 use Rattle.csi_schema.specs.facts.Steps.{went, same_value}
@@ -26,15 +24,15 @@ pub record IsCreate (before : Schema) (text : List ℕ) (table : Table) : Type 0
   pub table_is : table_defined_by text ≡ Ok table
   pub uncounted : lacks_sequence (created before table) ≡ false
 
-meta_create : IsCreate no_schema meta_text meta
+pub meta_create : IsCreate no_schema meta_text meta
 unfolding understood everything
 meta_create = record { command = refl; whole = refl; plain = (refl, refl); table_is = meta_is; uncounted = refl }
 
-volumes_create : IsCreate one_schema volumes_text volumes
+pub volumes_create : IsCreate one_schema volumes_text volumes
 unfolding understood everything
 volumes_create = record { command = refl; whole = refl; plain = (refl, refl); table_is = volumes_is; uncounted = refl }
 
-attachments_create : IsCreate two_schema attachments_text attachments
+pub attachments_create : IsCreate two_schema attachments_text attachments
 unfolding understood everything
 attachments_create = record { command = refl; whole = refl; plain = (refl, refl); table_is = attachments_is; uncounted = refl }
 
@@ -54,19 +52,6 @@ creates before text table it old new count has h =
       empty = ap (λ (d : Database). d.trees (next_tree before)) now ∙ subst (λ s. first.0.trees (next_tree s) ≡ []) has made.empty;
       others = subst (λ (d : Database). KeepsRows before.tables old.now.trees d.trees) (sym now) (subst (λ (s : Schema). KeepsRows s.tables old.now.trees first.0.trees) has made.others);
     }
-
-creates_step : (before : Schema) (text : List ℕ) (table : Table) → IsCreate before text table → (old new : State) (r : Result ℕ Error) → ExecutesInside 0 text [] old new r → OnOk r (StepsFrom before (Creates before table) old new)
-creates_step before text table it old new (Ok count) h = record { shown = h.1; effect = λ has. creates before text table it old new count has h.0 }
-creates_step before text table it old new (Err e) h = tt
-
-pub meta_step : (old new : State) (r : Result ℕ Error) → ExecutesInside 0 meta_text [] old new r → OnOk r (StepsFrom no_schema (Creates no_schema meta) old new)
-meta_step = creates_step no_schema meta_text meta meta_create
-
-pub volumes_step : (old new : State) (r : Result ℕ Error) → ExecutesInside 0 volumes_text [] old new r → OnOk r (StepsFrom one_schema (Creates one_schema volumes) old new)
-volumes_step = creates_step one_schema volumes_text volumes volumes_create
-
-pub attachments_step : (old new : State) (r : Result ℕ Error) → ExecutesInside 0 attachments_text [] old new r → OnOk r (StepsFrom two_schema (Creates two_schema attachments) old new)
-attachments_step = creates_step two_schema attachments_text attachments attachments_create
 
 -- the three in turn, and the first row
 pub makes_tables : (a b c d e : Database) → a.schema ≡ no_schema → (a.schema ≡ no_schema → Creates no_schema meta a b) → (b.schema ≡ one_schema → Creates one_schema volumes b c)

@@ -1,21 +1,19 @@
 -- What the INSERT of the first row makes of meta.
-use Rattle.std.proofs.Common.{◌≡◌, ◌∙◌, refl, ap, ℕ, pos, List, [], ◌∷◌, map, arith, Ok, Err, Result, OnOk}
+use Rattle.std.proofs.Common.{◌≡◌, ◌∙◌, refl, ap, ℕ, pos, List, [], ◌∷◌, map, arith, Ok}
 use Rattle.sqlite.specs.Command.TheVariants.{Insert}
 use Rattle.sqlite.specs.Edit.{edit_of, put_all}
 use Rattle.sqlite.specs.Listing.{understood}
 use Rattle.sqlite.specs.Order.{Row}
 use Rattle.sqlite.specs.Rowids.TheVariants.{Chosen}
 use Rattle.sqlite.specs.Source.TheVariants.{Values}
-use Rattle.sqlite.specs.State.{State, Executes, ExecutesInside}
+use Rattle.sqlite.specs.State.{State, Executes}
 use Rattle.sqlite.specs.Term.{Term, lit}
-use Rattle.sqlite.specs.declared.error.Error.{Error}
 use Rattle.sqlite.specs.declared.types.Value.TheVariants.{Null}
 use Rattle.sqlite_tied.specs.Compute.{everything}
 use Rattle.csi_schema.specs.Making.{AddsFirst}
 use Rattle.csi_schema.specs.Rows.{number_value, seen_meta}
 use Rattle.csi_schema.specs.Tables.{schema, meta, first_text}
 use Rattle.csi_schema.specs.declared.formats.TheConstants.{LATEST_FORMAT}
-use Rattle.csi_schema.specs.Transactions.{StepsFrom}
 use Rattle.csi_schema.specs.facts.Steps.{cast_null, cast_int}
 use Rattle.csi_schema.specs.facts.Writes.{IsCommand, inserted}
 
@@ -30,7 +28,7 @@ first_command : IsCommand first_text (Insert 0 (Values first_terms 4))
 unfolding understood everything
 first_command = record { is = refl; plain = (refl, refl) }
 
-adds_first : (old new : State) (count : ℕ) → old.now.schema ≡ schema → Executes first_text [] old new (Ok count) → AddsFirst old.now new.now
+pub adds_first : (old new : State) (count : ℕ) → old.now.schema ≡ schema → Executes first_text [] old new (Ok count) → AddsFirst old.now new.now
 adds_first old new count has h =
     let db = old.now.trees in
     let it = inserted first_text [] old new count has 0 meta refl (Values first_terms 4) first_command h in
@@ -44,7 +42,3 @@ adds_first old new count has h =
       volumes = it.2.made.tables.1.0 (λ e. absurd (omega arith));
       attachments = it.2.made.tables.1.1.0 (λ e. absurd (omega arith));
     }
-
-pub first_step : (old new : State) (r : Result ℕ Error) → ExecutesInside 0 first_text [] old new r → OnOk r (StepsFrom schema AddsFirst old new)
-first_step old new (Ok count) h = record { shown = h.1; effect = λ has. adds_first old new count has h.0 }
-first_step old new (Err e) h = tt

@@ -1,3 +1,4 @@
+mod BehindLemmas
 mod TablesLemmas
 mod CreateLemmas
 mod FailLemmas

@@ -34,53 +34,41 @@ key_column name = record { name = name; kind = Integer; is_strict = false; not_n
 abbrev pub full_column : List ℕ → Kind → Column
 full_column name kind = record { name = name; kind = kind; is_strict = false; not_null = true; default = Null; collation = Binary }
 
-abbrev pub meta : Table
-meta = record {
-  name = codes "meta";
+-- what none of them has: a reference, a computed column, a default that reads the time, and rowids that are counted
+abbrev pub bare_table : List ℕ → List Column → Table
+bare_table name columns = record {
+  name = name;
   tree = 0;
-  columns = key_column (codes "k") ∷ full_column (codes "format_no") Integer ∷ full_column (codes "next_number") Integer ∷ [];
-  key = Some 0;
-  primary = 0 ∷ [];
+  columns = columns;
+  key = None;
+  primary = [];
   uniques = [];
   orders = [];
-  checks = op2 (Compare Eq Binary) (col 1 0) (lit (Int (pos 1))) ∷ [];
+  checks = [];
   references = [];
   computed = [];
   stamps = record { places = []; terms = []; formats = [] };
   is_counted = false;
 }
 
-abbrev pub volumes : Table
-volumes = record {
-  name = codes "volumes";
-  tree = 0;
-  columns = key_column (codes "number") ∷ full_column (codes "name") Text ∷ full_column (codes "bytes") Integer ∷ full_column (codes "pool") Text ∷ full_column (codes "caps") Any ∷ full_column (codes "params") Any ∷ [];
+abbrev pub meta : Table
+meta = record (bare_table (codes "meta") (key_column (codes "k") ∷ full_column (codes "format_no") Integer ∷ full_column (codes "next_number") Integer ∷ [])) {
   key = Some 0;
   primary = 0 ∷ [];
-  uniques = (2 ∷ []) ∷ [];
-  orders = plain ∷ [];
-  checks = [];
-  references = [];
-  computed = [];
-  stamps = record { places = []; terms = []; formats = [] };
-  is_counted = false;
+  checks = op2 (Compare Eq Binary) (col 1 0) (lit (Int (pos 1))) ∷ [];
 }
 
+abbrev pub volumes_columns : List Column
+volumes_columns = key_column (codes "number") ∷ full_column (codes "name") Text ∷ full_column (codes "bytes") Integer ∷ full_column (codes "pool") Text ∷ full_column (codes "caps") Any ∷ full_column (codes "params") Any ∷ []
+
+abbrev pub volumes : Table
+volumes = record (bare_table (codes "volumes") volumes_columns) { key = Some 0; primary = 0 ∷ []; uniques = (2 ∷ []) ∷ []; orders = plain ∷ [] }
+
+abbrev pub attachments_columns : List Column
+attachments_columns = full_column (codes "number") Integer ∷ full_column (codes "node") Text ∷ full_column (codes "cap") Any ∷ full_column (codes "readonly") Integer ∷ []
+
 abbrev pub attachments : Table
-attachments = record {
-  name = codes "attachments";
-  tree = 0;
-  columns = full_column (codes "number") Integer ∷ full_column (codes "node") Text ∷ full_column (codes "cap") Any ∷ full_column (codes "readonly") Integer ∷ [];
-  key = None;
-  primary = 1 ∷ 2 ∷ [];
-  uniques = (1 ∷ 2 ∷ []) ∷ [];
-  orders = plain ∷ [];
-  checks = [];
-  references = [];
-  computed = [];
-  stamps = record { places = []; terms = []; formats = [] };
-  is_counted = false;
-}
+attachments = record (bare_table (codes "attachments") attachments_columns) { primary = 1 ∷ 2 ∷ []; uniques = (1 ∷ 2 ∷ []) ∷ []; orders = plain ∷ [] }
 
 abbrev pub one_schema : Schema
 one_schema = created no_schema meta

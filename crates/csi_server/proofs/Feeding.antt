@@ -1,17 +1,21 @@
 -- What one feed of a framer makes of a run.
-use Rattle.std.proofs.Common.{◌≡◌, ◌≢◌, ℕ, ◌+◌, ◌-◌, ◌≤◌, ◌<◌, List, [], ◌∷◌, ◌++◌, length, take, drop, Option, Some, None, refl, sym, ap, subst, ◌∙◌, append_assoc, append-nil, length-append, arith, inl, inr, ◌⊎◌}
+use Rattle.std.proofs.Common.{◌≡◌, ◌≢◌, ℕ, ◌+◌, ◌-◌, ◌≤◌, ◌<◌, List, [], ◌∷◌, ◌++◌, length, take, drop, Option, Some, None, Result, Ok, Err, OnOk, refl, sym, ap, subst, ◌∙◌, append_assoc, append-nil, length-append, arith, inl, inr, ◌⊎◌}
 use Rattle.std.specs.Prelude.{IfSome, IsSome}
+use Rattle.std.specs.Result.{IsOk}
+use Rattle.std.specs.Io.KnownBytes.{Appends}
 use Rattle.std.proofs.lemmas.Bool.{cases_lt}
 use Rattle.std.proofs.lemmas.List.{take-append-drop, take_all, length-take}
 use Rattle.frames_core.specs.declared.fault.FrameFault.{FrameFault}
 use Rattle.frames_core.specs.declared.fault.FrameWhy.{FrameWhy}
-use Rattle.frames_core.specs.Envelope.{CallBytes, IsCall, frame}
+use Rattle.frames_core.specs.Envelope.{CallBytes, IsCall, IsReply, frame, reply}
 use Rattle.frames_core.specs.Grammar as grammar
 use Rattle.frames_core.specs.Stream.{Breaks, BreaksFirst, FaultAt, IsUnfinished, BeginsFrame}
 use Rattle.frames_core.specs.Framer.{FramerState, IsSettled, IsBreakOf, start}
 use Rattle.csi_keeper.specs.Model.{Model}
-use Rattle.csi_server.specs.Machine.{Machine, Runs}
-use Rattle.csi_server.specs.Serving.{Answered, CutOff, HasFault, AnswersCall}
+use Rattle.csi_server.specs.Machine.{Machine, Answers, Runs}
+use Rattle.csi_server.specs.Service.{reply_of}
+use Rattle.csi_server.specs.declared.refused.Refusal.{Refusal}
+use Rattle.csi_server.specs.Serving.{Answered, CutOff, HasFault, AnswersCall, WrotePrefix}
 use Rattle.frames_core.specs.declared.fault.FrameWhy.TheVariants.{BadPathLength, BadPath, BadFlag, TooLong, EndOfInput}
 use Rattle.frames_core.specs.Stream.{Stream, Ends, Clean, Open}
 use Rattle.csi_server.specs.declared.end.RunEnd.{RunEnd}
@@ -93,6 +97,16 @@ fed_fault m begin now s read old new rest n held holds f h fed is =
       subst (λ (p : ℕ). Answered m begin now s (read ++ rest) held holds (λ calls. HasFault (read ++ rest) calls f.why p) []) same
           (answered_fault m begin now s h.given (new.held ++ drop n rest) (read ++ rest) held holds h.so_far (all_of read h.given old new rest n h.whole fed) f.why (f.at - new.past) longer),
     )
+
+-- a call that was answered and of whose answer this was written
+pub answered_call : {S U V E : Type 0} (m : Machine S) (old new : Model S) (s : S) (call : CallBytes) (answer : Result U Refusal) (buffer : List ℕ) (held holds : Option (List ℕ)) (put : Result V E)
+    → Answers m old new s call (reply_of answer buffer) → IsReply (reply_of answer buffer)
+    → OnOk put (Appends held holds (reply (reply_of answer buffer))) → WrotePrefix held holds (reply (reply_of answer buffer)) → AnswersCall m old new s call held holds (IsOk put)
+answered_call m old new s call answer buffer held holds put is formed all part = record { r = reply_of answer buffer; answers = is; formed = formed; all = whole put all; part = part }
+  where
+    whole : {V E : Type 0} {P : Type 0} (put : Result V E) → OnOk put P → IsOk put → P
+    whole (Ok v) all ok = all
+    whole (Err e) all ok = absurd (cc)
 
 pub fed_cut : {S : Type 0} (m : Machine S) (begin mid now : Model S) (s : S) (read : List ℕ) (old new : FramerState) (rest : List ℕ) (n : ℕ) (call : CallBytes) (held holds then_ : Option (List ℕ)) (Whole : Type 0) → Live m begin mid s read old held holds → Fed old new rest n → IsCall call → new.held ≡ frame call → ((t : S) → mid.holds t → AnswersCall m mid now t call holds then_ Whole)
     → CutOff m begin now s (read ++ rest) ⊥ held then_

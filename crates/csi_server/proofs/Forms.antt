@@ -10,6 +10,7 @@ use Rattle.frames_core.specs.declared.fault.FrameWhy.TheVariants.{BadPathLength,
 use Rattle.frames_core.specs.Texts.{fault_words}
 use Rattle.frames_core.specs.Envelope.{CallBytes, is_status, IsReply, IsTextByte}
 use Rattle.frames_core.specs.declared.limits.TheConstants.{MAX_MESSAGE_BYTES, MAX_BODY_BYTES}
+use Rattle.csi_types.specs.declared.responses.Response.{Response}
 use Rattle.csi_types.specs.declared.method.Method.{Method}
 use Rattle.csi_types.specs.declared.code.Code.{Code}
 use Rattle.csi_types.specs.declared.code.Code.TheVariants as code
@@ -22,8 +23,6 @@ use Rattle.csi_types.specs.Reasons.{code_of, text_of}
 use Rattle.csi_codec.specs.Methods.{IsNoRequest}
 use Rattle.csi_codec.specs.Reading.{read_request, IsRead}
 use Rattle.csi_machine.specs.Verdicts.{Told, Says, Denies, within, told_of}
-use Rattle.csi_machine.specs.declared.plan.Outcome.{Outcome}
-use Rattle.csi_machine.specs.declared.plan.Outcome.TheVariants as outcome
 use Rattle.csi_server.specs.Machine.{refusal, refused}
 use Rattle.csi_server.specs.Requests.{requests, told, after_check, after_read, after_path}
 use Rattle.csi_server.proofs.Printable.{all_printable}
@@ -41,9 +40,9 @@ short_within body = by (nat_le (length body) MAX_BODY_BYTES) refl
     by true e = leb-true (length body) MAX_BODY_BYTES e
     by false e = tt
 
-pub short_told : (o : Outcome) → IsShort (told_of o)
-short_told (outcome.Done r) = short_within _
-short_told (outcome.Refused r) = tt
+pub short_told : (o : Result Response Reason) → IsShort (told_of o)
+short_told (Ok r) = short_within _
+short_told (Err r) = tt
 
 formed_refusal : (code : ℕ) (text : List ℕ) → is_status code ≡ true → code ≢ 0 → length text ≤ 1024 → All IsTextByte text → IsReply (refusal code text)
 formed_refusal code text is some short printable = record {

@@ -17,12 +17,11 @@ use Rattle.csi_machine.specs.Step.{step}
 use Rattle.csi_machine.specs.Verdicts.{Appended}
 use Rattle.csi_server.specs.Machine.{Mark, Unmarked, OutOfMemory, StoreRefused, StoreDown, KnowsDown, RoseBy, marked, store_mark, refused}
 use Rattle.csi_server.specs.Requests.{AnswersBy, LeavesBy, after_check, told}
-use Rattle.csi_server.specs.Service.{HoldsBody, room}
-use Rattle.csi_server.specs.declared.service.Answer.TheVariants as answer
+use Rattle.csi_server.specs.Service.{HasBody, room}
 use Rattle.csi_server.specs.Volumes.{RepliesTo, seen}
 
 -- what was appended behind the room for a head is a body
-pub holds_body : (old out : List ℕ) (v : Result Verdict StoreFault) → old ≡ room → Appended old out v → v ≡ Ok verdict.Done → HoldsBody answer.Body out
+pub holds_body : (old out : List ℕ) (v : Result Verdict StoreFault) → old ≡ room → Appended old out v → v ≡ Ok verdict.Done → HasBody out
 holds_body old out (Ok verdict.Done) begun (body, is, few) e =
     let long : length out ≡ 8 + length body = ap length is ∙ (length-append old body ∙ ap (λ (xs : List ℕ). length xs + length body) begun) in
     (omega (arith, long), omega (arith, long, few))

@@ -11,8 +11,9 @@ ghost use Rattle.csi_server.specs.Service.{reply_of, HoldsBody, room};
 
 use crate::end::RunEnd;
 use crate::message::{read_message, refuse};
+use crate::refused::Refusal;
 use crate::running::run_service;
-use crate::service::{Answer, Service, begin_body};
+use crate::service::{Service, begin_body};
 use csi_machine::{Verdict, append_body};
 use csi_types::{Method, Reason, Request, Response, Text, method_of};
 use frames_core::Call;
@@ -72,12 +73,13 @@ fn answer_request(
     names: &PluginNames<'_>,
     request: &Request,
     reply: &mut Vec<u8>,
-) -> Answer
-    ensures step { AnswersBy (λ t. after_check (λ s r. (told_of (said names.now.name.now names.now.version.now r), s)) t request.now None) ⊤ still still tt (reply_of result reply.new.items) }
+) -> Result<(), Refusal>
+    ensures step { AnswersBy (λ t. after_check (λ s r. (told_of (said names.now.name.now names.now.version.now r), s)) t request.now None) ⊤ still still tt
+        (reply_of result reply.new.items) }
     ensures room { HoldsBody result reply.new.items }
 {
     match put_response(alloc, names, request, reply) {
-        Ok(Verdict::Done) => Answer::Body,
+        Ok(Verdict::Done) => Ok(()),
         Ok(Verdict::Refused(reason)) => refuse(reason),
         Err(_) => refuse(Reason::OutOfMemory),
     }
@@ -90,13 +92,14 @@ fn answer_message(
     method: Method,
     message: &[u8],
     reply: &mut Vec<u8>,
-) -> Answer
-    ensures step { AnswersBy (λ t. after_read (λ s r. (told_of (said names.now.name.now names.now.version.now r), s)) t (read_request method message.now)) ((r : AnyRequest) × (read_request method message.now ≡ Ok r)) still still tt (reply_of result reply.new.items) }
+) -> Result<(), Refusal>
+    ensures step { AnswersBy (λ t. after_read (λ s r. (told_of (said names.now.name.now names.now.version.now r), s)) t (read_request method message.now))
+        ((r : AnyRequest) × (read_request method message.now ≡ Ok r)) still still tt (reply_of result reply.new.items) }
     ensures room { HoldsBody result reply.new.items }
 {
     match read_message(alloc, method, message) {
         Ok(request) => answer_request(alloc, names, &request, reply),
-        Err(refusal) => Answer::Refused(refusal),
+        Err(refusal) => Err(refusal),
     }
 }
 
@@ -126,7 +129,7 @@ impl<'a> Service<PluginNames<'a>> for Identity {
         alloc: Global,
         call: &Call<'_>,
         reply: &mut Vec<u8>,
-    ) -> Answer {
+    ) -> Result<(), Refusal> {
         match known_method(call.path) {
             Some(method) => answer_message(alloc, config, method, call.message, reply),
             None => refuse(Reason::UnknownMethod),

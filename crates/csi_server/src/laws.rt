@@ -63,7 +63,8 @@ pub fn formed_identity()
 /// Each reply that the volume machine has to any call from any State, in a run or not, is one of the
 /// envelope's table.
 pub fn formed_volumes()
-    ensures { (config : AnyConfig) (s : MachineState) (call : CallBytes) → length call.message ≤ MAX_MESSAGE_BYTES → IsReply ((volumes config).respond s call).0 }
+    ensures { (config : AnyConfig) (s : MachineState) (call : CallBytes) → length call.message ≤ MAX_MESSAGE_BYTES
+        → IsReply ((volumes config).respond s call).0 }
 {
     decimal_is_text();
     reading();
@@ -73,7 +74,8 @@ pub fn formed_volumes()
 /// invariant, and so is each State that [`pending`] says a stop may leave.
 pub fn kept(config: &Config)
     ensures run { (s : MachineState) (events : List Event) → IsInvariant config.now s → IsInvariant config.now (state_after (volumes config.now) s events) }
-    ensures pending { (s : MachineState) (events : List Event) (t : MachineState) → IsInvariant config.now s → IsPending config.now s events t → IsInvariant config.now t }
+    ensures pending { (s : MachineState) (events : List Event) (t : MachineState) → IsInvariant config.now s → IsPending config.now s events t
+        → IsInvariant config.now t }
 {
     kept_by_answers(config);
 }
@@ -93,8 +95,10 @@ pub fn pending<K: Keeper>(config: &Config)
 /// none has the same reply from each State, under each configuration, and leaves each as it is.
 pub fn asking()
     ensures exact { (call : CallBytes) (r : Request) → (asked call ≡ Some r) ↔ Asks call r }
-    ensures answered { (config : AnyConfig) (s : MachineState) (call : CallBytes) (r : Request) → asked call ≡ Some r → (volumes config).respond s call ≡ (told (step config s r).0, (step config s r).1) }
-    ensures unasked { (call : CallBytes) → asked call ≡ None → (reply : ReplyBytes) × ((config : AnyConfig) (s : MachineState) → (volumes config).respond s call ≡ (reply, s)) }
+    ensures answered { (config : AnyConfig) (s : MachineState) (call : CallBytes) (r : Request) → asked call ≡ Some r
+        → (volumes config).respond s call ≡ (told (step config s r).0, (step config s r).1) }
+    ensures unasked { (call : CallBytes) → asked call ≡ None → (reply : ReplyBytes)
+        × ((config : AnyConfig) (s : MachineState) → (volumes config).respond s call ≡ (reply, s)) }
 {}
 
 /// The calls of a session are tries of the requests that they ask for: the State after them and the replies that
@@ -102,7 +106,8 @@ pub fn asking()
 /// over any keeper, after a run from a State that alone would have been left by a stop, a stop leaves what the
 /// tries leave.
 pub fn tries<K: Keeper>(config: &Config)
-    ensures after { (s : MachineState) (session : List Exchange) → state_after (volumes config.now) s (events_of session) ≡ after_tries config.now s (tries_of session) }
+    ensures after { (s : MachineState) (session : List Exchange)
+        → state_after (volumes config.now) s (events_of session) ≡ after_tries config.now s (tries_of session) }
     ensures heard { (s : MachineState) (session : List Exchange) → heard_of config.now s session ≡ map told (told_of config.now s (tries_of session)) }
     ensures left { (s t : MachineState) (session : List Exchange) → IsLeft config.now s (events_of session) t ↔ Leaves config.now s (tries_of session) t }
     ensures stopped { (old new : K) (s : MachineState) (session : List Exchange)
@@ -130,7 +135,8 @@ pub fn retry(config: &Config)
 /// Each call is idempotent (CSI specification, 'Timeouts'): from a State of the invariant the same call, made again
 /// at once, has the same reply and leaves the same State, also one that is not read or does not pass the checks.
 pub fn repeat(config: &Config)
-    ensures { (s : MachineState) (call : CallBytes) → IsInvariant config.now s → (volumes config.now).respond ((volumes config.now).respond s call).1 call ≡ (volumes config.now).respond s call }
+    ensures { (s : MachineState) (call : CallBytes) → IsInvariant config.now s
+        → (volumes config.now).respond ((volumes config.now).respond s call).1 call ≡ (volumes config.now).respond s call }
 {
     repeat_request(config);
 }

@@ -15,7 +15,6 @@
 //! ```
 #![tactic(auto)]
 
-mod answering;
 mod end;
 mod identity;
 pub mod laws;
@@ -30,5 +29,5 @@ pub use end::RunEnd;
 pub use identity::serve_identity;
 pub use refused::Refusal;
 pub use running::run_service;
-pub use service::{Answer, Service, begin_body};
+pub use service::{Service, begin_body};
 pub use volumes::serve;

@@ -10,7 +10,6 @@ ghost use Rattle.csi_server.specs.Requests.{IsUnread};
 ghost use Rattle.frames_core.specs.Envelope.{IsTextByte};
 
 use crate::refused::Refusal;
-use crate::service::Answer;
 use csi_checks::check;
 use csi_codec::{DecodeFault, MALFORMED_MESSAGE, decode};
 use csi_types::{Code, Method, Reason, Request};
@@ -58,9 +57,9 @@ fn malformed_start() -> &'static [u8]
 }
 
 /// The answer that refuses a call for a reason.
-pub(crate) fn refuse(reason: Reason) -> Answer
+pub(crate) fn refuse(reason: Reason) -> Result<(), Refusal>
     ensures answered { (buffer : List ℕ) → reply_of result buffer ≡ refused reason }
     ensures room { (buffer : List ℕ) → HoldsBody result buffer }
 {
-    Answer::Refused(Refusal::from(reason))
+    Err(Refusal::from(reason))
 }

@@ -3,10 +3,9 @@ ghost use Rattle.std.specs.Io.KnownBytes.{Keeps};
 ghost use Rattle.csi_server.specs.Serving.{Serves};
 ghost use Rattle.csi_server.specs.Live.{IsLive, Steps, AdvancesBy, IsReady, IsAllFed, Refuses, Finishes};
 
-use crate::answering::answer_call;
 use crate::end::RunEnd;
 use crate::service::Service;
-use crate::writing::put_fault;
+use crate::writing::{put_fault, put_reply};
 use frames_core::{FrameFault, Framer};
 use std::alloc::Global;
 use std::io::{Read, Write};
@@ -52,7 +51,8 @@ fn answer_next<C, S: Service<C>, W: Write>(
     let Some(call) = framer.frame() else {
         return Step::Fed(count);
     };
-    match answer_call(alloc, config, service, &call, reply, writer) {
+    let answer = service.answer(config, alloc, &call, reply);
+    match put_reply(writer, &answer, reply) {
         Err(_) => Step::Cut,
         Ok(()) => {
             framer.next_frame();

@@ -8,15 +8,6 @@ use crate::refused::Refusal;
 use frames_core::{Call, REPLY_HEAD_BYTES};
 use std::alloc::{AllocError, Global};
 
-/// What a call is answered.
-#[derive(Drop)]
-pub enum Answer {
-    /// Status 0, with the body that stands behind the room for a head.
-    Body,
-    /// Another status.
-    Refused(Refusal),
-}
-
 /// What answers calls, under a configuration.
 pub trait Service<C> {
     /// What the service keeps from call to call, as the definitions see it.
@@ -30,9 +21,19 @@ pub trait Service<C> {
 
     ghost use Rattle.csi_server.specs.Service.{reply_of, HoldsBody};
 
-    /// Answers one call. With [`Answer::Body`] `reply` has room for a reply's head, [`REPLY_HEAD_BYTES`], and then the body, of
+    /// Answers one call with status 0. Then `reply` has room for a reply's head, [`REPLY_HEAD_BYTES`], and behind it the body, of
     /// at most [`MAX_BODY_BYTES`](frames_core::MAX_BODY_BYTES).
-    fn answer(&mut self, config: &C, alloc: Global, call: &Call<'_>, reply: &mut Vec<u8>) -> Answer
+    ///
+    /// # Errors
+    ///
+    /// The call is answered with the status and the text of the refusal, and what `reply` has is of no account.
+    fn answer(
+        &mut self,
+        config: &C,
+        alloc: Global,
+        call: &Call<'_>,
+        reply: &mut Vec<u8>,
+    ) -> Result<(), Refusal>
         ensures clean { (model config.now self.old).doubt ≤ (model config.now self.new).doubt }
         ensures step { (model config.now self.new).doubt ≡ 0 → (s : State) → (model config.now self.old).holds s
             → Answers (machine config.now) (model config.now self.old) (model config.now self.new) s (bytes_of call.now) (reply_of result reply.new.items) }

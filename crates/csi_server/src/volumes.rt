@@ -1,82 +1,35 @@
 //! The volume machine over a keeper.
 
-ghost use Rattle.std.specs.Prelude.{◌≡◌, ◌≤◌, ⊤, ℕ, List, None, Ok};
+ghost use Rattle.std.specs.Prelude.{◌≡◌, ◌≤◌, ℕ, List, Ok};
 ghost use Rattle.std.specs.Io.KnownBytes.{Consumes, IsAtEnd, Keeps};
-ghost use Rattle.csi_types.specs.Checks.{checked};
-ghost use Rattle.csi_types.specs.declared.requests.Request.{Request as AnyRequest};
-ghost use Rattle.csi_codec.specs.Reading.{read_request};
-ghost use Rattle.csi_keeper.specs.State.{State as MachineState};
-ghost use Rattle.csi_machine.specs.Step.{step};
-ghost use Rattle.csi_server.specs.Requests.{after_check, after_read, AnswersBy};
-ghost use Rattle.csi_server.specs.Service.{reply_of, HoldsBody, room};
+ghost use Rattle.csi_server.specs.Service.{reply_of, HasBody, HoldsBody};
 ghost use Rattle.csi_server.specs.Serving.{Serves};
 ghost use Rattle.csi_server.specs.Volumes.{volumes, seen, RepliesTo};
 
 use crate::end::RunEnd;
 use crate::message::{read_message, refuse};
+use crate::refused::Refusal;
 use crate::running::run_service;
-use crate::service::{Answer, Service, begin_body};
+use crate::service::{Service, begin_body};
 use csi_config::Config;
 use csi_keeper::{Keeper, StoreFault};
 use csi_machine::{Verdict, append_answer};
-use csi_types::{Method, Reason, Request, method_of};
+use csi_types::{Reason, method_of};
 use frames_core::Call;
 use std::alloc::Global;
 use std::io::{Read, Write};
 
 // The answer to a call of which the machine answered this.
-fn answer_of(verdict: Result<Verdict, StoreFault>) -> Answer
+fn answer_of(verdict: Result<Verdict, StoreFault>) -> Result<(), Refusal>
     ensures reply { (buffer : List ℕ) → RepliesTo buffer (reply_of result buffer) verdict }
-    ensures room { (buffer : List ℕ) → (verdict ≡ Ok Verdict.Done → HoldsBody Answer.Body buffer) → HoldsBody result buffer }
+    ensures room { (buffer : List ℕ) → (verdict ≡ Ok Verdict.Done → HasBody buffer) → HoldsBody result buffer }
 {
     match verdict {
-        Ok(Verdict::Done) => Answer::Body,
+        Ok(Verdict::Done) => Ok(()),
         Ok(Verdict::Refused(reason)) => refuse(reason),
         Err(StoreFault::NoMemory) => refuse(Reason::OutOfMemory),
         Err(StoreFault::Refused) => refuse(Reason::StoreRefused),
         Err(StoreFault::Down) => refuse(Reason::StoreDown),
-    }
-}
-
-// Answers a request that passes the checks.
-fn answer_request<K: Keeper>(
-    alloc: Global,
-    config: &Config,
-    keeper: &mut K,
-    request: &Request,
-    reply: &mut Vec<u8>,
-) -> Answer
-    requires passed { checked request.now ≡ None }
-    ensures clean { (K.model keeper.old).doubt ≤ (K.model keeper.new).doubt }
-    ensures step { (K.model keeper.new).doubt ≡ 0 → (s : MachineState) → (seen config.now (K.model keeper.old)).holds s
-        → AnswersBy (λ t. after_check (step config.now) t request.now None) ⊤
-        (seen config.now (K.model keeper.old)) (seen config.now (K.model keeper.new)) s (reply_of result reply.new.items) }
-    ensures room { HoldsBody result reply.new.items }
-{
-    match begin_body(reply) {
-        Ok(()) => answer_of(append_answer(alloc, config, keeper, request, reply)),
-        Err(_) => refuse(Reason::OutOfMemory),
-    }
-}
-
-// Reads the message of a call and answers it.
-fn answer_message<K: Keeper>(
-    alloc: Global,
-    config: &Config,
-    keeper: &mut K,
-    method: Method,
-    message: &[u8],
-    reply: &mut Vec<u8>,
-) -> Answer
-    ensures clean { (K.model keeper.old).doubt ≤ (K.model keeper.new).doubt }
-    ensures step { (K.model keeper.new).doubt ≡ 0 → (s : MachineState) → (seen config.now (K.model keeper.old)).holds s
-        → AnswersBy (λ t. after_read (step config.now) t (read_request method message.now)) ((r : AnyRequest) × (read_request method message.now ≡ Ok r))
-        (seen config.now (K.model keeper.old)) (seen config.now (K.model keeper.new)) s (reply_of result reply.new.items) }
-    ensures room { HoldsBody result reply.new.items }
-{
-    match read_message(alloc, method, message) {
-        Ok(request) => answer_request(alloc, config, keeper, &request, reply),
-        Err(refusal) => Answer::Refused(refusal),
     }
 }
 
@@ -97,10 +50,14 @@ impl<K: Keeper> Service<Config> for K {
         alloc: Global,
         call: &Call<'_>,
         reply: &mut Vec<u8>,
-    ) -> Answer {
-        match method_of(call.path) {
-            Some(method) => answer_message(alloc, config, self, method, call.message, reply),
-            None => refuse(Reason::UnknownMethod),
+    ) -> Result<(), Refusal> {
+        let Some(method) = method_of(call.path) else {
+            return refuse(Reason::UnknownMethod);
+        };
+        let request = read_message(alloc, method, call.message)?;
+        match begin_body(reply) {
+            Ok(()) => answer_of(append_answer(alloc, config, self, &request, reply)),
+            Err(_) => refuse(Reason::OutOfMemory),
         }
     }
 }

@@ -5,7 +5,7 @@ ghost use Rattle.frames_core.specs.Envelope.{reply as reply_frame};
 ghost use Rattle.csi_server.specs.Serving.{WrotePrefix, fault_frame};
 ghost use Rattle.csi_server.specs.Service.{reply_of, HoldsBody};
 
-use crate::service::Answer;
+use crate::refused::Refusal;
 use csi_types::Code;
 use frames_core::{
     FrameFault, MAX_BODY_BYTES, REPLY_HEAD_BYTES, fault_text, refusal_frame, reply_head,
@@ -54,7 +54,7 @@ fn set_head(reply: &mut Vec<u8>)
 /// Writes the reply of an answer and flushes. The body goes out with its head in one write, where the writer takes it whole.
 pub(crate) fn put_reply<W: Write>(
     writer: &mut W,
-    answer: &Answer,
+    answer: &Result<(), Refusal>,
     reply: &mut Vec<u8>,
 ) -> io::Result<()>
     requires { HoldsBody answer.now reply.old.items }
@@ -63,11 +63,11 @@ pub(crate) fn put_reply<W: Write>(
     ensures formed { IsReply (reply_of answer.now reply.old.items) }
 {
     match answer {
-        Answer::Body => {
+        Ok(()) => {
             set_head(reply);
             put_flushed(writer, reply.as_slice())
         }
-        Answer::Refused(refusal) => put_flushed(
+        Err(refusal) => put_flushed(
             writer,
             refusal_frame(refusal.code.number(), refusal.text.bytes()).bytes(),
         ),

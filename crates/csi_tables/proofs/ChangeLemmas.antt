@@ -48,7 +48,7 @@ module _ {S X : Type 0} {g : Ghosts S} {old new : Held S} {Why : Type 0} where
   }
 
   -- a change behind a read that failed
-  pub unmade : {Z : Type 0} {What : Z → State → Type 0} (change : Change) (r : Result X Fault) (fault : Fault) → ConnReads g old new What (Err fault) → IsErrAnd r (λ y. y ≡ fault) → ConnChanges g old new change Why r
+  pub unmade : {Z : Type 0} {What : State → Z → Type 0} (change : Change) (r : Result X Fault) (fault : Fault) → ConnReads g old new What (Err fault) → IsErrAnd r (λ y. y ≡ fault) → ConnChanges g old new change Why r
   unmade change r fault h is = record {
     idle = h.idle;
     made = never_ok r _ _ is;
@@ -57,7 +57,7 @@ module _ {S X : Type 0} {g : Ghosts S} {old new : Held S} {Why : Type 0} where
   }
 
   -- a change that a read finds not allowed
-  pub changes_never : {Z : Type 0} {What : Z → State → Type 0} {z : Z} {x : X} (change : Change) → ConnReads g old new What (Ok z) → (conn_doubt g new ≡ 0 → (s : State) → conn_holds g old s → Allows s change → ⊥)
+  pub changes_never : {Z : Type 0} {What : State → Z → Type 0} {z : Z} {x : X} (change : Change) → ConnReads g old new What (Ok z) → (conn_doubt g new ≡ 0 → (s : State) → conn_holds g old s → Allows s change → ⊥)
       → ConnChanges g old new change Why (Ok x)
   changes_never {x = x} change h never = record {
     idle = h.idle;
@@ -100,7 +100,7 @@ module _ {S : Type 0} (g : Ghosts S) (back : ReadsBack) (change : Change) (Effec
 
 -- by one transaction behind a read
 module _ {S : Type 0} (g : Ghosts S) (back : ReadsBack) (change : Change) (Effect : Database → Database → Type 0) (keeps : (old new : Database) → Effect old new → new.schema ≡ old.schema)
-    {X Y Z : Type 0} {before old new : Held S} {What : Z → State → Type 0} {z : Result Z Fault} (read : ConnReads g before old What z) {Refuses : sql.State → Error → Type 0} {Why : Type 0}
+    {X Y Z : Type 0} {before old new : Held S} {What : State → Z → Type 0} {z : Result Z Fault} (read : ConnReads g before old What z) {Refuses : sql.State → Error → Type 0} {Why : Type 0}
     (steps : HasCleanDisk (state g new) → (s : State) → conn_holds g before s → (db after : Database) → db.schema ≡ schema → IsRows s db.trees → Allows s change → Effect db after → IsRows (changed s change) after.trees) where
   pub changes_behind : {x : X} {y : Y} → ((s : S) (db : Trees) → IsTrue (g.view s).is_open → g.recovers s db → db ≡ (g.view s).committed) → CommitsOver g old new schema Effect Refuses (Ok x) → ConnChanges g before new change Why (Ok y)
   changes_behind {y = y} settled h = record {

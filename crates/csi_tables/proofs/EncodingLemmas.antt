@@ -15,6 +15,7 @@ use Rattle.csi_keeper.specs.Capability.{access_of, capability_of, key_of, key_wi
 use Rattle.csi_keeper.specs.declared.capability.CapKey.{CapKey}
 use Rattle.csi_keeper.specs.declared.capability.Kind.{Kind}
 use Rattle.csi_keeper.specs.declared.capability.Kind.TheVariants.{Block, Mount}
+use Rattle.csi_tables.specs.facts.Keys.{some_key}
 use Rattle.csi_tables.specs.Encoding.{with_caps, with_params, caps_bytes, params_bytes, AreKnown, FitCaps, FitParams, ReadsBack}
 
 -- ---- the key that a capability was made of
@@ -69,14 +70,6 @@ unfolding params_bytes FitParams params_in params_of
 params_back back p m fit = ap params_of (back (with_params p m) fit)
 
 -- ---- what the program reads
-
-some_key : (b : Bool) (k j : CapKey) → key_with (access_of k.kind) (cond b (Some k.mode) None) ≡ Some j → j ≡ k
-some_key false k j e = absurd (cc)
-some_key true k j e = go k.kind refl e
-  where
-    go : (d : Kind) → k.kind ≡ d → key_with (access_of d) (Some k.mode) ≡ Some j → j ≡ k
-    go Block is e = let made : record { kind = Block; mode = k.mode } ≡ j = cc in sym made ∙ (λ i. record { kind = sym is i; mode = k.mode })
-    go (Mount t) is e = let made : record { kind = Mount t; mode = k.mode } ≡ j = cc in sym made ∙ (λ i. record { kind = sym is i; mode = k.mode })
 
 same_keys : (ks js : List CapKey) → map Some js ≡ map key_of (map capability_of ks) → js ≡ ks
 same_keys [] [] e = refl

@@ -1,25 +1,21 @@
 -- Entries of a finite map, under a permutation.
-use Rattle.std.proofs.Common.{◌≡◌, ◌∙◌, inl, inr, refl, sym, ap, subst, not, filter, ℕ, zero, suc, ◌+◌, ◌<◌, ◌≤◌, T, Bool, true, false, cond, ◌&&◌, List, [], ◌∷◌, map, length, slice_index_or, Option, Some, None, Ordering, Less, Equal, Greater, is_eq, is_lt, IsPermutation, IsSorted, arith}
+use Rattle.std.proofs.Common.{◌≡◌, ◌∙◌, inl, inr, refl, sym, ap, subst, not, filter, ℕ, zero, suc, ◌+◌, ◌<◌, T, Bool, true, false, cond, ◌&&◌, List, [], ◌∷◌, map, length, slice_index_or, Option, Some, None, Ordering, Less, Equal, Greater, is_eq, is_lt, IsPermutation, arith}
 use Rattle.std.specs.List.{AllByRecursion}
 use Rattle.std.specs.Ordering.{eq_by_cmp, ordering_reverse}
 use Rattle.std.specs.Cmp.{IsTotalOrder, eq_by_cmp_equiv}
 use Rattle.std.specs.FinMap.{FinMap, entries, find, put, get, insert, remove, retain_keys, is_sorted, entries_sorted, entries-insert, get-entries, get-remove, get-retain_keys, get-from_sorted, from_sorted, entries-from_sorted, same_map, same_entries_map, IsAntisymmetric}
 use Rattle.std.specs.FinMap.Entries.{by_order, below_all, find-where_key, is_sorted-where_key}
 use Rattle.std.proofs.lemmas.Cmp.{on_total}
-use Rattle.std.proofs.lemmas.List.Sorted.{IsPermutation-refl, IsPermutation-cons, IsPermutation-trans, IsPermutation-middle, IsPermutation-sym}
 use Rattle.csi_keeper.specs.facts.Finite.{gone, none_some, same_some, set_anew, tied}
 use Rattle.sqlite_rules.specs.Lists.{Has}
-use Rattle.sqlite_rules.proofs.ListLemmas.{all_has, all_from}
 use Rattle.sqlite_trees.proofs.ListLemmas.{all-permutation, all-filter}
 use Rattle.sqlite_trees.specs.Tree.{IsAscending}
 use Rattle.sqlite_keyed.proofs.SortLemmas.{sorted_unique}
+use Rattle.csi_tables.specs.facts.Entries.{put_fresh}
 
 both : (a b : Bool) → T (a && b) → T a × T b
 both true b h = (tt, h)
 both false b h = absurd h
-
-pub has_permuted : {X : Type 0} (xs ys : List X) (x : X) → IsPermutation xs ys → Has ys x → Has xs x
-has_permuted xs ys x same = all_has (Has xs) ys x (all-permutation (Has xs) xs ys same (all_from (Has xs) xs (λ e h. h)))
 
 is_less : (o : Ordering) → T (is_lt o) → o ≡ Less
 is_less Less h = refl
@@ -30,16 +26,6 @@ not_less : {K : Type 0} (R : K → K → Ordering) (o : IsTotalOrder R) (x y : K
 not_less R o x y e = ap is_lt (o.antisymm y x ∙ ap ordering_reverse e)
 
 module _ {K X : Type 0} (R : K → K → Ordering) where
-  pub put_fresh : (k : K) (v : X) (es : List (K × X)) → find R k es ≡ None → IsPermutation ((k, v) ∷ es) (put R k v es)
-  put_fresh k v [] none = IsPermutation-refl _
-  put_fresh k v (e ∷ es) none = go (R k e.0) none (put_fresh k v es)
-    where
-      go : (o : Ordering) → cond (is_eq o) (Some e.1) (find R k es) ≡ None → (find R k es ≡ None → IsPermutation ((k, v) ∷ es) (put R k v es))
-          → IsPermutation ((k, v) ∷ e ∷ es) (by_order o ((k, v) ∷ e ∷ es) ((e.0, v) ∷ es) (e ∷ put R k v es))
-      go Less h more = IsPermutation-refl _
-      go Equal h more = absurd (none_some e.1 (sym h))
-      go Greater h more = IsPermutation-trans _ _ _ (IsPermutation-sym _ _ (IsPermutation-middle (e ∷ []) (k, v) es)) (IsPermutation-cons e _ _ (more h))
-
   pub all_put : (P : K × X → Type 0) (k : K) (v : X) (es : List (K × X)) → find R k es ≡ None → P (k, v) → AllByRecursion P es → AllByRecursion P (put R k v es)
   all_put P k v [] none p all = (p, tt)
   all_put P k v (e ∷ es) none p all = go (R k e.0) none (λ h. all_put P k v es h p all.1)
@@ -72,7 +58,7 @@ module _ {K X : Type 0} (R : K → K → Ordering) where
         (λ k d low high. sorted_at (entries n) (rises (entries n) (entries_sorted n)) k d high)))
 
     pub inserted : (m : FinMap R X) (k : K) (v : X) → get m k ≡ None → IsPermutation ((k, v) ∷ entries m) (entries (insert m k v))
-    inserted m k v none = subst (IsPermutation ((k, v) ∷ entries m)) (sym (entries-insert o m k v)) (put_fresh k v (entries m) (sym (get-entries m k) ∙ none))
+    inserted m k v none = subst (IsPermutation ((k, v) ∷ entries m)) (sym (entries-insert o m k v)) (put_fresh R k v (entries m) (sym (get-entries m k) ∙ none))
 
     pub all_inserted : (P : K × X → Type 0) (m : FinMap R X) (k : K) (v : X) → get m k ≡ None → P (k, v) → AllByRecursion P (entries m) → AllByRecursion P (entries (insert m k v))
     all_inserted P m k v none p all = subst (AllByRecursion P) (sym (entries-insert o m k v)) (all_put P k v (entries m) (sym (get-entries m k) ∙ none) p all)

@@ -6,7 +6,7 @@ use Rattle.std.specs.Ordering.{nat_cmp, int_cmp, ordering_then}
 use Rattle.std.proofs.lemmas.Bool.Decides.{nat_tests}
 use Rattle.sqlite.specs.Collation.TheVariants.{Binary}
 use Rattle.sqlite.specs.declared.types.Value.TheVariants.{Int}
-use Rattle.sqlite.specs.Ops.{binary, is_true, from_truth}
+use Rattle.sqlite.specs.Ops.{binary, is_true}
 use Rattle.sqlite.specs.Order.{Row, column, value_cmp}
 use Rattle.sqlite.specs.Tree.{Trees, IsAscending}
 use Rattle.sqlite_keyed.proofs.ListLemmas.{map-map}
@@ -26,19 +26,13 @@ use Rattle.csi_tables.specs.Holding.{IsRows, IsStored, IsPlaced, volume_entry, a
 use Rattle.csi_tables.specs.Places.{place_row, nodes_at, IsRisen, AreRising, AreTexts}
 use Rattle.csi_tables.proofs.ShownLemmas.{and_true, is_above, to_numeric, all-take, take-map, volumes_up, places_up, by_rising, passed}
 use Rattle.csi_tables.proofs.SortedLemmas.{shown_by}
+use Rattle.csi_tables.proofs.TestLemmas.{truth_test}
 
 -- ---- tests and orders
 
 up_to : (a b : ℕ) → is_true (binary (Compare Le Binary) (Int (pos a)) (Int (pos b))) ≡ nat_le a b
 unfolding binary
-up_to a b = truth (is_le (value_cmp (Int (pos a)) (Int (pos b)))) ∙ ap is_le (value_cmp-Int (pos a) (pos b)) ∙ tie a b
-  where
-    truth : (t : Bool) → is_true (from_truth (Some t)) ≡ t
-    truth true = refl
-    truth false = refl
-
-    tie : (x y : ℕ) → is_le (int_cmp (pos x) (pos y)) ≡ nat_le x y
-    tie x y = grind (arith, nat_tests)
+up_to a b = truth_test (is_le (value_cmp (Int (pos a)) (Int (pos b)))) ∙ ap is_le (value_cmp-Int (pos a) (pos b)) ∙ (let tie : is_le (int_cmp (pos a) (pos b)) ≡ nat_le a b = grind (arith, nat_tests) in tie)
 
 ints_cmp : (a b : ℕ) → value_cmp (number_value a) (number_value b) ≡ nat_cmp a b
 ints_cmp a b = value_cmp-Int (pos a) (pos b) ∙ tie a b

@@ -1,5 +1,5 @@
 -- Why a call over the tables was refused.
-use Rattle.std.proofs.Common.{◌≡◌, ◌∙◌, inl, inr, refl, sym, ap, subst, arith, ℕ, ◌≤◌, Bool, true, false, List, [], ◌∷◌, map, Option, IfOk, IsTrue, IsSome, Result, Ok, Err}
+use Rattle.std.proofs.Common.{◌≡◌, ◌≢◌, ◌∙◌, inl, inr, refl, sym, ap, subst, arith, ℕ, ◌≤◌, Bool, true, false, List, [], ◌∷◌, map, Option, IfOk, IsTrue, IsSome, Result, Ok, Err}
 use Rattle.std.specs.Result.{IsErrAnd}
 use Rattle.sqlite.specs.Effect.{Database}
 use Rattle.sqlite.specs.Held.{Held, state}
@@ -9,6 +9,7 @@ use Rattle.sqlite.specs.State.{Survives, HasCleanDisk}
 use Rattle.sqlite.specs.Store.{Ghosts}
 use Rattle.sqlite.specs.declared.error.Error.{Error}
 use Rattle.csi_keeper.specs.State.{State}
+use Rattle.csi_keeper.specs.facts.Reads.{if_ok}
 use Rattle.csi_keeper.specs.declared.change.StoreFault.{StoreFault}
 use Rattle.csi_keeper.specs.declared.change.StoreFault.TheVariants as store
 use Rattle.csi_schema.specs.Failing as fails
@@ -16,7 +17,7 @@ use Rattle.csi_schema.specs.Failing.{SqlRefuses}
 use Rattle.csi_schema.specs.Tables.{schema}
 use Rattle.csi_schema.specs.declared.formats.TheConstants.{LATEST_FORMAT}
 use Rattle.csi_transactions.specs.Failing.{FailsFor, HasNoNext}
-use Rattle.csi_transactions.specs.Rows.{IsUndone, ReadsOnly, meta_row, seen_meta}
+use Rattle.csi_transactions.specs.Rows.{IsUndone, ReadsOnly, meta_row, number_value, seen_meta}
 use Rattle.csi_tables.specs.Answers.{answered, of_database}
 use Rattle.csi_tables.specs.Holding.{Shows, conn_doubt, conn_holds}
 use Rattle.csi_tables.specs.Refusing.{ConnReads, HasKnownModes, IsRefusal, by_disk, as_shut, at_limit, as_refused}
@@ -60,7 +61,7 @@ module _ {S : Type 0} (g : Ghosts S) (old new : Held S) where
       (λ shut. as_shut shut)
 
 -- a read that the database failed
-pub unread : {S X Y : Type 0} {g : Ghosts S} {old new : Held S} {Shown : X → Database → Type 0} {Refuses : sql.State → Error → Type 0} {What : Y → State → Type 0}
+pub unread : {S X Y : Type 0} {g : Ghosts S} {old new : Held S} {Shown : Database → X → Type 0} {Refuses : sql.State → Error → Type 0} {What : State → Y → Type 0}
     → (r : Result Y Fault) (e : Error) → ((s : State) → Shows (state g old) s → Refuses (state g old) e → ⊥) → ReadsOnly g old new Shown Refuses (Err e) → IsErrAnd r (λ y. y ≡ of_database e) → ConnReads g old new What r
 unread (Ok y) e never h is = absurd is
 unread {Y = Y} {g = g} {old = old} {new = new} {Refuses = Refuses} (Err fault) e never h is = record {
@@ -71,14 +72,14 @@ unread {Y = Y} {g = g} {old = old} {new = new} {Refuses = Refuses} (Err fault) e
   survives = h.survives;
 }
 
-each_told : {Y : Type 0} (C : Type 0) (H : State → Type 0) (What : Y → State → Type 0) (r : Result Y Fault) → (C → (s : State) → H s → IfOk r (λ y. What y s)) → IfOk r (λ y. C → (s : State) → H s → What y s)
+each_told : {Y : Type 0} (C : Type 0) (H : State → Type 0) (What : State → Y → Type 0) (r : Result Y Fault) → (C → (s : State) → H s → IfOk r (λ y. What s y)) → IfOk r (λ y. C → (s : State) → H s → What s y)
 each_told C H What (Ok y) f = f
 each_told C H What (Err fault) f = tt
 
 -- a read whose rows are read again
-pub read_as : {S X Y : Type 0} {g : Ghosts S} {old new : Held S} {Shown : X → Database → Type 0} {Refuses : sql.State → Error → Type 0} {What : Y → State → Type 0} {x : X}
-    → (r : Result Y Fault) → ReadsOnly g old new Shown Refuses (Ok x) → ((s : State) → Shows (state g old) s → Shown x (state g old).now → IfOk r (λ y. What y s))
-    → ((s : State) → Shows (state g old) s → HasKnownModes s → Shown x (state g old).now → r ≡ Err Refused → ⊥) → ConnReads g old new What r
+pub read_as : {S X Y : Type 0} {g : Ghosts S} {old new : Held S} {Shown : Database → X → Type 0} {Refuses : sql.State → Error → Type 0} {What : State → Y → Type 0} {x : X}
+    → (r : Result Y Fault) → ReadsOnly g old new Shown Refuses (Ok x) → ((s : State) → Shows (state g old) s → Shown (state g old).now x → IfOk r (λ y. What s y))
+    → ((s : State) → Shows (state g old) s → HasKnownModes s → Shown (state g old).now x → r ≡ Err Refused → ⊥) → ConnReads g old new What r
 read_as {g = g} {old = old} {new = new} {What = What} r h tells never = record {
   idle = h.idle;
   value = each_told (conn_doubt g new ≡ 0) (conn_holds g old) What r (λ clean s held.
@@ -92,6 +93,14 @@ read_as {g = g} {old = old} {new = new} {What = What} r h tells never = record {
   undone = h.undone;
   survives = h.survives;
 }
+
+-- a read of numbers
+pub read_numbers : {S X : Type 0} {g : Ghosts S} {old new : Held S} {Shown : Database → X → Type 0} {Refuses : sql.State → Error → Type 0} {x : X}
+    → (r : Result (List ℕ) Fault) (rows : List Row) (value : State → List ℕ) → ReadsOnly g old new Shown Refuses (Ok x) → IfOk r (λ xs. (ns : List ℕ) → rows ≡ map (λ n. number_value n ∷ []) ns → xs ≡ ns)
+    → (r ≡ Err Refused → (ns : List ℕ) → rows ≢ map (λ n. number_value n ∷ []) ns) → ((s : State) → Shows (state g old) s → Shown (state g old).now x → rows ≡ map (λ n. number_value n ∷ []) (value s))
+    → ConnReads g old new (λ s xs. xs ≡ value s) r
+read_numbers r rows value h ok refused shown =
+    read_as r h (λ s shows what. if_ok (λ xs read. read (value s) (shown s shows what)) r ok) (λ s shows known what is. refused is (value s) (shown s shows what))
 
 -- ---- a change behind a read
 

@@ -33,7 +33,8 @@ use Rattle.csi_transactions.specs.Rows.{meta_row, seen_meta, seen_volume, seen_a
 use Rattle.csi_transactions.specs.Updates.{SetsParams}
 use Rattle.csi_tables.specs.Encoding.{caps_bytes, params_bytes, FitCaps, FitParams}
 use Rattle.csi_tables.specs.Holding.{IsRows, IsRowsOf, IsStorable, IsStored, IsPlaced, volume_entry, attachment_entry}
-use Rattle.csi_tables.proofs.EntryLemmas.{inserted, all_inserted, all_left, all_overwritten, entries-remove, entries-retain_keys, found_has, has_permuted, overwritten, rises}
+use Rattle.csi_tables.specs.facts.Entries.{has_permuted}
+use Rattle.csi_tables.proofs.EntryLemmas.{inserted, all_inserted, all_left, all_overwritten, entries-remove, entries-retain_keys, found_has, overwritten, rises}
 use Rattle.csi_tables.proofs.TestLemmas.{same_numbers, same_texts, both_eq}
 
 -- ---- a State that rows can say, after a change

@@ -11,7 +11,7 @@ use Rattle.std.proofs.lemmas.Map.Text.{is_eq-slice_cmp}
 use Rattle.std.proofs.lemmas.Slice.Eq.{bytes_eq-Decides}
 use Rattle.sqlite.specs.declared.types.Value.TheVariants.{Int, Text}
 use Rattle.sqlite.specs.Collation.TheVariants.{Binary}
-use Rattle.sqlite.specs.Ops.{binary, unary, is_true, from_truth}
+use Rattle.sqlite.specs.Ops.{binary, unary, is_true}
 use Rattle.sqlite.specs.Order.{Row, column, value_cmp}
 use Rattle.sqlite.specs.Query.{Output}
 use Rattle.sqlite.specs.Tree.{Trees, IsAscending}
@@ -35,7 +35,7 @@ use Rattle.csi_tables.specs.Holding.{IsRows, IsStored, IsPlaced, IsReadable, IsR
 use Rattle.csi_tables.specs.Refusing.{HasKnownModes}
 use Rattle.csi_tables.proofs.EntryLemmas.{rises}
 use Rattle.csi_tables.proofs.SortedLemmas.{shown_by}
-use Rattle.csi_tables.proofs.TestLemmas.{same_numbers, same_texts}
+use Rattle.csi_tables.proofs.TestLemmas.{same_numbers, same_texts, truth_test}
 
 -- ---- tests
 
@@ -58,14 +58,7 @@ to_numeric n = refl
 
 pub is_above : (a b : ℕ) → is_true (binary (Compare Gt Binary) (Int (pos b)) (Int (pos a))) ≡ nat_lt a b
 unfolding binary
-is_above a b = truth (is_gt (value_cmp (Int (pos b)) (Int (pos a)))) ∙ ap is_gt (value_cmp-Int (pos b) (pos a)) ∙ tie a b
-  where
-    truth : (t : Bool) → is_true (from_truth (Some t)) ≡ t
-    truth true = refl
-    truth false = refl
-
-    tie : (x y : ℕ) → is_gt (int_cmp (pos y) (pos x)) ≡ nat_lt x y
-    tie x y = grind (arith, nat_tests)
+is_above a b = truth_test (is_gt (value_cmp (Int (pos b)) (Int (pos a)))) ∙ ap is_gt (value_cmp-Int (pos b) (pos a)) ∙ (let tie : is_gt (int_cmp (pos b) (pos a)) ≡ nat_lt a b = grind (arith, nat_tests) in tie)
 
 -- ---- entries in the order of a query
 

@@ -1,42 +1,67 @@
 -- A keeper whose parts are a connection and the totals beside it.
-use Rattle.std.proofs.Common.{◌≡◌, ◌∙◌, ◌↔◌, refl, sym, ap, subst, arith, ℕ, zero, suc, ◌≤◌, ◌^◌, ◌==◌, nat_lt, List, [], ◌∷◌, map, filter, take, false, cond, IsTrue, Result, Ok, Err, IfOk, OnOk, OnErr}
+use Rattle.std.proofs.Common.{◌≡◌, ◌∙◌, refl, sym, ap, subst, arith, ℕ, zero, suc, ◌≤◌, ◌^◌, ◌==◌, nat_lt, List, [], ◌∷◌, map, filter, take, false, cond, Result, Ok, Err, IfOk, OnOk, OnErr}
 use Rattle.std.specs.FinMap.{entries}
 use Rattle.std.specs.List.{AllByRecursion}
 use Rattle.std.proofs.lemmas.Bool.Decides.{nat_tests}
+use Rattle.sqlite.specs.Held.{Held}
 use Rattle.sqlite.specs.Store.{Ghosts}
-use Rattle.csi_keeper.specs.Keeper.{Changes, Reads, Tells, count_after}
+use Rattle.csi_keeper.specs.Keeper.{Changes, Reads, count_after}
 use Rattle.csi_keeper.specs.State.{State, Place, attached, page, published_of_page, published}
-use Rattle.csi_keeper.specs.Totals.{AreTotals}
 use Rattle.csi_keeper.specs.declared.change.Change.{Change}
 use Rattle.csi_keeper.specs.declared.change.StoreFault.{StoreFault}
+use Rattle.csi_keeper.specs.declared.change.StoreFault.TheVariants as store
 use Rattle.csi_keeper.specs.declared.change.StoreFault.TheVariants.{Down}
 use Rattle.csi_keeper.specs.declared.totals.Totals.{Totals}
 use Rattle.csi_keeper.specs.declared.volume.Attachment.{Attachment}
 use Rattle.csi_keeper.specs.declared.volume.Volume.{Volume}
-use Rattle.csi_tables.specs.Answers.{answered}
-use Rattle.csi_tables.specs.Holding.{IsStorable, IsStored, IsPlaced, Store, ConnIsQuiet, StoreMakes, StoreFails, model_with}
+use Rattle.csi_tables.specs.Answers.{answered, Begins, Ends}
+use Rattle.csi_tables.specs.Holding.{IsStorable, IsStored, IsPlaced, Store, StoreMakes, StoreFails, model_with}
+use Rattle.csi_tables.specs.Refusing.{ConnReads, StoreRefuses}
 use Rattle.csi_tables.specs.declared.health.Health.{Health}
 use Rattle.csi_tables.specs.declared.fault.Fault.{Fault}
 use Rattle.csi_tables.specs.declared.fault.Fault.TheVariants.{NoMemory, Refused}
+use Rattle.csi_tables.proofs.KeepLemmas.{is_quiet, stays_quiet}
+use Rattle.csi_tables.proofs.RefusalLemmas.{told_refused}
+
+-- what is told of an answer
+told_if : {X : Type 0} {P Q : X → Type 0} (answer : Result X Fault) (r : Result X StoreFault) → r ≡ answered answer → ((x : X) → P x → Q x) → IfOk answer P → IfOk r Q
+told_if {X} {P} {Q} answer r is f h = subst (λ (x : Result X StoreFault). IfOk x Q) (sym is) (go answer h)
+  where
+    go : (a : Result X Fault) → IfOk a P → IfOk (answered a) Q
+    go (Ok x) h = f x h
+    go (Err fault) h = tt
+
+-- a read of the connection, between the beginning of the call and its end
+pub keeps_read : {S X : Type 0} {g : Ghosts S} {a b : Held S} {before between behind : Health} {What : State → X → Type 0} {answer : Result X Fault} {r : Result X StoreFault}
+    (totals : Totals) → Begins before between (Ok tt) → ConnReads g a b What answer → Ends between behind answer r → record {
+      reads : Reads (model_with g (a, totals) before) (model_with g (b, totals) behind) r What;
+      refused : StoreRefuses g (a, totals) (b, totals) store.Refused ⊥ r;
+    }
+keeps_read {g = g} {a = a} {b = b} {answer = answer} {r = r} totals begun read end = record {
+  reads =
+      let q = is_quiet g a b read.undone read.survives in
+      record {
+        value = told_if answer r end.told (λ x tells clean s held. tells clean s held.0) read.value;
+        quiet = record { clean = q.clean; state = λ clean s held. (q.state clean s held.0, held.1, held.2); crash = q.crash; ties = q.ties; down = end.stays ∙ begun.stays };
+        count = end.count ∙ ap (λ n. count_after n r) begun.count;
+        down = (λ is. absurd (end.up is), λ down. absurd (cc (begun.down.1 down)));
+      };
+  refused = λ clean is s held known. read.refused clean (told_refused answer r end.told is) s held.0 known;
+}
+
+-- a read that needs none, since no row has such a number
+pub keeps_none : {S X : Type 0} (g : Ghosts S) (a : Held S) {before between : Health} {What : State → X → Type 0} (totals : Totals) (x : X) → Begins before between (Ok tt) → ((s : State) → IsStorable s → What s x)
+    → Reads (model_with g (a, totals) before) (model_with g (a, totals) between) (Ok x) What
+keeps_none g a totals x begun so =
+    let q = stays_quiet g a in
+    record {
+      value = λ clean s held. so s held.2;
+      quiet = record { clean = q.clean; state = λ clean s held. held; crash = q.crash; ties = q.ties; down = begun.stays };
+      count = begun.count;
+      down = (λ is. absurd (cc is), λ down. absurd (cc (begun.down.1 down)));
+    }
 
 module _ {S : Type 0} (g : Ghosts S) (old new : Store S) (before behind : Health) where
-  -- a read
-  pub keeps_read : {X : Type 0} {IsSo : State → X → Type 0} (r : Result X StoreFault) → new.1 ≡ old.1 → behind.is_down ≡ before.is_down → ConnIsQuiet g old.0 new.0
-      → IfOk r (λ x. Tells (model_with g old before) (model_with g new behind) (λ s. IsSo s x)) → behind.refusals ≡ count_after before.refusals r → (r ≡ Err Down) ↔ IsTrue before.is_down
-      → Reads (model_with g old before) (model_with g new behind) r IsSo
-  keeps_read r same stays q told count down = record {
-    value = told;
-    quiet = record {
-      clean = q.clean;
-      state = λ z s held. (q.state z s held.0, subst (λ (t : Totals). AreTotals t s) (sym same) held.1, held.2);
-      crash = q.crash;
-      ties = q.ties;
-      down = stays;
-    };
-    count = count;
-    down = down;
-  }
-
   -- a change that was made, or that failed
   pub keeps_applied : (change : Change) (answer : Result (Unit {0}) Fault) (r : Result (Unit {0}) StoreFault) → r ≡ answered answer → OnOk answer (StoreMakes g old new change) → OnErr answer (StoreFails g old new change)
       → OnOk r (behind.is_down ≡ before.is_down) → Changes (model_with g old before) (model_with g new behind) change r

@@ -162,12 +162,13 @@ module _ {S : Type 0} (g : Ghosts S) where
   abbrev pub store_tied : Store S → Type 0
   store_tied t = conn_tied g t.0
 
-  abbrev pub store_model : Store S → Model State
-  store_model t = record { holds = store_holds t; doubt = store_doubt t; refusals = 0; survivors = store_survivors t; tied = store_tied t; is_down = false }
-
   -- with what is counted of the calls
   abbrev pub model_with : Store S → Health → Model State
   model_with t health = record { holds = store_holds t; doubt = store_doubt t; refusals = health.refusals; survivors = store_survivors t; tied = store_tied t; is_down = health.is_down }
+
+  -- and where nothing is counted
+  abbrev pub store_model : Store S → Model State
+  store_model t = model_with t (record { refusals = 0; is_down = false })
 
 module _ {S : Type 0} (g : Ghosts S) (old new : Held S) where
   -- what a read answers is so of each State that the connection may have

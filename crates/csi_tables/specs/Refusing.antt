@@ -81,9 +81,9 @@ module _ {S : Type 0} (g : Ghosts S) (old new : Held S) where
   ConnRefuses Why r = conn_doubt g new ≡ 0 → IsErrOf r Refused → (s : State) → conn_holds g old s → HasKnownModes s → IsRefusal Why (state g old) (state g new)
 
   -- A read: what it answers of the State, and that nothing refuses it. What was committed stays, and a stop leaves what it could leave before.
-  pub record ConnReads {X : Type 0} (What : X → State → Type 0) (r : Result X Fault) : Type 0 where
+  pub record ConnReads {X : Type 0} (What : State → X → Type 0) (r : Result X Fault) : Type 0 where
     pub idle : new.in_transaction ≡ false
-    pub value : IfOk r (λ x. ConnTells g old new (What x))
+    pub value : IfOk r (λ x. ConnTells g old new (λ s. What s x))
     pub refused : ConnRefuses ⊥ r
     pub undone : HasCleanDisk (state g new) → IsUndone (state g old) (state g new)
     pub survives : LeavesNothingNew g old new

@@ -4,12 +4,12 @@
 //! change is made and committed; after a fault the State stays, and a stop may leave the change made.
 //! The totals are moved only once the change is committed, and that takes no memory.
 
-ghost use Rattle.std.specs.Prelude.{◌≡◌, ◌<◌, ◌^◌, [], ◌∷◌, List, ℕ, false, IsErrOf, IsUtf8, OnOk};
+ghost use Rattle.std.specs.Prelude.{◌≡◌, ◌<◌, ◌^◌, [], ◌∷◌, List, ℕ, false, IfOk, IsErrOf, IsUtf8, OnOk};
 ghost use Rattle.sqlite.specs.Held.{state};
 ghost use Rattle.csi_keeper.specs.State.{State, IsBounded, changed};
 ghost use Rattle.csi_keeper.specs.Totals.{HasRoom, IsReserved, total_of};
 ghost use Rattle.csi_keeper.specs.declared.change.Change.TheVariants.{AddVolume, RemoveVolume, Attach, Detach, DetachAll, SetMutable};
-ghost use Rattle.csi_tables.specs.Encoding.{FitCaps};
+ghost use Rattle.csi_tables.specs.Encoding.{caps_bytes, FitCaps};
 ghost use Rattle.csi_tables.specs.Holding.{conn_doubt, conn_holds, IsStorable};
 ghost use Rattle.csi_tables.specs.Refusing.{ConnChanges, ConnStays, StoreChanges, RefusesAdding, RefusesAttaching, RefusesChange, RefusesDetach, RefusesDetachAll, RefusesMutable, RefusesRemoving};
 ghost use Rattle.csi_tables.specs.declared.fault.Fault.TheVariants.{Refused};
@@ -17,14 +17,14 @@ ghost use Rattle.csi_tables.specs.declared.fault.Fault.TheVariants.{Refused};
 use crate::encoding::{read_back, write_caps, write_params};
 use crate::fault::Fault;
 use crate::read::by_number;
-use csi_keeper::{Attachment, Change, Totals, Volume};
+use csi_keeper::{Attachment, CapKey, Change, Totals, Volume};
 use csi_transactions::changes::{
     add_volume, attach, detach, detach_all, remove_volume, set_params,
 };
 use csi_transactions::reads;
 use csi_types::{Map, Text, copy_text};
 use sqlite::{Alter, Connection};
-use std::alloc::Global;
+use std::alloc::{AllocError, Global};
 use std::slice::from_ref;
 
 /// SQL integers end before it, so no row has such a number.
@@ -84,6 +84,14 @@ fn make_nothing<S: Alter>(conn: &mut Connection<S>) -> Result<(), Fault>
     Ok(())
 }
 
+// The bytes of an attachment's capability.
+fn write_cap(alloc: Global, cap: &CapKey) -> Result<Vec<u8>, AllocError>
+    ensures bytes { IfOk result (λ out. out.items ≡ caps_bytes (cap.now ∷ [])) }
+    ensures fits { OnOk result (FitCaps (cap.now ∷ [])) }
+{
+    write_caps(alloc, from_ref(cap))
+}
+
 /// Attaches a volume at a node.
 pub(crate) fn make_attachment<S: Alter>(
     alloc: Global,
@@ -100,7 +108,7 @@ pub(crate) fn make_attachment<S: Alter>(
     if number >= NUMBERS {
         return Err(Fault::Refused);
     }
-    let cap = write_caps(alloc, from_ref(&attachment.cap))?;
+    let cap = write_cap(alloc, &attachment.cap)?;
     attach(
         conn,
         number,

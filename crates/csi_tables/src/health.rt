@@ -1,9 +1,9 @@
 //! The calls of a keeper: how many were refused, and whether it is down.
 
-ghost use Rattle.std.specs.Prelude.{◌≡◌, ◌≢◌, ◌+◌, ◌-◌, ◌^◌, ◌↔◌, min, true, Err, IsTrue, OnOk, OnErr};
+ghost use Rattle.std.specs.Prelude.{◌≡◌, ◌≢◌, ◌+◌, ◌-◌, ◌^◌, min, true, Err, OnOk, OnErr};
 ghost use Rattle.csi_keeper.specs.Keeper.{count_after};
 ghost use Rattle.csi_keeper.specs.declared.change.StoreFault.TheVariants.{Down};
-ghost use Rattle.csi_tables.specs.Answers.{answered, told};
+ghost use Rattle.csi_tables.specs.Answers.{answered, told, Begins, Ends};
 
 use crate::fault::Fault;
 use csi_keeper::StoreFault;
@@ -36,10 +36,7 @@ impl Health {
 
     /// Lets a call begin; it is answered `Down` where the keeper is down.
     pub(crate) fn begin(&mut self) -> Result<(), StoreFault>
-        ensures down { (result ≡ Err Down) ↔ IsTrue self.old.is_down }
-        ensures fault { OnErr result (result ≡ Err Down) }
-        ensures count { self.new.refusals ≡ count_after self.old.refusals result }
-        ensures stays { self.new.is_down ≡ self.old.is_down }
+        ensures { Begins self.old self.new result }
     {
         if self.is_down {
             self.count_refusal();
@@ -50,10 +47,7 @@ impl Health {
 
     /// What a call is answered.
     pub(crate) fn end<T>(&mut self, answer: Result<T, Fault>) -> Result<T, StoreFault>
-        ensures told { result ≡ answered answer }
-        ensures up { result ≢ Err Down }
-        ensures count { self.new.refusals ≡ count_after self.old.refusals result }
-        ensures stays { self.new.is_down ≡ self.old.is_down }
+        ensures { Ends self.old self.new answer result }
     {
         match answer {
             Ok(value) => Ok(value),

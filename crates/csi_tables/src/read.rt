@@ -20,7 +20,7 @@ use std::alloc::Global;
 /// The next number.
 pub(crate) fn next_number<S: Alter>(conn: &mut Connection<S>) -> Result<u64, Fault>
     requires idle { conn.old.in_transaction ≡ false }
-    ensures { ConnReads S.Store conn.old conn.new (λ n s. n ≡ s.next) result }
+    ensures { ConnReads S.Store conn.old conn.new (λ s n. n ≡ s.next) result }
 {
     let row = reads::next_number(conn)?;
     number_in(&row, 0)
@@ -34,7 +34,7 @@ pub(crate) fn by_number<S: Alter>(
 ) -> Result<Option<Volume>, Fault>
     requires idle { conn.old.in_transaction ≡ false }
     requires number { number < 2 ^ 63 }
-    ensures { ConnReads S.Store conn.old conn.new (λ v s. v ≡ get s.volumes number) result }
+    ensures { ConnReads S.Store conn.old conn.new (λ s v. v ≡ get s.volumes number) result }
 {
     let found = reads::by_number(conn, number)?;
     volume_of(alloc, found)
@@ -47,7 +47,7 @@ pub(crate) fn by_name<S: Alter>(
     name: &str,
 ) -> Result<Option<Volume>, Fault>
     requires idle { conn.old.in_transaction ≡ false }
-    ensures { ConnReads S.Store conn.old conn.new (λ v s. v ≡ named s name.now) result }
+    ensures { ConnReads S.Store conn.old conn.new (λ s v. v ≡ named s name.now) result }
 {
     let found = reads::by_name(conn, name)?;
     volume_of(alloc, found)
@@ -61,7 +61,7 @@ pub(crate) fn attachments<S: Alter>(
 ) -> Result<Items<Attachment>, Fault>
     requires idle { conn.old.in_transaction ≡ false }
     requires number { number < 2 ^ 63 }
-    ensures { ConnReads S.Store conn.old conn.new (λ xs s. xs ≡ attached s number) result }
+    ensures { ConnReads S.Store conn.old conn.new (λ s xs. xs ≡ attached s number) result }
 {
     let rows = reads::attachments(conn, number)?;
     attachments_from(alloc, &rows)
@@ -74,7 +74,7 @@ pub(crate) fn attached_at<S: Alter>(
     node: &str,
 ) -> Result<Items<u64>, Fault>
     requires idle { conn.old.in_transaction ≡ false }
-    ensures { ConnReads S.Store conn.old conn.new (λ xs s. xs ≡ attached_at s node.now) result }
+    ensures { ConnReads S.Store conn.old conn.new (λ s xs. xs ≡ attached_at s node.now) result }
 {
     let rows = reads::attached_at(conn, node)?;
     numbers_from(alloc, &rows)
@@ -87,7 +87,7 @@ pub(crate) fn sizes_in<S: Alter>(
     pool: &str,
 ) -> Result<Items<u64>, Fault>
     requires idle { conn.old.in_transaction ≡ false }
-    ensures { ConnReads S.Store conn.old conn.new (λ xs s. xs ≡ sizes s pool.now) result }
+    ensures { ConnReads S.Store conn.old conn.new (λ s xs. xs ≡ sizes s pool.now) result }
 {
     let rows = reads::sizes_in(conn, pool)?;
     numbers_from(alloc, &rows)
@@ -102,7 +102,7 @@ pub(crate) fn page<S: Alter>(
 ) -> Result<Items<Volume>, Fault>
     requires idle { conn.old.in_transaction ≡ false }
     requires after { after < 2 ^ 63 }
-    ensures { ConnReads S.Store conn.old conn.new (λ xs s. xs ≡ page s after count) result }
+    ensures { ConnReads S.Store conn.old conn.new (λ s xs. xs ≡ page s after count) result }
 {
     let rows = reads::page(conn, after, count)?;
     volumes_from(alloc, &rows)
@@ -117,7 +117,7 @@ pub(crate) fn published_nodes<S: Alter>(
 ) -> Result<Items<Items<Text>>, Fault>
     requires idle { conn.old.in_transaction ≡ false }
     requires after { after < 2 ^ 63 }
-    ensures { ConnReads S.Store conn.old conn.new (λ xs s. xs ≡ published_of_page s after count) result }
+    ensures { ConnReads S.Store conn.old conn.new (λ s xs. xs ≡ published_of_page s after count) result }
 {
     let page = reads::page_nodes(conn, after, count)?;
     let numbers = numbers_from(alloc, &page.numbers)?;

@@ -1,38 +1,51 @@
--- What a stop leaves of a transaction of two statements, and why the second fails.
-use Rattle.std.proofs.Common.{◌≡◌, ◌∙◌, inr, subst, ℕ, true, IsTrue, Err, Result, arith}
+-- What a transaction over the tables makes, and that of two statements: the row of a volume, and the next number.
+use Rattle.std.proofs.Common.{◌≡◌, ◌∙◌, inr, subst, arith, true, ℕ, Ok, Err, Result, OnOk}
+use Rattle.std.specs.Result.{IsErrAnd}
 use Rattle.sqlite.specs.Effect.{Database}
 use Rattle.sqlite.specs.Held.{Held, state}
 use Rattle.sqlite.specs.Order.{Row}
 use Rattle.sqlite.specs.State.{State, HasCleanDisk, Survives}
 use Rattle.sqlite.specs.Store as store
 use Rattle.sqlite.specs.declared.error.Error.{Error}
+use Rattle.sqlite.proofs.InsideLemmas.{keeps_then}
 use Rattle.sqlite.proofs.StateLemmas.{survives_then}
-use Rattle.csi_schema.specs.facts.Failing.{fails_before, later_fails}
-use Rattle.csi_schema.specs.facts.Steps.{survives_commit}
-use Rattle.csi_transactions.specs.Failing.{FailsFor, FailsOver, RefusesNext, RefusesNumbered}
-use Rattle.csi_transactions.specs.Rows.{AddsVolume, Steps, Leaves}
+use Rattle.csi_schema.specs.Transactions.{CommitsOver, RunsOver}
+use Rattle.csi_schema.specs.facts.Failing.{Committed, Dropped, commits, fails_behind, undoes}
+use Rattle.csi_transactions.specs.Failing.{FailsOver, RefusesNext, RefusesNumbered}
+use Rattle.csi_transactions.specs.Rows.{AddsNumbered, AddsVolume, SetsNext, Steps}
 use Rattle.csi_transactions.specs.Tables.{schema}
+use Rattle.csi_transactions.proofs.UpdateLemmas.{adds_numbered}
 
-module _ {S : Type 0} (g : store.Ghosts S) (old : Held S) (mid last new : State) (First Second Effect : Database → Database → Type 0) where
-  abbrev begun : State
-  begun = state g (record old { in_transaction = true })
+module _ (row : Row) (next : ℕ) (a b c : State) (one : Steps (AddsVolume row) a b) where
+  both_step : {Y : Type 0} (r : Result Y Error) → OnOk r (Steps (SetsNext next) b c) → OnOk r (Steps (AddsNumbered row next) a c)
+  both_step (Ok y) two = adds_numbered a b c row next one two
+  both_step (Err e) two = tt
 
-  pub survives_two : (Steps First begun mid → Steps Second mid last → Steps Effect begun last)
-      → Survives begun mid (λ _. ⊥) → (HasCleanDisk mid → Steps First begun mid)
-      → Survives mid last (λ _. ⊥) → (HasCleanDisk last → IsTrue mid.in_transaction → Steps Second mid last)
-      → Survives last new (λ db. db ≡ last.now.trees) → Survives (state g old) new (Leaves Effect (state g old))
-  survives_two both one_leaves one two_leaves two end =
-      survives_commit g schema old last new Effect (survives_then begun mid last (λ _. ⊥) (λ _. ⊥) (λ _. ⊥) (λ _ db none. none) (λ _ db none. none) one_leaves two_leaves)
-      (λ clean. let first = one (omega (arith, two_leaves.clean)) in both first (two clean first.shown.mode)) end
+  second_fails : {Y : Type 0} (r : Result Y Error) → Survives a b (λ _. ⊥) → FailsOver schema (RefusesNext next) b c r → FailsOver schema (RefusesNumbered row next) a c r
+  second_fails (Ok y) left failed has = tt
+  second_fails (Err e) left failed has =
+      fails_behind (RefusesNext next b) (RefusesNumbered row next a) a b c e left.counts one.shown.is_open left.limit
+      (λ why. inr (b.now, one.effect, subst (λ limit. RefusesNext next (record a { now = b.now; step_limit = limit }) e) left.limit why)) (failed ((one.effect has).schema ∙ has))
 
--- the next number is not set behind a volume that was added
-pub next_fails : {S X : Type 0} (g : store.Ghosts S) (old : Held S) (mid last new : State) (row : Row) (next : ℕ) (r : Result X Error) (e : Error)
-    → Survives (state g (record old { in_transaction = true })) mid (λ _. ⊥) → (HasCleanDisk mid → Steps (AddsVolume row) (state g (record old { in_transaction = true })) mid)
-    → Survives mid last (λ _. ⊥) → (HasCleanDisk last → IsTrue mid.in_transaction → FailsOver schema (RefusesNext next) mid last r) → r ≡ Err e
-    → Survives last new (λ _. ⊥) → HasCleanDisk new → old.schema ≡ schema → FailsFor (RefusesNumbered row next (state g old)) (state g old) new e
-next_fails g old mid last new row next r e one_leaves one two_leaves failed is undone clean has =
-    let step = one (omega (arith, two_leaves.clean, undone.clean)) in
-    let told : FailsFor (RefusesNext next mid) mid last e = (rw is at failed) (omega (arith, undone.clean)) step.shown.mode ((step.effect has).schema ∙ has) in
-    later_fails g schema old (RefusesNext next mid) (RefusesNumbered row next (state g old)) (AddsVolume row) mid new e one_leaves step
-    (λ why. inr (mid.now, step.effect, subst (λ limit. RefusesNext next (record (state g old) { now = mid.now; step_limit = limit }) e) one_leaves.limit why))
-    (fails_before (RefusesNext next mid) mid last new e undone.counts told)
+pub runs_both : {S X Y : Type 0} {g : store.Ghosts S} {a b c : Held S} {P : State → Error → Type 0} {x : X} (row : Row) (next : ℕ) (r : Result Y Error) → RunsOver g a b schema (AddsVolume row) P (Ok x)
+    → RunsOver g b c schema (SetsNext next) (RefusesNext next) r → RunsOver g a c schema (AddsNumbered row next) (RefusesNumbered row next) r
+runs_both {g = g} {a = a} {b = b} {c = c} row next r one two =
+    let earlier : HasCleanDisk (state g c) → HasCleanDisk (state g b) = λ clean. omega (arith, two.survives.clean) in
+    record {
+      ok = λ clean inside. let step = one.ok (earlier clean) inside in both_step row next (state g a) (state g b) (state g c) step r (two.ok clean step.shown.mode);
+      failed = λ clean inside. let step = one.ok (earlier clean) inside in second_fails row next (state g a) (state g b) (state g c) step r one.survives (two.failed clean step.shown.mode);
+      kept = λ clean inside. let step = one.ok (earlier clean) inside in keeps_then (state g a) (state g b) (state g c) (one.kept (earlier clean) inside) (two.kept clean step.shown.mode);
+      survives = survives_then (state g a) (state g b) (state g c) (λ _. ⊥) (λ _. ⊥) (λ _. ⊥) (λ _ db none. none) (λ _ db none. none) one.survives two.survives;
+    }
+
+-- ---- a transaction over the tables
+
+module _ {S : Type 0} (g : store.Ghosts S) (old : Held S) {X : Type 0} {Effect : Database → Database → Type 0} {Why Refuses : State → Error → Type 0} {mid new : Held S} where
+  -- whose first statement failed
+  pub undone : {Y : Type 0} {First : Database → Database → Type 0} {e : Error} (r : Result Y Error) → (Why (state g (record old { in_transaction = true })) e → Refuses (state g old) e)
+      → RunsOver g (record old { in_transaction = true }) mid {X = X} schema First Why (Err e) → (end : Held S) → Dropped g schema old mid end → end ≡ new → IsErrAnd r (λ x. x ≡ e) → CommitsOver g old new schema Effect Refuses r
+  undone {e = e} r why ran end dropped at is = undoes g schema old r e why ran end dropped at is
+
+  -- whose statements were answered Ok
+  pub done : {x : X} (r : Result (Unit {0}) Error) → RunsOver g (record old { in_transaction = true }) mid schema Effect Why (Ok x) → (end : Held S) → Committed g schema old mid end r → end ≡ new → CommitsOver g old new schema Effect Refuses r
+  done r ran end ended at = commits g schema old r ran end ended at

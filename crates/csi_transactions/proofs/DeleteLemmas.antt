@@ -1,27 +1,27 @@
 -- What a DELETE makes of the rows.
-use Rattle.std.proofs.Common.{◌≡◌, ◌∙◌, refl, ap, ap₂, subst, ℕ, ℤ, pos, List, [], ◌∷◌, map, filter, Bool, true, false, not, ◌&&◌, Some, slice_get, Ok, Err, Result, OnOk, IsPermutation}
+use Rattle.std.proofs.Common.{◌≡◌, ◌∙◌, refl, ap, ap₂, subst, ℕ, ℤ, pos, List, [], ◌∷◌, map, filter, Bool, true, false, not, ◌&&◌, Some, slice_get, Ok, IsPermutation}
 use Rattle.std.specs.List.{list_all}
 use Rattle.sqlite.specs.Command.TheVariants.{Delete}
 use Rattle.sqlite.specs.Edit.{without_all}
 use Rattle.sqlite.specs.Ops.{unary}
 use Rattle.sqlite.specs.Order.{Row, column}
 use Rattle.sqlite.specs.Program.{overlay}
-use Rattle.sqlite.specs.State.{State, Executes, ExecutesInside}
+use Rattle.sqlite.specs.State.{State, Executes}
 use Rattle.sqlite.specs.Table.{Table}
 use Rattle.sqlite.specs.Term.{Term, col, holds}
 use Rattle.sqlite.specs.Tree.{Trees}
-use Rattle.sqlite.specs.declared.error.Error.{Error}
 use Rattle.sqlite.specs.declared.types.Value.TheVariants.{Int, Text}
 use Rattle.sqlite_rules.specs.Calls.{ids_of}
 use Rattle.sqlite_sql.specs.declared.ops.UnaryOp.TheVariants.{ToNumeric}
 use Rattle.csi_schema.specs.facts.Writes.{IsCommand, deleted}
 use Rattle.csi_transactions.specs.Deletes.{is_same, is_place, is_of, is_numbered, Drops}
-use Rattle.csi_transactions.specs.Rows.{number_value, seen_attachment, seen_volume, AreKeyed, Steps}
+use Rattle.csi_transactions.specs.Rows.{number_value, seen_attachment, seen_volume, AreKeyed}
 use Rattle.csi_transactions.specs.Shown.{IsShownOf}
 use Rattle.csi_transactions.specs.Tables.{schema, attachments, volumes}
 use Rattle.csi_transactions.proofs.FilterLemmas.{left_rows}
 use Rattle.csi_transactions.proofs.SelectLemmas.{shows_one, shown_each, one_table}
-use Rattle.csi_transactions.proofs.TextLemmas.{detach_text, detach_query, detach_command, detach_all_text, detach_all_query, detach_all_command, remove_text, remove_query, remove_command}
+use Rattle.csi_transactions.specs.Texts.{text, RemoveVolume, Detach, DetachAll}
+use Rattle.csi_transactions.proofs.TextLemmas.{detach_query, detach_all_query, remove_query, is_command}
 
 -- an integer is a number already
 pub to_numeric : (n : ℤ) → unary ToNumeric (Int n) ≡ Int n
@@ -83,21 +83,15 @@ module _ (text : List ℕ) (at t : ℕ) (table : Table) (place : slice_get schem
         others = (others.0, (others.1.0, (others.1.1.0, tt)));
       }
 
-  drops_step : (old new : State) (r : Result ℕ Error) → ExecutesInside 0 text params old new r → OnOk r (Steps (Drops t see pass) old new)
-  drops_step old new (Ok count) h = record { shown = h.1; effect = λ has. drops old new count has h.0 }
-  drops_step old new (Err e) h = tt
-
 -- ---- the three DELETEs
 
-pub detach_step : (old new : State) (number : ℕ) (node : List ℕ) (r : Result ℕ Error) → ExecutesInside 0 detach_text (number_value number ∷ Text node ∷ []) old new r
-    → OnOk r (Steps (Drops 3 seen_attachment (is_place number node)) old new)
-detach_step old new number node =
-    drops_step detach_text 2 3 attachments refl (λ db. refl) detach_query.filter detach_command seen_attachment (is_place number node) (same_place number node) (number_value number ∷ Text node ∷ []) (place_passes number node) old new
+pub detaches : (number : ℕ) (node : List ℕ) (old new : State) (count : ℕ) → old.now.schema ≡ schema → Executes (text Detach) (number_value number ∷ Text node ∷ []) old new (Ok count)
+    → Drops 3 seen_attachment (is_place number node) old.now new.now
+detaches number node =
+    drops (text Detach) 2 3 attachments refl (λ db. refl) detach_query.filter (is_command Detach) seen_attachment (is_place number node) (same_place number node) (number_value number ∷ Text node ∷ []) (place_passes number node)
 
-pub detach_all_step : (old new : State) (number : ℕ) (r : Result ℕ Error) → ExecutesInside 0 detach_all_text (number_value number ∷ []) old new r → OnOk r (Steps (Drops 3 seen_attachment (is_of number)) old new)
-detach_all_step old new number =
-    drops_step detach_all_text 2 3 attachments refl (λ db. refl) detach_all_query.filter detach_all_command seen_attachment (is_of number) (same_of number) (number_value number ∷ []) (of_passes number) old new
+pub detaches_all : (number : ℕ) (old new : State) (count : ℕ) → old.now.schema ≡ schema → Executes (text DetachAll) (number_value number ∷ []) old new (Ok count) → Drops 3 seen_attachment (is_of number) old.now new.now
+detaches_all number = drops (text DetachAll) 2 3 attachments refl (λ db. refl) detach_all_query.filter (is_command DetachAll) seen_attachment (is_of number) (same_of number) (number_value number ∷ []) (of_passes number)
 
-pub remove_step : (old new : State) (number : ℕ) (r : Result ℕ Error) → ExecutesInside 0 remove_text (number_value number ∷ []) old new r → OnOk r (Steps (Drops 1 seen_volume (is_numbered number)) old new)
-remove_step old new number =
-    drops_step remove_text 1 1 volumes refl (λ db. refl) remove_query.filter remove_command seen_volume (is_numbered number) (same_number number) (number_value number ∷ []) (number_passes number) old new
+pub removes : (number : ℕ) (old new : State) (count : ℕ) → old.now.schema ≡ schema → Executes (text RemoveVolume) (number_value number ∷ []) old new (Ok count) → Drops 1 seen_volume (is_numbered number) old.now new.now
+removes number = drops (text RemoveVolume) 1 1 volumes refl (λ db. refl) remove_query.filter (is_command RemoveVolume) seen_volume (is_numbered number) (same_number number) (number_value number ∷ []) (number_passes number)

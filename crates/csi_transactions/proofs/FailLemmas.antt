@@ -1,25 +1,21 @@
 -- Why a statement inside a transaction failed.
-use Rattle.std.proofs.Common.{◌≡◌, ◌⊎◌, ◌∙◌, inl, inr, refl, sym, ap, subst, ℕ, List, [], ◌∷◌, map, length, arith, true, false, true≢false, Ok, Err, Result, IfErr, IsTrue, IsPermutation}
+use Rattle.std.proofs.Common.{◌≡◌, ◌⊎◌, ◌∙◌, inl, inr, refl, sym, subst, ℕ, List, [], ◌∷◌, map, true, false, true≢false, Ok, Err, Result, IfErr, IsTrue, IsPermutation}
 use Rattle.std.proofs.lemmas.List.Sorted.{length_permutation}
 use Rattle.sqlite.specs.Listing.{understood}
 use Rattle.sqlite.specs.Order.{Row}
 use Rattle.sqlite.specs.Program.{overlay}
 use Rattle.sqlite.specs.Query.{Output}
-use Rattle.sqlite.specs.State.{State, ExecutesInside, FailsToQuery, IsTooLate, QueriesRow, QueriesRowInside, Shown}
+use Rattle.sqlite.specs.State.{State, FailsToQuery, IsTooLate, QueriesRow, QueriesRowInside, Shown}
 use Rattle.sqlite.specs.declared.error.Error.{Error}
 use Rattle.sqlite.specs.declared.types.Value.TheVariants.{Null}
 use Rattle.sqlite.proofs.Callers.{IsPlain, reads_as}
-use Rattle.csi_schema.specs.facts.Failing.{IsAloneWrite, IsSure, fails_weaker, query_fails, sure_fails, write_fails}
-use Rattle.csi_schema.specs.Failing.{SqlRefuses, as_refused}
+use Rattle.csi_schema.specs.facts.Failing.{IsSure, fails_weaker, query_fails, sure_fails}
+use Rattle.csi_schema.specs.Failing.{as_refused}
 use Rattle.csi_transactions.specs.Failing.{FailsFor, FailsOver, HasNoNext, NothingRefuses, Unrefused}
 use Rattle.csi_transactions.specs.Statements.{number_query}
 use Rattle.csi_transactions.specs.Tables.{schema}
 use Rattle.csi_transactions.proofs.SelectLemmas.{shows_one}
 use Rattle.csi_transactions.proofs.TextLemmas.{number_text, number_select, number_sure}
-
-pub write_told : (text : List ℕ) (params : Row) (old new : State) (r : Result ℕ Error) → IsAloneWrite text (length params) (understood schema text) → ExecutesInside 0 text params old new r → FailsOver schema (SqlRefuses text params) old new r
-write_told text params old new (Ok count) alone h has = tt
-write_told text params old new (Err e) alone h has = write_fails text params old new e (subst (λ s. IsAloneWrite text (length params) (understood s text)) (sym has) alone) h
 
 asked : (text : List ℕ) (params : Row) (old new : State) (e : Error) → IsSure schema text params → old.now.schema ≡ schema → FailsToQuery text params old new e → FailsFor Unrefused old new e
 asked text params old new e sure has h = sure_fails schema text params sure old new e has (query_fails text params old new e (subst (λ s. IsPlain (understood s text)) (sym has) sure.plain) h)

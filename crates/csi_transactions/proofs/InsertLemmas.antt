@@ -1,16 +1,15 @@
 -- What an INSERT makes of the rows.
-use Rattle.std.proofs.Common.{◌≡◌, ◌∙◌, inl, inr, refl, sym, ap, subst, ℕ, pos, List, [], ◌∷◌, map, Bool, true, false, true≢false, cond, not, ◌||◌, ◌&&◌, arith, Ok, Err, Result, OnOk, IsPermutation, Ordering, Less, Equal, Greater, is_eq}
+use Rattle.std.proofs.Common.{◌≡◌, ◌∙◌, inl, inr, refl, sym, ap, subst, ℕ, pos, List, [], ◌∷◌, map, Bool, true, false, true≢false, cond, not, ◌||◌, ◌&&◌, arith, Ok, IsPermutation, Ordering, Less, Equal, Greater, is_eq}
 use Rattle.std.specs.Cmp.{eq_by_cmp_equiv}
 use Rattle.std.proofs.lemmas.List.Sorted.{IsPermutation-refl, IsPermutation-cons, IsPermutation-trans, IsPermutation-middle, IsPermutation-sym, IsPermutation-map}
 use Rattle.sqlite.specs.Edit.{edit_of, is_taken, next_rowid, put_all, are_fresh}
 use Rattle.sqlite.specs.Order.{Row, value_cmp}
 use Rattle.sqlite.specs.Rowids.TheVariants.{Chosen}
 use Rattle.sqlite.specs.Source.TheVariants.{Values}
-use Rattle.sqlite.specs.State.{State, Executes, ExecutesInside}
+use Rattle.sqlite.specs.State.{State, Executes}
 use Rattle.sqlite.specs.Table.{Table}
 use Rattle.sqlite.specs.Tree.{rowid, put_row}
 use Rattle.sqlite.specs.View.{is_int}
-use Rattle.sqlite.specs.declared.error.Error.{Error}
 use Rattle.sqlite.specs.declared.types.Value.TheVariants.{Int, Text, Blob}
 use Rattle.sqlite_rules.specs.Lists.{Has}
 use Rattle.sqlite_rules.proofs.ListLemmas.{all_has, all_from, some_from}
@@ -18,9 +17,10 @@ use Rattle.sqlite_trees.proofs.ListLemmas.{all-permutation}
 use Rattle.sqlite_value.proofs.OrderLemmas.{value_cmp_total}
 use Rattle.csi_schema.specs.facts.Steps.{cast_null, cast_int}
 use Rattle.csi_schema.specs.facts.Writes.{inserted}
-use Rattle.csi_transactions.specs.Rows.{attachment_row, volume_row, number_value, bool_value, seen_attachment, AreKeyed, AddsAttachment, AddsVolume, Steps}
+use Rattle.csi_transactions.specs.Rows.{attachment_row, volume_row, number_value, bool_value, seen_attachment, AreKeyed, AddsAttachment, AddsVolume}
 use Rattle.csi_transactions.specs.Tables.{schema, attachments, volumes}
-use Rattle.csi_transactions.proofs.TextLemmas.{attach_text, attach_terms, attach_command, add_text, add_terms, add_command}
+use Rattle.csi_transactions.specs.Texts.{text, AddVolume, Attach}
+use Rattle.csi_transactions.proofs.TextLemmas.{attach_terms, add_terms, is_command}
 
 -- ---- a row that is put where none has its rowid
 
@@ -65,12 +65,12 @@ untaken false h = refl
 abbrev standing : Table
 standing = record attachments { tree = 3 }
 
-attaches : (old new : State) (number : ℕ) (node cap : List ℕ) (readonly : Bool) (count : ℕ) → old.now.schema ≡ schema
-    → Executes attach_text (number_value number ∷ Text node ∷ Blob cap ∷ bool_value readonly ∷ []) old new (Ok count)
+pub attaches : (number : ℕ) (node cap : List ℕ) (readonly : Bool) (old new : State) (count : ℕ) → old.now.schema ≡ schema
+    → Executes (text Attach) (number_value number ∷ Text node ∷ Blob cap ∷ bool_value readonly ∷ []) old new (Ok count)
     → AddsAttachment (attachment_row number node cap readonly) old.now new.now
-attaches old new number node cap readonly count has h =
+attaches number node cap readonly old new count has h =
     let db = old.now.trees in
-    let it = inserted attach_text (number_value number ∷ Text node ∷ Blob cap ∷ bool_value readonly ∷ []) old new count has 2 standing refl (Values attach_terms 5) attach_command h in
+    let it = inserted (text Attach) (number_value number ∷ Text node ∷ Blob cap ∷ bool_value readonly ∷ []) old new count has 2 standing refl (Values attach_terms 5) (is_command Attach) h in
     let row : Row = Int (next_rowid (db 3)) ∷ attachment_row number node cap readonly in
     let news : (edit_of db standing [] Chosen 0 it.0).news ≡ row ∷ [] =
     ap (λ all. (edit_of db standing [] Chosen 0 all).news) it.1.1 ∙ rw (cast_null, cast_int (pos number), cast_int (cond readonly (pos 1) (pos 0))) refl in
@@ -88,12 +88,12 @@ attaches old new number node cap readonly count has h =
 abbrev pub kept : Table
 kept = record volumes { tree = 1 }
 
-adds : (old new : State) (number : ℕ) (name : List ℕ) (bytes : ℕ) (pool caps params : List ℕ) (count : ℕ) → old.now.schema ≡ schema
-    → Executes add_text (number_value number ∷ Text name ∷ number_value bytes ∷ Text pool ∷ Blob caps ∷ Blob params ∷ []) old new (Ok count)
+pub adds : (number : ℕ) (name : List ℕ) (bytes : ℕ) (pool caps params : List ℕ) (old new : State) (count : ℕ) → old.now.schema ≡ schema
+    → Executes (text AddVolume) (number_value number ∷ Text name ∷ number_value bytes ∷ Text pool ∷ Blob caps ∷ Blob params ∷ []) old new (Ok count)
     → AddsVolume (volume_row number name bytes pool caps params) old.now new.now
-adds old new number name bytes pool caps params count has h =
+adds number name bytes pool caps params old new count has h =
     let db = old.now.trees in
-    let it = inserted add_text (number_value number ∷ Text name ∷ number_value bytes ∷ Text pool ∷ Blob caps ∷ Blob params ∷ []) old new count has 1 kept refl (Values add_terms 7) add_command h in
+    let it = inserted (text AddVolume) (number_value number ∷ Text name ∷ number_value bytes ∷ Text pool ∷ Blob caps ∷ Blob params ∷ []) old new count has 1 kept refl (Values add_terms 7) (is_command AddVolume) h in
     let row : Row = volume_row number name bytes pool caps params in
     let news : (edit_of db kept [] Chosen 0 it.0).news ≡ row ∷ [] = ap (λ all. (edit_of db kept [] Chosen 0 all).news) it.1.1 ∙ rw (cast_null, cast_int (pos number), cast_int (pos bytes)) refl in
     let rows : new.now.trees 1 ≡ put_row row (db 1) = it.2.made.rows ∙ ap (λ ns. put_all (db 1) ns) news in
@@ -105,15 +105,3 @@ adds old new number name bytes pool caps params count has h =
       meta = it.2.made.tables.0 (λ e. absurd (omega arith));
       attachments = it.2.made.tables.1.1.0 (λ e. absurd (omega arith));
     }
-
-pub attach_step : (old new : State) (number : ℕ) (node cap : List ℕ) (readonly : Bool) (r : Result ℕ Error)
-    → ExecutesInside 0 attach_text (number_value number ∷ Text node ∷ Blob cap ∷ bool_value readonly ∷ []) old new r
-    → OnOk r (Steps (AddsAttachment (attachment_row number node cap readonly)) old new)
-attach_step old new number node cap readonly (Ok count) h = record { shown = h.1; effect = λ has. attaches old new number node cap readonly count has h.0 }
-attach_step old new number node cap readonly (Err e) h = tt
-
-pub add_step : (old new : State) (number : ℕ) (name : List ℕ) (bytes : ℕ) (pool caps params : List ℕ) (r : Result ℕ Error)
-    → ExecutesInside 0 add_text (number_value number ∷ Text name ∷ number_value bytes ∷ Text pool ∷ Blob caps ∷ Blob params ∷ []) old new r
-    → OnOk r (Steps (AddsVolume (volume_row number name bytes pool caps params)) old new)
-add_step old new number name bytes pool caps params (Ok count) h = record { shown = h.1; effect = λ has. adds old new number name bytes pool caps params count has h.0 }
-add_step old new number name bytes pool caps params (Err e) h = tt

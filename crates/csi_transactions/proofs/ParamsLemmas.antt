@@ -1,5 +1,5 @@
 -- What the UPDATE of a volume's params makes of the rows.
-use Rattle.std.proofs.Common.{◌≡◌, ◌∙◌, refl, sym, ap, subst, subst₂, ℕ, ℤ, pos, List, [], ◌∷◌, drop, map, filter, Bool, true, false, not, ◌&&◌, true≢false, arith, Some, Ok, Err, Result, OnOk, IsPermutation, is_eq, inl}
+use Rattle.std.proofs.Common.{◌≡◌, ◌∙◌, refl, sym, ap, subst, subst₂, ℕ, ℤ, pos, List, [], ◌∷◌, drop, map, filter, Bool, true, false, not, ◌&&◌, true≢false, arith, Some, Ok, IsPermutation, is_eq, inl}
 use Rattle.std.specs.List.{AllByRecursion}
 use Rattle.std.proofs.lemmas.Cmp.{tied_itself}
 use Rattle.std.proofs.lemmas.List.Sorted.{IsPermutation-map, IsPermutation-sym, length_permutation}
@@ -9,9 +9,8 @@ use Rattle.sqlite.specs.Ops.{binary, from_truth, is_true}
 use Rattle.sqlite.specs.Order.{Row, column, value_cmp}
 use Rattle.sqlite.specs.Program.{overlay}
 use Rattle.sqlite.specs.Rowids.TheVariants.{Given}
-use Rattle.sqlite.specs.State.{State, Executes, ExecutesInside}
+use Rattle.sqlite.specs.State.{State, Executes}
 use Rattle.sqlite.specs.Tree.{rowid, put_row}
-use Rattle.sqlite.specs.declared.error.Error.{Error}
 use Rattle.sqlite.specs.declared.types.Value.{Value}
 use Rattle.sqlite.specs.declared.types.Value.TheVariants.{Null, Int, Real, Text, Blob}
 use Rattle.sqlite_keyed.proofs.ListLemmas.{map-map}
@@ -25,14 +24,15 @@ use Rattle.sqlite_value.proofs.OrderLemmas.{value_cmp_total}
 use Rattle.csi_schema.specs.facts.Steps.{cast_null, cast_int}
 use Rattle.csi_schema.specs.facts.Writes.{updated}
 use Rattle.csi_transactions.specs.Deletes.{is_numbered, is_same}
-use Rattle.csi_transactions.specs.Rows.{number_value, seen_volume, volume_row, AreKeyed, Steps}
+use Rattle.csi_transactions.specs.Rows.{number_value, seen_volume, volume_row, AreKeyed}
 use Rattle.csi_transactions.specs.Tables.{schema}
 use Rattle.csi_transactions.specs.Updates.{SetsParams}
 use Rattle.csi_transactions.proofs.DeleteLemmas.{and_true, filter_by, passes, same_number}
 use Rattle.csi_transactions.proofs.FilterLemmas.{left_rows}
 use Rattle.csi_transactions.proofs.InsertLemmas.{has_permuted, kept, put_new, untaken}
 use Rattle.csi_transactions.proofs.SelectLemmas.{shown_each, shows_one}
-use Rattle.csi_transactions.proofs.TextLemmas.{params_text, params_query, params_command}
+use Rattle.csi_transactions.specs.Texts.{text, SetParams}
+use Rattle.csi_transactions.proofs.TextLemmas.{params_query, is_command}
 
 -- ---- SQL's = of a number
 
@@ -152,11 +152,11 @@ module _ (number : ℕ) (params : List ℕ) (rows shown : List Row) (is : IsPerm
 number_passes : (number : ℕ) (params : List ℕ) (r : Row) → passes params_query.filter (number_value number ∷ Blob params ∷ []) r ≡ is_numbered number r
 number_passes number params r = and_true (is_same (column r 0) (Int (pos number)))
 
-sets : (old new : State) (number : ℕ) (params : List ℕ) (count : ℕ) → old.now.schema ≡ schema → Executes params_text (number_value number ∷ Blob params ∷ []) old new (Ok count) → SetsParams number params old.now new.now
-sets old new number params count has h =
+pub sets : (number : ℕ) (params : List ℕ) (old new : State) (count : ℕ) → old.now.schema ≡ schema → Executes (text SetParams) (number_value number ∷ Blob params ∷ []) old new (Ok count) → SetsParams number params old.now new.now
+sets number params old new count has h =
     let given : Row = number_value number ∷ Blob params ∷ [] in
     let rows = old.now.trees 1 in
-    let it = updated params_text given old new count has 1 kept refl params_query params_command h in
+    let it = updated (text SetParams) given old new count has 1 kept refl params_query (is_command SetParams) h in
     let shown = shows_one 1 params_query.filter params_query.project [] (overlay old.now.trees []) given it.0 it.1 in
     let each : IsPermutation (map (renewed params) (filter (is_numbered number) rows)) it.0 =
     subst (λ xs. IsPermutation (map (renewed params) xs) it.0) (filter_by (passes params_query.filter given) (is_numbered number) (number_passes number params) rows) (shown_each 1 params_query.filter params_query.project rows given it.0 shown) in
@@ -172,7 +172,3 @@ sets old new number params count has h =
       meta = it.2.made.tables.0 (λ e. absurd (omega arith));
       attachments = it.2.made.tables.1.1.0 (λ e. absurd (omega arith));
     }
-
-pub params_step : (old new : State) (number : ℕ) (params : List ℕ) (r : Result ℕ Error) → ExecutesInside 0 params_text (number_value number ∷ Blob params ∷ []) old new r → OnOk r (Steps (SetsParams number params) old new)
-params_step old new number params (Ok count) h = record { shown = h.1; effect = λ has. sets old new number params count has h.0 }
-params_step old new number params (Err e) h = tt

@@ -1,25 +1,31 @@
 -- What a SELECT inside a transaction reads, and that it keeps what was committed.
 use Rattle.std.proofs.Common.{◌≡◌, ◌∙◌, ◌⊎◌, inl, inr, refl, sym, ap, subst, ℕ, List, [], ◌∷◌, map, take, true, if◌then◌else◌, Option, Some, None, Ok, Err, Result, IfOk, IfErr, IsTrue, IsPermutation}
 use Rattle.sqlite.specs.Effect.{Database}
+use Rattle.sqlite.specs.Held.{Held, state}
 use Rattle.sqlite.specs.Listing.{understood}
 use Rattle.sqlite.specs.Order.{Row, column}
 use Rattle.sqlite.specs.Program.{overlay}
 use Rattle.sqlite.specs.Query.{IsAnswer, Output, output, page}
-use Rattle.sqlite.specs.State.{State, KeepsCommit, IsUnchanged, IsRolledBack, Shows, Shown, ShowsRows, IsNotRun, FailsToQuery, FailsToShow, QueriesRow, QueriesRowInside, IsTooLate}
+use Rattle.sqlite.specs.State.{State, HasCleanDisk, KeepsCommit, IsUnchanged, IsRolledBack, Shows, Shown, ShowsRows, IsNotRun, FailsToQuery, FailsToShow, QueriesRow, QueriesRowInside, IsTooLate}
+use Rattle.sqlite.specs.Store.{Ghosts}
 use Rattle.sqlite.specs.Term.{Term, col}
 use Rattle.sqlite.specs.Tree.{Trees}
 use Rattle.sqlite.specs.declared.error.Error.{Error}
-use Rattle.sqlite.specs.declared.types.Value.TheVariants.{Null}
+use Rattle.sqlite.specs.declared.types.Value.TheVariants.{Null, Text}
 use Rattle.sqlite.proofs.Callers.{IsPlain, first_as, reads_as, one_permutation}
 use Rattle.sqlite_resolve.specs.declared.compiled.Compiled.{Compiled}
 use Rattle.sqlite_schema.specs.declared.command.Returning.{Returning}
 use Rattle.sqlite_value.specs.declared.keys.Key.{Key}
-use Rattle.csi_transactions.specs.Rows.{seen_meta, meta_row, Sees, Steps, Reads}
+use Rattle.csi_schema.specs.Transactions.{LeavesNothingNew}
+use Rattle.csi_schema.specs.facts.Failing.{IsSelect}
+use Rattle.csi_transactions.specs.Failing.{NothingRefuses}
+use Rattle.csi_transactions.specs.Rows.{number_value, seen_meta, meta_row, Sees, Selects, Steps, Reads}
 use Rattle.csi_transactions.specs.Shown.{IsShownOf, IsBeginningOf, IsNext}
-use Rattle.csi_transactions.specs.Statements.{number_query}
+use Rattle.csi_transactions.specs.Statements.{number_query, volume_query, named_query, sizes_query, page_query, page_numbers_query, nodes_query, attached_query, places_query}
 use Rattle.csi_transactions.specs.Tables.{schema}
 use Rattle.csi_transactions.proofs.SelectLemmas.{limited, one_table, shows_all, shows_one}
-use Rattle.csi_transactions.proofs.TextLemmas.{IsSelect, number_text, number_select}
+use Rattle.csi_transactions.proofs.FailLemmas.{all_told}
+use Rattle.csi_transactions.proofs.TextLemmas.{Read, Numbered, Named, Sizes, Page, PageNumbers, Nodes, Attached, Places, asked, given, is_select, is_sure, number_text, number_select}
 
 -- ---- what was committed stays
 
@@ -56,7 +62,7 @@ row_keeps sql params old new (Err e) inside (inl (inl h)) = fails_keeps sql para
 row_keeps sql params old new (Err e) inside (inl (inr h)) = shown_keeps sql params old new [] inside h.1
 row_keeps sql params old new (Err e) inside (inr h) = kept_unchanged old new h.5
 
-pub all_keeps : {V : Type 0} (items : V → List Row) (sql : List ℕ) (params : Row) (old new : State) (r : Result V Error) → IsTrue old.in_transaction → IfOk r (λ v. Shown sql params old new (items v))
+all_keeps : {V : Type 0} (items : V → List Row) (sql : List ℕ) (params : Row) (old new : State) (r : Result V Error) → IsTrue old.in_transaction → IfOk r (λ v. Shown sql params old new (items v))
     → IfErr r (λ e. FailsToQuery sql params old new e ⊎ IsTooLate sql params old new e) → KeepsCommit old new
 all_keeps items sql params old new (Ok v) inside h k = shown_keeps sql params old new (items v) inside h
 all_keeps items sql params old new (Err e) inside h (inl k) = fails_keeps sql params old new e k
@@ -82,13 +88,13 @@ step_shown : (sql : List ℕ) (params : Row) (old new : State) (rows : List Row)
 unfolding Shown
 step_shown sql params old new rows inside h = seen_if_shown old new sql h.0 _ rows h.0.returning inside h.2
 
-pub read_all : {V : Type 0} (items : V → List Row) (r : Result V Error) (P Q : List Row → Type 0) → ((rows : List Row) → P rows → Q rows) → IfOk r (λ v. P (items v)) → IfOk r (λ v. Q (items v))
+read_all : {V : Type 0} (items : V → List Row) (r : Result V Error) (P Q : List Row → Type 0) → ((rows : List Row) → P rows → Q rows) → IfOk r (λ v. P (items v)) → IfOk r (λ v. Q (items v))
 read_all items (Ok v) P Q f h = f (items v) h
 read_all items (Err e) P Q f h = tt
 
 module _ (text : List ℕ) (t : ℕ) (test shown : List Term) (order : List (Term × Key)) (params : Row) (old new : State) (rows : List Row)
     (stands : (db : Trees) → overlay db [] t ≡ db t) (inside : IsTrue old.in_transaction) (h : Shown text params old new rows) where
-  pub selects : IsSelect text (one_table t test shown order) → Steps (Sees (λ db. IsShownOf (one_table t test shown order) (db.trees t) params rows)) old new
+  selects : IsSelect schema text (one_table t test shown order) → Steps (Sees (λ db. IsShownOf (one_table t test shown order) (db.trees t) params rows)) old new
   selects it = record {
     shown = step_shown text params old new rows inside h;
     effect = λ has. record {
@@ -99,7 +105,7 @@ module _ (text : List ℕ) (t : ℕ) (test shown : List Term) (order : List (Ter
   }
 
   -- the second parameter limits the answer
-  pub selects_first : (count : ℕ) → ((all : List Row) → page (limited t test shown order (col 0 1)) params all ≡ take count all) → IsSelect text (limited t test shown order (col 0 1))
+  selects_first : (count : ℕ) → ((all : List Row) → page (limited t test shown order (col 0 1)) params all ≡ take count all) → IsSelect schema text (limited t test shown order (col 0 1))
       → Steps (Sees (λ db. IsBeginningOf (limited t test shown order (col 0 1)) (db.trees t) params count rows)) old new
   selects_first count cut it = record {
     shown = step_shown text params old new rows inside h;
@@ -112,6 +118,39 @@ module _ (text : List ℕ) (t : ℕ) (test shown : List Term) (order : List (Ter
           told = (all, subst (λ table. IsShownOf (limited t test shown order (col 0 1)) table params all) (stands old.now.trees) first, a.shown ∙ cut all);
         };
   }
+
+-- what each read tells of the rows
+abbrev pub Tells : Read → Database → List Row → Type 0
+Tells (Page after count) db rows = IsBeginningOf page_query (db.trees 1) (number_value after ∷ number_value count ∷ []) count rows
+Tells (PageNumbers after count) db rows = IsBeginningOf page_numbers_query (db.trees 1) (number_value after ∷ number_value count ∷ []) count rows
+Tells (Numbered number) db rows = IsShownOf volume_query (db.trees 1) (number_value number ∷ []) rows
+Tells (Named name) db rows = IsShownOf named_query (db.trees 1) (Text name ∷ []) rows
+Tells (Sizes pool) db rows = IsShownOf sizes_query (db.trees 1) (Text pool ∷ []) rows
+Tells (Nodes number) db rows = IsShownOf nodes_query (db.trees 3) (number_value number ∷ []) rows
+Tells (Attached node) db rows = IsShownOf attached_query (db.trees 3) (Text node ∷ []) rows
+Tells (Places after last) db rows = IsShownOf places_query (db.trees 3) (number_value after ∷ number_value last ∷ []) rows
+
+shows : (q : Read) (old new : State) (rows : List Row) → IsTrue old.in_transaction → Shown (asked q) (given q) old new rows → Steps (Sees (λ db. Tells q db rows)) old new
+shows (Page after count) old new rows inside h = let q = page_query in selects_first _ 1 q.filter q.project q.order _ old new rows (λ db. refl) inside h count (λ all. refl) (is_select (Page after count))
+shows (PageNumbers after count) old new rows inside h = let q = page_numbers_query in selects_first _ 1 q.filter q.project q.order _ old new rows (λ db. refl) inside h count (λ all. refl) (is_select (PageNumbers after count))
+shows (Numbered number) old new rows inside h = let q = volume_query in selects _ 1 q.filter q.project q.order _ old new rows (λ db. refl) inside h (is_select (Numbered number))
+shows (Named name) old new rows inside h = let q = named_query in selects _ 1 q.filter q.project q.order _ old new rows (λ db. refl) inside h (is_select (Named name))
+shows (Sizes pool) old new rows inside h = let q = sizes_query in selects _ 1 q.filter q.project q.order _ old new rows (λ db. refl) inside h (is_select (Sizes pool))
+shows (Nodes number) old new rows inside h = let q = nodes_query in selects _ 3 q.filter q.project q.order _ old new rows (λ db. refl) inside h (is_select (Nodes number))
+shows (Attached node) old new rows inside h = let q = attached_query in selects _ 3 q.filter q.project q.order _ old new rows (λ db. refl) inside h (is_select (Attached node))
+shows (Places after last) old new rows inside h = let q = places_query in selects _ 3 q.filter q.project q.order _ old new rows (λ db. refl) inside h (is_select (Places after last))
+
+-- a read inside a transaction, by the clauses of the call that ran it
+pub selects_over : {S V : Type 0} {g : Ghosts S} {old new : Held S} (q : Read) (items : V → List Row) (r : Result V Error)
+    → (HasCleanDisk (state g new) → IfOk r (λ v. Shown (asked q) (given q) (state g old) (state g new) (items v)))
+    → (HasCleanDisk (state g new) → IfErr r (λ e. FailsToQuery (asked q) (given q) (state g old) (state g new) e ⊎ IsTooLate (asked q) (given q) (state g old) (state g new) e))
+    → LeavesNothingNew g old new → Selects g old new (λ db v. Tells q db (items v)) NothingRefuses r
+selects_over {g = g} {old = old} {new = new} q items r ok err left = record {
+  ok = λ clean inside. read_all items r (Shown (asked q) (given q) (state g old) (state g new)) (λ rows. Steps (Sees (λ db. Tells q db rows)) (state g old) (state g new)) (λ rows h. shows q (state g old) (state g new) rows inside h) (ok clean);
+  failed = λ clean inside. all_told (asked q) (given q) (state g old) (state g new) r (is_sure q) inside (err clean);
+  kept = λ clean inside. all_keeps items (asked q) (given q) (state g old) (state g new) r inside (ok clean) (err clean);
+  survives = left;
+}
 
 -- a read that is then undone
 pub reads : {What : Database → Type 0} {old new : State} → Steps (Sees What) old new → Reads What old
@@ -146,7 +185,7 @@ number_shown old new row h has r one =
     cc
 
 pub number_read : (old new : State) (r : Result Row Error) → IsTrue old.in_transaction → QueriesRowInside number_text [] old new r
-    → IfOk r (λ row. Steps (Sees (IsNext row)) old new)
+    → IfOk r (λ row. Steps (Sees (λ db. IsNext db row)) old new)
 number_read old new (Err e) inside h = tt
 number_read old new (Ok row) inside h = record {
   shown = step_row number_text old new row inside h;

@@ -1,8 +1,9 @@
 -- The texts of the statements, and what each computes to under the schema.
-use Rattle.std.proofs.Common.{◌≡◌, inl, inr, refl, false, true≢false, [], ◌∷◌, arith, codes, length, List, ℕ}
+use Rattle.std.proofs.Common.{refl, [], ◌∷◌, arith, codes, List, ℕ}
 use Rattle.sqlite.specs.Order.{Row}
-use Rattle.sqlite.specs.Command.TheVariants.{Insert, Select, Update, Delete}
-use Rattle.sqlite.specs.Listing.{understood, reads_listing}
+use Rattle.sqlite.specs.Command.{Command}
+use Rattle.sqlite.specs.Command.TheVariants.{Insert, Update, Delete}
+use Rattle.sqlite.specs.Listing.{understood}
 use Rattle.sqlite.specs.Query.{Query, inner, end}
 use Rattle.sqlite.specs.Source.TheVariants.{Values}
 use Rattle.sqlite.specs.Collation.TheVariants.{Binary}
@@ -11,15 +12,14 @@ use Rattle.sqlite.specs.declared.types.Value.TheVariants.{Null, Text}
 use Rattle.sqlite_sql.specs.declared.ops.BinaryOp.TheVariants.{Compare}
 use Rattle.sqlite_sql.specs.declared.ops.CompareOp.TheVariants.{Eq}
 use Rattle.sqlite_sql.specs.declared.ops.UnaryOp.TheVariants.{ToNumeric}
-use Rattle.sqlite.proofs.Callers.{IsPlain, command_of}
 use Rattle.sqlite_tied.specs.Compute.{everything}
-use Rattle.csi_schema.specs.facts.Failing.{IsAlone, IsAloneWrite, IsNeverRefused, IsSure}
+use Rattle.csi_schema.specs.facts.Failing.{IsAloneWrite, IsSelect, IsSure, only_limit, sure_of}
 use Rattle.csi_schema.specs.facts.Writes.{IsCommand}
 use Rattle.csi_schema.specs.declared.formats.TheConstants.{LATEST_FORMAT}
 use Rattle.csi_transactions.specs.Statements.{plain_query, number_query, volume_query, named_query, sizes_query, page_query, page_numbers_query, nodes_query, attached_query, places_query}
 use Rattle.csi_transactions.specs.Rows.{number_value}
 use Rattle.csi_transactions.specs.Tables.{schema}
-pub use Rattle.csi_transactions.specs.Texts.{attach_text, add_text, next_text, format_text, params_text, detach_text, detach_all_text, remove_text}
+use Rattle.csi_transactions.specs.Texts.{Write, arity, text, AddVolume, SetNext, SetFormat, SetParams, RemoveVolume, Attach, Detach, DetachAll}
 
 -- ---- writes
 
@@ -27,25 +27,9 @@ pub use Rattle.csi_transactions.specs.Texts.{attach_text, add_text, next_text, f
 abbrev pub attach_terms : List Term
 attach_terms = lit Null ∷ col 0 0 ∷ col 0 1 ∷ col 0 2 ∷ col 0 3 ∷ []
 
-pub attach_command : IsCommand attach_text (Insert 2 (Values attach_terms 5))
-unfolding understood everything
-attach_command = record { is = refl; plain = (refl, refl) }
-
-pub attach_alone : IsAloneWrite attach_text 4 (understood schema attach_text)
-unfolding understood everything
-attach_alone = (omega arith, refl, refl, tt, refl)
-
 -- the number is the rowid, and its own column is kept as NULL
 abbrev pub add_terms : List Term
 add_terms = col 0 0 ∷ lit Null ∷ col 0 1 ∷ col 0 2 ∷ col 0 3 ∷ col 0 4 ∷ col 0 5 ∷ []
-
-pub add_command : IsCommand add_text (Insert 1 (Values add_terms 7))
-unfolding understood everything
-add_command = record { is = refl; plain = (refl, refl) }
-
-pub add_alone : IsAloneWrite add_text 6 (understood schema add_text)
-unfolding understood everything
-add_alone = (omega arith, refl, refl, tt, refl)
 
 -- an UPDATE asks for the rowid of what passes, and for each column as it will be: that of the key is kept as NULL
 abbrev pub meta_query : Term → Term → Query
@@ -54,24 +38,8 @@ meta_query format next = record plain_query { project = col 1 0 ∷ col 1 0 ∷ 
 abbrev pub next_query : Query
 next_query = meta_query (col 1 2) (col 0 0)
 
-pub next_command : IsCommand next_text (Update 0 (record { lets = []; body = next_query }))
-unfolding understood everything
-next_command = record { is = refl; plain = (refl, refl) }
-
-pub next_alone : IsAloneWrite next_text 1 (understood schema next_text)
-unfolding understood everything
-next_alone = (omega arith, refl, refl, tt, refl)
-
 abbrev pub format_query : Query
 format_query = meta_query (lit (number_value LATEST_FORMAT)) (col 1 3)
-
-pub format_command : IsCommand format_text (Update 0 (record { lets = []; body = format_query }))
-unfolding understood everything
-format_command = record { is = refl; plain = (refl, refl) }
-
-pub format_alone : IsAloneWrite format_text 0 (understood schema format_text)
-unfolding understood everything
-format_alone = (omega arith, refl, refl, tt, refl)
 
 abbrev pub params_query : Query
 params_query = record plain_query {
@@ -80,164 +48,123 @@ params_query = record plain_query {
   project = col 1 0 ∷ col 1 0 ∷ lit Null ∷ col 1 2 ∷ col 1 3 ∷ col 1 4 ∷ col 1 5 ∷ col 0 1 ∷ [];
 }
 
-pub params_command : IsCommand params_text (Update 1 (record { lets = []; body = params_query }))
-unfolding understood everything
-params_command = record { is = refl; plain = (refl, refl) }
-
-pub params_alone : IsAloneWrite params_text 2 (understood schema params_text)
-unfolding understood everything
-params_alone = (omega arith, refl, refl, tt, refl)
-
 -- a DELETE asks for the rowids of what passes
+abbrev pub remove_query : Query
+remove_query = record plain_query { from = inner 1 end; filter = op2 (Compare Eq Binary) (col 1 0) (col 0 0) ∷ []; project = col 1 0 ∷ [] }
+
 abbrev pub detach_query : Query
 detach_query = record plain_query { from = inner 3 end; filter = op2 (Compare Eq Binary) (col 1 1) (op1 ToNumeric (col 0 0)) ∷ op2 (Compare Eq Binary) (col 1 2) (col 0 1) ∷ []; project = col 1 0 ∷ [] }
-
-pub detach_command : IsCommand detach_text (Delete 2 (record { lets = []; body = detach_query }))
-unfolding understood everything
-detach_command = record { is = refl; plain = (refl, refl) }
-
-pub detach_alone : IsAloneWrite detach_text 2 (understood schema detach_text)
-unfolding understood everything
-detach_alone = (omega arith, refl, refl, tt, refl)
 
 abbrev pub detach_all_query : Query
 detach_all_query = record plain_query { from = inner 3 end; filter = op2 (Compare Eq Binary) (col 1 1) (op1 ToNumeric (col 0 0)) ∷ []; project = col 1 0 ∷ [] }
 
-pub detach_all_command : IsCommand detach_all_text (Delete 2 (record { lets = []; body = detach_all_query }))
-unfolding understood everything
-detach_all_command = record { is = refl; plain = (refl, refl) }
+abbrev pub command : Write → Command
+command AddVolume = Insert 1 (Values add_terms 7)
+command SetNext = Update 0 (record { lets = []; body = next_query })
+command SetFormat = Update 0 (record { lets = []; body = format_query })
+command SetParams = Update 1 (record { lets = []; body = params_query })
+command RemoveVolume = Delete 1 (record { lets = []; body = remove_query })
+command Attach = Insert 2 (Values attach_terms 5)
+command Detach = Delete 2 (record { lets = []; body = detach_query })
+command DetachAll = Delete 2 (record { lets = []; body = detach_all_query })
 
-pub detach_all_alone : IsAloneWrite detach_all_text 1 (understood schema detach_all_text)
+pub is_command : (w : Write) → IsCommand (text w) (command w)
 unfolding understood everything
-detach_all_alone = (omega arith, refl, refl, tt, refl)
+is_command AddVolume = record { is = refl; plain = (refl, refl) }
+is_command SetNext = record { is = refl; plain = (refl, refl) }
+is_command SetFormat = record { is = refl; plain = (refl, refl) }
+is_command SetParams = record { is = refl; plain = (refl, refl) }
+is_command RemoveVolume = record { is = refl; plain = (refl, refl) }
+is_command Attach = record { is = refl; plain = (refl, refl) }
+is_command Detach = record { is = refl; plain = (refl, refl) }
+is_command DetachAll = record { is = refl; plain = (refl, refl) }
 
-abbrev pub remove_query : Query
-remove_query = record plain_query { from = inner 1 end; filter = op2 (Compare Eq Binary) (col 1 0) (col 0 0) ∷ []; project = col 1 0 ∷ [] }
-
-pub remove_command : IsCommand remove_text (Delete 1 (record { lets = []; body = remove_query }))
+pub alone : (w : Write) → IsAloneWrite (text w) (arity w) (understood schema (text w))
 unfolding understood everything
-remove_command = record { is = refl; plain = (refl, refl) }
-
-pub remove_alone : IsAloneWrite remove_text 1 (understood schema remove_text)
-unfolding understood everything
-remove_alone = (omega arith, refl, refl, tt, refl)
+alone AddVolume = (omega arith, refl, refl, tt, refl)
+alone SetNext = (omega arith, refl, refl, tt, refl)
+alone SetFormat = (omega arith, refl, refl, tt, refl)
+alone SetParams = (omega arith, refl, refl, tt, refl)
+alone RemoveVolume = (omega arith, refl, refl, tt, refl)
+alone Attach = (omega arith, refl, refl, tt, refl)
+alone Detach = (omega arith, refl, refl, tt, refl)
+alone DetachAll = (omega arith, refl, refl, tt, refl)
 
 -- ---- reads
 
--- the text is the query under the schema, and reads no other table
-pub record IsSelect (text : List ℕ) (q : Query) : Type 0 where
-  pub names : List (List ℕ)
-  pub is : command_of (understood schema text) ≡ Select (record { lets = []; body = q }) names
-  pub plain : IsPlain (understood schema text)
-  pub unlisted : reads_listing schema text ≡ false
+pub data Read : Type 0 where
+  Numbered : (number : ℕ) → Read
+  Named : (name : List ℕ) → Read
+  Sizes : (pool : List ℕ) → Read
+  Page : (after count : ℕ) → Read
+  PageNumbers : (after count : ℕ) → Read
+  Nodes : (number : ℕ) → Read
+  Attached : (node : List ℕ) → Read
+  Places : (after last : ℕ) → Read
 
-pub sure_of : {text : List ℕ} {q : Query} (params : Row) → IsSelect text q → IsAlone text (length params) (understood schema text) → IsNeverRefused schema params q → IsSure schema text params
-sure_of params it alone unrefused = record { query = _; names = it.names; is = it.is; plain = it.plain; unlisted = it.unlisted; alone = alone; unrefused = unrefused }
+abbrev pub asked : Read → List ℕ
+asked (Numbered number) = codes "SELECT number, name, bytes, pool, caps, params FROM volumes WHERE number = ?1"
+asked (Named name) = codes "SELECT number, name, bytes, pool, caps, params FROM volumes WHERE name = ?1 ORDER BY number"
+asked (Sizes pool) = codes "SELECT bytes FROM volumes WHERE pool = ?1 ORDER BY number"
+asked (Page after count) = codes "SELECT number, name, bytes, pool, caps, params FROM volumes WHERE number > ?1 ORDER BY number LIMIT ?2"
+asked (PageNumbers after count) = codes "SELECT number FROM volumes WHERE number > ?1 ORDER BY number LIMIT ?2"
+asked (Nodes number) = codes "SELECT node, cap, readonly FROM attachments WHERE number = ?1 ORDER BY node"
+asked (Attached node) = codes "SELECT number FROM attachments WHERE node = ?1 ORDER BY number"
+asked (Places after last) = codes "SELECT number, node FROM attachments WHERE number > ?1 AND number <= ?2 ORDER BY number, node"
+
+abbrev pub given : Read → Row
+given (Numbered number) = number_value number ∷ []
+given (Named name) = Text name ∷ []
+given (Sizes pool) = Text pool ∷ []
+given (Page after count) = number_value after ∷ number_value count ∷ []
+given (PageNumbers after count) = number_value after ∷ number_value count ∷ []
+given (Nodes number) = number_value number ∷ []
+given (Attached node) = Text node ∷ []
+given (Places after last) = number_value after ∷ number_value last ∷ []
+
+abbrev pub query : Read → Query
+query (Numbered number) = volume_query
+query (Named name) = named_query
+query (Sizes pool) = sizes_query
+query (Page after count) = page_query
+query (PageNumbers after count) = page_numbers_query
+query (Nodes number) = nodes_query
+query (Attached node) = attached_query
+query (Places after last) = places_query
+
+abbrev volume_names : List (List ℕ)
+volume_names = codes "number" ∷ codes "name" ∷ codes "bytes" ∷ codes "pool" ∷ codes "caps" ∷ codes "params" ∷ []
+
+pub is_select : (q : Read) → IsSelect schema (asked q) (query q)
+unfolding understood everything
+is_select (Numbered number) = record { names = volume_names; is = refl; plain = (refl, refl); unlisted = refl }
+is_select (Named name) = record { names = volume_names; is = refl; plain = (refl, refl); unlisted = refl }
+is_select (Sizes pool) = record { names = codes "bytes" ∷ []; is = refl; plain = (refl, refl); unlisted = refl }
+is_select (Page after count) = record { names = volume_names; is = refl; plain = (refl, refl); unlisted = refl }
+is_select (PageNumbers after count) = record { names = codes "number" ∷ []; is = refl; plain = (refl, refl); unlisted = refl }
+is_select (Nodes number) = record { names = codes "node" ∷ codes "cap" ∷ codes "readonly" ∷ []; is = refl; plain = (refl, refl); unlisted = refl }
+is_select (Attached node) = record { names = codes "number" ∷ []; is = refl; plain = (refl, refl); unlisted = refl }
+is_select (Places after last) = record { names = codes "number" ∷ codes "node" ∷ []; is = refl; plain = (refl, refl); unlisted = refl }
 
 abbrev pub number_text : List ℕ
 number_text = codes "SELECT next_number FROM meta"
 
-pub number_select : IsSelect number_text number_query
+pub number_select : IsSelect schema number_text number_query
 unfolding understood everything
 number_select = record { names = codes "next_number" ∷ []; is = refl; plain = (refl, refl); unlisted = refl }
 
+-- nothing but a limit on its steps refuses it
 pub number_sure : IsSure schema number_text ([])
 unfolding understood everything
-number_sure = sure_of ([]) number_select (omega arith, refl, refl)
-    (λ limit db e h. elim h [ inl typed ↦ absurd (true≢false typed.1) | inr (inl (is, inl none)) ↦ absurd none | inr (inl (is, inr over)) ↦ absurd over.4 | inr (inr limited) ↦ limited ])
+number_sure = sure_of ([]) number_select (omega arith, refl, refl) (λ limit db e h. only_limit h (λ over. over.4))
 
-abbrev pub volume_text : List ℕ
-volume_text = codes "SELECT number, name, bytes, pool, caps, params FROM volumes WHERE number = ?1"
-
-pub volume_select : IsSelect volume_text volume_query
+pub is_sure : (q : Read) → IsSure schema (asked q) (given q)
 unfolding understood everything
-volume_select = record { names = codes "number" ∷ codes "name" ∷ codes "bytes" ∷ codes "pool" ∷ codes "caps" ∷ codes "params" ∷ []; is = refl; plain = (refl, refl); unlisted = refl }
-
-pub volume_sure : (volume : ℕ) → IsSure schema volume_text (number_value volume ∷ [])
-unfolding understood everything
-volume_sure volume = sure_of (number_value volume ∷ []) volume_select (omega arith, refl, refl)
-    (λ limit db e h. elim h [ inl typed ↦ absurd (true≢false typed.1) | inr (inl (is, inl none)) ↦ absurd none | inr (inl (is, inr over)) ↦ absurd over.4 | inr (inr limited) ↦ limited ])
-
-abbrev pub named_text : List ℕ
-named_text = codes "SELECT number, name, bytes, pool, caps, params FROM volumes WHERE name = ?1 ORDER BY number"
-
-pub named_select : IsSelect named_text named_query
-unfolding understood everything
-named_select = record { names = codes "number" ∷ codes "name" ∷ codes "bytes" ∷ codes "pool" ∷ codes "caps" ∷ codes "params" ∷ []; is = refl; plain = (refl, refl); unlisted = refl }
-
-pub named_sure : (name : List ℕ) → IsSure schema named_text (Text name ∷ [])
-unfolding understood everything
-named_sure name = sure_of (Text name ∷ []) named_select (omega arith, refl, refl)
-    (λ limit db e h. elim h [ inl typed ↦ absurd (true≢false typed.1) | inr (inl (is, inl none)) ↦ absurd none | inr (inl (is, inr over)) ↦ absurd over.4 | inr (inr limited) ↦ limited ])
-
-abbrev pub sizes_text : List ℕ
-sizes_text = codes "SELECT bytes FROM volumes WHERE pool = ?1 ORDER BY number"
-
-pub sizes_select : IsSelect sizes_text sizes_query
-unfolding understood everything
-sizes_select = record { names = codes "bytes" ∷ []; is = refl; plain = (refl, refl); unlisted = refl }
-
-pub sizes_sure : (pool : List ℕ) → IsSure schema sizes_text (Text pool ∷ [])
-unfolding understood everything
-sizes_sure pool = sure_of (Text pool ∷ []) sizes_select (omega arith, refl, refl)
-    (λ limit db e h. elim h [ inl typed ↦ absurd (true≢false typed.1) | inr (inl (is, inl none)) ↦ absurd none | inr (inl (is, inr over)) ↦ absurd over.4 | inr (inr limited) ↦ limited ])
-
-abbrev pub page_text : List ℕ
-page_text = codes "SELECT number, name, bytes, pool, caps, params FROM volumes WHERE number > ?1 ORDER BY number LIMIT ?2"
-
-pub page_select : IsSelect page_text page_query
-unfolding understood everything
-page_select = record { names = codes "number" ∷ codes "name" ∷ codes "bytes" ∷ codes "pool" ∷ codes "caps" ∷ codes "params" ∷ []; is = refl; plain = (refl, refl); unlisted = refl }
-
-pub page_sure : (after count : ℕ) → IsSure schema page_text (number_value after ∷ number_value count ∷ [])
-unfolding understood everything
-page_sure after count = sure_of (number_value after ∷ number_value count ∷ []) page_select (omega arith, refl, refl)
-    (λ limit db e h. elim h [ inl typed ↦ absurd (true≢false typed.1) | inr (inl (is, inl none)) ↦ absurd none | inr (inl (is, inr over)) ↦ absurd over.4 | inr (inr limited) ↦ limited ])
-
-abbrev pub page_numbers_text : List ℕ
-page_numbers_text = codes "SELECT number FROM volumes WHERE number > ?1 ORDER BY number LIMIT ?2"
-
-pub page_numbers_select : IsSelect page_numbers_text page_numbers_query
-unfolding understood everything
-page_numbers_select = record { names = codes "number" ∷ []; is = refl; plain = (refl, refl); unlisted = refl }
-
-pub page_numbers_sure : (after count : ℕ) → IsSure schema page_numbers_text (number_value after ∷ number_value count ∷ [])
-unfolding understood everything
-page_numbers_sure after count = sure_of (number_value after ∷ number_value count ∷ []) page_numbers_select (omega arith, refl, refl)
-    (λ limit db e h. elim h [ inl typed ↦ absurd (true≢false typed.1) | inr (inl (is, inl none)) ↦ absurd none | inr (inl (is, inr over)) ↦ absurd over.4 | inr (inr limited) ↦ limited ])
-
-abbrev pub nodes_text : List ℕ
-nodes_text = codes "SELECT node, cap, readonly FROM attachments WHERE number = ?1 ORDER BY node"
-
-pub nodes_select : IsSelect nodes_text nodes_query
-unfolding understood everything
-nodes_select = record { names = codes "node" ∷ codes "cap" ∷ codes "readonly" ∷ []; is = refl; plain = (refl, refl); unlisted = refl }
-
-pub nodes_sure : (volume : ℕ) → IsSure schema nodes_text (number_value volume ∷ [])
-unfolding understood everything
-nodes_sure volume = sure_of (number_value volume ∷ []) nodes_select (omega arith, refl, refl)
-    (λ limit db e h. elim h [ inl typed ↦ absurd (true≢false typed.1) | inr (inl (is, inl none)) ↦ absurd none | inr (inl (is, inr over)) ↦ absurd over.4 | inr (inr limited) ↦ limited ])
-
-abbrev pub attached_text : List ℕ
-attached_text = codes "SELECT number FROM attachments WHERE node = ?1 ORDER BY number"
-
-pub attached_select : IsSelect attached_text attached_query
-unfolding understood everything
-attached_select = record { names = codes "number" ∷ []; is = refl; plain = (refl, refl); unlisted = refl }
-
-pub attached_sure : (node : List ℕ) → IsSure schema attached_text (Text node ∷ [])
-unfolding understood everything
-attached_sure node = sure_of (Text node ∷ []) attached_select (omega arith, refl, refl)
-    (λ limit db e h. elim h [ inl typed ↦ absurd (true≢false typed.1) | inr (inl (is, inl none)) ↦ absurd none | inr (inl (is, inr over)) ↦ absurd over.4 | inr (inr limited) ↦ limited ])
-
-abbrev pub places_text : List ℕ
-places_text = codes "SELECT number, node FROM attachments WHERE number > ?1 AND number <= ?2 ORDER BY number, node"
-
-pub places_select : IsSelect places_text places_query
-unfolding understood everything
-places_select = record { names = codes "number" ∷ codes "node" ∷ []; is = refl; plain = (refl, refl); unlisted = refl }
-
-pub places_sure : (after last : ℕ) → IsSure schema places_text (number_value after ∷ number_value last ∷ [])
-unfolding understood everything
-places_sure after last = sure_of (number_value after ∷ number_value last ∷ []) places_select (omega arith, refl, refl)
-    (λ limit db e h. elim h [ inl typed ↦ absurd (true≢false typed.1) | inr (inl (is, inl none)) ↦ absurd none | inr (inl (is, inr over)) ↦ absurd over.4 | inr (inr limited) ↦ limited ])
+is_sure (Numbered number) = sure_of (given (Numbered number)) (is_select (Numbered number)) (omega arith, refl, refl) (λ limit db e h. only_limit h (λ over. over.4))
+is_sure (Named name) = sure_of (given (Named name)) (is_select (Named name)) (omega arith, refl, refl) (λ limit db e h. only_limit h (λ over. over.4))
+is_sure (Sizes pool) = sure_of (given (Sizes pool)) (is_select (Sizes pool)) (omega arith, refl, refl) (λ limit db e h. only_limit h (λ over. over.4))
+is_sure (Page after count) = sure_of (given (Page after count)) (is_select (Page after count)) (omega arith, refl, refl) (λ limit db e h. only_limit h (λ over. over.4))
+is_sure (PageNumbers after count) = sure_of (given (PageNumbers after count)) (is_select (PageNumbers after count)) (omega arith, refl, refl) (λ limit db e h. only_limit h (λ over. over.4))
+is_sure (Nodes number) = sure_of (given (Nodes number)) (is_select (Nodes number)) (omega arith, refl, refl) (λ limit db e h. only_limit h (λ over. over.4))
+is_sure (Attached node) = sure_of (given (Attached node)) (is_select (Attached node)) (omega arith, refl, refl) (λ limit db e h. only_limit h (λ over. over.4))
+is_sure (Places after last) = sure_of (given (Places after last)) (is_select (Places after last)) (omega arith, refl, refl) (λ limit db e h. only_limit h (λ over. over.4))

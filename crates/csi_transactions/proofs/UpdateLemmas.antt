@@ -1,13 +1,12 @@
 -- What an UPDATE makes of the row of meta, and what the two statements make that add a volume.
-use Rattle.std.proofs.Common.{◌≡◌, ◌∙◌, refl, sym, ap, subst, ℕ, pos, List, [], ◌∷◌, map, arith, Ok, Err, Result, OnOk, IsPermutation}
+use Rattle.std.proofs.Common.{◌≡◌, ◌∙◌, refl, sym, ap, subst, ℕ, pos, List, [], ◌∷◌, map, arith, Ok, IsPermutation}
 use Rattle.sqlite.specs.Command.TheVariants.{Update}
 use Rattle.sqlite.specs.Edit.{edit_of, edited}
 use Rattle.sqlite.specs.Order.{Row, column}
 use Rattle.sqlite.specs.Query.{Output, output, page}
 use Rattle.sqlite.specs.Rowids.TheVariants.{Given}
-use Rattle.sqlite.specs.State.{State, Executes, ExecutesInside}
+use Rattle.sqlite.specs.State.{State, Executes}
 use Rattle.sqlite.specs.Term.{Term, lit, col, eval}
-use Rattle.sqlite.specs.declared.error.Error.{Error}
 use Rattle.sqlite.specs.declared.types.Value.TheVariants.{Null}
 use Rattle.sqlite.proofs.Callers.{one_permutation}
 use Rattle.sqlite_rules.specs.Calls.{ids_of}
@@ -18,7 +17,8 @@ use Rattle.csi_schema.specs.declared.formats.TheConstants.{LATEST_FORMAT}
 use Rattle.csi_transactions.specs.Rows.{number_value, seen_meta, meta_row, AddsVolume, SetsNext, SetsFormat, AddsNumbered, Steps}
 use Rattle.csi_transactions.specs.Tables.{schema, meta}
 use Rattle.csi_transactions.proofs.ReadLemmas.{one_seen}
-use Rattle.csi_transactions.proofs.TextLemmas.{meta_query, next_text, next_query, next_command, format_text, format_query, format_command}
+use Rattle.csi_transactions.specs.Texts.{text, SetNext, SetFormat}
+use Rattle.csi_transactions.proofs.TextLemmas.{meta_query, next_query, format_query, is_command}
 
 -- the one row of meta, where the terms that are set are numbers
 module _ (text : List ℕ) (params : Row) (format next : Term) (command : IsCommand text (Update 0 (record { lets = []; body = meta_query format next }))) (old new : State) (count : ℕ) (has : old.now.schema ≡ schema)
@@ -45,36 +45,28 @@ module _ (text : List ℕ) (params : Row) (format next : Term) (command : IsComm
   pub sets_meta : map seen_meta (old.now.trees 0) ≡ meta_row was_format was_next ∷ [] → map seen_meta (new.now.trees 0) ≡ meta_row is_format is_next ∷ []
   sets_meta seen = let it = one_seen seen_meta (old.now.trees 0) (meta_row was_format was_next) seen in sets_row it.0 it.1 it.2
 
-sets_next_number : (old new : State) (next count : ℕ) → old.now.schema ≡ schema → Executes next_text (number_value next ∷ []) old new (Ok count) → SetsNext next old.now new.now
-sets_next_number old new next count has h =
+pub sets_next_number : (next : ℕ) (old new : State) (count : ℕ) → old.now.schema ≡ schema → Executes (text SetNext) (number_value next ∷ []) old new (Ok count) → SetsNext next old.now new.now
+sets_next_number next old new count has h =
     let params = number_value next ∷ [] in
-    let it = updated next_text params old new count has 0 meta refl next_query next_command h in
+    let it = updated (text SetNext) params old new count has 0 meta refl next_query (is_command SetNext) h in
     record {
       schema = it.2.schema_is;
       sound = it.2.sound;
-      meta = λ format was. sets_meta next_text params (col 1 2) (col 0 0) next_command old new count has h format was format next (λ r seen. ap (λ (x : Row). column x 1) seen) (λ r seen. refl);
+      meta = λ format was. sets_meta (text SetNext) params (col 1 2) (col 0 0) (is_command SetNext) old new count has h format was format next (λ r seen. ap (λ (x : Row). column x 1) seen) (λ r seen. refl);
       volumes = it.2.made.tables.1.0 (λ e. absurd (omega arith));
       attachments = it.2.made.tables.1.1.0 (λ e. absurd (omega arith));
     }
 
-pub next_step : (old new : State) (next : ℕ) (r : Result ℕ Error) → ExecutesInside 0 next_text (number_value next ∷ []) old new r → OnOk r (Steps (SetsNext next) old new)
-next_step old new next (Ok count) h = record { shown = h.1; effect = λ has. sets_next_number old new next count has h.0 }
-next_step old new next (Err e) h = tt
-
-sets_latest : (old new : State) (count : ℕ) → old.now.schema ≡ schema → Executes format_text [] old new (Ok count) → SetsFormat old.now new.now
+pub sets_latest : (old new : State) (count : ℕ) → old.now.schema ≡ schema → Executes (text SetFormat) [] old new (Ok count) → SetsFormat old.now new.now
 sets_latest old new count has h =
-    let it = updated format_text [] old new count has 0 meta refl format_query format_command h in
+    let it = updated (text SetFormat) [] old new count has 0 meta refl format_query (is_command SetFormat) h in
     record {
       schema = it.2.schema_is;
       sound = it.2.sound;
-      meta = λ was next. sets_meta format_text [] (lit (number_value LATEST_FORMAT)) (col 1 3) format_command old new count has h was next LATEST_FORMAT next (λ r seen. refl) (λ r seen. ap (λ (x : Row). column x 2) seen);
+      meta = λ was next. sets_meta (text SetFormat) [] (lit (number_value LATEST_FORMAT)) (col 1 3) (is_command SetFormat) old new count has h was next LATEST_FORMAT next (λ r seen. refl) (λ r seen. ap (λ (x : Row). column x 2) seen);
       volumes = it.2.made.tables.1.0 (λ e. absurd (omega arith));
       attachments = it.2.made.tables.1.1.0 (λ e. absurd (omega arith));
     }
-
-pub format_step : (old new : State) (r : Result ℕ Error) → ExecutesInside 0 format_text [] old new r → OnOk r (Steps SetsFormat old new)
-format_step old new (Ok count) h = record { shown = h.1; effect = λ has. sets_latest old new count has h.0 }
-format_step old new (Err e) h = tt
 
 -- the row and the number, one after the other
 pub adds_numbered : (old mid new : State) (row : Row) (next : ℕ) → Steps (AddsVolume row) old mid → Steps (SetsNext next) mid new → Steps (AddsNumbered row next) old new

@@ -9,38 +9,38 @@ use Rattle.sqlite.specs.declared.types.Value.TheVariants.{Blob, Text}
 use Rattle.csi_schema.specs.Failing.{SqlRefuses}
 use Rattle.csi_transactions.specs.Rows.{AddsVolume, number_value, seen_volume}
 use Rattle.csi_transactions.specs.Tables.{schema}
-use Rattle.csi_transactions.specs.Texts.{add_text, next_text, format_text, params_text, remove_text, attach_text, detach_text, detach_all_text}
-pub use Rattle.csi_schema.specs.Failing.{FailsFor, FailsOver, FailsFrom, Unrefused}
+use Rattle.csi_transactions.specs.Texts.{text, AddVolume, SetNext, SetFormat, SetParams, RemoveVolume, Attach, Detach, DetachAll}
+pub use Rattle.csi_schema.specs.Failing.{FailsFor, FailsOver, Unrefused}
 
 -- ---- changes
 
 abbrev pub RefusesVolume : Row → State → Error → Type 0
-RefusesVolume row s e = SqlRefuses add_text (seen_volume row) s e
+RefusesVolume row s e = SqlRefuses (text AddVolume) (seen_volume row) s e
 
 abbrev pub RefusesNext : ℕ → State → Error → Type 0
-RefusesNext next s e = SqlRefuses next_text (number_value next ∷ []) s e
+RefusesNext next s e = SqlRefuses (text SetNext) (number_value next ∷ []) s e
 
 -- the row is refused, or the next number once the row is there
 abbrev pub RefusesNumbered : Row → ℕ → State → Error → Type 0
 RefusesNumbered row next s e = RefusesVolume row s e ⊎ ((db : Database) × (s.now.schema ≡ schema → AddsVolume row s.now db) × RefusesNext next (record s { now = db }) e)
 
 abbrev pub RefusesFormat : State → Error → Type 0
-RefusesFormat s e = SqlRefuses format_text [] s e
+RefusesFormat s e = SqlRefuses (text SetFormat) [] s e
 
 abbrev pub RefusesParams : ℕ → List ℕ → State → Error → Type 0
-RefusesParams volume params s e = SqlRefuses params_text (number_value volume ∷ Blob params ∷ []) s e
+RefusesParams volume params s e = SqlRefuses (text SetParams) (number_value volume ∷ Blob params ∷ []) s e
 
 abbrev pub RefusesRemoval : ℕ → State → Error → Type 0
-RefusesRemoval volume s e = SqlRefuses remove_text (number_value volume ∷ []) s e
+RefusesRemoval volume s e = SqlRefuses (text RemoveVolume) (number_value volume ∷ []) s e
 
 abbrev pub RefusesAttachment : Row → State → Error → Type 0
-RefusesAttachment row s e = SqlRefuses attach_text row s e
+RefusesAttachment row s e = SqlRefuses (text Attach) row s e
 
 abbrev pub RefusesDetaching : ℕ → List ℕ → State → Error → Type 0
-RefusesDetaching volume node s e = SqlRefuses detach_text (number_value volume ∷ Text node ∷ []) s e
+RefusesDetaching volume node s e = SqlRefuses (text Detach) (number_value volume ∷ Text node ∷ []) s e
 
 abbrev pub RefusesDetachingAll : ℕ → State → Error → Type 0
-RefusesDetachingAll volume s e = SqlRefuses detach_all_text (number_value volume ∷ []) s e
+RefusesDetachingAll volume s e = SqlRefuses (text DetachAll) (number_value volume ∷ []) s e
 
 -- ---- reads
 

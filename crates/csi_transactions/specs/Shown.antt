@@ -42,5 +42,5 @@ pub record IsPageNodes (after count : ℕ) (db : Database) (numbers places : Lis
   pub placed : IsShownOf places_query (db.trees 3) (number_value after ∷ number_value (last_number after numbers) ∷ []) places
 
 -- the one cell is the next number, whatever the format is
-abbrev pub IsNext : Row → Database → Type 0
-IsNext row db = (format next : ℕ) → map seen_meta (db.trees 0) ≡ meta_row format next ∷ [] → row ≡ number_value next ∷ []
+abbrev pub IsNext : Database → Row → Type 0
+IsNext db row = (format next : ℕ) → map seen_meta (db.trees 0) ≡ meta_row format next ∷ [] → row ≡ number_value next ∷ []

@@ -3,7 +3,7 @@
 mod calls;
 
 use crate::types::{MEBIBYTE, one_pool};
-use crate::words::{first_word, named, number_of};
+use crate::words::{first_word, named};
 use calls::{Reply, reply_to};
 use csi_codec::decode_response;
 use csi_config::{Config, Node, Plugin, Sizes};
@@ -11,7 +11,7 @@ use csi_keeper::MemKeeper;
 use csi_types::{Entry, Map, Method, Response, copy_text};
 use std::alloc::{AllocError, Global};
 use std::fmt::Write;
-use test_kit::{RowFault, bytes_counted, bytes_of, bytes_text};
+use test_kit::{RowFault, bytes_counted, bytes_of, bytes_text, number_of};
 
 /// A configuration, and a keeper of the volumes that requests made under it.
 #[derive(Drop)]
@@ -100,9 +100,9 @@ fn reply_text(alloc: Global, reply: &Reply) -> Result<String, RowFault> {
 }
 
 fn page_text(alloc: Global, body: &[u8]) -> Result<String, RowFault> {
-    let page = decode_response(alloc, Method::ListVolumes, body).map_err(|_| RowFault::NoMemory)?;
-    let Response::List { entries, token } = page else {
-        return Err(RowFault::NotRow);
+    let Ok(Response::List { entries, token }) = decode_response(alloc, Method::ListVolumes, body)
+    else {
+        return Err(RowFault::NoMemory);
     };
     let mut text = format!(in alloc; "{} entries, token '{token}':", entries.len())?;
     for entry in &entries {
@@ -144,5 +144,8 @@ fn pool_of(alloc: Global, bytes: u64) -> Result<Config, RowFault> {
             max_volumes: 2,
         })?;
     }
-    Config::new(plugin, sizes, pools, nodes).map_err(|_| RowFault::NotRow)
+    match Config::new(plugin, sizes, pools, nodes) {
+        Ok(config) => Ok(config),
+        Err(_) => Err(RowFault::NotRow),
+    }
 }

@@ -1,18 +1,27 @@
-//! Answers rows about bytes and what they mean: messages, frames, values, replies and requests. What the rows of a section look
-//! like stands at its head in the file `stdin` of this crate.
+//! Answers rows about bytes and what they mean: messages, frames, values, replies, requests, streams of calls that are served, and calls over a Unix
+//! socket with both of its ends in this process. What the rows of a section look like stands at its head in the file `stdin` of this crate.
 #![tactic(auto)]
 
 mod client;
 mod codec;
 mod frames;
 mod machine;
+mod serve;
+mod socket;
 mod tries;
 mod types;
 mod words;
 
 use machine::Bench;
+use serve::Streams;
+use socket::{PATH, Session};
+use std::fs;
+use std::os::unix::net::UnixListener;
 use std::process::ExitCode;
 use test_kit::{Answer, AnswerRow, RowFault, answer_rows};
+
+// The exit status where there is no socket.
+const SOCKET: u8 = 7;
 
 /// The section that was begun last, and what it keeps from row to row.
 #[derive(Drop)]
@@ -25,17 +34,27 @@ enum Section {
     Client,
     Tries,
     Machine(Bench),
+    Serve(Streams),
+    Socket(Session),
 }
 
-impl AnswerRow for Section {
+#[derive(Drop)]
+struct Rows {
+    listener: UnixListener,
+    section: Section,
+}
+
+impl AnswerRow for Rows {
     fn begin_section(&mut self, rt: &HostRuntime, name: &str) -> Result<(), RowFault> {
-        *self = match name {
+        self.section = match name {
             "codec" => Section::Codec,
             "frames" => Section::Frames,
             "types" => Section::Types,
             "client" => Section::Client,
             "tries" => Section::Tries,
             "machine" => Section::Machine(Bench::new(rt.alloc())?),
+            "serve" => Section::Serve(Streams::new(rt.alloc())?),
+            "socket" => Section::Socket(Session::new(rt.alloc())?),
             _ => return Err(RowFault::NotRow),
         };
         Ok(())
@@ -43,7 +62,7 @@ impl AnswerRow for Section {
 
     fn answer_row(&mut self, rt: &HostRuntime, row: &str) -> Result<Answer, RowFault> {
         let alloc = rt.alloc();
-        let text = match self {
+        let text = match &mut self.section {
             Section::Unbegun => return Err(RowFault::NotRow),
             Section::Codec => codec::answer(alloc, row)?,
             Section::Frames => frames::answer(alloc, row)?,
@@ -51,11 +70,24 @@ impl AnswerRow for Section {
             Section::Tries => tries::answer(alloc, row)?,
             Section::Client => return Ok(Answer::Lines(client::answer(alloc, row)?)),
             Section::Machine(bench) => bench.answer(alloc, row)?,
+            Section::Serve(streams) => return streams.answer(alloc, row),
+            Section::Socket(session) => return session.answer(rt, &self.listener, row),
         };
         Ok(Answer::Text(text))
     }
 }
 
 fn main(rt: HostRuntime) -> ExitCode {
-    answer_rows(&rt, &mut Section::Unbegun)
+    let Ok(listener) = UnixListener::bind(&rt, PATH) else {
+        return ExitCode::from(SOCKET);
+    };
+    let mut rows = Rows {
+        listener,
+        section: Section::Unbegun,
+    };
+    let status = answer_rows(&rt, &mut rows);
+    match fs::remove_file(&rt, PATH) {
+        Ok(()) => status,
+        Err(_) => ExitCode::from(SOCKET),
+    }
 }

@@ -3,8 +3,7 @@
 use csi_client::{Exchanges, Line, Received, ReceivedReply, call_again, pause_millis};
 use frames_core::{ReplyFault, ReplyWhy};
 use std::alloc::Global;
-use std::str::FromStr;
-use test_kit::{RowFault, word_at, words_of};
+use test_kit::{RowFault, number_at, word_at, words_of};
 
 // What is sent; a line does not look into it.
 const FRAME: &[u8] = b"the frame of a call";
@@ -17,13 +16,6 @@ pub(crate) fn answer(alloc: Global, row: &str) -> Result<String, RowFault> {
         "pause" => pause_answer(alloc, &words),
         _ => Err(RowFault::NotRow),
     }
-}
-
-fn number_at<T: FromStr>(words: &[&str], place: usize) -> Result<T, RowFault>
-where
-    T::Err: Drop,
-{
-    word_at(words, place)?.parse().map_err(|_| RowFault::NotRow)
 }
 
 // What an exchange gives, by its word.

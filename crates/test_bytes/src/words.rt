@@ -2,20 +2,11 @@
 
 use csi_types::{Method, method_named};
 use std::alloc::Global;
-use std::str::FromStr;
 use test_kit::RowFault;
 
 /// The first word, and what stands behind the space that ends it.
 pub(crate) fn first_word(row: &str) -> Result<(&str, &str), RowFault> {
     row.split_once(' ').ok_or(RowFault::NotRow)
-}
-
-/// The number that a word is.
-pub(crate) fn number_of<T: FromStr>(word: &str) -> Result<T, RowFault>
-where
-    T::Err: Drop,
-{
-    word.parse().map_err(|_| RowFault::NotRow)
 }
 
 /// The method of a name.

@@ -17,5 +17,5 @@ mod rows;
 
 pub use fault::RowFault;
 pub use notation::{NotationFault, bytes_counted, bytes_of};
-pub use parts::{bytes_text, number_at, put_part, word_at, words_of};
+pub use parts::{bytes_text, number_at, number_of, put_part, word_at, words_of};
 pub use rows::{Answer, AnswerRow, answer_rows};

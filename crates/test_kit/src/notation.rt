@@ -170,9 +170,10 @@ fn put_count(out: &mut Vec<u8>, count: u32, digits: u8) -> Result<(), NotationFa
 
 // Appends a count as a decimal text.
 fn put_decimal(out: &mut Vec<u8>, alloc: Global, count: u32) -> Result<(), NotationFault> {
-    let text = format!(in alloc; "{count}").map_err(|_| NotationFault::NoMemory)?;
-    out.extend_from_slice(text.as_bytes())?;
-    Ok(())
+    match format!(in alloc; "{count}") {
+        Ok(text) => Ok(out.extend_from_slice(text.as_bytes())?),
+        Err(_) => Err(NotationFault::NoMemory),
+    }
 }
 
 // The part in front, and what follows it.

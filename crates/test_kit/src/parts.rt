@@ -2,6 +2,7 @@
 
 use crate::fault::RowFault;
 use std::alloc::Global;
+use std::str::FromStr;
 
 // Longer bytes are shown by how many they are.
 const SHOWN_BYTES: usize = 64;
@@ -28,13 +29,31 @@ pub fn word_at<'w>(words: &[&'w str], place: usize) -> Result<&'w str, RowFault>
     words.get(place).copied().ok_or(RowFault::NotRow)
 }
 
+/// The number that a word is.
+///
+/// # Errors
+///
+/// Where it is none of this type.
+pub fn number_of<T: FromStr>(word: &str) -> Result<T, RowFault>
+where
+    T::Err: Drop,
+{
+    match word.parse() {
+        Ok(number) => Ok(number),
+        Err(_) => Err(RowFault::NotRow),
+    }
+}
+
 /// The number of the word at a place.
 ///
 /// # Errors
 ///
 /// Where there is none.
-pub fn number_at(words: &[&str], place: usize) -> Result<u64, RowFault> {
-    word_at(words, place)?.parse().map_err(|_| RowFault::NotRow)
+pub fn number_at<T: FromStr>(words: &[&str], place: usize) -> Result<T, RowFault>
+where
+    T::Err: Drop,
+{
+    number_of(word_at(words, place)?)
 }
 
 /// Appends a part of an answer, behind a comma where it is not the first.

@@ -1,7 +1,6 @@
 //! Constraints of what is stored in tables in memory.
 
 use crate::database::{run, with_tables};
-use crate::numbers::count_at;
 use crate::scans::Scan;
 use csi_config::Config;
 use csi_constraints::{
@@ -87,7 +86,7 @@ fn ask_volumes(
             VolumeConstraint::Caps,
         ),
         "params" => {
-            let format = count_at(words, 2)?;
+            let format = number_at(words, 2)?;
             let found = first_broken(alloc, conn, scan, HasParams { alloc, format })?;
             (found, VolumeConstraint::Params)
         }

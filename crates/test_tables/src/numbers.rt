@@ -2,12 +2,7 @@
 
 ghost use Rattle.std.specs.Prelude.{◌<◌, ◌^◌, IfOk};
 
-use test_kit::{RowFault, number_at, word_at};
-
-/// The number below 2^32 of the word at a place.
-pub(crate) fn count_at(words: &[&str], place: usize) -> Result<u32, RowFault> {
-    word_at(words, place)?.parse().map_err(|_| RowFault::NotRow)
-}
+use test_kit::{RowFault, number_at};
 
 /// The number below 2^62 of the word at a place.
 pub(crate) fn small_at(words: &[&str], place: usize) -> Result<u64, RowFault>

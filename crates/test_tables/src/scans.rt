@@ -5,14 +5,13 @@ mod scan;
 
 use crate::cells::or_none;
 use crate::database::{run, with_tables, without_tables};
-use crate::numbers::count_at;
 use csi_scans::{Each, Rising, TextSum, Weight};
 use csi_schema::is_our_schema;
 use folds::Showing;
 pub(crate) use scan::Scan;
 use sqlite::{Connection, MemStore};
 use std::alloc::Global;
-use test_kit::{RowFault, word_at, words_of};
+use test_kit::{RowFault, number_at, word_at, words_of};
 
 /// The answer to a row: what a database begins as, what is asked of it, and the statements that come
 /// before.
@@ -49,7 +48,7 @@ fn ask(alloc: Global, conn: &mut Connection<MemStore>, question: &str) -> Result
     let scan = Scan::named(word_at(&words, 0)?)?;
     match word_at(&words, 1)? {
         "rows" => shown(alloc, conn, scan),
-        "judged" => judged(alloc, conn, scan, count_at(&words, 2)? as usize),
+        "judged" => judged(alloc, conn, scan, number_at(&words, 2)?),
         _ => {
             let sums = sums_of(alloc, &words)?;
             summed(alloc, conn, scan, sums)
@@ -88,10 +87,10 @@ fn judged(
 fn sums_of(alloc: Global, words: &[&str]) -> Result<Vec<TextSum>, RowFault> {
     let (weight, place) = match word_at(words, 1)? {
         "count" => (Weight::One, 2),
-        "sum" => (Weight::Number(count_at(words, 2)? as usize), 3),
+        "sum" => (Weight::Number(number_at(words, 2)?), 3),
         _ => return Err(RowFault::NotRow),
     };
-    let column = count_at(words, place)? as usize;
+    let column = number_at(words, place)?;
     let mut sums = Vec::new(alloc);
     for word in word_at(words, place + 1)?.split(',') {
         let mut text = Vec::new(alloc);

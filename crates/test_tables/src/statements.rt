@@ -4,13 +4,13 @@ ghost use Rattle.std.specs.Prelude.{◌≡◌, false};
 
 use crate::cells::{cell_text, or_none, put_row};
 use crate::database::{refused, without_tables};
-use crate::numbers::{count_at, small_at};
+use crate::numbers::small_at;
 use csi_schema::make_tables;
 use csi_transactions::values::flag_at;
 use csi_transactions::{changes, reads};
 use sqlite::{Connection, Error as SqlError, MemStore, Row};
 use std::alloc::Global;
-use test_kit::{RowFault, bytes_of, put_part, word_at, words_of};
+use test_kit::{RowFault, bytes_of, number_at, put_part, word_at, words_of};
 
 /// A database in memory, between two transactions.
 #[derive(Drop)]
@@ -117,7 +117,7 @@ impl Bench {
 
     fn page(&mut self, alloc: Global, words: &[&str]) -> Result<String, RowFault> {
         let after = small_at(words, 1)?;
-        let count = count_at(words, 2)?;
+        let count = number_at(words, 2)?;
         if word_at(words, 0)? == "page" {
             return all(alloc, reads::page(&mut self.conn, after, count));
         }

@@ -1,5 +1,5 @@
 -- The State after a volume got other mutable parameters: the same volumes, but for these.
-use Rattle.std.proofs.Common.{◌≡◌, ◌∙◌, ◌⊎◌, inl, inr, ap, ap₂, sym, subst, cond, refl, arith, ℕ, ◌+◌, List, length, sum, Bool, true, false, is_some, Option, Some, None}
+use Rattle.std.proofs.Common.{◌≡◌, ◌∙◌, ◌⊎◌, inl, inr, ap, ap₂, sym, cond, refl, ℕ, ◌+◌, length, sum, Bool, true, false, is_some, Option, Some, None}
 use Rattle.std.specs.Cmp.{nat_cmp_total}
 use Rattle.std.specs.Ordering.{nat_cmp, eq_by_cmp}
 use Rattle.std.specs.FinMap as fin

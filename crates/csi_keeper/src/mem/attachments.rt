@@ -63,7 +63,8 @@ pub(crate) fn attached_to(
     attachments: &BTreeMap<(u64, Text), Attachment>,
     number: u64,
 ) -> Result<Items<Attachment>, AllocError>
-    ensures value { IfOk result (λ xs. xs ≡ map (λ e. e.1) (filter (λ e. e.0.0 == number) (entries_between place_cmp (Included (number, [])) (place_end number) attachments.now.entries))) }
+    ensures value { IfOk result (λ xs. xs ≡ map (λ e. e.1)
+        (filter (λ e. e.0.0 == number) (entries_between place_cmp (Included (number, [])) (place_end number) attachments.now.entries))) }
     ensures ordered { entries (places_of attachments.now.entries) ≡ attachments.now.entries }
 {
     let mut copies = Items::new(alloc);
@@ -103,17 +104,19 @@ pub(crate) fn nodes_of(
     Ok(nodes)
 }
 
-/// Adds an attachment. Where memory is refused the rows stay.
+/// Adds a copy of an attachment. Where memory is refused the rows stay.
 #[tactic(auto, using(crate::proofs::TreeLemmas::one_place))]
 pub(crate) fn put_place(
+    alloc: Global,
     attachments: &mut BTreeMap<(u64, Text), Attachment>,
-    place: (u64, Text),
-    attachment: Attachment,
+    number: u64,
+    attachment: &Attachment,
 ) -> Result<(), AllocError>
-    ensures ok { OnOk result (places_of attachments.new.entries ≡ insert (places_of attachments.old.entries) place attachment) }
+    ensures ok { OnOk result (places_of attachments.new.entries ≡ insert (places_of attachments.old.entries) (number, attachment.now.node) attachment.now) }
     ensures err { OnErr result (attachments.new.entries ≡ attachments.old.entries) }
 {
-    attachments.insert(place, attachment)?;
+    let place = (number, copy_text(alloc, attachment.node.as_str())?);
+    attachments.insert(place, copy_attachment(alloc, attachment)?)?;
     Ok(())
 }
 
@@ -144,7 +147,8 @@ fn places_to(
     attachments: &BTreeMap<(u64, Text), Attachment>,
     number: u64,
 ) -> Result<Items<(u64, Text)>, AllocError>
-    ensures value { IfOk result (λ xs. xs ≡ map (λ e. e.0) (filter (λ e. e.0.0 == number) (entries_between place_cmp (Included (number, [])) (place_end number) attachments.now.entries))) }
+    ensures value { IfOk result (λ xs. xs ≡ map (λ e. e.0)
+        (filter (λ e. e.0.0 == number) (entries_between place_cmp (Included (number, [])) (place_end number) attachments.now.entries))) }
     ensures ordered { entries (places_of attachments.now.entries) ≡ attachments.now.entries }
 {
     let mut copies = Items::new(alloc);

@@ -9,7 +9,7 @@ ghost use Rattle.csi_keeper.specs.Texts.{text_cmp};
 
 use crate::mem::rows::volume_at;
 use crate::volume::Volume;
-use csi_types::Text;
+use csi_types::{Text, copy_text};
 use std::alloc::{AllocError, Global};
 use std::collections::BTreeMap;
 
@@ -40,21 +40,24 @@ pub(crate) fn volume_named(
 /// Gives a name its number. Where memory is refused the names stay.
 #[tactic(auto, using(crate::proofs::ChangeLemmas::name_set))]
 pub(crate) fn set_name(
+    alloc: Global,
     names: &mut BTreeMap<Text, u64>,
-    name: Text,
+    name: &Text,
     number: u64,
 ) -> Result<(), AllocError>
-    ensures ok { OnOk result ((q : List ℕ) → lookup (is_at (text_cmp q)) names.new.entries ≡ (if same_text name q then Some number else lookup (is_at (text_cmp q)) names.old.entries)) }
+    ensures ok { OnOk result ((q : List ℕ) → lookup (is_at (text_cmp q)) names.new.entries
+        ≡ (if same_text name.now q then Some number else lookup (is_at (text_cmp q)) names.old.entries)) }
     ensures err { OnErr result (names.new.entries ≡ names.old.entries) }
 {
-    names.insert(name, number)?;
+    names.insert(copy_text(alloc, name.as_str())?, number)?;
     Ok(())
 }
 
 /// Takes a name out of the index.
 #[tactic(auto, using(crate::proofs::ChangeLemmas::name_gone))]
 pub(crate) fn drop_name(names: &mut BTreeMap<Text, u64>, name: &Text)
-    ensures { (q : List ℕ) → lookup (is_at (text_cmp q)) names.new.entries ≡ (if same_text name.now q then None else lookup (is_at (text_cmp q)) names.old.entries) }
+    ensures { (q : List ℕ) → lookup (is_at (text_cmp q)) names.new.entries
+        ≡ (if same_text name.now q then None else lookup (is_at (text_cmp q)) names.old.entries) }
 {
     names.remove(name);
 }

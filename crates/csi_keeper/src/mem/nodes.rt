@@ -19,19 +19,23 @@ use std::ops::Bound;
 
 /// Adds a spot. Where memory is refused the index stays.
 pub(crate) fn put_spot(
+    alloc: Global,
     nodes: &mut BTreeMap<(Text, u64), ()>,
-    spot: (Text, u64),
+    node: &Text,
+    number: u64,
 ) -> Result<(), AllocError>
-    ensures ok { OnOk result ((q : Spot) → lookup (is_at (spot_cmp q)) nodes.new.entries ≡ (if is_at (spot_cmp spot) q then Some tt else lookup (is_at (spot_cmp q)) nodes.old.entries)) }
+    ensures ok { OnOk result ((q : Spot) → lookup (is_at (spot_cmp q)) nodes.new.entries
+        ≡ (if is_at (spot_cmp (node.now, number)) q then Some tt else lookup (is_at (spot_cmp q)) nodes.old.entries)) }
     ensures err { OnErr result (nodes.new.entries ≡ nodes.old.entries) }
 {
-    nodes.insert(spot, ())?;
+    nodes.insert((copy_text(alloc, node.as_str())?, number), ())?;
     Ok(())
 }
 
 /// Takes a spot out of the index.
 pub(crate) fn drop_spot(nodes: &mut BTreeMap<(Text, u64), ()>, spot: &(Text, u64))
-    ensures { (q : Spot) → lookup (is_at (spot_cmp q)) nodes.new.entries ≡ (if is_at (spot_cmp spot.now) q then None else lookup (is_at (spot_cmp q)) nodes.old.entries) }
+    ensures { (q : Spot) → lookup (is_at (spot_cmp q)) nodes.new.entries
+        ≡ (if is_at (spot_cmp spot.now) q then None else lookup (is_at (spot_cmp q)) nodes.old.entries) }
 {
     nodes.remove(spot);
 }
@@ -78,7 +82,8 @@ fn push_number(
     spot: &(Text, u64),
     node: &str,
 ) -> Result<(), AllocError>
-    ensures { OnOk result (numbers.new ≡ numbers.old ++ (if same_text spot.now.0 node.now && stands_at attachments.now.entries spot.now then spot.now.1 ∷ [] else [])) }
+    ensures { OnOk result (numbers.new ≡ numbers.old
+        ++ (if same_text spot.now.0 node.now && stands_at attachments.now.entries spot.now then spot.now.1 ∷ [] else [])) }
 {
     if spot.0.as_str() == node && stands_at(alloc, attachments, spot)? {
         numbers.push(spot.1)?;

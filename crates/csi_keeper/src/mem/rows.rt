@@ -96,7 +96,8 @@ pub(crate) fn nodes_after(
     after: u64,
     count: u32,
 ) -> Result<Items<Items<Text>>, AllocError>
-    ensures value { IfOk result (λ xs. xs ≡ take count (map (λ e. nodes_in attachments.now.entries e.1.number) (entries_between nat_cmp (Excluded after) Unbounded volumes.now.entries))) }
+    ensures value { IfOk result (λ xs. xs ≡ take count
+        (map (λ e. nodes_in attachments.now.entries e.1.number) (entries_between nat_cmp (Excluded after) Unbounded volumes.now.entries))) }
     ensures ordered { entries (volumes_of volumes.now.entries) ≡ volumes.now.entries }
 {
     let mut nodes = Items::new(alloc);
@@ -109,16 +110,17 @@ pub(crate) fn nodes_after(
     Ok(nodes)
 }
 
-/// Adds a volume. Where memory is refused the rows stay.
+/// Adds a copy of a volume. Where memory is refused the rows stay.
 #[tactic(auto, using(crate::proofs::TreeLemmas::one_volume))]
 pub(crate) fn put_volume(
+    alloc: Global,
     volumes: &mut BTreeMap<u64, Volume>,
-    volume: Volume,
+    volume: &Volume,
 ) -> Result<(), AllocError>
-    ensures ok { OnOk result (volumes_of volumes.new.entries ≡ insert (volumes_of volumes.old.entries) volume.number volume) }
+    ensures ok { OnOk result (volumes_of volumes.new.entries ≡ insert (volumes_of volumes.old.entries) volume.now.number volume.now) }
     ensures err { OnErr result (volumes.new.entries ≡ volumes.old.entries) }
 {
-    volumes.insert(volume.number, volume)?;
+    volumes.insert(volume.number, copy_volume(alloc, volume)?)?;
     Ok(())
 }
 

@@ -3,14 +3,14 @@
 ghost use Rattle.std.specs.Prelude.{◌≡◌, Some, None, IfOk, IfSome, map};
 ghost use Rattle.std.specs.Option.{option_copied};
 ghost use Rattle.csi_machine.specs.Finding.{Finds};
-ghost use Rattle.csi_machine.specs.Choice.{room_value};
+ghost use Rattle.csi_machine.specs.Choice.{room_value, rooms};
 ghost use Rattle.csi_keeper.specs.State.{IsBounded};
 ghost use Rattle.csi_machine.specs.calls.Create.{is_compatible, again_at, again, made, place_in, place, fresh, create};
 
 use crate::capability::{have_keys, keys_of};
 use crate::choice::{Room, choose, count, read_rooms};
 use crate::info::{info_at, pool_named};
-use crate::plan::{Outcome, Plan, refuse, respond};
+use crate::plan::{Plan, make, refuse, respond};
 use crate::size::{has_size, size};
 use crate::topology::is_reachable;
 use csi_config::laws::sizes_whole;
@@ -110,10 +110,7 @@ fn place_in(
     };
     let volume = made(alloc, request, number, bytes, pool)?;
     let info = info_at(alloc, &pool.segments, &volume)?;
-    Ok(Plan {
-        outcome: Outcome::Done(Response::Create(Some(info))),
-        change: Some(Change::AddVolume(volume)),
-    })
+    Ok(make(Response::Create(Some(info)), Change::AddVolume(volume)))
 }
 
 fn place(
@@ -154,6 +151,22 @@ fn fresh(
     }
 }
 
+#[tactic(auto, using(csi_keeper::specs::facts::Reads::quiet_same, csi_keeper::specs::facts::Reads::quiet_then))]
+fn plan_fresh<K: Keeper>(
+    alloc: Global,
+    config: &Config,
+    keeper: &mut K,
+    request: &CreateVolume,
+) -> Result<Plan, StoreFault>
+    ensures bounded { IfOk result (λ plan. IfSome plan.change IsBounded) }
+    ensures finds { Finds (K.model keeper.old) (K.model keeper.new) result
+        (λ s plan. plan ≡ fresh config.now (rooms config.now s) s.next request.now) }
+{
+    let rooms = read_rooms(alloc, config, keeper)?;
+    let next = keeper.next_number()?;
+    Ok(fresh(alloc, config, &rooms, next, request)?)
+}
+
 /// The plan of CreateVolume.
 ///
 /// A volume of the name is answered again if it is as the request asks, and refused otherwise.
@@ -176,7 +189,5 @@ pub(crate) fn plan_create<K: Keeper>(
     if let Some(volume) = keeper.by_name(alloc, request.name.as_str())? {
         return Ok(again(alloc, config, request, &volume)?);
     }
-    let rooms = read_rooms(alloc, config, keeper)?;
-    let next = keeper.next_number()?;
-    Ok(fresh(alloc, config, &rooms, next, request)?)
+    plan_fresh(alloc, config, keeper, request)
 }

@@ -6,7 +6,7 @@ ghost use Rattle.csi_machine.specs.Finding.{Finds};
 ghost use Rattle.csi_machine.specs.calls.Delete.{delete_volume, delete};
 
 use crate::ids::number_of_id;
-use crate::plan::{Outcome, Plan, refuse, respond};
+use crate::plan::{Plan, make, refuse, respond};
 use csi_keeper::{Attachment, Change, Keeper, StoreFault, Volume};
 use csi_types::{DeleteVolume, Reason, Response};
 use std::alloc::Global;
@@ -21,10 +21,7 @@ fn delete_volume(number: u64, volume: &Option<Volume>, attachments: &[Attachment
     if !attachments.is_empty() {
         return refuse(Reason::VolumeInUse);
     }
-    Plan {
-        outcome: Outcome::Done(Response::Delete),
-        change: Some(Change::RemoveVolume(number)),
-    }
+    make(Response::Delete, Change::RemoveVolume(number))
 }
 
 /// The plan of DeleteVolume: a volume that is attached is refused, one that does not stand is done

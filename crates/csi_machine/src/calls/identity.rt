@@ -21,14 +21,20 @@ pub(crate) fn plan_plugin_info(alloc: Global, config: &Config) -> Result<Plan, A
     }))
 }
 
+fn items_of(alloc: Global, types: &[Option<i32>]) -> Result<Items<Option<i32>>, AllocError>
+    ensures { IfOk result (λ items. items ≡ types.now) }
+{
+    let mut items = Vec::new(alloc);
+    items.extend_from_slice(types)?;
+    Ok(Items::from_vec(items))
+}
+
 /// The plan of GetPluginCapabilities: `CONTROLLER_SERVICE` and `VOLUME_ACCESSIBILITY_CONSTRAINTS`.
 pub(crate) fn plan_plugin_capabilities(alloc: Global) -> Result<Plan, AllocError>
     ensures none { IfOk result (λ p. p.change ≡ None) }
     ensures value { IfOk result (λ p. p ≡ plugin_capabilities) }
 {
-    let mut types = Items::new(alloc);
-    types.push(Some(1))?;
-    types.push(Some(2))?;
+    let types = items_of(alloc, &[Some(1), Some(2)])?;
     Ok(respond(Response::PluginCapabilities(types)))
 }
 
@@ -47,14 +53,16 @@ pub(crate) fn plan_controller_capabilities(alloc: Global) -> Result<Plan, AllocE
     ensures none { IfOk result (λ p. p.change ≡ None) }
     ensures value { IfOk result (λ p. p ≡ controller_capabilities) }
 {
-    let mut types = Items::new(alloc);
-    types.push(Some(1))?;
-    types.push(Some(2))?;
-    types.push(Some(3))?;
-    types.push(Some(4))?;
-    types.push(Some(8))?;
-    types.push(Some(10))?;
-    types.push(Some(13))?;
-    types.push(Some(14))?;
+    let types = [
+        Some(1),
+        Some(2),
+        Some(3),
+        Some(4),
+        Some(8),
+        Some(10),
+        Some(13),
+        Some(14),
+    ];
+    let types = items_of(alloc, &types)?;
     Ok(respond(Response::ControllerCapabilities(types)))
 }

@@ -7,7 +7,7 @@ ghost use Rattle.csi_machine.specs.Finding.{Finds};
 ghost use Rattle.csi_machine.specs.calls.Modify.{modify_own, modify_volume, modify};
 
 use crate::ids::number_of_id;
-use crate::plan::{Outcome, Plan, refuse, respond};
+use crate::plan::{Plan, make, refuse, respond};
 use csi_keeper::{Change, Keeper, StoreFault, Volume};
 use csi_types::{MAX_MAP_BYTES, Map, Modify, Reason, Response, has_each, laid_over, map_bytes};
 use std::alloc::{AllocError, Global};
@@ -30,10 +30,7 @@ fn modify_own(alloc: Global, number: u64, own: &Map, given: &Map) -> Result<Plan
     if has_each(own, given) {
         return Ok(respond(Response::Modify));
     }
-    Ok(Plan {
-        outcome: Outcome::Done(Response::Modify),
-        change: Some(Change::SetMutable(number, laid)),
-    })
+    Ok(make(Response::Modify, Change::SetMutable(number, laid)))
 }
 
 fn modify_volume(

@@ -8,7 +8,7 @@ ghost use Rattle.csi_machine.specs.calls.Publish.{publication, is_at, publish_ag
 ghost use Rattle.csi_keeper.specs.Lookup.{node_of};
 
 use crate::ids::number_of_id;
-use crate::plan::{Outcome, Plan, refuse, respond};
+use crate::plan::{Plan, make, refuse, respond};
 use csi_config::{Config, Node};
 use csi_keeper::{
     Attachment, CapKey, Change, Keeper, StoreFault, Volume, cap_key, coexist, has_key,
@@ -69,10 +69,8 @@ fn attach(alloc: Global, target: &Target, mine: Attachment) -> Result<Plan, Allo
     if target.there.len() as u64 >= target.node.max_volumes {
         return Ok(refuse(Reason::NodeFull));
     }
-    Ok(Plan {
-        outcome: Outcome::Done(Response::Publish(publication(alloc, mine.readonly)?)),
-        change: Some(Change::Attach(target.number, mine)),
-    })
+    let response = Response::Publish(publication(alloc, mine.readonly)?);
+    Ok(make(response, Change::Attach(target.number, mine)))
 }
 
 /// The attachment at a node.

@@ -8,7 +8,7 @@ ghost use Rattle.csi_machine.specs.calls.Unpublish.{detach_all, detach_one, deta
 
 use crate::calls::publish::attachment_at;
 use crate::ids::number_of_id;
-use crate::plan::{Outcome, Plan, respond};
+use crate::plan::{Plan, make, respond};
 use csi_keeper::{Attachment, Change, Keeper, StoreFault};
 use csi_types::{Response, Text, Unpublish, copy_text};
 use std::alloc::{AllocError, Global};
@@ -20,10 +20,7 @@ fn detach_all(number: u64, attachments: &[Attachment]) -> Plan
     if attachments.is_empty() {
         return respond(Response::Unpublish);
     }
-    Plan {
-        outcome: Outcome::Done(Response::Unpublish),
-        change: Some(Change::DetachAll(number)),
-    }
+    make(Response::Unpublish, Change::DetachAll(number))
 }
 
 fn detach_one(
@@ -38,10 +35,8 @@ fn detach_one(
     if attachment_at(attachments, node).is_none() {
         return Ok(respond(Response::Unpublish));
     }
-    Ok(Plan {
-        outcome: Outcome::Done(Response::Unpublish),
-        change: Some(Change::Detach(number, copy_text(alloc, node.as_str())?)),
-    })
+    let node = copy_text(alloc, node.as_str())?;
+    Ok(make(Response::Unpublish, Change::Detach(number, node)))
 }
 
 fn detach(

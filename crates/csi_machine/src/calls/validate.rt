@@ -56,7 +56,8 @@ fn deny(alloc: Global) -> Result<Plan, AllocError>
 }
 
 fn is_valid(alloc: Global, volume: &Volume, request: &Validate) -> Result<bool, AllocError>
-    ensures { IfOk result (λ is. is ≡ (have_keys volume.now.caps request.now.capabilities && (len request.now.parameters == 0 || same_map volume.now.params request.now.parameters))) }
+    ensures { IfOk result (λ is. is ≡ (have_keys volume.now.caps request.now.capabilities &&
+        (len request.now.parameters == 0 || same_map volume.now.params request.now.parameters))) }
 {
     let have = have_keys(
         alloc,

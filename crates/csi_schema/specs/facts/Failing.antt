@@ -1,5 +1,5 @@
 -- What the connection's clauses say of an error, in the words of `Failing`.
-use Rattle.std.proofs.Common.{◌≡◌, ◌∙◌, inl, inr, refl, sym, ap, subst, subst₂, ℕ, ◌≤◌, List, length, true, false, true≢false, [], append-nil, IsTrue, IsSome, Option, Ok, Err, Result, IfErr, IsErrAnd, OnErr, OnOk, arith}
+use Rattle.std.proofs.Common.{◌≡◌, ◌∙◌, ◌⊎◌, inl, inr, refl, sym, ap, subst, subst₂, ℕ, ◌≤◌, List, length, true, false, true≢false, [], append-nil, IsTrue, IsSome, Option, Ok, Err, Result, IfErr, IsErrAnd, OnErr, OnOk, arith}
 use Rattle.sqlite.specs.Calls.{IsWrite}
 use Rattle.sqlite.specs.Clock.{timed}
 use Rattle.sqlite.specs.Command.{Command}
@@ -11,7 +11,7 @@ use Rattle.sqlite.specs.Listing.{understood, reads_listing, IsSourceOf}
 use Rattle.sqlite.specs.Order.{Row}
 use Rattle.sqlite.specs.Query.{Query}
 use Rattle.sqlite.specs.Schema.{Schema}
-use Rattle.sqlite.specs.State.{State, HasCleanDisk, ExecutesIn, ExecutesInside, EndsScope, Fails, FailsToQuery, FailsToShow, HasCause, IsMisplaced, IsNoStatement, IsNotRun, IsRolledBack, KeepsCommit, RunsAlone, RunsCommand, Survives, shows_rows, store_error}
+use Rattle.sqlite.specs.State.{State, HasCleanDisk, Executes, ExecutesIn, ExecutesInside, EndsScope, Fails, FailsToQuery, FailsToShow, HasCause, IsMisplaced, IsNoStatement, IsNotRun, IsRolledBack, KeepsCommit, KeepsCounts, RunsAlone, RunsCommand, Shows, Survives, shows_rows, store_error}
 use Rattle.sqlite.specs.Steps.{FailsToCommit}
 use Rattle.sqlite.specs.Store.{Ghosts}
 use Rattle.sqlite.specs.Tree.{Trees}
@@ -19,13 +19,15 @@ use Rattle.sqlite.specs.declared.error.Error.{Error}
 use Rattle.sqlite.specs.declared.error.Error.TheVariants.{SqliteFailure}
 use Rattle.sqlite.specs.declared.error.ErrorCode.TheVariants as code
 use Rattle.sqlite.proofs.Callers.{command_of, survives_begin}
+use Rattle.sqlite.proofs.InsideLemmas.{inside_keeps}
 use Rattle.sqlite.proofs.StateLemmas.{survives_then}
 use Rattle.sqlite_resolve.specs.declared.compiled.Compiled.{Compiled}
 use Rattle.sqlite_resolve.specs.declared.error.CompileError.{CompileError}
 use Rattle.sqlite_trees.specs.declared.error.StoreError.{StoreError}
 use Rattle.sqlite_trees.specs.declared.error.StoreError.TheVariants.{OutOfMemory, Io, Corrupt, Full, Broken, Unstorable}
-use Rattle.csi_schema.specs.Failing.{FailsFor, for_memory, by_disk, as_shut, at_limit, as_refused, SqlRefuses, SqlRefusesToRead, Unrefused}
-use Rattle.csi_schema.specs.Transactions.{CommitsOver, IsUndone, LeavesFrom, RunsOver, StepsFrom}
+use Rattle.csi_schema.specs.Failing.{FailsFor, FailsOver, for_memory, by_disk, as_shut, at_limit, as_refused, SqlRefuses, SqlRefusesToRead, Unrefused}
+use Rattle.csi_schema.specs.facts.Steps.{survives_commit}
+use Rattle.csi_schema.specs.Transactions.{ChangesFrom, CommitsOver, IsUndone, LeavesFrom, LeavesNothingNew, RunsOver, StepsFrom}
 
 -- ---- one cause for another
 
@@ -141,6 +143,29 @@ module _ (text : List ℕ) (params : Row) (old new : State) (e : Error) (alone :
     | inr (name, inr is, held) ↦ subst IsWrite is it.3
   ])
 
+-- what such a text does inside a transaction, by the clauses of the call that ran it
+ran_step : (before : Schema) (Effect : Database → Database → Type 0) (text : List ℕ) (params : Row) (old new : State) (r : Result ℕ Error)
+    → ((count : ℕ) → old.now.schema ≡ before → Executes text params old new (Ok count) → Effect old.now new.now) → ExecutesInside 0 text params old new r → OnOk r (StepsFrom before Effect old new)
+ran_step before Effect text params old new (Ok count) does h = record { shown = h.1; effect = λ has. does count has h.0 }
+ran_step before Effect text params old new (Err e) does h = tt
+
+ran_fails : (before : Schema) (text : List ℕ) (params : Row) → IsAloneWrite text (length params) (understood before text) → (old new : State) (r : Result ℕ Error)
+    → ExecutesInside 0 text params old new r → FailsOver before (SqlRefuses text params) old new r
+ran_fails before text params alone old new (Ok count) h has = tt
+ran_fails before text params alone old new (Err e) h has = write_fails text params old new e (subst (λ s. IsAloneWrite text (length params) (understood s text)) (sym has) alone) h
+
+pub runs_over : {S : Type 0} {g : Ghosts S} {old new : Held S} {before : Schema} {Effect : Database → Database → Type 0} (text : List ℕ) (params : Row) (r : Result ℕ Error)
+    → IsAloneWrite text (length params) (understood before text)
+    → ((old new : State) (count : ℕ) → old.now.schema ≡ before → Executes text params old new (Ok count) → Effect old.now new.now)
+    → (HasCleanDisk (state g new) → IsTrue old.in_transaction → ExecutesInside 0 text params (state g old) (state g new) r) → LeavesNothingNew g old new
+    → RunsOver g old new before Effect (SqlRefuses text params) r
+runs_over {g = g} {old = old} {new = new} {before = before} {Effect = Effect} text params r alone does ran left = record {
+  ok = λ clean inside. ran_step before Effect text params (state g old) (state g new) r (does (state g old) (state g new)) (ran clean inside);
+  failed = λ clean inside. ran_fails before text params alone (state g old) (state g new) r (ran clean inside);
+  kept = λ clean inside. inside_keeps (state g old) (state g new) 0 false text params r (ran clean inside);
+  survives = left;
+}
+
 -- ---- a SELECT
 
 module _ (text : List ℕ) (params : Row) (old new : State) (e : Error) where
@@ -170,6 +195,23 @@ pub record IsSure (schema : Schema) (text : List ℕ) (params : Row) : Type 0 wh
   pub alone : IsAlone text (length params) (understood schema text)
   pub unrefused : IsNeverRefused schema params query
 
+-- the text is the query under the schema, and reads no other table
+pub record IsSelect (schema : Schema) (text : List ℕ) (q : Query) : Type 0 where
+  pub names : List (List ℕ)
+  pub is : command_of (understood schema text) ≡ Select (record { lets = []; body = q }) names
+  pub plain : IsPlain (understood schema text)
+  pub unlisted : reads_listing schema text ≡ false
+
+pub sure_of : {schema : Schema} {text : List ℕ} {q : Query} (params : Row) → IsSelect schema text q → IsAlone text (length params) (understood schema text) → IsNeverRefused schema params q → IsSure schema text params
+sure_of params it alone unrefused = record { query = _; names = it.names; is = it.is; plain = it.plain; unlisted = it.unlisted; alone = alone; unrefused = unrefused }
+
+-- what refuses a query whose types are right and that adds up nothing is the limit
+pub only_limit : {A B Over Limited : Type 0} → (A × (true ≡ false)) ⊎ ((B × (⊥ ⊎ Over)) ⊎ Limited) → (Over → ⊥) → Limited
+only_limit (inl typed) within = absurd (true≢false typed.1)
+only_limit (inr (inl (is, inl none))) within = absurd none
+only_limit (inr (inl (is, inr over))) within = absurd (within over)
+only_limit (inr (inr limited)) within = limited
+
 module _ (schema : Schema) (text : List ℕ) (params : Row) (sure : IsSure schema text params) (old new : State) (e : Error) (has : old.now.schema ≡ schema) where
   sure_refused : SqlRefusesToRead text params old e → (e ≡ SqliteFailure code.OperationInterrupted) × IsSome old.step_limit
   sure_refused (inl none) = absurd (no_fault text params old e (subst (λ s. IsAlone text (length params) (understood s text)) (sym has) sure.alone) none)
@@ -187,6 +229,9 @@ module _ (schema : Schema) (text : List ℕ) (params : Row) (sure : IsSure schem
   sure_fails (as_refused why) = let it = sure_refused why in at_limit it.0 it.1
 
 -- ---- a transaction
+
+abbrev CommitsIn : State → State → Type 0
+CommitsIn old new = IsTrue old.in_transaction × Shows old new old.now old.now false × KeepsCounts old new × (new.marks ≡ [])
 
 -- it begins with what the connection was
 pub fails_begun : {S : Type 0} (g : Ghosts S) (old : Held S) (P : Error → Type 0) (new : State) (e : Error) → FailsFor P (state g (record old { in_transaction = true })) new e → FailsFor P (state g old) new e
@@ -212,16 +257,67 @@ module _ {S : Type 0} (g : Ghosts S) (before : Schema) (old : Held S) where
     committed = λ is_open. (h.undone is_open).1 ∙ kept.committed (h.was_open is_open);
   }
 
+  committed : (Effect : Database → Database → Type 0) (mid new : State) (r : Result (Unit {0}) Error) → StepsFrom before Effect begun mid → OnOk r (CommitsIn mid new) → OnOk r (ChangesFrom before Effect (state g old) new)
+  committed Effect mid new (Ok x) step h = record {
+    was_open = step.shown.was_open;
+    is_open = h.1.is_open;
+    committed = h.1.committed_is ∙ sym h.1.now_is;
+    effect = λ has. subst (Effect (state g old).now) (sym h.1.now_is) (step.effect has);
+  }
+  committed Effect mid new (Err e) step h = tt
+
+  uncommitted : (Effect : Database → Database → Type 0) (mid new : State) (r : Result (Unit {0}) Error) → StepsFrom before Effect begun mid → KeepsCommit begun mid → IfErr r (FailsToCommit mid new)
+      → OnErr r (IsUndone (state g old) new)
+  uncommitted Effect mid new (Ok x) step kept h = tt
+  uncommitted Effect mid new (Err e) step kept (inl failed) = undone_as mid new kept failed.3
+  uncommitted Effect mid new (Err e) step kept (inr outside) = absurd (true≢false (sym step.shown.mode ∙ outside.1))
+
+  not_committed : (Q : Error → Type 0) (Effect : Database → Database → Type 0) (mid new : State) (r : Result (Unit {0}) Error) → Survives begun mid (λ _. ⊥) → StepsFrom before Effect begun mid → IfErr r (FailsToCommit mid new)
+      → IfErr r (FailsFor Q (state g old) new)
+  not_committed Q Effect mid new (Ok x) left step h = tt
+  not_committed Q Effect mid new (Err e) left step h = later_fails (λ _. ⊥) Q Effect mid new e left step absurd (commit_fails mid new e step.shown.mode h)
+
+  -- what the clauses of a commit say, and those of the end of a transaction that was not committed
+  abbrev pub Committed : Held S → Held S → Result (Unit {0}) Error → Type 0
+  Committed mid end r = record {
+    ended : end.in_transaction ≡ false;
+    ok : HasCleanDisk (state g end) → OnOk r (CommitsIn (state g mid) (state g end));
+    err : HasCleanDisk (state g end) → IfErr r (FailsToCommit (state g mid) (state g end));
+    survives : Survives (state g mid) (state g end) (λ db. db ≡ (state g mid).now.trees);
+  }
+
+  abbrev pub Dropped : Held S → Held S → Type 0
+  Dropped mid end = record {
+    ended : end.in_transaction ≡ false;
+    undone : HasCleanDisk (state g end) → IsRolledBack (state g mid) (state g end);
+    survives : LeavesNothingNew g mid end;
+  }
+
   -- the transaction whose first statement failed, once it was undone
   pub undoes : {X Y : Type 0} {First Effect : Database → Database → Type 0} {Why Refuses : State → Error → Type 0} {mid new : Held S} (r : Result Y Error) (e : Error) → (Why begun e → Refuses (state g old) e)
-      → RunsOver g (record old { in_transaction = true }) mid {X = X} before First Why (Err e) → (end : Held S) → end.in_transaction ≡ false → (HasCleanDisk (state g end) → IsRolledBack (state g mid) (state g end))
-      → Survives (state g mid) (state g end) (λ _. ⊥) → end ≡ new → IsErrAnd r (λ x. x ≡ e) → CommitsOver g old new before Effect Refuses r
-  undoes {X = X} {Effect = Effect} {Why = Why} {Refuses = Refuses} {mid = mid} r e same ran end ended undone left at is = subst (λ (h : Held S). CommitsOver g old h before Effect Refuses r) at (record {
-    idle = ended;
-    ok = λ clean. never_ok r e _ is;
-    err = λ clean. on_err r _ (undone_as (state g mid) (state g end) (ran.kept (omega (arith, left.clean)) refl) (undone clean));
-    failed = λ clean has. handed r e _ is (fails_weaker (Why begun) (Refuses (state g old)) (state g old) (state g end) e same
-        (fails_begun g old (Why begun) (state g end) e (fails_before (Why begun) begun (state g mid) (state g end) e left.counts (ran.failed (omega (arith, left.clean)) refl has))));
-    survives = survives_then (state g old) (state g mid) (state g end) (λ _. ⊥) (λ _. ⊥) (LeavesFrom before Effect (state g old)) (λ _ db none. absurd none) (λ _ db none. absurd none)
-        (survives_begin g old (state g mid) _ ran.survives) left;
-  })
+      → RunsOver g (record old { in_transaction = true }) mid {X = X} before First Why (Err e) → (end : Held S) → Dropped mid end → end ≡ new → IsErrAnd r (λ x. x ≡ e) → CommitsOver g old new before Effect Refuses r
+  undoes {X = X} {Effect = Effect} {Why = Why} {Refuses = Refuses} {mid = mid} r e same ran end dropped at is =
+      let left = dropped.survives in
+      subst (λ (h : Held S). CommitsOver g old h before Effect Refuses r) at (record {
+        idle = dropped.ended;
+        ok = λ clean. never_ok r e _ is;
+        err = λ clean. on_err r _ (undone_as (state g mid) (state g end) (ran.kept (omega (arith, left.clean)) refl) (dropped.undone clean));
+        failed = λ clean has. handed r e _ is (fails_weaker (Why begun) (Refuses (state g old)) (state g old) (state g end) e same
+            (fails_begun g old (Why begun) (state g end) e (fails_before (Why begun) begun (state g mid) (state g end) e left.counts (ran.failed (omega (arith, left.clean)) refl has))));
+        survives = survives_then (state g old) (state g mid) (state g end) (λ _. ⊥) (λ _. ⊥) (LeavesFrom before Effect (state g old)) (λ _ db none. absurd none) (λ _ db none. absurd none)
+            (survives_begin g old (state g mid) _ ran.survives) left;
+      })
+
+  -- the transaction whose one statement was answered Ok, once it was committed
+  pub commits : {X : Type 0} {Effect : Database → Database → Type 0} {Why Refuses : State → Error → Type 0} {mid new : Held S} {x : X} (r : Result (Unit {0}) Error)
+      → RunsOver g (record old { in_transaction = true }) mid before Effect Why (Ok x) → (end : Held S) → Committed mid end r → end ≡ new → CommitsOver g old new before Effect Refuses r
+  commits {Effect = Effect} {Refuses = Refuses} {mid = mid} r ran end done at =
+      let left = done.survives in
+      let earlier : HasCleanDisk (state g end) → HasCleanDisk (state g mid) = λ clean. omega (arith, left.clean) in
+      subst (λ (h : Held S). CommitsOver g old h before Effect Refuses r) at (record {
+        idle = done.ended;
+        ok = λ clean. committed Effect (state g mid) (state g end) r (ran.ok (earlier clean) refl) (done.ok clean);
+        err = λ clean. uncommitted Effect (state g mid) (state g end) r (ran.ok (earlier clean) refl) (ran.kept (earlier clean) refl) (done.err clean);
+        failed = λ clean has. not_committed (Refuses (state g old)) Effect (state g mid) (state g end) r ran.survives (ran.ok (earlier clean) refl) (done.err clean);
+        survives = survives_commit g before old (state g mid) (state g end) Effect ran.survives (λ clean. ran.ok clean refl) left;
+      })

@@ -78,7 +78,7 @@ pub(crate) fn select_nodes<S: Alter>(
     requires { volume < 2 ^ 63 }
     ensures same_reference { tx.new.conn.ghost_name ≡ tx.old.conn.ghost_name }
     ensures selects { Selects S.Store tx.old.conn.now tx.new.conn.now
-        (λ rows db. IsShownOf nodes_query (db.trees 3) (number_value volume ∷ []) rows.items) NothingRefuses result }
+        (λ db rows. IsShownOf nodes_query (db.trees 3) (number_value volume ∷ []) rows.items) NothingRefuses result }
 {
     tx.query_all(
         "SELECT node, cap, readonly FROM attachments WHERE number = ?1 ORDER BY node",
@@ -93,7 +93,7 @@ pub(crate) fn select_attached<S: Alter>(
 ) -> Result<Vec<Row>, Error>
     ensures same_reference { tx.new.conn.ghost_name ≡ tx.old.conn.ghost_name }
     ensures selects { Selects S.Store tx.old.conn.now tx.new.conn.now
-        (λ rows db. IsShownOf attached_query (db.trees 3) (Text node.now ∷ []) rows.items) NothingRefuses result }
+        (λ db rows. IsShownOf attached_query (db.trees 3) (Text node.now ∷ []) rows.items) NothingRefuses result }
 {
     tx.query_all(
         "SELECT number FROM attachments WHERE node = ?1 ORDER BY number",
@@ -111,7 +111,7 @@ pub(crate) fn select_places<S: Alter>(
     requires last { last < 2 ^ 63 }
     ensures same_reference { tx.new.conn.ghost_name ≡ tx.old.conn.ghost_name }
     ensures selects { Selects S.Store tx.old.conn.now tx.new.conn.now
-        (λ rows db. IsShownOf places_query (db.trees 3) (number_value after ∷ number_value last ∷ []) rows.items) NothingRefuses result }
+        (λ db rows. IsShownOf places_query (db.trees 3) (number_value after ∷ number_value last ∷ []) rows.items) NothingRefuses result }
 {
     tx.query_all(
         "SELECT number, node FROM attachments WHERE number > ?1 AND number <= ?2 ORDER BY number, node",

@@ -80,7 +80,7 @@ pub(crate) fn select_volume<S: Alter>(
     requires { volume < 2 ^ 63 }
     ensures same_reference { tx.new.conn.ghost_name ≡ tx.old.conn.ghost_name }
     ensures selects { Selects S.Store tx.old.conn.now tx.new.conn.now
-        (λ rows db. IsShownOf volume_query (db.trees 1) (number_value volume ∷ []) rows.items) NothingRefuses result }
+        (λ db rows. IsShownOf volume_query (db.trees 1) (number_value volume ∷ []) rows.items) NothingRefuses result }
 {
     tx.query_all(
         "SELECT number, name, bytes, pool, caps, params FROM volumes WHERE number = ?1",
@@ -95,7 +95,7 @@ pub(crate) fn select_named<S: Alter>(
 ) -> Result<Vec<Row>, Error>
     ensures same_reference { tx.new.conn.ghost_name ≡ tx.old.conn.ghost_name }
     ensures selects { Selects S.Store tx.old.conn.now tx.new.conn.now
-        (λ rows db. IsShownOf named_query (db.trees 1) (Text name.now ∷ []) rows.items) NothingRefuses result }
+        (λ db rows. IsShownOf named_query (db.trees 1) (Text name.now ∷ []) rows.items) NothingRefuses result }
 {
     tx.query_all(
         "SELECT number, name, bytes, pool, caps, params FROM volumes WHERE name = ?1 ORDER BY number",
@@ -110,7 +110,7 @@ pub(crate) fn select_sizes<S: Alter>(
 ) -> Result<Vec<Row>, Error>
     ensures same_reference { tx.new.conn.ghost_name ≡ tx.old.conn.ghost_name }
     ensures selects { Selects S.Store tx.old.conn.now tx.new.conn.now
-        (λ rows db. IsShownOf sizes_query (db.trees 1) (Text pool.now ∷ []) rows.items) NothingRefuses result }
+        (λ db rows. IsShownOf sizes_query (db.trees 1) (Text pool.now ∷ []) rows.items) NothingRefuses result }
 {
     tx.query_all(
         "SELECT bytes FROM volumes WHERE pool = ?1 ORDER BY number",
@@ -126,7 +126,7 @@ pub(crate) fn select_page<S: Alter>(
 ) -> Result<Vec<Row>, Error>
     requires { after < 2 ^ 63 }
     ensures same_reference { tx.new.conn.ghost_name ≡ tx.old.conn.ghost_name }
-    ensures selects { Selects S.Store tx.old.conn.now tx.new.conn.now (λ rows db. IsPage after count db rows.items) NothingRefuses result }
+    ensures selects { Selects S.Store tx.old.conn.now tx.new.conn.now (λ db rows. IsPage after count db rows.items) NothingRefuses result }
 {
     tx.query_all(
         "SELECT number, name, bytes, pool, caps, params FROM volumes WHERE number > ?1 ORDER BY number LIMIT ?2",
@@ -142,7 +142,7 @@ pub(crate) fn select_page_numbers<S: Alter>(
 ) -> Result<Vec<Row>, Error>
     requires { after < 2 ^ 63 }
     ensures same_reference { tx.new.conn.ghost_name ≡ tx.old.conn.ghost_name }
-    ensures selects { Selects S.Store tx.old.conn.now tx.new.conn.now (λ rows db. IsPageNumbers after count db rows.items) NothingRefuses result }
+    ensures selects { Selects S.Store tx.old.conn.now tx.new.conn.now (λ db rows. IsPageNumbers after count db rows.items) NothingRefuses result }
 {
     tx.query_all(
         "SELECT number FROM volumes WHERE number > ?1 ORDER BY number LIMIT ?2",

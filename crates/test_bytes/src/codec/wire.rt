@@ -2,13 +2,13 @@
 
 ghost use Rattle.std.specs.Prelude.{◌≤◌, ◌<◌, ◌^◌};
 
-use crate::words::{first_word, number_of};
+use crate::words::first_word;
 use pbwire::{
     Field, Fields, Value, WireFault, WireWhy, close_bytes, put_bytes, put_entry, put_map,
     put_varint,
 };
 use std::alloc::Global;
-use test_kit::{RowFault, bytes_of, bytes_text, put_part};
+use test_kit::{RowFault, bytes_of, bytes_text, number_of, put_part};
 
 // A field has a number below this.
 const NUMBERS: u32 = 1 << 29;

@@ -140,5 +140,8 @@ pub(crate) fn reply_text(alloc: Global, reply: Reply<'_>) -> Result<String, RowF
 
 /// Bytes as the text that they are.
 pub(crate) fn text_of(bytes: &[u8]) -> Result<&str, RowFault> {
-    str::from_utf8(bytes).map_err(|_| RowFault::NotBytes)
+    match str::from_utf8(bytes) {
+        Ok(text) => Ok(text),
+        Err(_) => Err(RowFault::NotBytes),
+    }
 }

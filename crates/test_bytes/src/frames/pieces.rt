@@ -2,9 +2,9 @@
 
 use super::framer::AnyFramer;
 use super::parts::Kind;
-use crate::words::{first_word, number_of};
+use crate::words::first_word;
 use std::alloc::Global;
-use test_kit::{RowFault, bytes_of, put_part};
+use test_kit::{RowFault, bytes_of, number_of, put_part};
 
 /// The frames of a stream that comes in pieces of a size, and how it ends.
 pub(crate) fn pieces_answer(alloc: Global, kind: Kind, rest: &str) -> Result<String, RowFault> {

@@ -1,14 +1,13 @@
 //! Rows about parts of replies, texts and limits.
 
 use super::parts::text_of;
-use crate::words::number_of;
 use frames_core::{
     FrameFault, FrameWhy, MAX_BODY_BYTES, MAX_FRAME_BYTES, MAX_HEAD_BYTES, MAX_MESSAGE_BYTES,
     MAX_PATH_BYTES, MAX_REFUSAL_TEXT_BYTES, MAX_REPLY_BYTES, MAX_REPLY_HEAD_BYTES, MAX_TEXT_BYTES,
     REPLY_HEAD_BYTES, fault_text, fixed_text, refusal_frame, reply_head,
 };
 use std::alloc::Global;
-use test_kit::{RowFault, bytes_text, put_part};
+use test_kit::{RowFault, bytes_text, number_of, put_part};
 
 // The longest text that is copied as it is.
 const MAX_FIXED_BYTES: usize = 140;

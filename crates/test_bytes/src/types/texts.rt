@@ -3,10 +3,9 @@
 //! A word is its text, `U+` and a hexadecimal number is the character of that number, and `-` is the empty text.
 //! `*N` behind a text or a character repeats it.
 
-use crate::words::number_of;
 use csi_types::{Items, Map, Text};
 use std::alloc::Global;
-use test_kit::{RowFault, word_at};
+use test_kit::{RowFault, number_of, word_at};
 
 /// The text of a word at a place.
 pub(crate) fn text_at(alloc: Global, words: &[&str], place: usize) -> Result<Text, RowFault> {
@@ -52,7 +51,9 @@ fn text_of(alloc: Global, word: &str) -> Result<Text, RowFault> {
 fn character_of(part: &str) -> Result<Option<char>, RowFault> {
     match part.strip_prefix("U+") {
         Some(digits) => {
-            let number = u32::from_str_radix(digits, 16).map_err(|_| RowFault::NotRow)?;
+            let Ok(number) = u32::from_str_radix(digits, 16) else {
+                return Err(RowFault::NotRow);
+            };
             Ok(Some(char::from_u32(number).ok_or(RowFault::NotRow)?))
         }
         None => Ok(None),

@@ -1,7 +1,6 @@
 //! Rows about values.
 
 use super::texts::{map_of, text_at, texts_of};
-use crate::words::number_of;
 use csi_types::{
     Access, Capability, Code, Map, Mount, Reason, copy_capability, copy_map, has_each, laid_over,
     map_bytes, method_of, name_reason,
@@ -9,7 +8,7 @@ use csi_types::{
 use std::alloc::Global;
 use std::convert::AsStr;
 use std::fmt::Write;
-use test_kit::{RowFault, word_at};
+use test_kit::{RowFault, number_of, word_at};
 
 // All reasons.
 const REASONS: [Reason; 36] = [

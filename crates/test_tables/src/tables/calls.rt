@@ -6,7 +6,7 @@ ghost use Rattle.csi_keeper.specs.declared.change.Change.TheVariants.{AddVolume}
 
 use super::failed;
 use super::words::{attachments_in_words, nodes_in_words, numbers_in_words, volumes_in_words};
-use crate::numbers::{count_at, small_at};
+use crate::numbers::small_at;
 use csi_keeper::{Attachment, CapKey, Change, Keeper, Kind, Volume};
 use csi_tables::Tables;
 use csi_types::{Items, MAX_MAP_BYTES, Map, Text, map_bytes};
@@ -44,7 +44,7 @@ fn volumes(
         "number" => tables.by_number(alloc, number_at(words, 1)?),
         "name" => tables.by_name(alloc, word_at(words, 1)?),
         _ => {
-            let page = tables.page(alloc, number_at(words, 1)?, count_at(words, 2)?);
+            let page = tables.page(alloc, number_at(words, 1)?, number_at(words, 2)?);
             return volumes_in_words(alloc, page.map_err(failed)?.as_slice());
         }
     };
@@ -80,7 +80,7 @@ fn places(
 ) -> Result<String, RowFault> {
     match word_at(words, 0)? {
         "nodes" => {
-            let nodes = tables.published_nodes(alloc, number_at(words, 1)?, count_at(words, 2)?);
+            let nodes = tables.published_nodes(alloc, number_at(words, 1)?, number_at(words, 2)?);
             nodes_in_words(alloc, nodes.map_err(failed)?.as_slice())
         }
         "attachments" => {

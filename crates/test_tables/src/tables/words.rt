@@ -89,11 +89,9 @@ pub(crate) fn nodes_in_words(alloc: Global, nodes: &[Items<Text>]) -> Result<Str
 
 /// The page that a body means: the id of each volume, with its nodes.
 pub(crate) fn page_in_words(alloc: Global, body: &[u8]) -> Result<String, RowFault> {
-    let response = decode_response(alloc, Method::ListVolumes, body).map_err(
-        |_| RowFault::NoMemory,
-    )?;
-    let Response::List { entries, token } = response else {
-        return Err(RowFault::NotRow);
+    let Ok(Response::List { entries, token }) = decode_response(alloc, Method::ListVolumes, body)
+    else {
+        return Err(RowFault::NoMemory);
     };
     let mut text = format!(in alloc; "token '{}'", token.as_str())?;
     for entry in &entries {

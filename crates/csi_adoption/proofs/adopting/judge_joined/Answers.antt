@@ -1,11 +1,10 @@
 use Rattle.std.proofs.Common.{◌≡◌, sym, subst, map, Err, IsPermutation}
 use Rattle.sqlite.specs.Held.{state}
-use Rattle.sqlite.specs.Tree.{Trees}
 use Rattle.csi_schema.specs.Rows.{seen_attachment}
 use Rattle.csi_adoption.specs.Judging.{JudgesRows, volumes_unless}
 use Rattle.csi_adoption.proofs.JudgedLemmas.{counts_fault, joined_failure, judged_err, none_broken, owner_fault}
 use Rattle.csi_adoption.proofs.FaultLemmas.{is_err, not_memory}
-use Rattle.csi_adoption.proofs.ChainLemmas.{clean_before, ended, failed, same_trees, chained}
+use Rattle.csi_adoption.proofs.ChainLemmas.{clean_before, ended, failed, shown_behind, chained}
 use Rattle.csi_adoption.proofs.adopting.judge_joined.Goals as goal
 
 pub returns-in_err-unowned-clause-judged : goal.returns-in_err-unowned-clause-judged
@@ -43,16 +42,12 @@ returns-in_err-check_counts-clause-scans g c =
 pub returns-in_err-check_counts-clause-judged : goal.returns-in_err-check_counts-clause-judged
 returns-in_err-check_counts-clause-judged g c = λ clean next seen fine rows same is.
     let answer : c.from_residual-in_err-check_counts.result ≡ Err c.in_err-check_counts.field-0.0 = is_err c.from_residual-in_err-check_counts.result c.in_err-check_counts.field-0.0 c.from_residual-in_err-check_counts.ensures.1 in
-    let config = c.args.config.now in
-    let tables = c.args.tables.now in
     let db = (state g.S.Store c.args.conn.now).now.trees in
-    let before = clean_before g.S.Store c.see_owners.new.conn c.see_apart.new.conn _ c.in_ok-apart.ensures.scans clean in
-    let trees = same_trees g.S.Store c.args.conn.now c.see_owners.new.conn (c.in_ok-unowned.ensures.scans.same before) in
-    let owned = c.in_ok-unowned.ensures.seen before in
-    let places = c.in_ok-apart.ensures.seen clean in
-    let two = subst (λ (t : Trees). IsPermutation (map seen_attachment (t 3)) places.0) trees places.1 in
-    subst (λ r. JudgesRows config db (volumes_unless tables r)) (sym answer) (judged_err config db c.in_err-check_counts.field-0.0 (λ known.
-    counts_fault config db next rows same is tables seen owned.0 owned.1 c.in_ok-unowned.unowned owned.2 fine places.0 two c.in_ok-apart.apart places.2 c.in_ok-check_attachment.ensures
+    let owned = c.in_ok-unowned.ensures.seen (clean_before g.S.Store c.see_owners.new.conn c.see_apart.new.conn _ c.in_ok-apart.ensures.scans clean) in
+    let places = shown_behind g.S.Store c.args.conn.now c.see_owners.new.conn c.see_apart.new.conn _ _ (λ db rows. IsPermutation (map seen_attachment (db 3)) rows)
+    c.in_ok-unowned.ensures.scans c.in_ok-apart.ensures.scans c.in_ok-apart.ensures.seen clean in
+    subst (λ r. JudgesRows c.args.config.now db (volumes_unless c.args.tables.now r)) (sym answer) (judged_err c.args.config.now db c.in_err-check_counts.field-0.0 (λ known.
+    counts_fault c.args.config.now db next rows same is c.args.tables.now seen owned.0 owned.1 c.in_ok-unowned.unowned owned.2 fine places.0 places.1 c.in_ok-apart.apart places.2 c.in_ok-check_attachment.ensures
     c.in_err-check_counts.field-0.0 (c.in_err-check_counts.ensures (not_memory c.in_err-check_counts.field-0.0 known))))
 
 pub returns-clause-scans : goal.returns-clause-scans
@@ -62,12 +57,8 @@ returns-clause-scans g c =
 
 pub returns-clause-judged : goal.returns-clause-judged
 returns-clause-judged g c = λ clean next seen fine rows same is.
-    let config = c.args.config.now in
-    let tables = c.args.tables.now in
     let db = (state g.S.Store c.args.conn.now).now.trees in
-    let before = clean_before g.S.Store c.see_owners.new.conn c.see_apart.new.conn _ c.in_ok-apart.ensures.scans clean in
-    let trees = same_trees g.S.Store c.args.conn.now c.see_owners.new.conn (c.in_ok-unowned.ensures.scans.same before) in
-    let owned = c.in_ok-unowned.ensures.seen before in
-    let places = c.in_ok-apart.ensures.seen clean in
-    let two = subst (λ (t : Trees). IsPermutation (map seen_attachment (t 3)) places.0) trees places.1 in
-    none_broken config db next rows same is tables seen owned.0 owned.1 c.in_ok-unowned.unowned owned.2 fine places.0 two c.in_ok-apart.apart places.2 c.in_ok-check_attachment.ensures c.in_ok-check_counts.ensures
+    let owned = c.in_ok-unowned.ensures.seen (clean_before g.S.Store c.see_owners.new.conn c.see_apart.new.conn _ c.in_ok-apart.ensures.scans clean) in
+    let places = shown_behind g.S.Store c.args.conn.now c.see_owners.new.conn c.see_apart.new.conn _ _ (λ db rows. IsPermutation (map seen_attachment (db 3)) rows)
+    c.in_ok-unowned.ensures.scans c.in_ok-apart.ensures.scans c.in_ok-apart.ensures.seen clean in
+    none_broken c.args.config.now db next rows same is c.args.tables.now seen owned.0 owned.1 c.in_ok-unowned.unowned owned.2 fine places.0 places.1 c.in_ok-apart.apart places.2 c.in_ok-check_attachment.ensures c.in_ok-check_counts.ensures

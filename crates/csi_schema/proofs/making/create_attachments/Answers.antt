@@ -1,12 +1,9 @@
-use Rattle.std.proofs.Common.{rules}
-use Rattle.csi_schema.proofs.CreateLemmas.{attachments_step}
-use Rattle.csi_schema.proofs.FailLemmas.{attachments_told}
+use Rattle.std.proofs.Common.{[]}
+use Rattle.csi_schema.specs.Tables.{two_schema, attachments, attachments_text}
+use Rattle.csi_schema.specs.facts.Failing.{runs_over}
+use Rattle.csi_schema.proofs.CreateLemmas.{attachments_create, creates}
+use Rattle.csi_schema.proofs.FailLemmas.{alone}
 use Rattle.csi_schema.proofs.making.create_attachments.Goals as goal
 
 pub returns-clause-runs : goal.returns-clause-runs
-returns-clause-runs g c = record {
-  ok = λ clean inside. attachments_step _ _ c.execute.result (c.execute.ensures.runs clean inside);
-  failed = λ clean inside. attachments_told _ _ c.execute.result (c.execute.ensures.runs clean inside);
-  kept = search rules;
-  survives = search rules;
-}
+returns-clause-runs g c = runs_over attachments_text [] c.execute.result alone.attachments (creates two_schema attachments_text attachments attachments_create) c.execute.ensures.runs c.execute.ensures.survives

@@ -1,12 +1,9 @@
-use Rattle.std.proofs.Common.{rules}
-use Rattle.csi_schema.proofs.CreateLemmas.{meta_step}
-use Rattle.csi_schema.proofs.FailLemmas.{meta_told}
+use Rattle.std.proofs.Common.{[]}
+use Rattle.csi_schema.specs.Tables.{no_schema, meta, meta_text}
+use Rattle.csi_schema.specs.facts.Failing.{runs_over}
+use Rattle.csi_schema.proofs.CreateLemmas.{meta_create, creates}
+use Rattle.csi_schema.proofs.FailLemmas.{alone}
 use Rattle.csi_schema.proofs.making.create_meta.Goals as goal
 
 pub returns-clause-runs : goal.returns-clause-runs
-returns-clause-runs g c = record {
-  ok = λ clean inside. meta_step _ _ c.execute.result (c.execute.ensures.runs clean inside);
-  failed = λ clean inside. meta_told _ _ c.execute.result (c.execute.ensures.runs clean inside);
-  kept = search rules;
-  survives = search rules;
-}
+returns-clause-runs g c = runs_over meta_text [] c.execute.result alone.meta (creates no_schema meta_text meta meta_create) c.execute.ensures.runs c.execute.ensures.survives

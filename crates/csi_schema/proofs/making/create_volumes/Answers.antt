@@ -1,12 +1,9 @@
-use Rattle.std.proofs.Common.{rules}
-use Rattle.csi_schema.proofs.CreateLemmas.{volumes_step}
-use Rattle.csi_schema.proofs.FailLemmas.{volumes_told}
+use Rattle.std.proofs.Common.{[]}
+use Rattle.csi_schema.specs.Tables.{one_schema, volumes, volumes_text}
+use Rattle.csi_schema.specs.facts.Failing.{runs_over}
+use Rattle.csi_schema.proofs.CreateLemmas.{volumes_create, creates}
+use Rattle.csi_schema.proofs.FailLemmas.{alone}
 use Rattle.csi_schema.proofs.making.create_volumes.Goals as goal
 
 pub returns-clause-runs : goal.returns-clause-runs
-returns-clause-runs g c = record {
-  ok = λ clean inside. volumes_step _ _ c.execute.result (c.execute.ensures.runs clean inside);
-  failed = λ clean inside. volumes_told _ _ c.execute.result (c.execute.ensures.runs clean inside);
-  kept = search rules;
-  survives = search rules;
-}
+returns-clause-runs g c = runs_over volumes_text [] c.execute.result alone.volumes (creates one_schema volumes_text volumes volumes_create) c.execute.ensures.runs c.execute.ensures.survives

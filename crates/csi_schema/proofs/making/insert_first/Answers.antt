@@ -1,12 +1,9 @@
-use Rattle.std.proofs.Common.{rules}
-use Rattle.csi_schema.proofs.FirstRowLemmas.{first_step}
-use Rattle.csi_schema.proofs.FailLemmas.{first_told}
+use Rattle.std.proofs.Common.{[]}
+use Rattle.csi_schema.specs.Tables.{first_text}
+use Rattle.csi_schema.specs.facts.Failing.{runs_over}
+use Rattle.csi_schema.proofs.FirstRowLemmas.{adds_first}
+use Rattle.csi_schema.proofs.FailLemmas.{alone}
 use Rattle.csi_schema.proofs.making.insert_first.Goals as goal
 
 pub returns-clause-runs : goal.returns-clause-runs
-returns-clause-runs g c = record {
-  ok = λ clean inside. first_step _ _ c.execute.result (c.execute.ensures.runs clean inside);
-  failed = λ clean inside. first_told _ _ c.execute.result (c.execute.ensures.runs clean inside);
-  kept = search rules;
-  survives = search rules;
-}
+returns-clause-runs g c = runs_over first_text [] c.execute.result alone.first adds_first c.execute.ensures.runs c.execute.ensures.survives

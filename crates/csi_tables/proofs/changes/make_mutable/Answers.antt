@@ -4,7 +4,7 @@ use Rattle.sqlite.specs.declared.types.Value.TheVariants.{Blob}
 use Rattle.csi_keeper.specs.declared.change.Change.TheVariants.{SetMutable}
 use Rattle.csi_keeper.specs.declared.volume.Volume.{Volume}
 use Rattle.csi_transactions.specs.Rows.{number_value}
-use Rattle.csi_transactions.specs.Texts.{params_text}
+use Rattle.csi_transactions.specs.Texts as texts
 use Rattle.csi_transactions.specs.Updates.{SetsParams}
 use Rattle.csi_tables.specs.Encoding.{params_bytes}
 use Rattle.csi_tables.specs.Holding.{IsStorable}
@@ -53,7 +53,7 @@ returns-in_err-set_params-clause-changes g c =
     changes_not_behind g.S.Store c.read_back.ensures (SetMutable n m) (SetsParams n (params_bytes v.params m)) (λ old new h. h.schema) c.by_number.ensures
     (λ clean s held old new has p allowed h. rows_mutable s n m v old new has p (sym (c.in_ok-stands.ensures.value (omega (arith, clean, c.set_params.ensures.survives.clean)) s held) ∙ c.in-Some.is) c.in_ok-params.ensures.fits h)
     c.from_residual-in_err-set_params.result e
-    (λ now limit why. (v.params, e, refuses_same params_text (number_value n ∷ Blob (params_bytes v.params m) ∷ []) (state g.S.Store c.args.conn.now) (state g.S.Store c.by_number.new.conn) e now limit why))
+    (λ now limit why. (v.params, e, refuses_same (texts.text texts.SetParams) (number_value n ∷ Blob (params_bytes v.params m) ∷ []) (state g.S.Store c.args.conn.now) (state g.S.Store c.by_number.new.conn) e now limit why))
     (rw bytes at c.in_err-set_params.ensures) c.from_residual-in_err-set_params.ensures.1
 
 pub returns-clause-changes : goal.returns-clause-changes

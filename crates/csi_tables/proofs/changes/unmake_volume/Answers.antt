@@ -5,7 +5,7 @@ use Rattle.csi_keeper.specs.declared.change.Change.TheVariants.{RemoveVolume}
 use Rattle.csi_keeper.specs.facts.Totals.{totals_removed}
 use Rattle.csi_transactions.specs.Deletes.{Drops, is_numbered}
 use Rattle.csi_transactions.specs.Rows.{number_value, seen_volume}
-use Rattle.csi_transactions.specs.Texts.{remove_text}
+use Rattle.csi_transactions.specs.Texts as texts
 use Rattle.csi_tables.proofs.ChangeLemmas.{beside, changes_behind, changes_not_behind, never_ok, on_ok, stays, unmade}
 use Rattle.csi_tables.proofs.KeepLemmas.{on_err}
 use Rattle.csi_tables.proofs.RowLemmas.{nothing_removed, none_removed, rows_removed, storable_removed}
@@ -33,7 +33,7 @@ returns-in_err-remove_volume g c =
     let r = c.from_residual-in_err-remove_volume.result in
     let is = c.from_residual-in_err-remove_volume.ensures.1 in
     beside r (RemoveVolume n) (never_ok r _ _ is) (never_ok r _ _ is) (on_err r (λ q. refl)) (changes_not_behind g.S.Store c.read_back.ensures (RemoveVolume n) (Drops 1 seen_volume (is_numbered n)) (λ old new h. h.schema) c.by_number.ensures (λ clean s held old new has p allowed h. rows_removed s n old new has p h)
-    r e (λ now limit why. (e, refuses_same remove_text (number_value n ∷ []) (state g.S.Store c.args.conn.now) (state g.S.Store c.by_number.new.conn) e now limit why)) c.in_err-remove_volume.ensures is)
+    r e (λ now limit why. (e, refuses_same (texts.text texts.RemoveVolume) (number_value n ∷ []) (state g.S.Store c.args.conn.now) (state g.S.Store c.by_number.new.conn) e now limit why)) c.in_err-remove_volume.ensures is)
 
 pub returns-in_default : goal.returns-in_default
 returns-in_default g c =

@@ -1,16 +1,13 @@
 use Rattle.std.proofs.Common.{◌∙◌}
 use Rattle.sqlite.specs.Held.{state}
 use Rattle.csi_keeper.specs.State.{sizes}
-use Rattle.csi_keeper.specs.facts.Reads.{if_ok}
 use Rattle.csi_tables.proofs.ShownLemmas.{sizes_rows}
-use Rattle.csi_tables.proofs.RefusalLemmas.{read_as, unread}
+use Rattle.csi_tables.proofs.RefusalLemmas.{read_numbers, unread}
 use Rattle.csi_tables.proofs.read.sizes_in.Goals as goal
 
 pub returns : goal.returns
-returns g c =
-    read_as c.numbers_from.result c.in_ok-rows.ensures
-    (λ s shows what. if_ok (λ xs read. read (sizes s c.args.pool.now) (c.deref.ensures.value ∙ sizes_rows s (state g.S.Store c.args.conn.now).now.trees shows.rows c.args.pool.now c.in_ok-rows.rows.items what)) c.numbers_from.result c.numbers_from.ensures.ok)
-    (λ s shows known what is. c.numbers_from.ensures.refused is (sizes s c.args.pool.now) (c.deref.ensures.value ∙ sizes_rows s (state g.S.Store c.args.conn.now).now.trees shows.rows c.args.pool.now c.in_ok-rows.rows.items what))
+returns g c = read_numbers c.numbers_from.result c.deref.result.now (λ s. sizes s c.args.pool.now) c.in_ok-rows.ensures c.numbers_from.ensures.ok c.numbers_from.ensures.refused
+    (λ s shows what. c.deref.ensures.value ∙ sizes_rows s (state g.S.Store c.args.conn.now).now.trees shows.rows c.args.pool.now c.in_ok-rows.rows.items what)
 
 pub returns-in_err-rows : goal.returns-in_err-rows
 returns-in_err-rows g c = unread c.from_residual.result c.in_err-rows.field-0.0 (λ s shows none. none) c.in_err-rows.ensures c.from_residual.ensures.1

@@ -1,18 +1,10 @@
 use Rattle.std.proofs.Common.{rules}
-use Rattle.csi_schema.specs.facts.Failing.{undoes}
-use Rattle.csi_schema.specs.facts.Steps.{survives_commit}
-use Rattle.csi_transactions.specs.Deletes.{Drops, is_place}
-use Rattle.csi_transactions.specs.Rows.{seen_attachment}
-use Rattle.csi_transactions.specs.Tables.{schema}
+use Rattle.csi_transactions.proofs.CommitLemmas.{done, undone}
 use Rattle.csi_transactions.proofs.changes.detach.Goals as goal
 
 pub returns : goal.returns
-returns g c =
-    let begun = c.transaction-tx.ensures.begun in
-    let whole = survives_commit g.S.Store schema c.args.conn.now _ _ (Drops 3 seen_attachment (is_place c.args.volume c.args.node.now)) (rw begun at c.delete_attachment.ensures.runs.survives) (λ clean. rw begun at (c.in_ok-delete_attachment.ensures.runs.ok clean (rw begun))) c.commit.ensures.survives in
-    search (rules, whole)
+returns g c = done g.S.Store c.args.conn.now c.commit.result (rw c.transaction-tx.ensures.begun at c.in_ok-delete_attachment.ensures.runs) c.commit.new.self.0 c.commit.ensures (search rules)
 
 pub returns-in_err-delete_attachment : goal.returns-in_err-delete_attachment
 returns-in_err-delete_attachment g c =
-    undoes g.S.Store schema c.args.conn.now c.from_residual.result c.in_err-delete_attachment.field-0.0 (λ why. why) (rw c.transaction-tx.ensures.begun at c.in_err-delete_attachment.ensures.runs)
-    c.drop-tx.new.self.0 c.drop-tx.ensures.ended c.drop-tx.ensures.undone c.drop-tx.ensures.survives (search rules) c.from_residual.ensures.1
+    undone g.S.Store c.args.conn.now c.from_residual.result (λ why. why) (rw c.transaction-tx.ensures.begun at c.in_err-delete_attachment.ensures.runs) c.drop-tx.new.self.0 c.drop-tx.ensures (search rules) c.from_residual.ensures.1

@@ -1,7 +1,7 @@
 use Rattle.std.proofs.Common.{◌∙◌, sym, ap, true, false, true≢false, Option, Some, None}
 use Rattle.std.specs.Option.{is_some}
 use Rattle.csi_constraints.specs.declared.named.RowName.{RowName}
-use Rattle.csi_constraints.proofs.ApartLemmas.{apart_from_one, fall_front, far_from_all, led_is, led_next, led_still, led_without, no_number, not_led, now_apart, still_apart}
+use Rattle.csi_constraints.proofs.ApartLemmas.{apart_from_one, fall_front, goes_on, led_is, led_without, no_number, not_led, now_apart, still_apart}
 use Rattle.csi_constraints.proofs.NamedLemmas.{not_found}
 use Rattle.csi_constraints.proofs.apart.FirstApartFold.take.Goals as goal
 
@@ -40,24 +40,10 @@ returns-then-not-admits-clause-folded c = λ first rows h none begun order.
 
 pub returns-then-not-stays-clause-folded : goal.returns-then-not-stays-clause-folded
 returns-then-not-stays-clause-folded c = λ first rows h none begun order.
-    let row = c.args.row.now in
-    let falls = fall_front rows row order in
-    let was = h none begun falls.0 in
-    let is = led_is row c.in-Some.next (sym c.in_ok-next.ensures.value ∙ c.in-Some.is) in
-    let still = not_found c.args.self.now.found (sym c.is_some.ensures ∙ c.if-is_some.false) in
-    let fine = sym c.admits.ensures ∙ c.if-not-admits.false in (
-      still ∙ now_apart rows row false (sym still ∙ was.0) (far_from_all rows row c.in-Some.next is.0 is.1 falls.1 c.args.self.now.last (was.1 still) fine),
-      λ e. led_next rows row c.in-Some.next is.0 is.1 falls.1 c.args.self.now.last (was.1 still) fine (sym c.stays.ensures ∙ c.if-not-stays.true),
-    )
+    goes_on rows c.args.row.now c.in-Some.next c.args.self.now.found c.args.self.now.last order (h none begun) (sym c.in_ok-next.ensures.value ∙ c.in-Some.is)
+    (not_found c.args.self.now.found (sym c.is_some.ensures ∙ c.if-is_some.false)) (sym c.admits.ensures ∙ c.if-not-admits.false) false (sym c.stays.ensures ∙ c.if-not-stays.true)
 
 pub returns-else-not-stays-clause-folded : goal.returns-else-not-stays-clause-folded
 returns-else-not-stays-clause-folded c = λ first rows h none begun order.
-    let row = c.args.row.now in
-    let falls = fall_front rows row order in
-    let was = h none begun falls.0 in
-    let is = led_is row c.in-Some.next (sym c.in_ok-next.ensures.value ∙ c.in-Some.is) in
-    let still = not_found c.args.self.now.found (sym c.is_some.ensures ∙ c.if-is_some.false) in
-    let fine = sym c.admits.ensures ∙ c.if-not-admits.false in (
-      still ∙ now_apart rows row false (sym still ∙ was.0) (far_from_all rows row c.in-Some.next is.0 is.1 falls.1 c.args.self.now.last (was.1 still) fine),
-      λ e. led_still rows row c.in-Some.next is.0 is.1 falls.1 c.args.self.now.last (was.1 still) fine (sym c.stays.ensures ∙ c.if-not-stays.false),
-    )
+    goes_on rows c.args.row.now c.in-Some.next c.args.self.now.found c.args.self.now.last order (h none begun) (sym c.in_ok-next.ensures.value ∙ c.in-Some.is)
+    (not_found c.args.self.now.found (sym c.is_some.ensures ∙ c.if-is_some.false)) (sym c.admits.ensures ∙ c.if-not-admits.false) true (sym c.stays.ensures ∙ c.if-not-stays.false)

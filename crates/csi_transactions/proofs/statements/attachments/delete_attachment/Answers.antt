@@ -1,13 +1,11 @@
-use Rattle.std.proofs.Common.{rules}
-use Rattle.csi_transactions.proofs.DeleteLemmas.{detach_step}
-use Rattle.csi_transactions.proofs.FailLemmas.{write_told}
-use Rattle.csi_transactions.proofs.TextLemmas.{detach_text, detach_alone}
+use Rattle.std.proofs.Common.{[], ◌∷◌}
+use Rattle.sqlite.specs.declared.types.Value.TheVariants.{Text}
+use Rattle.csi_schema.specs.facts.Failing.{runs_over}
+use Rattle.csi_transactions.specs.Rows.{number_value}
+use Rattle.csi_transactions.specs.Texts.{text, Detach}
+use Rattle.csi_transactions.proofs.DeleteLemmas.{detaches}
+use Rattle.csi_transactions.proofs.TextLemmas.{alone}
 use Rattle.csi_transactions.proofs.statements.attachments.delete_attachment.Goals as goal
 
 pub returns-clause-runs : goal.returns-clause-runs
-returns-clause-runs g c = record {
-  ok = λ clean inside. detach_step _ _ c.args.volume c.args.node.now c.execute.result (rw (c.integer.ensures, c.as_bytes.ensures.value) at (c.execute.ensures.runs clean inside));
-  failed = λ clean inside. write_told detach_text _ _ _ c.execute.result detach_alone (rw (c.integer.ensures, c.as_bytes.ensures.value) at (c.execute.ensures.runs clean inside));
-  kept = search rules;
-  survives = search rules;
-}
+returns-clause-runs g c = runs_over (text Detach) (number_value c.args.volume ∷ Text c.args.node.now ∷ []) c.execute.result (alone Detach) (detaches c.args.volume c.args.node.now) (rw (c.integer.ensures, c.as_bytes.ensures.value) at c.execute.ensures.runs) c.execute.ensures.survives

@@ -1,14 +1,6 @@
-use Rattle.std.proofs.Common.{refl, rules}
-use Rattle.csi_transactions.specs.Statements.{nodes_query}
-use Rattle.csi_transactions.proofs.ReadLemmas.{read_all, all_keeps, selects}
-use Rattle.csi_transactions.proofs.TextLemmas.{nodes_text, nodes_select, nodes_sure}
-use Rattle.csi_transactions.proofs.FailLemmas.{all_told}
+use Rattle.csi_transactions.proofs.ReadLemmas.{selects_over}
+use Rattle.csi_transactions.proofs.TextLemmas.{Nodes}
 use Rattle.csi_transactions.proofs.statements.attachments.select_nodes.Goals as goal
 
 pub returns-clause-selects : goal.returns-clause-selects
-returns-clause-selects g c = record {
-  ok = λ clean inside. read_all (λ v. v.items) c.query_all.result _ _ (λ rows h. selects nodes_text 3 nodes_query.filter nodes_query.project nodes_query.order _ _ _ rows (λ db. refl) inside h nodes_select) (rw c.integer.ensures at (c.query_all.ensures.ok clean));
-  failed = λ clean inside. all_told nodes_text _ _ _ c.query_all.result (nodes_sure c.args.volume) inside (rw c.integer.ensures at (c.query_all.ensures.err clean));
-  kept = λ clean inside. all_keeps (λ v. v.items) _ _ _ _ c.query_all.result inside (c.query_all.ensures.ok clean) (c.query_all.ensures.err clean);
-  survives = search rules;
-}
+returns-clause-selects g c = selects_over (Nodes c.args.volume) (λ v. v.items) c.query_all.result (rw c.integer.ensures at c.query_all.ensures.ok) (rw c.integer.ensures at c.query_all.ensures.err) c.query_all.ensures.survives

@@ -1,13 +1,9 @@
-use Rattle.std.proofs.Common.{rules}
-use Rattle.csi_transactions.proofs.UpdateLemmas.{format_step}
-use Rattle.csi_transactions.proofs.FailLemmas.{write_told}
-use Rattle.csi_transactions.proofs.TextLemmas.{format_text, format_alone}
+use Rattle.std.proofs.Common.{[]}
+use Rattle.csi_schema.specs.facts.Failing.{runs_over}
+use Rattle.csi_transactions.specs.Texts.{text, SetFormat}
+use Rattle.csi_transactions.proofs.UpdateLemmas.{sets_latest}
+use Rattle.csi_transactions.proofs.TextLemmas.{alone}
 use Rattle.csi_transactions.proofs.statements.meta.update_format.Goals as goal
 
 pub returns-clause-runs : goal.returns-clause-runs
-returns-clause-runs g c = record {
-  ok = λ clean inside. format_step _ _ c.execute.result (c.execute.ensures.runs clean inside);
-  failed = λ clean inside. write_told format_text _ _ _ c.execute.result format_alone (c.execute.ensures.runs clean inside);
-  kept = search rules;
-  survives = search rules;
-}
+returns-clause-runs g c = runs_over (text SetFormat) [] c.execute.result (alone SetFormat) sets_latest c.execute.ensures.runs c.execute.ensures.survives

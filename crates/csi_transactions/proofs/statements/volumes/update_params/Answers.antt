@@ -1,13 +1,11 @@
-use Rattle.std.proofs.Common.{rules}
-use Rattle.csi_transactions.proofs.ParamsLemmas.{params_step}
-use Rattle.csi_transactions.proofs.FailLemmas.{write_told}
-use Rattle.csi_transactions.proofs.TextLemmas.{params_text, params_alone}
+use Rattle.std.proofs.Common.{[], ◌∷◌}
+use Rattle.sqlite.specs.declared.types.Value.TheVariants.{Blob}
+use Rattle.csi_schema.specs.facts.Failing.{runs_over}
+use Rattle.csi_transactions.specs.Rows.{number_value}
+use Rattle.csi_transactions.specs.Texts.{text, SetParams}
+use Rattle.csi_transactions.proofs.ParamsLemmas.{sets}
+use Rattle.csi_transactions.proofs.TextLemmas.{alone}
 use Rattle.csi_transactions.proofs.statements.volumes.update_params.Goals as goal
 
 pub returns-clause-runs : goal.returns-clause-runs
-returns-clause-runs g c = record {
-  ok = λ clean inside. params_step _ _ c.args.volume c.args.params.now c.execute.result (rw c.integer.ensures at (c.execute.ensures.runs clean inside));
-  failed = λ clean inside. write_told params_text _ _ _ c.execute.result params_alone (rw c.integer.ensures at (c.execute.ensures.runs clean inside));
-  kept = search rules;
-  survives = search rules;
-}
+returns-clause-runs g c = runs_over (text SetParams) (number_value c.args.volume ∷ Blob c.args.params.now ∷ []) c.execute.result (alone SetParams) (sets c.args.volume c.args.params.now) (rw c.integer.ensures at c.execute.ensures.runs) c.execute.ensures.survives

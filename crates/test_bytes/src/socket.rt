@@ -13,7 +13,7 @@ use std::alloc::{AllocError, Global};
 use std::io;
 use std::net::Shutdown;
 use std::os::unix::net::{UnixListener, UnixStream};
-use test_kit::{Answer, RowFault, bytes_of};
+use test_kit::{Answer, RowFault, bytes_of, number_of};
 
 /// The file of the socket.
 pub(crate) const PATH: &str = "rows.sock";
@@ -45,7 +45,7 @@ impl Session {
         let (most, call) = match row.strip_prefix("part ") {
             Some(part) => {
                 let (count, call) = part.split_once(' ').ok_or(RowFault::NotRow)?;
-                (count.parse().map_err(|_| RowFault::NotRow)?, call)
+                (number_of(count)?, call)
             }
             None => (usize::MAX, row),
         };
