@@ -1,38 +1,24 @@
-//! What both programs do at their start: what they say of arguments that they do not understand, and what they do where standard input, output or
-//! error is closed, so that no file or connection gets the number of a standard handle.
+//! What both programs do with their command line and standard error: the arguments and those that are refused, lines of what went wrong, and what is
+//! done where standard input, output or error is closed, so that no file or connection gets the number of a standard handle.
 //!
 //! ```rust
 //! let taken = take_closed(rt); // before anything is opened
-//! let text = refusal_line(alloc, &error)?;
+//! let arguments = arguments(rt)?;
+//! match matches(rt, command(rt.alloc()), arguments.as_slice())? {
+//!     Some(matches) => obey(rt, &matches),
+//!     None => Ok(()), // help was asked for
+//! }
 //! ```
 #![tactic(auto)]
 
+mod command;
 mod lines;
+mod named;
+mod options;
 mod standard;
 
-use clap::Error;
-pub use lines::{is_decimal, line};
+pub use command::{ArgumentsFault, arguments, matches};
+pub use lines::{is_decimal, say};
+pub use named::{Cause, Named, cause};
+pub use options::{CommandOption, OPTION, Takes, command_of, with_options, with_subcommand};
 pub use standard::take_closed;
-use std::alloc::{AllocError, Global};
-
-/// Why arguments are refused, in one line: the first paragraph of what `clap` says, without the word
-/// `error` before it.
-///
-/// # Errors
-///
-/// Where memory was refused.
-pub fn refusal_line(alloc: Global, error: &Error) -> Result<String, AllocError> {
-    let text = format!(in alloc; "{error}")?;
-    let mut line = String::new(alloc);
-    for part in text.as_str().lines() {
-        if part.is_empty() {
-            break;
-        }
-        if !line.is_empty() {
-            line.push(' ')?;
-        }
-        let part = part.trim();
-        line.push_str(part.strip_prefix("error: ").unwrap_or(part))?;
-    }
-    Ok(line)
-}

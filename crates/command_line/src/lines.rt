@@ -5,6 +5,8 @@ ghost use Rattle.std.specs.Char.{is_ascii_digit};
 ghost use Rattle.std.specs.List.{list_all};
 
 use std::alloc::{AllocError, Global};
+use std::fmt::Display;
+use std::io::{self, Write};
 
 // Appends a character. An end of line or another control is escaped, as `\n` or `\u{1b}`.
 fn push_shown(line: &mut String, character: char) -> Result<(), AllocError> {
@@ -17,14 +19,10 @@ fn push_shown(line: &mut String, character: char) -> Result<(), AllocError> {
     Ok(())
 }
 
-/// What a program says on standard error, as one line with its end: the program's name, a colon and the
-/// text. Paths, names and ids in the text may come from files or from the command line, so what would end
-/// the line, and every other control, is escaped, as `\n` or `\u{1b}`.
-///
-/// # Errors
-///
-/// Where memory was refused.
-pub fn line(alloc: Global, program: &str, text: &str) -> Result<String, AllocError> {
+// What a program says, as one line with its end: the program's name, a colon and the text. Paths, names and
+// ids in the text may come from files or from the command line, so what would end the line, and every other
+// control, is escaped, as `\n` or `\u{1b}`.
+fn line(alloc: Global, program: &str, text: &str) -> Result<String, AllocError> {
     let mut line = String::new(alloc);
     line.push_str(program)?;
     line.push_str(": ")?;
@@ -33,6 +31,27 @@ pub fn line(alloc: Global, program: &str, text: &str) -> Result<String, AllocErr
     }
     line.push('\n')?;
     Ok(line)
+}
+
+fn line_of<T: Display>(alloc: Global, program: &str, what: &T) -> Result<String, AllocError> {
+    let text = format!(in alloc; "{what}")?;
+    line(alloc, program, text.as_str())
+}
+
+// The line without memory.
+fn say_no_memory(rt: &HostRuntime, program: &str) -> io::Result<()> {
+    let mut stderr = rt.stderr();
+    stderr.write_all(program.as_bytes())?;
+    stderr.write_all(b": out of memory\n")
+}
+
+/// Says one line on standard error, behind the program's name. What in it would end the line, and every
+/// other control, is escaped. That it cannot be written changes no status.
+pub fn say<T: Display>(rt: &HostRuntime, program: &str, what: &T) {
+    let _ = match line_of(rt.alloc(), program, what) {
+        Ok(line) => rt.stderr().write_all(line.as_bytes()),
+        Err(_) => say_no_memory(rt, program),
+    };
 }
 
 fn are_digits(bytes: &[u8]) -> bool

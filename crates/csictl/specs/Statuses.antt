@@ -1,5 +1,6 @@
 -- The exit statuses.
 use Rattle.std.specs.Prelude.{ℕ}
+use Rattle.command_line.specs.Statuses.{arguments_status}
 use Rattle.csictl.specs.declared.failure.Ended.{Ended}
 use Rattle.csictl.specs.declared.failure.Ended.TheVariants.{Done, Refused}
 use Rattle.csictl.specs.declared.failure.Failure.{Failure}
@@ -12,8 +13,7 @@ ended_status Refused = 1
 
 -- the exit status that a failure gives
 abbrev pub failure_status : Failure → ℕ
-failure_status failure.NotText = 2
-failure_status (failure.Arguments line) = 2
+failure_status (failure.Arguments fault) = arguments_status fault
 failure_status (failure.NoMethod name) = 2
 failure_status (failure.NoField method option) = 2
 failure_status (failure.BesideMessage option) = 2
@@ -21,10 +21,10 @@ failure_status failure.NotHex = 2
 failure_status (failure.NotDecimal option) = 2
 failure_status failure.NotPair = 2
 failure_status failure.TooLong = 2
-failure_status (failure.NotVector line) = 2
+failure_status (failure.NotVector path line) = 2
 failure_status (failure.Malformed fault) = 3
 failure_status failure.BadBody = 3
-failure_status (failure.System line) = 5
+failure_status (failure.System cause) = 5
 failure_status failure.ReadFailed = 5
 failure_status failure.WriteFailed = 5
 failure_status failure.NoMemory = 6

@@ -3,6 +3,7 @@
 ghost use Rattle.std.specs.Prelude.{◌≡◌, false, IsTrue};
 ghost use Rattle.csictl.specs.Statuses.{ended_status, failure_status};
 
+use command_line::{ArgumentsFault, Cause, cause};
 use csi_types::Method;
 use frames_core::ReplyFault;
 use std::alloc::{AllocError, AllocFailed, Global};
@@ -11,7 +12,7 @@ use std::io::{self, ErrorKind};
 use thiserror::Error;
 
 /// How the program ends where nothing fails.
-#[derive(Clone, Copy, Debug, PartialEq, Eq)]
+#[derive(Clone, Copy)]
 pub(crate) enum Ended {
     /// All went well.
     Done,
@@ -46,12 +47,9 @@ impl Ended {
 /// Why the program ends otherwise. Its `Display` is the line that is said.
 #[derive(Debug, Drop, Error)]
 pub(crate) enum Failure {
-    /// An argument is not UTF-8.
-    #[error("a word is no text")]
-    NotText,
-    /// The arguments are not understood.
+    /// The program is not told what to do.
     #[error("{0}")]
-    Arguments(String),
+    Arguments(#[from] ArgumentsFault),
     /// No method has this name.
     #[error("{0}: no such method")]
     NoMethod(String),
@@ -76,9 +74,12 @@ pub(crate) enum Failure {
     /// The message has more bytes than a frame holds.
     #[error("the message has more than 1048576 bytes")]
     TooLong,
-    /// A line of a file is no vector: the file, and the line.
-    #[error("{0}")]
-    NotVector(String),
+    /// A line of a file is no vector.
+    #[error("{path}: line {line} is no vector")]
+    NotVector {
+        path: String,
+        line: u64,
+    },
     /// A reply is malformed.
     #[error("{0}")]
     Malformed(ReplyFault),
@@ -87,7 +88,7 @@ pub(crate) enum Failure {
     BadBody,
     /// A file, standard output or the socket failed: its name, and why.
     #[error("{0}")]
-    System(String),
+    System(Cause),
     /// Standard input cannot be read.
     #[error("a read of standard input failed")]
     ReadFailed,
@@ -122,8 +123,8 @@ impl Failure {
 
     /// A file or a socket failed.
     pub(crate) fn of_name<T: Display>(alloc: Global, name: &str, why: &T) -> Failure {
-        match format!(in alloc; "{name}: {why}") {
-            Ok(line) => Failure::System(line),
+        match cause(alloc, name, why) {
+            Ok(cause) => Failure::System(cause),
             Err(_) => Failure::NoMemory,
         }
     }
@@ -133,16 +134,15 @@ impl Failure {
         ensures { result ≡ failure_status self.now }
     {
         match self {
-            Failure::NotText
-            | Failure::Arguments(_)
-            | Failure::NoMethod(_)
+            Failure::Arguments(fault) => fault.status(),
+            Failure::NoMethod(_)
             | Failure::NoField { .. }
             | Failure::BesideMessage(_)
             | Failure::NotHex
             | Failure::NotDecimal(_)
             | Failure::NotPair
             | Failure::TooLong
-            | Failure::NotVector(_) => 2,
+            | Failure::NotVector { .. } => 2,
             Failure::Malformed(_) | Failure::BadBody => 3,
             Failure::System(_) | Failure::ReadFailed | Failure::WriteFailed => 5,
             Failure::NoMemory => 6,

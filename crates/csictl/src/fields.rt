@@ -1,9 +1,9 @@
 //! The fields of a message, as the arguments give them.
 
-use crate::command::{FIELDS, Field};
+use crate::command::FIELDS;
 use crate::failure::Failure;
 use clap::ArgMatches;
-use command_line::is_decimal;
+use command_line::{CommandOption, is_decimal};
 use csi_types::{Access, Capability, CapacityRange, Items, Map, Method, Mount, Requirement, Text};
 use std::alloc::Global;
 
@@ -44,7 +44,7 @@ fn is_given(arguments: &ArgMatches<'_>, name: &str) -> bool {
 }
 
 // Whether an option takes a number, and is given otherwise than in decimal digits alone: `clap` takes a sign.
-fn is_odd(arguments: &ArgMatches<'_>, field: &Field) -> bool {
+fn is_odd(arguments: &ArgMatches<'_>, field: &CommandOption) -> bool {
     match arguments.get_str(field.name) {
         Some(text) => field.is_number() && !is_decimal(text),
         None => false,
@@ -57,9 +57,9 @@ fn is_odd(arguments: &ArgMatches<'_>, field: &Field) -> bool {
 ///
 /// Where they give one.
 pub(crate) fn give_none(arguments: &ArgMatches<'_>) -> Result<(), Failure> {
-    for Field { name, .. } in FIELDS {
-        if is_given(arguments, name) {
-            return Err(Failure::BesideMessage(name));
+    for field in &FIELDS {
+        if is_given(arguments, field.name) {
+            return Err(Failure::BesideMessage(field.name));
         }
     }
     Ok(())

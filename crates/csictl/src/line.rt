@@ -4,7 +4,7 @@ ghost use Rattle.std.specs.Prelude.{◌≡◌};
 
 use crate::connection::Connection;
 use crate::failure::Failure;
-use crate::say::say;
+use command_line::say;
 use csi_client::{Exchanges, Line, Received, pause_millis, receive, send};
 use frames_core::ReplyFault;
 use std::io::{self, ErrorKind};
@@ -75,8 +75,8 @@ impl<'a> SocketLine<'a> {
         let tried = u32::try_from(self.exchanges.made).unwrap_or(u32::MAX);
         let turn = tried.saturating_add(1);
         match format!(in rt.alloc(); "{}: {why}: try {turn} of {}", self.path, self.tries) {
-            Ok(text) => say(rt, text.as_str()),
-            Err(_) => say(rt, "out of memory"),
+            Ok(text) => say(rt, "csictl", &text),
+            Err(_) => say(rt, "csictl", &"out of memory"),
         }
         let chance = rt.monotonic().map_or(0, |time| time.subsec_nanos());
         thread::sleep(rt, Duration::from_millis(pause_millis(tried, chance)));

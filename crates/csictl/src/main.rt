@@ -10,12 +10,10 @@ mod frame;
 mod line;
 mod message;
 mod run;
-mod say;
 mod show;
 mod vectors;
 
-use command_line::take_closed;
-use say::say_failure;
+use command_line::{say, take_closed};
 use std::process::ExitCode;
 
 fn main(rt: HostRuntime) -> ExitCode {
@@ -23,7 +21,7 @@ fn main(rt: HostRuntime) -> ExitCode {
     match run::run(&rt) {
         Ok(ended) => ExitCode::from(ended.status()),
         Err(failure) => {
-            say_failure(&rt, &failure);
+            say(&rt, "csictl", &failure);
             ExitCode::from(failure.status())
         }
     }

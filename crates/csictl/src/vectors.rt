@@ -10,9 +10,10 @@ use std::fs::File;
 fn outcome(alloc: Global, path: &str, end: VectorsEnd) -> Result<Ended, Failure> {
     match end {
         VectorsEnd::Done(is_failed) => Ok(Ended::with(is_failed)),
-        VectorsEnd::BadLine(number) => Err(Failure::NotVector(format!(in alloc;
-            "{path}: line {number} is no vector"
-        )?)),
+        VectorsEnd::BadLine(line) => Err(Failure::NotVector {
+            path: String::from_str(alloc, path)?,
+            line,
+        }),
         VectorsEnd::ReadFailed => Err(Failure::of_name(alloc, path, &"a read failed")),
         VectorsEnd::WriteFailed => Err(Failure::WriteFailed),
         VectorsEnd::NoMemory => Err(Failure::NoMemory),

@@ -1,11 +1,11 @@
 //! The command line.
 
-use clap::{Arg, ArgAction, ArgMatches, Command, Error, value_parser};
-use command_line::is_decimal;
+use clap::{ArgMatches, Command, Error};
+use command_line::{CommandOption, OPTION, Takes, command_of, is_decimal, with_subcommand};
 use std::alloc::Global;
 
 /// What the command line asks for.
-#[derive(Clone, Copy, Debug, PartialEq, Eq)]
+#[derive(Clone, Copy)]
 pub(crate) enum Task<'a> {
     /// Calls on standard input, replies on standard output.
     Pipe {
@@ -21,7 +21,7 @@ pub(crate) enum Task<'a> {
 }
 
 /// How connections are served.
-#[derive(Clone, Copy, Debug, PartialEq, Eq)]
+#[derive(Clone, Copy)]
 pub(crate) struct Serving<'a> {
     /// Where the socket is made.
     pub(crate) socket: &'a str,
@@ -39,91 +39,79 @@ pub(crate) struct Serving<'a> {
     pub(crate) connections: u32,
 }
 
-fn config<'a>(alloc: Global) -> Arg<'a> {
-    Arg::new(alloc, "config")
-        .long("config")
-        .value_name("FILE")
-        .help("The configuration, a TOML file; without it the sample configuration")
-}
+const CONFIG: CommandOption = CommandOption {
+    name: "config",
+    takes: Takes::Text("FILE"),
+    help: "The configuration, a TOML file; without it the sample configuration",
+    ..OPTION
+};
 
-fn tables<'a>(alloc: Global) -> Arg<'a> {
-    Arg::new(alloc, "tables")
-        .long("tables")
-        .value_name("FILE")
-        .help("The volumes, an SQLite database; it is made where there is none")
-}
+const TABLES: CommandOption = CommandOption {
+    name: "tables",
+    takes: Takes::Text("FILE"),
+    help: "The volumes, an SQLite database; it is made where there is none",
+    ..OPTION
+};
 
-fn existing<'a>(alloc: Global) -> Result<Arg<'a>, Error> {
-    let existing = Arg::new(alloc, "existing")
-        .long("existing")
-        .action(ArgAction::SetTrue)
-        .help("Refuses a file of volumes that is missing or has no tables, and makes none");
-    Ok(existing.requires_arg("tables")?)
-}
+const EXISTING: CommandOption = CommandOption {
+    name: "existing",
+    beside: Some("tables"),
+    help: "Refuses a file of volumes that is missing or has no tables, and makes none",
+    ..OPTION
+};
 
-fn socket<'a>(alloc: Global) -> Arg<'a> {
-    Arg::new(alloc, "socket")
-        .long("socket")
-        .value_name("PATH")
-        .help("The Unix socket to listen on, as /run/csid.sock; no file may stand there")
-        .required(true)
-}
+static PIPE: [CommandOption; 3] = [CONFIG, TABLES, EXISTING];
 
-fn group<'a>(alloc: Global) -> Arg<'a> {
-    Arg::new(alloc, "group")
-        .long("group")
-        .value_name("NAME")
-        .help("The group that may connect too, by its name or number; without it the owner alone")
-}
+static SERVE: [CommandOption; 7] = [
+    CommandOption {
+        name: "socket",
+        takes: Takes::Text("PATH"),
+        is_required: true,
+        help: "The Unix socket to listen on, as /run/csid.sock; no file may stand there",
+        ..OPTION
+    },
+    CommandOption {
+        is_required: true,
+        ..TABLES
+    },
+    EXISTING,
+    CONFIG,
+    CommandOption {
+        name: "group",
+        takes: Takes::Text("NAME"),
+        help: "The group that may connect too, by its name or number; without it the owner alone",
+        ..OPTION
+    },
+    CommandOption {
+        name: "idle",
+        takes: Takes::Count("SECONDS", 86_400),
+        help: "Closes a connection that sends nothing for so long, 1 to 86400; without it none is",
+        ..OPTION
+    },
+    CommandOption {
+        name: "connections",
+        takes: Takes::Count("N", 1_000_000),
+        standard: Some("1000000"),
+        help: "How many connections are served until the server ends, 1 to 1000000",
+        ..OPTION
+    },
+];
 
-fn idle<'a>(alloc: Global) -> Arg<'a> {
-    Arg::new(alloc, "idle")
-        .long("idle")
-        .value_name("SECONDS")
-        .help("Closes a connection that sends nothing for so long, 1 to 86400; without it none is")
-        .value_parser(value_parser!(u32).range(1..=86_400))
-}
-
-fn connections<'a>(alloc: Global) -> Arg<'a> {
-    Arg::new(alloc, "connections")
-        .long("connections")
-        .value_name("N")
-        .help("How many connections are served until the server ends, 1 to 1000000")
-        .value_parser(value_parser!(u32).range(1..=1_000_000))
-        .default_value("1000000")
-}
-
-// What `serve` is told of its peers.
-fn with_peers<'a>(alloc: Global, serve: Command<'a>) -> Result<Command<'a>, Error> {
-    let serve = serve.arg(group(alloc))?;
-    let serve = serve.arg(idle(alloc))?;
-    Ok(serve.arg(connections(alloc))?)
+fn pipe<'a>(alloc: Global) -> Result<Command<'a>, Error> {
+    let about =
+        "Answers the calls of standard input on standard output, as no command does; without --tables the volumes are forgotten at the end";
+    command_of(alloc, "pipe", about, &PIPE)
 }
 
 fn serve<'a>(alloc: Global) -> Result<Command<'a>, Error> {
-    let serve = Command::new(alloc, "serve").about(
-        "Answers the calls of connections to a Unix socket, one connection after the other",
-    );
-    let serve = serve.arg(socket(alloc))?;
-    let serve = serve.arg(tables(alloc).required(true))?;
-    let serve = serve.arg(existing(alloc)?)?;
-    let serve = serve.arg(config(alloc))?;
-    with_peers(alloc, serve)
+    let about = "Answers the calls of connections to a Unix socket, one connection after the other";
+    command_of(alloc, "serve", about, &SERVE)
 }
 
-fn pipe<'a>(alloc: Global) -> Result<Command<'a>, Error> {
-    let pipe = Command::new(alloc, "pipe").about(
-        "Answers the calls of standard input on standard output, as no command does; without --tables the volumes are forgotten at the end",
-    );
-    let pipe = pipe.arg(config(alloc))?.arg(tables(alloc))?;
-    Ok(pipe.arg(existing(alloc)?)?)
-}
-
-fn with_subcommand<'a>(
-    command: Command<'a>,
-    subcommand: Result<Command<'a>, Error>,
-) -> Result<Command<'a>, Error> {
-    Ok(command.subcommand(subcommand?)?)
+fn plain<'a>(alloc: Global) -> Command<'a> {
+    Command::new(alloc, "csid").version("0.1.0").about(
+        "A CSI controller plugin: calls and replies are frames, as docs/PROTOCOL.md says",
+    )
 }
 
 /// The command line of the program.
@@ -132,11 +120,7 @@ fn with_subcommand<'a>(
 ///
 /// Where memory is refused.
 pub(crate) fn command<'a>(alloc: Global) -> Result<Command<'a>, Error> {
-    let command = Command::new(alloc, "csid").version("0.1.0").about(
-        "A CSI controller plugin: calls and replies are frames, as docs/PROTOCOL.md says",
-    );
-    let command = with_subcommand(command, pipe(alloc))?;
-    with_subcommand(command, serve(alloc))
+    with_subcommand(with_subcommand(plain(alloc), pipe(alloc))?, serve(alloc))
 }
 
 /// The options that are numbers, each as it is shown.

@@ -41,7 +41,7 @@ fn tell_unknown(rt: &HostRuntime, path: &str, bytes: &[u8]) {
                 say_of(rt, path, key);
             }
         }
-        Err(_) => say(rt, "out of memory"),
+        Err(_) => say(rt, &"out of memory"),
     }
 }
 

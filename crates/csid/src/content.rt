@@ -4,7 +4,7 @@ use sqlite::{Alter, Connection, Error};
 use std::fmt;
 
 /// What tables have. Its `Display` is one line.
-#[derive(Clone, Copy, Debug, PartialEq, Eq)]
+#[derive(Clone, Copy)]
 pub(crate) struct Content {
     volumes: i64,
     attachments: i64,

@@ -1,13 +1,38 @@
 //! Why the program ends otherwise than well, and the status that it ends with.
 
 ghost use Rattle.std.specs.Prelude.{◌≡◌, IfErr, IfOk};
-ghost use Rattle.csid.specs.Statuses.{IsOrNoMemory, failure_status, status_of};
+ghost use Rattle.csid.specs.Statuses.{IsOrNoMemory, failure_status, status_of, thing_status};
 
+use command_line::{ArgumentsFault, Cause, cause};
 use csi_server::RunEnd;
 use frames_core::FrameFault;
 use std::alloc::{AllocError, Global};
 use std::fmt::Display;
 use thiserror::Error;
+
+/// What cannot be had, of which there is a name.
+#[derive(Clone, Copy, Debug)]
+pub(crate) enum Thing {
+    /// The configuration, by its file.
+    Configuration,
+    /// The tables, by their file.
+    Tables,
+    /// The socket, by its path or by its group: it cannot be made, or gives no connection.
+    Socket,
+}
+
+impl Thing {
+    // The exit status without it.
+    fn status(self) -> u8
+        ensures { result ≡ thing_status self }
+    {
+        match self {
+            Thing::Configuration => 3,
+            Thing::Tables => 4,
+            Thing::Socket => 7,
+        }
+    }
+}
 
 /// Why the program ends with a status other than 0. Its `Display` is the line that is said.
 #[derive(Debug, Drop, Error)]
@@ -15,18 +40,12 @@ pub(crate) enum Failure {
     /// A frame is malformed.
     #[error("{0}")]
     Malformed(FrameFault),
-    /// An argument is not UTF-8.
-    #[error("a word is no text")]
-    NotText,
-    /// The arguments are not understood.
+    /// The program is not told what to do.
     #[error("{0}")]
-    Arguments(String),
-    /// The configuration cannot be had: its file, and why.
-    #[error("{0}")]
-    Configuration(String),
-    /// The tables cannot be had: their file, and why.
-    #[error("{0}")]
-    Tables(String),
+    Arguments(#[from] ArgumentsFault),
+    /// This cannot be had: its name, and why.
+    #[error("{1}")]
+    Unusable(Thing, Cause),
     /// The tables have no path.
     #[error("the path of the tables is empty")]
     NoTablesPath,
@@ -42,9 +61,6 @@ pub(crate) enum Failure {
     /// There is no memory.
     #[error("out of memory")]
     NoMemory,
-    /// The socket cannot be made, or gives no connection: its path or its group, and why.
-    #[error("{0}")]
-    Socket(String),
     /// The socket has no path.
     #[error("the socket's path is empty")]
     NoSocketPath,
@@ -61,40 +77,36 @@ impl From<AllocError> for Failure {
     }
 }
 
-// What is wrong with a file or a name, behind it.
-fn behind<T: Display>(alloc: Global, name: &str, why: &T) -> Result<String, AllocError> {
-    format!(in alloc; "{name}: {why}")
-}
-
 impl Failure {
+    // What cannot be had, and why.
+    fn of<T: Display>(alloc: Global, thing: Thing, name: &str, why: &T) -> Failure
+        ensures { IsOrNoMemory (thing_status thing) result }
+    {
+        match cause(alloc, name, why) {
+            Ok(cause) => Failure::Unusable(thing, cause),
+            Err(_) => Failure::NoMemory,
+        }
+    }
+
     /// The configuration of a file cannot be had.
     pub(crate) fn of_configuration<T: Display>(alloc: Global, path: &str, why: &T) -> Failure
         ensures { IsOrNoMemory 3 result }
     {
-        match behind(alloc, path, why) {
-            Ok(line) => Failure::Configuration(line),
-            Err(_) => Failure::NoMemory,
-        }
+        Failure::of(alloc, Thing::Configuration, path, why)
     }
 
     /// The tables in a file cannot be had.
     pub(crate) fn of_tables<T: Display>(alloc: Global, path: &str, why: &T) -> Failure
         ensures { IsOrNoMemory 4 result }
     {
-        match behind(alloc, path, why) {
-            Ok(line) => Failure::Tables(line),
-            Err(_) => Failure::NoMemory,
-        }
+        Failure::of(alloc, Thing::Tables, path, why)
     }
 
     /// The socket at a path cannot be made for a group, or fails: the path or the group is named.
     pub(crate) fn of_socket<T: Display>(alloc: Global, name: &str, why: &T) -> Failure
         ensures { IsOrNoMemory 7 result }
     {
-        match behind(alloc, name, why) {
-            Ok(line) => Failure::Socket(line),
-            Err(_) => Failure::NoMemory,
-        }
+        Failure::of(alloc, Thing::Socket, name, why)
     }
 
     /// The exit status.
@@ -103,12 +115,12 @@ impl Failure {
     {
         match self {
             Failure::Malformed(_) => 1,
-            Failure::NotText | Failure::Arguments(_) => 2,
-            Failure::Configuration(_) => 3,
-            Failure::Tables(_) | Failure::NoTablesPath => 4,
+            Failure::Arguments(fault) => fault.status(),
+            Failure::Unusable(thing, _) => thing.status(),
+            Failure::NoTablesPath => 4,
             Failure::ReadFailed(_) | Failure::WriteFailed(_) | Failure::TurnsSpent => 5,
             Failure::NoMemory => 6,
-            Failure::Socket(_) | Failure::NoSocketPath => 7,
+            Failure::NoSocketPath => 7,
         }
     }
 }

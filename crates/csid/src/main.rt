@@ -17,7 +17,7 @@ mod tables;
 mod waiting;
 
 use command_line::take_closed;
-use say::say_failure;
+use say::say;
 use std::process::ExitCode;
 
 fn main(rt: HostRuntime) -> ExitCode {
@@ -25,7 +25,7 @@ fn main(rt: HostRuntime) -> ExitCode {
     match run::run(&rt) {
         Ok(()) => ExitCode::SUCCESS,
         Err(failure) => {
-            say_failure(&rt, &failure);
+            say(&rt, &failure);
             ExitCode::from(failure.status())
         }
     }

@@ -14,7 +14,7 @@ use std::time::Instant;
 const ENOUGH: usize = 4096;
 
 /// What the first bytes of a connection begin.
-#[derive(Clone, Copy, Debug, PartialEq, Eq)]
+#[derive(Clone, Copy)]
 pub(crate) enum Start {
     /// A call, whole or for the most part.
     Call,
@@ -25,7 +25,7 @@ pub(crate) enum Start {
 }
 
 /// What a look at a connection gave.
-#[derive(Clone, Copy, Debug, PartialEq, Eq)]
+#[derive(Clone, Copy)]
 pub(crate) enum Heard {
     /// Nothing has come.
     Nothing,

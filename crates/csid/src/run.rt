@@ -6,48 +6,18 @@ ghost use Rattle.csid.specs.Statuses.{IsOrNoMemory};
 use crate::command::{Serving, Task, asked, command, odd_number};
 use crate::config::configuration;
 use crate::failure::{Failure, Peer, outcome};
-use crate::say::say_failure;
+use crate::say::say;
 use crate::socket::{listen, serve_all};
 use crate::tables::{Blank, check_standing, close, open, survey};
 use clap::ArgMatches;
-use clap::error::ErrorKind as ArgumentsKind;
-use command_line::refusal_line;
+use command_line::{ArgumentsFault, arguments, matches};
 use csi_config::Config;
 use csi_keeper::{Keeper, MemKeeper};
 use csi_server::serve;
-use std::alloc::{AllocError, Global};
-use std::env;
-use std::io::{self, ErrorKind};
+use std::alloc::Global;
 
 /// The number that the first volume gets.
 pub(crate) const FIRST_NUMBER: u64 = 1;
-
-// Arguments that are refused, with this line.
-fn refused(line: Result<String, AllocError>) -> Failure
-    ensures { IsOrNoMemory 2 result }
-{
-    match line {
-        Ok(line) => Failure::Arguments(line),
-        Err(_) => Failure::NoMemory,
-    }
-}
-
-// Prints help or the version.
-fn print(rt: &HostRuntime, help: &clap::Error) -> Result<(), Failure> {
-    match help.print(rt) {
-        Ok(()) => Ok(()),
-        Err(_) => Err(Failure::WriteFailed("standard output")),
-    }
-}
-
-// Prints help or the version, if the arguments ask for that; else they are refused.
-fn end_arguments(rt: &HostRuntime, error: &clap::Error) -> Result<(), Failure> {
-    match error.kind() {
-        ArgumentsKind::OutOfMemory => Err(Failure::NoMemory),
-        ArgumentsKind::DisplayHelp | ArgumentsKind::DisplayVersion => print(rt, error),
-        _ => Err(refused(refusal_line(rt.alloc(), error))),
-    }
-}
 
 // Answers the calls of standard input over a keeper.
 fn serve_pipe<K: Keeper>(rt: &HostRuntime, config: &Config, keeper: &mut K) -> Result<(), Failure> {
@@ -75,7 +45,7 @@ fn pipe_over_tables(
     if let Err(closing) = close(rt.alloc(), path, tables) {
         // Both are said, and the program ends with what became of the file.
         if let Err(failure) = &served {
-            say_failure(rt, failure);
+            say(rt, failure);
         }
         return Err(closing);
     }
@@ -137,7 +107,7 @@ fn refused_number(alloc: Global, option: &str, number: &str) -> Failure
     let line = format!(in alloc;
         "invalid value '{number}' for '{option}': not decimal digits alone"
     );
-    refused(line)
+    Failure::Arguments(ArgumentsFault::refused(line))
 }
 
 // Does what the arguments ask.
@@ -155,20 +125,6 @@ fn obey(rt: &HostRuntime, arguments: &ArgMatches<'_>) -> Result<(), Failure> {
     }
 }
 
-fn collected(rt: &HostRuntime) -> io::Result<Vec<String>> {
-    let arguments: Vec<String> = env::args(rt)?.collect(rt.alloc())?;
-    Ok(arguments)
-}
-
-// The arguments of the program, with its name before them.
-fn arguments(rt: &HostRuntime) -> Result<Vec<String>, Failure> {
-    match collected(rt) {
-        Ok(arguments) => Ok(arguments),
-        Err(error) if error.kind() == ErrorKind::OutOfMemory => Err(Failure::NoMemory),
-        Err(_) => Err(Failure::NotText),
-    }
-}
-
 /// Does what the command line asks.
 ///
 /// # Errors
@@ -176,12 +132,8 @@ fn arguments(rt: &HostRuntime) -> Result<Vec<String>, Failure> {
 /// Why the program ends with a status other than 0. It is not said yet.
 pub(crate) fn run(rt: &HostRuntime) -> Result<(), Failure> {
     let arguments = arguments(rt)?;
-    let command = match command(rt.alloc()) {
-        Ok(command) => command,
-        Err(error) => return end_arguments(rt, &error),
-    };
-    match command.try_get_matches_from(arguments.as_slice()) {
-        Ok(matches) => obey(rt, &matches),
-        Err(error) => end_arguments(rt, &error),
+    match matches(rt, command(rt.alloc()), arguments.as_slice())? {
+        Some(matches) => obey(rt, &matches),
+        None => Ok(()),
     }
 }

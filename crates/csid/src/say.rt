@@ -1,30 +1,14 @@
 //! What is said on standard error.
 
-use crate::failure::Failure;
-use command_line::line;
+use command_line::Named;
 use std::fmt::Display;
-use std::io::Write;
 
-/// Says one line on standard error. That it cannot be written changes no status.
-pub(crate) fn say(rt: &HostRuntime, text: &str) {
-    let _ = match line(rt.alloc(), "csid", text) {
-        Ok(line) => rt.stderr().write_all(line.as_bytes()),
-        Err(_) => rt.stderr().write_all(b"csid: out of memory\n"),
-    };
+/// Says one line. That it cannot be written changes no status.
+pub(crate) fn say<T: Display>(rt: &HostRuntime, what: &T) {
+    command_line::say(rt, "csid", what);
 }
 
 /// Says what there is to say of a file, behind its path.
 pub(crate) fn say_of<T: Display>(rt: &HostRuntime, path: &str, what: &T) {
-    match format!(in rt.alloc(); "{path}: {what}") {
-        Ok(text) => say(rt, text.as_str()),
-        Err(_) => say(rt, "out of memory"),
-    }
-}
-
-/// Says a failure.
-pub(crate) fn say_failure(rt: &HostRuntime, failure: &Failure) {
-    match format!(in rt.alloc(); "{failure}") {
-        Ok(text) => say(rt, text.as_str()),
-        Err(_) => say(rt, "out of memory"),
-    }
+    say(rt, &Named { name: path, what });
 }

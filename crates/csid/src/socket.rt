@@ -9,7 +9,7 @@ use crate::group::group_number;
 use crate::peer::{Patient, has_gone, settle};
 use crate::pending::{Pending, Start};
 use crate::run::FIRST_NUMBER;
-use crate::say::{say, say_failure, say_of};
+use crate::say::{say, say_of};
 use crate::tables::{Blank, Store, close, open};
 use crate::waiting::Waiting;
 use csi_config::Config;
@@ -89,10 +89,10 @@ pub(crate) fn listen(
 // Says how a connection ended.
 fn tell_end(rt: &HostRuntime, is_idle: bool, end: RunEnd) {
     match end {
-        RunEnd::ReadFailed if is_idle => say(rt, "a connection that sent nothing was closed"),
+        RunEnd::ReadFailed if is_idle => say(rt, &"a connection that sent nothing was closed"),
         _ => {
             if let Err(failure) = outcome(Peer::Connection, end) {
-                say_failure(rt, &failure);
+                say(rt, &failure);
             }
         }
     }
@@ -110,7 +110,7 @@ fn serve_one<K: Keeper>(rt: &HostRuntime, config: &Config, keeper: &mut K, peer:
 fn refuse_peer(rt: &HostRuntime, config: &Config, peer: &Pending) {
     match MemKeeper::new(rt.alloc(), FIRST_NUMBER) {
         Ok(mut keeper) => serve_one(rt, config, &mut keeper, peer),
-        Err(_) => say_failure(rt, &Failure::NoMemory),
+        Err(_) => say(rt, &Failure::NoMemory),
     }
 }
 
@@ -143,7 +143,7 @@ fn answer_over_tables(
 // the connection is closed unanswered. What went wrong is said, and the next connection opens them anew.
 fn serve_over_tables(rt: &HostRuntime, config: &Config, serving: &Serving<'_>, peer: &Pending) {
     if let Err(failure) = answer_over_tables(rt, config, serving, peer) {
-        say_failure(rt, &failure);
+        say(rt, &failure);
     }
 }
 
@@ -154,7 +154,7 @@ fn serve_peer(rt: &HostRuntime, config: &Config, serving: &Serving<'_>, peer: &P
         return;
     }
     match settle(&peer.stream, serving.idle) {
-        Ok(()) if peer.start == Some(Start::NoCall) => refuse_peer(rt, config, peer),
+        Ok(()) if matches!(peer.start, Some(Start::NoCall)) => refuse_peer(rt, config, peer),
         Ok(()) => serve_over_tables(rt, config, serving, peer),
         Err(error) => say_of(rt, "a connection's time cannot be limited", &error),
     }

@@ -21,7 +21,7 @@ const LEAF: u8 = 13;
 const LOG_WITH_FRAME_BYTES: u64 = 32 + 24 + 512;
 
 /// Why a file does not stand for tables, where none may be made.
-#[derive(Clone, Copy, Debug, PartialEq, Eq, Error)]
+#[derive(Clone, Copy, Debug, Error)]
 pub(crate) enum Fault {
     /// There is no file.
     #[error("there is no such file, and none is made")]

@@ -5,7 +5,7 @@ ghost use Rattle.csid.specs.Statuses.{IsOrNoMemory};
 
 use crate::content::{Content, read_content};
 use crate::failure::Failure;
-use crate::say::{say_failure, say_of};
+use crate::say::{say, say_of};
 use crate::standing::{Fault, fault_of_standing, make_private};
 use csi_adoption::{AdoptError, AdoptFault, adopt};
 use csi_config::Config;
@@ -18,7 +18,7 @@ use std::alloc::Global;
 pub(crate) type Store = FileStore<File>;
 
 /// What is done where a file is missing or has no tables.
-#[derive(Clone, Copy, Debug, PartialEq, Eq)]
+#[derive(Clone, Copy, PartialEq)]
 pub(crate) enum Blank {
     /// It is refused, and nothing is made.
     Refuse,
@@ -182,7 +182,7 @@ pub(crate) fn close(alloc: Global, path: &str, tables: Tables<Store>) -> Result<
 fn tell_content(rt: &HostRuntime, path: &str, content: Result<Content, Error>) {
     match content {
         Ok(content) => say_of(rt, path, &content),
-        Err(error) => say_failure(rt, &of_database(rt.alloc(), path, &error)),
+        Err(error) => say(rt, &of_database(rt.alloc(), path, &error)),
     }
 }
 
@@ -191,7 +191,7 @@ fn tell_and_close(rt: &HostRuntime, path: &str, tables: Tables<Store>) {
     let mut conn = tables.into_connection();
     let content = read_content(&mut conn);
     if let Err(failure) = disconnect(rt.alloc(), path, conn) {
-        say_failure(rt, &failure);
+        say(rt, &failure);
     }
     tell_content(rt, path, content);
 }
@@ -200,6 +200,6 @@ fn tell_and_close(rt: &HostRuntime, path: &str, tables: Tables<Store>) {
 pub(crate) fn survey(rt: &HostRuntime, path: &str, config: &Config, blank: Blank) {
     match open(rt, path, config, blank) {
         Ok(tables) => tell_and_close(rt, path, tables),
-        Err(failure) => say_failure(rt, &failure),
+        Err(failure) => say(rt, &failure),
     }
 }

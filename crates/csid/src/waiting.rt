@@ -77,7 +77,7 @@ impl<'a> Waiting<'a> {
     fn oldest(&self) -> Option<usize> {
         self.pending
             .iter()
-            .position(|it| it.start == Some(Start::Open))
+            .position(|it| matches!(it.start, Some(Start::Open)))
     }
 
     // Closes that one.
@@ -86,7 +86,7 @@ impl<'a> Waiting<'a> {
             let _ = self.pending.remove(place);
             say(
                 rt,
-                "a connection that had sent no call was closed, as too many wait",
+                &"a connection that had sent no call was closed, as too many wait",
             );
         }
     }
@@ -142,7 +142,7 @@ impl<'a> Waiting<'a> {
     // Whether a connection has sent nothing for as long as it may.
     fn is_overdue(&self, one: &Pending, now: Instant) -> bool {
         match self.idle {
-            Some(longest) => one.start == Some(Start::Open)
+            Some(longest) => matches!(one.start, Some(Start::Open))
                 && now.duration_since(one.since) >= longest,
             None => false,
         }
@@ -157,7 +157,7 @@ impl<'a> Waiting<'a> {
             }
             Heard::Lost => false,
             Heard::Nothing if self.is_overdue(one, now) => {
-                say(rt, "a connection that sent nothing was closed");
+                say(rt, &"a connection that sent nothing was closed");
                 false
             }
             Heard::Nothing => true,

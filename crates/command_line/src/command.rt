@@ -1,0 +1,122 @@
+//! The arguments of a program, and what is done with those that ask for nothing that it does.
+
+ghost use Rattle.std.specs.Prelude.{◌≡◌};
+ghost use Rattle.command_line.specs.Statuses.{IsRefusal, arguments_status};
+
+use clap::error::ErrorKind as ClapKind;
+use clap::{ArgMatches, Command, Error as ClapError};
+use std::alloc::{AllocError, Global};
+use std::env;
+use std::io::{self, ErrorKind};
+use thiserror::Error;
+
+/// Why a program is not told what to do. Its `Display` is the line that is said.
+#[derive(Debug, Drop, Error)]
+pub enum ArgumentsFault {
+    /// An argument is not UTF-8.
+    #[error("a word is no text")]
+    NotText,
+    /// The arguments are not understood.
+    #[error("{0}")]
+    Refused(String),
+    /// Help or the version cannot be written.
+    #[error("a write to standard output failed")]
+    WriteFailed,
+    /// There is no memory.
+    #[error("out of memory")]
+    NoMemory,
+}
+
+impl ArgumentsFault {
+    /// Arguments that are refused, with this line.
+    pub fn refused(line: Result<String, AllocError>) -> ArgumentsFault
+        ensures { IsRefusal result }
+    {
+        match line {
+            Ok(line) => ArgumentsFault::Refused(line),
+            Err(_) => ArgumentsFault::NoMemory,
+        }
+    }
+
+    /// The exit status.
+    pub fn status(&self) -> u8
+        ensures { result ≡ arguments_status self.now }
+    {
+        match self {
+            ArgumentsFault::NotText | ArgumentsFault::Refused(_) => 2,
+            ArgumentsFault::WriteFailed => 5,
+            ArgumentsFault::NoMemory => 6,
+        }
+    }
+}
+
+fn collected(rt: &HostRuntime) -> io::Result<Vec<String>> {
+    let arguments: Vec<String> = env::args(rt)?.collect(rt.alloc())?;
+    Ok(arguments)
+}
+
+/// The arguments of the program, with its name before them.
+///
+/// # Errors
+///
+/// Where one is not UTF-8, or memory was refused.
+pub fn arguments(rt: &HostRuntime) -> Result<Vec<String>, ArgumentsFault> {
+    match collected(rt) {
+        Ok(arguments) => Ok(arguments),
+        Err(error) if error.kind() == ErrorKind::OutOfMemory => Err(ArgumentsFault::NoMemory),
+        Err(_) => Err(ArgumentsFault::NotText),
+    }
+}
+
+// Why arguments are refused, in one line: the first paragraph of what `clap` says, without the word
+// `error` before it.
+fn refusal_line(alloc: Global, error: &ClapError) -> Result<String, AllocError> {
+    let text = format!(in alloc; "{error}")?;
+    let mut line = String::new(alloc);
+    for part in text.as_str().lines() {
+        if part.is_empty() {
+            break;
+        }
+        if !line.is_empty() {
+            line.push(' ')?;
+        }
+        let part = part.trim();
+        line.push_str(part.strip_prefix("error: ").unwrap_or(part))?;
+    }
+    Ok(line)
+}
+
+// Prints help or the version, if the arguments ask for that; else they are refused.
+fn end(rt: &HostRuntime, error: &ClapError) -> Result<(), ArgumentsFault> {
+    match error.kind() {
+        ClapKind::OutOfMemory => Err(ArgumentsFault::NoMemory),
+        ClapKind::DisplayHelp | ClapKind::DisplayVersion => match error.print(rt) {
+            Ok(()) => Ok(()),
+            Err(_) => Err(ArgumentsFault::WriteFailed),
+        },
+        _ => Err(ArgumentsFault::refused(refusal_line(rt.alloc(), error))),
+    }
+}
+
+/// What the arguments ask for; nothing where that is help or the version, which is printed then.
+///
+/// # Errors
+///
+/// Where the command was not made or refuses them, printing fails, or memory was refused.
+pub fn matches<'a>(
+    rt: &HostRuntime,
+    command: Result<Command<'a>, ClapError>,
+    arguments: &'a [String],
+) -> Result<Option<ArgMatches<'a>>, ArgumentsFault> {
+    let matched = match command {
+        Ok(command) => command.try_get_matches_from(arguments),
+        Err(error) => Err(error),
+    };
+    match matched {
+        Ok(matches) => Ok(Some(matches)),
+        Err(error) => {
+            end(rt, &error)?;
+            Ok(None)
+        }
+    }
+}

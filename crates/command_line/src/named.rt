@@ -1,0 +1,34 @@
+//! What is said of something that has a name.
+
+use std::alloc::{AllocError, Global};
+use std::fmt::{self, Display};
+
+/// What there is to say of a file or of something else, behind its name. Its `Display` is `NAME: WHAT`.
+#[derive(Debug, Drop)]
+pub struct Named<N, W> {
+    /// The name, as a path.
+    pub name: N,
+    /// What there is to say.
+    pub what: W,
+}
+
+impl<N: Display, W: Display> Display for Named<N, W> {
+    fn fmt<F: fmt::Write>(&self, f: &mut fmt::Formatter<F>) -> fmt::Result {
+        write!(f, "{}: {}", self.name, self.what)
+    }
+}
+
+/// What has failed, and why, both as texts of their own.
+pub type Cause = Named<String, String>;
+
+/// Copies a name, and writes why it failed.
+///
+/// # Errors
+///
+/// Where memory was refused.
+pub fn cause<W: Display>(alloc: Global, name: &str, why: &W) -> Result<Cause, AllocError> {
+    Ok(Named {
+        name: String::from_str(alloc, name)?,
+        what: format!(in alloc; "{why}")?,
+    })
+}

@@ -1,0 +1,142 @@
+//! Options and subcommands, as tables.
+
+use clap::{Arg, ArgAction, Command, Error, value_parser};
+use std::alloc::{AllocError, Global};
+
+/// What an option takes, and the name of that in the help.
+#[derive(Clone, Copy)]
+pub enum Takes {
+    /// Nothing: it is there or not.
+    Nothing,
+    Text(&'static str),
+    /// A text without an option before it.
+    Place(&'static str),
+    /// A number of `i32`, 0 or more.
+    Number(&'static str),
+    /// A number of `i64`, 0 or more.
+    Bytes(&'static str),
+    /// A number from 1 to this one.
+    Count(&'static str, u32),
+}
+
+/// An option of a command.
+#[derive(Clone, Copy)]
+pub struct CommandOption {
+    /// Its name, without the dashes.
+    pub name: &'static str,
+    pub takes: Takes,
+    pub is_required: bool,
+    /// The option that has to stand beside it.
+    pub beside: Option<&'static str>,
+    /// What it is without it.
+    pub standard: Option<&'static str>,
+    pub help: &'static str,
+}
+
+impl CommandOption {
+    /// Whether it takes a number.
+    pub fn is_number(&self) -> bool {
+        matches!(
+            self.takes,
+            Takes::Number(_) | Takes::Bytes(_) | Takes::Count(..)
+        )
+    }
+}
+
+/// An option of which nothing is said yet.
+pub const OPTION: CommandOption = CommandOption {
+    name: "",
+    takes: Takes::Nothing,
+    is_required: false,
+    beside: None,
+    standard: None,
+    help: "",
+};
+
+fn taking<'a>(arg: Arg<'a>, takes: Takes) -> Arg<'a> {
+    match takes {
+        Takes::Nothing => arg.action(ArgAction::SetTrue),
+        Takes::Text(name) | Takes::Place(name) => arg.value_name(name),
+        Takes::Number(name) => arg
+            .value_name(name)
+            .value_parser(value_parser!(i32).range(0..)),
+        Takes::Bytes(name) => arg
+            .value_name(name)
+            .value_parser(value_parser!(i64).range(0..)),
+        Takes::Count(name, most) => arg
+            .value_name(name)
+            .value_parser(value_parser!(u32).range(1..=i64::from(most))),
+    }
+}
+
+// What it is called.
+fn named<'a>(alloc: Global, option: &CommandOption) -> Arg<'a> {
+    let arg = Arg::new(alloc, option.name).help(option.help);
+    match option.takes {
+        Takes::Place(_) => arg,
+        _ => arg.long(option.name),
+    }
+}
+
+fn with_standard<'a>(arg: Arg<'a>, standard: Option<&'static str>) -> Arg<'a> {
+    match standard {
+        Some(value) => arg.default_value(value),
+        None => arg,
+    }
+}
+
+fn arg<'a>(alloc: Global, option: &CommandOption) -> Result<Arg<'a>, AllocError> {
+    let arg = taking(named(alloc, option), option.takes).required(option.is_required);
+    let arg = with_standard(arg, option.standard);
+    match option.beside {
+        Some(other) => arg.requires_arg(other),
+        None => Ok(arg),
+    }
+}
+
+fn args<'a>(alloc: Global, options: &[CommandOption]) -> Result<Vec<Arg<'a>>, Error> {
+    let mut args = Vec::new(alloc);
+    for option in options {
+        args.push(arg(alloc, option)?)?;
+    }
+    Ok(args)
+}
+
+/// A command with further options.
+///
+/// # Errors
+///
+/// Where memory was refused.
+pub fn with_options<'a>(
+    alloc: Global,
+    command: Command<'a>,
+    options: &[CommandOption],
+) -> Result<Command<'a>, Error> {
+    Ok(command.args(args(alloc, options)?)?)
+}
+
+/// A command with these options.
+///
+/// # Errors
+///
+/// Where memory was refused.
+pub fn command_of<'a>(
+    alloc: Global,
+    name: &'static str,
+    about: &'static str,
+    options: &[CommandOption],
+) -> Result<Command<'a>, Error> {
+    with_options(alloc, Command::new(alloc, name).about(about), options)
+}
+
+/// A command with a further subcommand.
+///
+/// # Errors
+///
+/// Where memory was refused.
+pub fn with_subcommand<'a>(
+    command: Command<'a>,
+    subcommand: Result<Command<'a>, Error>,
+) -> Result<Command<'a>, Error> {
+    Ok(command.subcommand(subcommand?)?)
+}
