@@ -9,7 +9,7 @@ encoding guide and docs/PROTOCOL.md say. Which reply a call gets is stated in it
 docs/MACHINE.md, with the sample configuration of docs/OPERATING.md: volumes of 1 MiB by default and 8 MiB at most, the pool p1 of 10 MiB
 in zone a, the pool p2 of 4 MiB in zone b, and the nodes n1 and n2, of 2 volumes each.
 """
-import re, sys
+import functools, re, sys
 
 HEAD = """\
 # Test vectors of the server: what it writes for a stream of calls, byte for byte.
@@ -127,40 +127,15 @@ def controller(method, *parts):
     return frame("/csi.v1.Controller/" + method, *parts)
 
 
-def probe(*parts):
-    return identity("Probe", *parts)
-
-
-def create(*parts):
-    return controller("CreateVolume", *parts)
-
-
-def delete(*parts):
-    return controller("DeleteVolume", *parts)
-
-
-def publish(*parts):
-    return controller("ControllerPublishVolume", *parts)
-
-
-def unpublish(*parts):
-    return controller("ControllerUnpublishVolume", *parts)
-
-
-def validate(*parts):
-    return controller("ValidateVolumeCapabilities", *parts)
-
-
-def modify(*parts):
-    return controller("ControllerModifyVolume", *parts)
-
-
-def listing(*parts):
-    return controller("ListVolumes", *parts)
-
-
-def capacity(*parts):
-    return controller("GetCapacity", *parts)
+probe = functools.partial(identity, "Probe")
+create = functools.partial(controller, "CreateVolume")
+delete = functools.partial(controller, "DeleteVolume")
+publish = functools.partial(controller, "ControllerPublishVolume")
+unpublish = functools.partial(controller, "ControllerUnpublishVolume")
+validate = functools.partial(controller, "ValidateVolumeCapabilities")
+modify = functools.partial(controller, "ControllerModifyVolume")
+listing = functools.partial(controller, "ListVolumes")
+capacity = functools.partial(controller, "GetCapacity")
 
 
 def name(text):

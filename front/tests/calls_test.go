@@ -11,12 +11,18 @@ import (
 	"google.golang.org/grpc/codes"
 )
 
+// behindSlow is a front before a fake csid that answers its first call once it is let.
+func behindSlow(t *testing.T) (*fake, *process, chan struct{}) {
+	t.Helper()
+	let := make(chan struct{})
+	csid := startFake(t, step{wait: let, write: okFrame("01")})
+	return csid, startFront(t, csid.socket), let
+}
+
 // A deadline ends a call that csid does not answer; the next one goes over the same connection, and does not get the late reply.
 func TestDeadline(t *testing.T) {
 	t.Parallel()
-	let := make(chan struct{})
-	csid := startFake(t, step{wait: let, write: okFrame("01")})
-	process := startFront(t, csid.socket)
+	csid, process, let := behindSlow(t)
 	front := newClient(t, process.socket)
 	begin := time.Now()
 	if got := front.send(soon(t, 200*time.Millisecond), "/a/b", nil); got.code != codes.DeadlineExceeded {
@@ -67,9 +73,7 @@ func TestCancelledCall(t *testing.T) {
 // And so does one whose connection goes away.
 func TestClientThatGoesAway(t *testing.T) {
 	t.Parallel()
-	let := make(chan struct{})
-	csid := startFake(t, step{wait: let, write: okFrame("01")})
-	process := startFront(t, csid.socket)
+	csid, process, let := behindSlow(t)
 	leaving := newClient(t, process.socket)
 	go func() {
 		csid.called(t, 1)

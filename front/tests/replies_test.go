@@ -86,6 +86,18 @@ func losesOneCall(t *testing.T, does step) {
 	csid.sees(t, "/a/b 01", probe+" ")
 }
 
+// eachLosesOneCall does so with each of these replies, behind which csid closes the connection, or doesn't.
+func eachLosesOneCall(t *testing.T, replies map[string][]byte, closes bool) {
+	t.Helper()
+	for name, reply := range replies {
+		name, does := name, step{write: reply, close: closes}
+		t.Run(name, func(t *testing.T) {
+			t.Parallel()
+			losesOneCall(t, does)
+		})
+	}
+}
+
 // A reply that breaks a rule, or breaks off, leaves the outcome open, and ends the connection: the next call has a new one.
 func TestMalformedReplies(t *testing.T) {
 	t.Parallel()
@@ -99,13 +111,7 @@ func TestMalformedReplies(t *testing.T) {
 		"a body beside a refusal":          fromHex(t, "03 0000 00 00000001 41"),
 		"a body of more than 4 MiB":        fromHex(t, "00 0000 00 00400001"),
 	}
-	for name, reply := range rows {
-		name, reply := name, reply
-		t.Run(name, func(t *testing.T) {
-			t.Parallel()
-			losesOneCall(t, step{write: reply})
-		})
-	}
+	eachLosesOneCall(t, rows, false)
 }
 
 // A connection that breaks in a call leaves the outcome open, and the front doesn't send the call again by itself.
@@ -119,13 +125,7 @@ func TestConnectionThatBreaks(t *testing.T) {
 		"before the body":   fromHex(t, "00 0000 00 00000004"),
 		"behind the status": fromHex(t, "00"),
 	}
-	for name, reply := range rows {
-		name, reply := name, reply
-		t.Run(name, func(t *testing.T) {
-			t.Parallel()
-			losesOneCall(t, step{write: reply, close: true})
-		})
-	}
+	eachLosesOneCall(t, rows, true)
 }
 
 // A connection that csid closes in place of a reply is told as that, also where it read nothing of the call.

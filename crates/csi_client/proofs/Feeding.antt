@@ -8,7 +8,7 @@ use Rattle.frames_core.specs.Grammar as grammar
 use Rattle.frames_core.specs.declared.reply_fault.ReplyFault.{ReplyFault}
 use Rattle.frames_core.specs.declared.reply_fault.ReplyWhy.{ReplyWhy}
 use Rattle.frames_core.specs.declared.reply_fault.ReplyWhy.TheVariants.{BadStatus, BadTextLength, BadText, BadFlag, BadBodyLength, EndOfInput}
-use Rattle.frames_core.specs.ReplyFramer.{ReplyFramerState, IsReplyFrame, IsReplySettled, IsReplyBreakOf, IsReplyFaultOf}
+use Rattle.frames_core.specs.Framer.{ReplyFramerState, IsReplyFrame, IsReplySettled, IsReplyBreakOf, IsReplyFaultOf}
 use Rattle.frames_core.specs.ReplyStream.{BreaksFirst, FaultAt, IsUnfinished, BeginsReply}
 
 -- what a feed of these bytes leaves

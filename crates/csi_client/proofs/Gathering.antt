@@ -8,7 +8,7 @@ use Rattle.frames_core.specs.Envelope.{ReplyBytes, IsReply, reply}
 use Rattle.frames_core.specs.declared.reply_fault.ReplyFault.{ReplyFault}
 use Rattle.frames_core.specs.declared.reply_fault.ReplyWhy.{ReplyWhy}
 use Rattle.frames_core.specs.declared.reply_fault.ReplyWhy.TheVariants.{EndOfInput}
-use Rattle.frames_core.specs.ReplyFramer.{ReplyFramerState, IsReplyFrame, IsReplySettled, IsReplyCutShort, reply_cut_short, reply_start}
+use Rattle.frames_core.specs.Framer.{ReplyFramerState, IsReplyFrame, IsReplySettled, IsReplyCutShort, reply_cut_short, reply_start}
 use Rattle.frames_core.specs.ReplyStream.{FaultAt, IsUnfinished, BeginsReply}
 use Rattle.csi_client.specs.Receiving.{HasFault, Gathered, Gathers, IsGathering}
 use Rattle.csi_client.proofs.Feeding.{Fed, fault_of, not_at_end, known_break, all_held, took_all, no_some}

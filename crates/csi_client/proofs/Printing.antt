@@ -14,7 +14,7 @@ use Rattle.frames_core.specs.Envelope.{ReplyBytes, IsReply, reply}
 use Rattle.frames_core.specs.declared.reply_fault.ReplyFault.{ReplyFault}
 use Rattle.frames_core.specs.declared.reply_fault.ReplyWhy.{ReplyWhy}
 use Rattle.frames_core.specs.declared.reply_fault.ReplyWhy.TheVariants.{EndOfInput}
-use Rattle.frames_core.specs.ReplyFramer.{ReplyFramerState, IsReplyFrame, IsReplySettled, IsReplyCutShort, IsReplyFaultOf, reply_cut_short, reply_start}
+use Rattle.frames_core.specs.Framer.{ReplyFramerState, IsReplyFrame, IsReplySettled, IsReplyCutShort, IsReplyFaultOf, reply_cut_short, reply_start}
 use Rattle.frames_core.specs.ReplyStream.{IsUnfinished}
 use Rattle.csi_client.specs.declared.showing.Halt.{Halt}
 use Rattle.csi_client.specs.declared.showing.Halt.TheVariants as halt

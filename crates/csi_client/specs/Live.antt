@@ -5,7 +5,7 @@ use Rattle.csi_types.specs.declared.code.Code.TheVariants as code
 use Rattle.csi_types.specs.declared.method.Method.{Method}
 use Rattle.frames_core.specs.Envelope.{ReplyBytes}
 use Rattle.frames_core.specs.ReplyStream.{IsUnfinished}
-use Rattle.frames_core.specs.ReplyFramer.{ReplyFramerState}
+use Rattle.frames_core.specs.Framer.{ReplyFramerState}
 use Rattle.csi_client.specs.declared.showing.Halt.{Halt}
 use Rattle.csi_client.specs.declared.showing.Halt.TheVariants as halt
 use Rattle.csi_client.specs.declared.showing.ShowEnd.{ShowEnd}

@@ -5,7 +5,7 @@ use Rattle.frames_core.specs.declared.reply_fault.ReplyFault.{ReplyFault}
 use Rattle.frames_core.specs.declared.reply_fault.ReplyWhy.TheVariants.{EndOfInput}
 use Rattle.frames_core.specs.Envelope.{ReplyBytes, IsReply, reply}
 use Rattle.frames_core.specs.ReplyStream.{BeginsReply, FaultAt, IsUnfinished}
-use Rattle.frames_core.specs.ReplyFramer.{ReplyFramerState, IsReplyFrame}
+use Rattle.frames_core.specs.Framer.{ReplyFramerState, IsReplyFrame}
 use Rattle.csi_client.specs.declared.receiving.Received.{Received}
 use Rattle.csi_client.specs.declared.receiving.Received.TheVariants.{Reply, Nothing, Malformed, Failed, NoMemory}
 use Rattle.csi_client.specs.declared.receiving.ReceivedReply.{ReceivedReply}

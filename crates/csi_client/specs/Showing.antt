@@ -11,7 +11,7 @@ use Rattle.frames_core.specs.declared.reply_fault.ReplyFault.{ReplyFault}
 use Rattle.frames_core.specs.declared.reply_fault.ReplyWhy.TheVariants.{EndOfInput}
 use Rattle.frames_core.specs.Envelope.{ReplyBytes, IsReply, reply}
 use Rattle.frames_core.specs.ReplyStream.{IsUnfinished}
-use Rattle.frames_core.specs.ReplyFramer.{IsReplyFaultOf}
+use Rattle.frames_core.specs.Framer.{IsReplyFaultOf}
 use Rattle.csi_client.specs.declared.showing.ShowEnd.{ShowEnd}
 use Rattle.csi_client.specs.declared.showing.ShowEnd.TheVariants.{Done, Malformed, BadBody, ReadFailed, WriteFailed, NoMemory}
 use Rattle.csi_client.specs.declared.showing.Halt.{Halt}

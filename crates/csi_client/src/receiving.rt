@@ -2,7 +2,7 @@
 
 ghost use Rattle.std.specs.Prelude.{◌≡◌, None, false, IfOk, IsTrue};
 ghost use Rattle.frames_core.specs.Envelope.{reply_bytes_of};
-ghost use Rattle.frames_core.specs.ReplyFramer.{IsReplySettled, reply_start};
+ghost use Rattle.frames_core.specs.Framer.{IsReplySettled, reply_start};
 ghost use Rattle.frames_core.specs.ReplyStream.{IsUnfinished};
 ghost use Rattle.csi_client.specs.Receiving.{Receives, Gathers, reply_of};
 

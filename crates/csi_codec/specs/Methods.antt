@@ -18,10 +18,10 @@ use Rattle.csi_codec.specs.messages.Volume.{volume_in, volume_schema, canon_volu
 use Rattle.csi_codec.specs.messages.VolumeRequests.{create_in, create_schema, canon_create, FitsCreate, delete_in, delete_schema, canon_delete, FitsDelete, modify_in, modify_schema, canon_modify, FitsModify}
 use Rattle.csi_codec.specs.messages.PublishRequests.{publish_in, publish_schema, canon_publish, FitsPublish, unpublish_in, unpublish_schema, canon_unpublish, FitsUnpublish}
 use Rattle.csi_codec.specs.messages.QueryRequests.{validate_in, validate_schema, canon_validate, FitsValidate, list_in, list_schema, canon_list, FitsList, capacity_in, capacity_schema, canon_capacity, FitsCapacity}
-use Rattle.csi_codec.specs.declared.messages.response_parts.PluginInfo.{PluginInfo}
-use Rattle.csi_codec.specs.declared.messages.response_parts.Validation.{Validation}
-use Rattle.csi_codec.specs.declared.messages.response_parts.Listing.{Listing}
-use Rattle.csi_codec.specs.declared.messages.response_parts.FreeCapacity.{FreeCapacity}
+use Rattle.csi_codec.specs.declared.messages.responses.PluginInfo.{PluginInfo}
+use Rattle.csi_codec.specs.declared.messages.responses.Validation.{Validation}
+use Rattle.csi_codec.specs.declared.messages.responses.Listing.{Listing}
+use Rattle.csi_codec.specs.declared.messages.responses.FreeCapacity.{FreeCapacity}
 use Rattle.csi_codec.specs.messages.ResponseParts.{info_in, info_schema, canon_info, FitsInfo, validation_in, validation_schema, canon_validation, FitsValidation, listing_in, listing_schema, canon_listing, FitsListing, free_in, free_schema, canon_free, FitsFree}
 
 -- ---- requests

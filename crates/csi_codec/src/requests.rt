@@ -6,7 +6,7 @@ ghost use Rattle.csi_codec.specs.Methods.{RefusesRequest, MeansRequest, request_
 ghost use Rattle.csi_codec.specs.Reading.{read_request, Decodes};
 
 use crate::message::{DecodeFault, decode_message};
-use crate::messages::single::NoFields;
+use crate::messages::values::NoFields;
 use crate::writing::Written;
 use csi_types::{Method, Request};
 use pbwire::laws::spelled;

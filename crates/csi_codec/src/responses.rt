@@ -6,11 +6,11 @@ ghost use Rattle.csi_codec.specs.Methods.{RefusesResponse, MeansResponse, respon
 ghost use Rattle.csi_codec.specs.Reading.{read_response, Decodes};
 
 use crate::message::{DecodeFault, decode_message};
-use crate::messages::response_parts::{
+use crate::messages::responses::{
     FreeCapacity, Listing, PluginInfo, Validation, put_free_capacity, put_listing, put_plugin_info,
     put_validation,
 };
-use crate::messages::single::NoFields;
+use crate::messages::values::NoFields;
 use crate::writing::Written;
 use csi_types::{Method, Response};
 use pbwire::laws::spelled;

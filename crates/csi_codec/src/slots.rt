@@ -6,7 +6,7 @@ ghost use Rattle.csi_codec.specs.Fields.{AreGood, fields_of};
 ghost use Rattle.csi_codec.specs.Views.{Payloads, value_of, inner, messages, text_map};
 
 use crate::message::{Message, first_fault, merge, read};
-use crate::messages::single::MapEntry;
+use crate::messages::values::MapEntry;
 use csi_types::{Items, Map, Text};
 use std::alloc::{AllocError, Global};
 

@@ -10,7 +10,7 @@ use lib.Pointwise.{bytes_decides}
 use Rattle.csi_types.specs.Maps.{same_text}
 use Rattle.csi_types.specs.Names.{is_empty}
 use Rattle.csi_types.specs.Topology.{some_two}
-use Rattle.csi_config.specs.Faults.{fault_if, is_label, all_bytes, breaks_pool, breaks_node, place_of_pool, place_of_node}
+use Rattle.csi_config.specs.Faults.{fault_if, is_label, all_bytes, breaks_pool, breaks_node, place_broken}
 use Rattle.csi_config.specs.Values.{Has}
 use Rattle.csi_config.specs.declared.fault.NodeRule.{NodeRule}
 use Rattle.csi_config.specs.declared.fault.PoolRule.{PoolRule}
@@ -112,10 +112,10 @@ named_apart pairs name xs off x y h k e =
       | inr r ↦ elim r as (λ _. x ≡ y) [ inl a ↦ let s = same_on (name x) (name y) e in absurd (cc (a, s)) | inr b ↦ let s = same_on (name y) (name x) (sym e) in absurd (cc (b, s)) ]
     ]
 
-pub pools_apart : Pairs Pool → (pools : List Pool) → place_of_pool PoolRule.NameTwice pools ≡ None → (p q : Pool) → Has pools p → Has pools q → p.name ≡ q.name → p ≡ q
+pub pools_apart : Pairs Pool → (pools : List Pool) → place_broken breaks_pool PoolRule.NameTwice pools ≡ None → (p q : Pool) → Has pools p → Has pools q → p.name ≡ q.name → p ≡ q
 pools_apart pairs pools off = named_apart pairs (λ (p : Pool). p.name) pools (nowhere (λ e. breaks_pool PoolRule.NameTwice (take e.0 pools) e.1) (enumerate_from 0 pools) off)
 
-pub nodes_apart : Pairs Node → (nodes : List Node) → place_of_node NodeRule.IdTwice nodes ≡ None → (m n : Node) → Has nodes m → Has nodes n → m.id ≡ n.id → m ≡ n
+pub nodes_apart : Pairs Node → (nodes : List Node) → place_broken breaks_node NodeRule.IdTwice nodes ≡ None → (m n : Node) → Has nodes m → Has nodes n → m.id ≡ n.id → m ≡ n
 nodes_apart pairs nodes off = named_apart pairs (λ (n : Node). n.id) nodes (nowhere (λ e. breaks_node NodeRule.IdTwice (take e.0 nodes) e.1) (enumerate_from 0 nodes) off)
 
 -- a rule that does not look at what is earlier is broken by none

@@ -1,9 +1,9 @@
 -- The rules of the table, each of which a configuration keeps.
-use Rattle.std.proofs.Common.{◌≡◌, ◌||◌, true, false, nat_lt, List, length, None}
+use Rattle.std.proofs.Common.{◌≡◌, ◌||◌, true, false, nat_lt, List, [], length, None, get_or, map}
 use Rattle.csi_types.specs.Names.{is_empty, longer_than}
 use Rattle.csi_types.specs.declared.limits.TheConstants.{MAX_TEXT_BYTES, MAX_POOLS, MAX_NODES, MAX_POOL_BYTES}
 use Rattle.csi_config.proofs.ConfigLemmas.{first_none, rest_none, if_none, map_none, not_off}
-use Rattle.csi_config.specs.Faults.{is_plugin_name, is_whole, all_bytes, place_of_pool, place_of_node, name_at, id_at, plugin_fault, broken_sizes, sizes_fault, pool_fault, pool_names_fault, pool_bytes_fault, segments_fault, node_fault, node_ids_fault, node_volumes_fault}
+use Rattle.csi_config.specs.Faults.{is_plugin_name, is_whole, all_bytes, breaks_pool, breaks_node, place_broken, name_of, id_of, plugin_fault, broken_sizes, sizes_fault, pool_fault, pool_names_fault, pool_bytes_fault, segments_fault, node_fault, node_ids_fault, node_volumes_fault}
 use Rattle.csi_config.specs.declared.config.Config.{Config}
 use Rattle.csi_config.specs.declared.fault.ConfigFault.TheVariants as Fault
 use Rattle.csi_config.specs.declared.fault.NodeRule.{NodeRule}
@@ -11,11 +11,11 @@ use Rattle.csi_config.specs.declared.fault.PoolRule.{PoolRule}
 use Rattle.csi_config.specs.declared.nodes.Node.{Node}
 use Rattle.csi_config.specs.declared.pools.Pool.{Pool}
 
-of_pool : (rule : PoolRule) (pools : List Pool) → pool_fault rule pools ≡ None → place_of_pool rule pools ≡ None
-of_pool rule pools h = map_none (λ place. Fault.Pool (name_at pools place) rule) (place_of_pool rule pools) h
+of_pool : (rule : PoolRule) (pools : List Pool) → pool_fault rule pools ≡ None → place_broken breaks_pool rule pools ≡ None
+of_pool rule pools h = map_none (λ place. Fault.Pool (get_or (map name_of pools) place []) rule) (place_broken breaks_pool rule pools) h
 
-of_node : (rule : NodeRule) (nodes : List Node) → node_fault rule nodes ≡ None → place_of_node rule nodes ≡ None
-of_node rule nodes h = map_none (λ place. Fault.Node (id_at nodes place) rule) (place_of_node rule nodes) h
+of_node : (rule : NodeRule) (nodes : List Node) → node_fault rule nodes ≡ None → place_broken breaks_node rule nodes ≡ None
+of_node rule nodes h = map_none (λ place. Fault.Node (get_or (map id_of nodes) place []) rule) (place_broken breaks_node rule nodes) h
 
 pub record IsGood (config : Config) : Type 0 where
   pub name : is_plugin_name config.plugin.name ≡ true
@@ -26,15 +26,15 @@ pub record IsGood (config : Config) : Type 0 where
   pub limit : nat_lt MAX_POOL_BYTES config.sizes.greatest_bytes ≡ false
   pub some_pools : is_empty config.pools ≡ false
   pub few_pools : nat_lt MAX_POOLS (length config.pools) ≡ false
-  pub names : place_of_pool PoolRule.Name config.pools ≡ None
-  pub names_apart : place_of_pool PoolRule.NameTwice config.pools ≡ None
-  pub wholes : place_of_pool PoolRule.Bytes config.pools ≡ None
+  pub names : place_broken breaks_pool PoolRule.Name config.pools ≡ None
+  pub names_apart : place_broken breaks_pool PoolRule.NameTwice config.pools ≡ None
+  pub wholes : place_broken breaks_pool PoolRule.Bytes config.pools ≡ None
   pub all : nat_lt MAX_POOL_BYTES (all_bytes config.pools) ≡ false
-  pub few_segments : place_of_pool PoolRule.Segments config.pools ≡ None
-  pub keys_apart : place_of_pool PoolRule.KeysAlike config.pools ≡ None
+  pub few_segments : place_broken breaks_pool PoolRule.Segments config.pools ≡ None
+  pub keys_apart : place_broken breaks_pool PoolRule.KeysAlike config.pools ≡ None
   pub few_nodes : nat_lt MAX_NODES (length config.nodes) ≡ false
-  pub ids_apart : place_of_node NodeRule.IdTwice config.nodes ≡ None
-  pub volumes : place_of_node NodeRule.Volumes config.nodes ≡ None
+  pub ids_apart : place_broken breaks_node NodeRule.IdTwice config.nodes ≡ None
+  pub volumes : place_broken breaks_node NodeRule.Volumes config.nodes ≡ None
 
 pub good : (config : Config) → IsGood config
 unfolding plugin_fault sizes_fault pool_names_fault pool_bytes_fault segments_fault node_ids_fault node_volumes_fault

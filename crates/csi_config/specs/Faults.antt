@@ -67,6 +67,14 @@ is_bad_id id = is_empty id || longer_than MAX_NODE_ID_BYTES id || list_any is_ba
 abbrev pub all_bytes : List Pool → ℕ
 all_bytes pools = sum_by (λ p. p.bytes) pools
 
+-- the place of the first item that breaks a rule, of a kind for which it is known when one does behind some earlier ones
+abbrev pub place_broken : {T R : Type 0} → (R → List T → T → Bool) → R → List T → Option ℕ
+place_broken breaks rule items = position (λ e. breaks rule (take e.0 items) e.1) (enumerate_from 0 items)
+
+-- the fault of the first item that breaks a rule, by its name
+abbrev pub first_broken : {T R : Type 0} → (R → List T → T → Bool) → (T → List ℕ) → (List ℕ → R → ConfigFault) → R → List T → Option ConfigFault
+first_broken breaks name fault rule items = option_map (λ place. fault (get_or (map name items) place []) rule) (place_broken breaks rule items)
+
 -- a segment, a key with its value, breaks a rule
 abbrev pub breaks_segment : PoolRule → List ℕ × List ℕ → Bool
 breaks_segment KeyEmpty e = is_empty e.0
@@ -85,16 +93,12 @@ breaks_pool KeyTooLong earlier p = list_any (λ e. longer_than MAX_TEXT_BYTES e.
 breaks_pool ValueTooLong earlier p = list_any (λ e. longer_than MAX_TEXT_BYTES e.1) (entries p.segments)
 breaks_pool KeysAlike earlier p = has_alike_keys p.segments
 
--- the place of the first pool that breaks a rule
-abbrev pub place_of_pool : PoolRule → List Pool → Option ℕ
-place_of_pool rule pools = position (λ e. breaks_pool rule (take e.0 pools) e.1) (enumerate_from 0 pools)
-
-abbrev pub name_at : List Pool → ℕ → List ℕ
-name_at pools place = get_or (map (λ p. p.name) pools) place []
+abbrev pub name_of : Pool → List ℕ
+name_of pool = pool.name
 
 -- the first pool that breaks a rule
 abbrev pub pool_fault : PoolRule → List Pool → Option ConfigFault
-pool_fault rule pools = option_map (λ place. Fault.Pool (name_at pools place) rule) (place_of_pool rule pools)
+pool_fault rule pools = first_broken breaks_pool name_of Fault.Pool rule pools
 
 -- a node, behind some earlier ones, breaks a rule
 abbrev pub breaks_node : NodeRule → List Node → Node → Bool
@@ -102,16 +106,12 @@ breaks_node Id earlier n = is_bad_id n.id
 breaks_node IdTwice earlier n = list_any (λ m. same_text m.id n.id) earlier
 breaks_node Volumes earlier n = n.max_volumes == 0 || nat_lt MAX_VOLUMES n.max_volumes
 
--- the place of the first node that breaks a rule
-abbrev pub place_of_node : NodeRule → List Node → Option ℕ
-place_of_node rule nodes = position (λ e. breaks_node rule (take e.0 nodes) e.1) (enumerate_from 0 nodes)
-
-abbrev pub id_at : List Node → ℕ → List ℕ
-id_at nodes place = get_or (map (λ n. n.id) nodes) place []
+abbrev pub id_of : Node → List ℕ
+id_of node = node.id
 
 -- the first node that breaks a rule
 abbrev pub node_fault : NodeRule → List Node → Option ConfigFault
-node_fault rule nodes = option_map (λ place. Fault.Node (id_at nodes place) rule) (place_of_node rule nodes)
+node_fault rule nodes = first_broken breaks_node id_of Fault.Node rule nodes
 
 unfoldable pub plugin_fault : Plugin → Option ConfigFault
 plugin_fault plugin = first_of (

@@ -19,6 +19,7 @@ pub mod laws;
 mod nodes;
 mod plugin;
 mod pools;
+mod rule;
 mod sample;
 mod sizes;
 

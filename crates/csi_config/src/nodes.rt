@@ -1,11 +1,13 @@
 //! The nodes of a configuration.
 
-ghost use Rattle.std.specs.Prelude.{◌≡◌, ◌<◌, take, None, OnOk, IfOk, IfErr, IfSome, Some, length};
+ghost use Rattle.std.specs.Prelude.{◌≡◌, take, None, OnOk, IfOk, IfErr, Some};
 ghost use Rattle.std.specs.List.{list_any};
 ghost use Rattle.csi_types.specs.Maps.{same_text};
-ghost use Rattle.csi_config.specs.Faults.{breaks_node, id_at, is_bad_byte, is_bad_id, node_fault, node_ids_fault, node_volumes_fault, place_of_node};
+ghost use Rattle.csi_config.specs.Faults.{breaks_node, id_of, is_bad_byte, is_bad_id, node_ids_fault, node_volumes_fault};
+ghost use Rattle.csi_config.specs.declared.fault.ConfigFault.TheVariants as Fault;
 
 use crate::fault::{ConfigFault, NodeRule};
+use crate::rule::{Ruled, check_rule};
 use csi_types::{MAX_NODE_ID_BYTES, MAX_NODES, MAX_VOLUMES, Text};
 
 /// A node, at which volumes are published (CSI specification, 'ControllerPublishVolume').
@@ -43,48 +45,25 @@ fn has_id_before(nodes: &[Node], count: usize, id: &Text) -> bool
     nodes.iter().take(count).any(|earlier| earlier.id == *id)
 }
 
-// Whether a node, which stands behind the first `count`, breaks a rule.
-fn breaks(rule: NodeRule, nodes: &[Node], count: usize, node: &Node) -> bool
-    ensures { result ≡ breaks_node rule (take count nodes.now) node.now }
-{
-    match rule {
-        NodeRule::Id => is_bad_id(node.id.as_bytes()),
-        NodeRule::IdTwice => has_id_before(nodes, count, &node.id),
-        NodeRule::Volumes => node.max_volumes == 0 || node.max_volumes > MAX_VOLUMES,
+impl Ruled for Node {
+    type Rule = NodeRule;
+
+    ghost breaks_rule = { breaks_node };
+
+    ghost name_of = { id_of };
+
+    ghost fault_of = { Fault.Node };
+
+    fn breaks(rule: NodeRule, nodes: &[Node], count: usize, node: &Node) -> bool {
+        match rule {
+            NodeRule::Id => is_bad_id(node.id.as_bytes()),
+            NodeRule::IdTwice => has_id_before(nodes, count, &node.id),
+            NodeRule::Volumes => node.max_volumes == 0 || node.max_volumes > MAX_VOLUMES,
+        }
     }
-}
 
-// The place of the first node that breaks a rule.
-fn place_of(rule: NodeRule, nodes: &[Node]) -> Option<usize>
-    ensures value { result ≡ place_of_node rule nodes.now }
-    ensures within { IfSome result (λ place. place < length nodes.now) }
-{
-    nodes
-        .iter()
-        .enumerate()
-        .position(|(place, node)| breaks(rule, nodes, place, node))
-}
-
-fn take_id(mut nodes: Vec<Node>, place: usize) -> Text
-    requires { place < length nodes.items }
-    ensures { result ≡ id_at nodes.items place }
-{
-    let Node { id, .. } = nodes.swap_remove(place);
-    id
-}
-
-// Gives the nodes back, or the first of them that breaks a rule.
-fn check_rule(rule: NodeRule, nodes: Vec<Node>) -> Result<Vec<Node>, ConfigFault>
-    ensures same { IfOk result (λ same. same.items ≡ nodes.items) }
-    ensures passed { OnOk result (node_fault rule nodes.items ≡ None) }
-    ensures refused { IfErr result (λ fault. node_fault rule nodes.items ≡ Some fault) }
-{
-    match place_of(rule, nodes.as_slice()) {
-        Some(place) => Err(ConfigFault::Node {
-            id: take_id(nodes, place),
-            rule,
-        }),
-        None => Ok(nodes),
+    fn fault(self, rule: NodeRule) -> ConfigFault {
+        ConfigFault::Node { id: self.id, rule }
     }
 }
 

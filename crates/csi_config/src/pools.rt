@@ -1,13 +1,15 @@
 //! The pools of a configuration.
 
-ghost use Rattle.std.specs.Prelude.{◌≡◌, ◌<◌, ◌-◌, ◌^◌, min, take, None, OnOk, IfOk, IfErr, IfSome, Some, length};
+ghost use Rattle.std.specs.Prelude.{◌≡◌, ◌-◌, ◌^◌, min, take, None, OnOk, IfOk, IfErr, Some};
 ghost use Rattle.std.specs.FinMap.{entries};
 ghost use Rattle.std.specs.List.{list_all, list_any};
 ghost use Rattle.csi_types.specs.Maps.{same_text};
-ghost use Rattle.csi_config.specs.Faults.{all_bytes, breaks_pool, breaks_segment, is_pool_byte, is_pool_name, name_at, pool_bytes_fault, pool_fault, pool_names_fault, place_of_pool, segments_fault};
+ghost use Rattle.csi_config.specs.Faults.{all_bytes, breaks_pool, breaks_segment, is_pool_byte, is_pool_name, name_of, pool_bytes_fault, pool_names_fault, segments_fault};
+ghost use Rattle.csi_config.specs.declared.fault.ConfigFault.TheVariants as Fault;
 
 use crate::fault::{ConfigFault, PoolRule};
 use crate::plugin::MAX_NAME_BYTES;
+use crate::rule::{Ruled, check_rule};
 use crate::sizes::is_whole;
 use csi_types::{
     MAX_POOL_BYTES, MAX_POOLS, MAX_SEGMENTS, MAX_TEXT_BYTES, Map, Text, has_alike_keys,
@@ -75,53 +77,33 @@ fn has_broken_segment(rule: PoolRule, segments: &Map) -> bool
         .any(|(key, value)| breaks_segment(rule, key, value))
 }
 
-// Whether a pool, which stands behind the first `count`, breaks a rule.
-fn breaks(rule: PoolRule, pools: &[Pool], count: usize, pool: &Pool) -> bool
-    ensures { result ≡ breaks_pool rule (take count pools.now) pool.now }
-{
-    match rule {
-        PoolRule::Name => !is_pool_name(pool.name.as_bytes()),
-        PoolRule::NameTwice => is_named_before(pools, count, &pool.name),
-        PoolRule::Bytes => !is_whole(pool.bytes),
-        PoolRule::Segments => pool.segments.len() > MAX_SEGMENTS,
-        PoolRule::KeyEmpty | PoolRule::KeyTooLong | PoolRule::ValueTooLong => {
-            has_broken_segment(rule, &pool.segments)
+impl Ruled for Pool {
+    type Rule = PoolRule;
+
+    ghost breaks_rule = { breaks_pool };
+
+    ghost name_of = { name_of };
+
+    ghost fault_of = { Fault.Pool };
+
+    fn breaks(rule: PoolRule, pools: &[Pool], count: usize, pool: &Pool) -> bool {
+        match rule {
+            PoolRule::Name => !is_pool_name(pool.name.as_bytes()),
+            PoolRule::NameTwice => is_named_before(pools, count, &pool.name),
+            PoolRule::Bytes => !is_whole(pool.bytes),
+            PoolRule::Segments => pool.segments.len() > MAX_SEGMENTS,
+            PoolRule::KeyEmpty | PoolRule::KeyTooLong | PoolRule::ValueTooLong => {
+                has_broken_segment(rule, &pool.segments)
+            }
+            PoolRule::KeysAlike => has_alike_keys(&pool.segments),
         }
-        PoolRule::KeysAlike => has_alike_keys(&pool.segments),
     }
-}
 
-// The place of the first pool that breaks a rule.
-fn place_of(rule: PoolRule, pools: &[Pool]) -> Option<usize>
-    ensures value { result ≡ place_of_pool rule pools.now }
-    ensures within { IfSome result (λ place. place < length pools.now) }
-{
-    pools
-        .iter()
-        .enumerate()
-        .position(|(place, pool)| breaks(rule, pools, place, pool))
-}
-
-fn take_name(mut pools: Vec<Pool>, place: usize) -> Text
-    requires { place < length pools.items }
-    ensures { result ≡ name_at pools.items place }
-{
-    let Pool { name, .. } = pools.swap_remove(place);
-    name
-}
-
-// Gives the pools back, or the first of them that breaks a rule.
-fn check_rule(rule: PoolRule, pools: Vec<Pool>) -> Result<Vec<Pool>, ConfigFault>
-    ensures same { IfOk result (λ same. same.items ≡ pools.items) }
-    ensures passed { OnOk result (pool_fault rule pools.items ≡ None) }
-    ensures refused { IfErr result (λ fault. pool_fault rule pools.items ≡ Some fault) }
-{
-    match place_of(rule, pools.as_slice()) {
-        Some(place) => Err(ConfigFault::Pool {
-            name: take_name(pools, place),
+    fn fault(self, rule: PoolRule) -> ConfigFault {
+        ConfigFault::Pool {
+            name: self.name,
             rule,
-        }),
-        None => Ok(pools),
+        }
     }
 }
 

@@ -52,37 +52,25 @@ fn add_unknown(
     Ok(())
 }
 
-// The elements of an array, where there is one.
-fn elements<'a>(top: &'a Table, key: Key) -> &'a [Value] {
-    match top.get(key.text()) {
-        Some(Value::Array(array)) => array.as_slice(),
-        _ => &[],
-    }
-}
-
-fn add_of_pools(
+// Adds those of each table of an array, where there is one: that of the pools, or that of the nodes.
+fn add_of_each(
     alloc: Global,
     found: &mut Vec<UnknownKey>,
-    pools: &[Value],
+    top: &Table,
+    array: Key,
+    known: &[Key],
 ) -> Result<(), AllocError> {
-    for (index, value) in pools.iter().enumerate() {
+    let Some(Value::Array(elements)) = top.get(array.text()) else {
+        return Ok(());
+    };
+    for (index, value) in elements.as_slice().iter().enumerate() {
         if let Some(table) = value.as_table() {
-            let section = Section::Pool(index.saturating_add(1));
-            add_unknown(alloc, found, section, table, POOL)?;
-        }
-    }
-    Ok(())
-}
-
-fn add_of_nodes(
-    alloc: Global,
-    found: &mut Vec<UnknownKey>,
-    nodes: &[Value],
-) -> Result<(), AllocError> {
-    for (index, value) in nodes.iter().enumerate() {
-        if let Some(table) = value.as_table() {
-            let section = Section::Node(index.saturating_add(1));
-            add_unknown(alloc, found, section, table, NODE)?;
+            let number = index.saturating_add(1);
+            let section = match array {
+                Key::Pool => Section::Pool(number),
+                _ => Section::Node(number),
+            };
+            add_unknown(alloc, found, section, table, known)?;
         }
     }
     Ok(())
@@ -100,7 +88,7 @@ pub fn unknown_keys(alloc: Global, bytes: &[u8]) -> Result<Vec<UnknownKey>, Allo
         return Ok(found);
     };
     add_unknown(alloc, &mut found, Section::Top, &top, TOP)?;
-    add_of_pools(alloc, &mut found, elements(&top, Key::Pool))?;
-    add_of_nodes(alloc, &mut found, elements(&top, Key::Node))?;
+    add_of_each(alloc, &mut found, &top, Key::Pool, POOL)?;
+    add_of_each(alloc, &mut found, &top, Key::Node, NODE)?;
     Ok(found)
 }

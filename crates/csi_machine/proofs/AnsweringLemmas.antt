@@ -40,7 +40,8 @@ use Rattle.csi_machine.specs.calls.Listing.{list_after, start_of}
 use Rattle.csi_machine.specs.calls.Modify.{modify}
 use Rattle.csi_machine.specs.calls.Publish.{publish}
 use Rattle.csi_machine.specs.calls.Unpublish.{unpublish}
-use Rattle.csi_machine.specs.calls.Validate.{validate_number, validate_volume, confirm, deny}
+use Rattle.csi_machine.specs.Finding.{volume_at}
+use Rattle.csi_machine.specs.calls.Validate.{validate_found, confirm, deny}
 use Rattle.csi_machine.proofs.CheckedLemmas.{asked}
 use Rattle.csi_machine.proofs.CreateLemmas.{create_sound}
 use Rattle.csi_machine.proofs.DeleteLemmas.{delete_sound}
@@ -228,13 +229,9 @@ performed config r a b x y result did = record {
 pub keeps : (config : Config) (r : Request) → IsSound config (λ s. settled_plan config s r) → (s : State) → IsInvariant config s → IsInvariant config (step config s r).1
 keeps config r sound s inv = subst (IsInvariant config) (moved_is config s r) (sound.keeps s inv)
 
-pub validate_still : (s : State) (r : Validate) (o : Option ℕ) → (validate_number s r o).change ≡ None
-validate_still s r None = refl
-validate_still s r (Some n) = by_volume (fin.get s.volumes n)
-  where
-    by_volume : (o : Option Volume) → (validate_volume r o).change ≡ None
-    by_volume None = refl
-    by_volume (Some v) = elim (have_keys v.caps r.capabilities && ((fin.len r.parameters == 0) || same_map v.params r.parameters)) as (λ b. (cond b (confirm r) deny).change ≡ None) [ true ↦ refl | false ↦ refl ]
+pub validate_still : (r : Validate) (o : Option (ℕ × Volume)) → (validate_found r o).change ≡ None
+validate_still r None = refl
+validate_still r (Some f) = elim (have_keys f.1.caps r.capabilities && ((fin.len r.parameters == 0) || same_map f.1.params r.parameters)) as (λ b. (cond b (confirm r) deny).change ≡ None) [ true ↦ refl | false ↦ refl ]
 
 pub list_still : (config : Config) (s : State) (most : ℕ) (o : Option ℕ) → (list_after config s most o).change ≡ None
 list_still config s most None = refl
@@ -253,7 +250,7 @@ plan_sound config good (request.Create r) e = create_sound config r good (asked 
 plan_sound config good (request.Delete r) e = delete_sound config r
 plan_sound config good (request.Publish r) e = sound_by config (λ s. publish config s r) (publish_fits config good.nodes r)
 plan_sound config good (request.Unpublish r) e = sound_by config (λ s. unpublish s r) (unpublish_fits config r)
-plan_sound config good (request.Validate r) e = sound_still config _ (λ s. validate_still s r (number_of_id r.volume_id))
+plan_sound config good (request.Validate r) e = sound_still config _ (λ s. validate_still r (volume_at s (number_of_id r.volume_id)))
 plan_sound config good (request.List r) e = sound_still config _ (λ s. list_still config s (whole r.max_entries) (start_of s.next r.token))
 plan_sound config good (request.Capacity r) e = sound_still config _ (λ s. capacity_still config (rooms config s) r)
 plan_sound config good (request.Modify r) e = sound_by config (λ s. modify s r) (modify_fits config r)

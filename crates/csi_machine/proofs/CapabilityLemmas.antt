@@ -99,22 +99,18 @@ is_less Less p = refl
 is_less Equal p = absurd p
 is_less Greater p = absurd p
 
-first_so : (a b : Bool) → T (a && b) → T a
-first_so true b p = tt
-first_so false b p = absurd p
-
-second_so : (a b : Bool) → T (a && b) → T b
-second_so true b p = p
-second_so false b p = absurd p
+both_so : (a b : Bool) → T (a && b) → T a × T b
+both_so true b p = (tt, p)
+both_so false b p = absurd p
 
 each_below : (k : CapKey) (es : List Entry) → T (below_all key_cmp k es) → AllByRecursion (λ y. key_cmp k y ≡ Less) (map (λ e. e.0) es)
 each_below k [] b = tt
-each_below k (e ∷ es) b = (is_less _ (first_so _ _ b), each_below k es (second_so (is_lt (key_cmp k e.0)) _ b))
+each_below k (e ∷ es) b = let two = both_so (is_lt (key_cmp k e.0)) (below_all key_cmp k es) b in (is_less _ two.0, each_below k es two.1)
 
 keys_rise : (es : List Entry) → T (fin.is_sorted key_cmp es) → AreOrdered (map (λ e. e.0) es)
 unfolding IsStrictlySortedBy
 keys_rise [] h = tt
-keys_rise (e ∷ es) h = (each_below e.0 es (first_so _ _ h), keys_rise es (second_so (below_all key_cmp e.0 es) _ h))
+keys_rise (e ∷ es) h = let two = both_so (below_all key_cmp e.0 es) (fin.is_sorted key_cmp es) h in (each_below e.0 es two.0, keys_rise es two.1)
 
 pub keys_ordered : (cs : List Capability) → AreOrdered (keys_of cs)
 keys_ordered cs = keys_rise (fin.entries (set_of (filter_map key_of cs))) (fin.entries_sorted (set_of (filter_map key_of cs)))

@@ -9,7 +9,8 @@ use Rattle.csi_keeper.specs.declared.change.Change.{Change}
 use Rattle.csi_keeper.specs.declared.change.Change.TheVariants.{RemoveVolume}
 use Rattle.csi_keeper.specs.declared.volume.Attachment.{Attachment}
 use Rattle.csi_keeper.specs.declared.volume.Volume.{Volume}
-use Rattle.csi_machine.specs.calls.Delete.{delete, delete_number, delete_volume}
+use Rattle.csi_machine.specs.calls.Delete.{delete, delete_found, delete_volume}
+use Rattle.csi_machine.specs.Finding.{volume_at}
 use Rattle.csi_machine.specs.Ids.{number_of_id}
 use Rattle.csi_keeper.specs.Invariant.{IsInvariant}
 use Rattle.csi_keeper.specs.State.{State, Place, place_cmp, attached, changed, sizes}
@@ -68,14 +69,13 @@ delete_keeps config s k inv none = record {
   few = let a = fewer s k in let b = inv.few in omega (arith, a, b);
 }
 
-delete_fits : (config : Config) (s : State) (n : ℕ) (o : Option Volume) (rows : List Attachment) (c : Change) → IsInvariant config s → attached s n ≡ rows → (delete_volume n o rows).change ≡ Some c → IsFit config s c
-delete_fits config s n None rows c inv is e = absurd (none_some c e)
-delete_fits config s n (Some v) [] c inv is e = subst (IsFit config s) (same_some _ _ e) (is, delete_keeps config s n inv is)
-delete_fits config s n (Some v) (a ∷ rows) c inv is e = absurd (none_some c e)
+delete_fits : (config : Config) (s : State) (n : ℕ) (rows : List Attachment) (c : Change) → IsInvariant config s → attached s n ≡ rows → (delete_volume n rows).change ≡ Some c → IsFit config s c
+delete_fits config s n [] c inv is e = subst (IsFit config s) (same_some _ _ e) (is, delete_keeps config s n inv is)
+delete_fits config s n (a ∷ rows) c inv is e = absurd (none_some c e)
 
 pub delete_sound : (config : Config) (r : DeleteVolume) → IsSound config (λ s. delete s r)
-delete_sound config r = sound_by config (λ s. delete s r) (λ s c inv e. go s c inv (number_of_id r.volume_id) e)
+delete_sound config r = sound_by config (λ s. delete s r) (λ s c inv e. go s c inv (volume_at s (number_of_id r.volume_id)) e)
   where
-    go : (s : State) (c : Change) → IsInvariant config s → (o : Option ℕ) → (delete_number s o).change ≡ Some c → IsFit config s c
+    go : (s : State) (c : Change) → IsInvariant config s → (o : Option (ℕ × Volume)) → (delete_found s o).change ≡ Some c → IsFit config s c
     go s c inv None e = absurd (none_some c e)
-    go s c inv (Some n) e = delete_fits config s n (fin.get s.volumes n) (attached s n) c inv refl e
+    go s c inv (Some found) e = delete_fits config s found.0 (attached s found.0) c inv refl e

@@ -1,37 +1,17 @@
 -- The entries of maps that keep some, or have one more.
-use Rattle.std.proofs.Common.{◌≡◌, ◌∙◌, ap, sym, cond, arith, refl, ◌+◌, ◌≤◌, List, [], ◌∷◌, length, filter, Bool, true, false, ◌&&◌, not, T, Some, None, Ordering, Less, Equal, Greater}
+use Rattle.std.proofs.Common.{◌≡◌, ◌∙◌, ap, sym, cond, arith, refl, ◌+◌, ◌≤◌, List, [], ◌∷◌, length, filter, Bool, true, false, not, T, Some, None, Ordering, Less, Equal, Greater}
 use Rattle.std.specs.Cmp.{IsTotalOrder}
-use Rattle.std.specs.Ordering.{eq_by_cmp, is_eq, is_lt}
+use Rattle.std.specs.Ordering.{eq_by_cmp, is_eq}
 use Rattle.std.specs.FinMap as fin
-use Rattle.std.specs.FinMap.Entries.{by_order, below_all}
+use Rattle.std.specs.FinMap.Entries.{by_order, is_sorted-where_key}
 use Rattle.csi_keeper.specs.facts.Finite.{none_some, find_filter}
 
-both : (a b : Bool) → T (a && b) → T a × T b
-both true b h = (tt, h)
-both false b h = absurd h
-
-with_both : (a b : Bool) → T a → T b → T (a && b)
-with_both true b h k = k
-with_both false b h k = absurd h
-
 module _ {K X : Type 0} {R : K → K → Ordering} (o : IsTotalOrder R) (exact : fin.IsAntisymmetric R) where
-  below_filter : (p : K × X → Bool) (x : K) (es : List (K × X)) → T (below_all R x es) → T (below_all R x (filter p es))
-  below_filter p x [] b = tt
-  below_filter p x (e ∷ es) b =
-      let two = both (is_lt (R x e.0)) (below_all R x es) b in
-      elim (p e) as (λ d. T (below_all R x (cond d (e ∷ filter p es) (filter p es)))) [ true ↦ with_both _ _ two.0 (below_filter p x es two.1) | false ↦ below_filter p x es two.1 ]
-
-  sorted_filter : (p : K × X → Bool) (es : List (K × X)) → T (fin.is_sorted R es) → T (fin.is_sorted R (filter p es))
-  sorted_filter p [] s = tt
-  sorted_filter p (e ∷ es) s =
-      let two = both (below_all R e.0 es) (fin.is_sorted R es) s in
-      elim (p e) as (λ d. T (fin.is_sorted R (cond d (e ∷ filter p es) (filter p es)))) [ true ↦ with_both _ _ (below_filter p e.0 es two.0) (sorted_filter p es two.1) | false ↦ sorted_filter p es two.1 ]
-
   -- a map that keeps the entries whose keys pass
   pub entries_kept : (m n : fin.FinMap R X) (p : K → Bool) → ((q : K) → fin.get n q ≡ cond (p q) (fin.get m q) None) → fin.entries n ≡ filter (λ e. p e.0) (fin.entries m)
   entries_kept m n p h =
       let es = filter (λ (e : K × X). p e.0) (fin.entries m) in
-      let rises : T (fin.is_sorted R es) = sorted_filter (λ e. p e.0) (fin.entries m) (fin.entries_sorted m) in
+      let rises : T (fin.is_sorted R es) = is_sorted-where_key R p (fin.entries m) (fin.entries_sorted m) in
       let listed : fin.entries (fin.from_sorted {R = R} es) ≡ es = fin.entries-from_sorted R es rises in
       ap fin.entries (fin.same_map o exact n (fin.from_sorted es) (λ q.
       h q ∙ ap (λ x. cond (p q) x None) (fin.get-entries m q) ∙ sym (find_filter o exact p q (fin.entries m))

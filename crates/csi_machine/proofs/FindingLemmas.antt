@@ -1,6 +1,6 @@
 -- What is found by reads, one after the other.
 use Rattle.std.proofs.Common.{◌≡◌, ◌∙◌, sym, arith, subst, Bool, Result, Ok}
-use Rattle.csi_keeper.specs.Keeper.{Reads, count_after}
+use Rattle.csi_keeper.specs.Keeper.{count_after}
 use Rattle.csi_keeper.specs.Model.{Model}
 use Rattle.csi_keeper.specs.State.{State}
 use Rattle.csi_keeper.specs.declared.change.StoreFault.{StoreFault}
@@ -21,8 +21,17 @@ found_as {result = result} f found = record {
   down = told_more result (λ x so s. f s x (so s)) found.down;
 }
 
--- what is found behind a read
-pub found_then : {X Y : Type 0} {P : State → X → Type 0} {Q R : State → Y → Type 0} {a b c : Model State} {x : X} {result : Result Y StoreFault} → Reads a b (Ok x) P → Finds b c result Q
+-- what is made of what is found
+pub found_so : {X Y : Type 0} {P : State → X → Type 0} {Q : State → Y → Type 0} {a b : Model State} {x : X} {y : Y} → Finds a b (Ok x) P → ((s : State) → P s x → Q s y) → Finds a b (Ok y) Q
+found_so found f = record {
+  value = λ d s h. f s (found.value d s h);
+  quiet = found.quiet;
+  count = found.count;
+  down = record { down = λ e. absurd (cc); refused = λ e. absurd (cc); unasked = λ is s. f s (found.down.unasked is s) };
+}
+
+-- what is found behind what was found
+pub found_then : {X Y : Type 0} {P : State → X → Type 0} {Q R : State → Y → Type 0} {a b c : Model State} {x : X} {result : Result Y StoreFault} → Finds a b (Ok x) P → Finds b c result Q
     → ((s : State) → P s x → (y : Y) → Q s y → R s y) → Finds a c result R
 found_then {a = a} {b = b} {c = c} {result = result} read found f =
     let mid : c.doubt ≡ 0 → b.doubt ≡ 0 = λ d. let clean = found.quiet.clean in omega (arith, clean, d) in
@@ -33,6 +42,6 @@ found_then {a = a} {b = b} {c = c} {result = result} read found f =
       down = record {
         down = λ is. sym read.quiet.down ∙ found.down.down is;
         refused = λ is. sym read.quiet.down ∙ found.down.refused is;
-        unasked = λ is. absurd (cc (read.down.1 is));
+        unasked = λ is. if_ok (λ y so s. f s (read.down.unasked is s) y (so s)) result (found.down.unasked (read.quiet.down ∙ is));
       };
     }

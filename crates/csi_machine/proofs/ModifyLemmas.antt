@@ -26,7 +26,8 @@ use Rattle.csi_keeper.specs.facts.Mutable.{stood, stands, as_many, same_sum}
 use Rattle.csi_machine.specs.declared.plan.Plan.{Plan}
 use Rattle.csi_machine.specs.Ids.{number_of_id}
 use Rattle.csi_machine.specs.Plan.{refuse, respond, make}
-use Rattle.csi_machine.specs.calls.Modify.{modify, modify_number, modify_volume, modify_own, modify_to}
+use Rattle.csi_machine.specs.Finding.{numbered, volume_at}
+use Rattle.csi_machine.specs.calls.Modify.{modify, modify_found, modify_own, modify_to}
 use Rattle.csi_machine.proofs.PlanLemmas.{IsFit}
 
 -- It keeps the invariant.
@@ -84,13 +85,13 @@ some_there o v e = subst IsSome (sym e) refl
 pub modify_fits : (config : Config) (r : Modify) (s : State) (c : Change) → IsInvariant config s → (modify s r).change ≡ Some c → IsFit config s c
 modify_fits config r s c inv e = by_number (number_of_id r.volume_id) e
   where
-    by_volume : (n : ℕ) (o : Option Volume) → fin.get s.volumes n ≡ o → (modify_volume n r o).change ≡ Some c → IsFit config s c
+    by_volume : (n : ℕ) (o : Option Volume) → fin.get s.volumes n ≡ o → (modify_found r (numbered n o)).change ≡ Some c → IsFit config s c
     by_volume n None there h = absurd (none_some c h)
     by_volume n (Some v) there h =
         let m = modified n v.mutable r.mutable c h in
         subst (IsFit config s) (sym m.is) (some_there _ v there, mutable_keeps config s n (laid_over v.mutable r.mutable) (ltb-false MAX_MAP_BYTES _ m.small) inv)
 
-    by_number : (o : Option ℕ) → (modify_number s r o).change ≡ Some c → IsFit config s c
+    by_number : (o : Option ℕ) → (modify_found r (volume_at s o)).change ≡ Some c → IsFit config s c
     by_number None h = absurd (none_some c h)
     by_number (Some n) h = by_volume n (fin.get s.volumes n) refl h
 
@@ -135,17 +136,17 @@ told_still o = record { outcome = o; change = None }
 pub modify_quiet : AreLaid → (r : Modify) (s : State) (c : Change) → (modify s r).change ≡ Some c → modify (changed s c) r ≡ told_still (modify s r).outcome
 modify_quiet laws r s c e = by_number (number_of_id r.volume_id) e
   where
-    by_volume : (n : ℕ) (o : Option Volume) → fin.get s.volumes n ≡ o → (modify_volume n r o).change ≡ Some c
-        → modify_volume n r (fin.get (changed s c).volumes n) ≡ told_still (modify_volume n r o).outcome
+    by_volume : (n : ℕ) (o : Option Volume) → fin.get s.volumes n ≡ o → (modify_found r (numbered n o)).change ≡ Some c
+        → modify_found r (numbered n (fin.get (changed s c).volumes n)) ≡ told_still (modify_found r (numbered n o)).outcome
     by_volume n None there h = absurd (none_some c h)
     by_volume n (Some v) there h =
         let m = modified n v.mutable r.mutable c h in
         let laid = laid_over v.mutable r.mutable in
-        let now : modify_volume n r (fin.get (changed s (SetMutable n laid)).volumes n) ≡ respond response.Modify =
-        ap (modify_volume n r) (modified_there s n laid v there) ∙ done_with laws n v.mutable r.mutable m.small in
-        subst (λ (d : Change). modify_volume n r (fin.get (changed s d).volumes n) ≡ respond response.Modify) (sym m.is) now
+        let now : modify_found r (numbered n (fin.get (changed s (SetMutable n laid)).volumes n)) ≡ respond response.Modify =
+        ap (λ (o : Option Volume). modify_found r (numbered n o)) (modified_there s n laid v there) ∙ done_with laws n v.mutable r.mutable m.small in
+        subst (λ (d : Change). modify_found r (numbered n (fin.get (changed s d).volumes n)) ≡ respond response.Modify) (sym m.is) now
         ∙ ap told_still (sym (quiet_by n v.mutable r.mutable c h))
 
-    by_number : (o : Option ℕ) → (modify_number s r o).change ≡ Some c → modify_number (changed s c) r o ≡ told_still (modify_number s r o).outcome
+    by_number : (o : Option ℕ) → (modify_found r (volume_at s o)).change ≡ Some c → modify_found r (volume_at (changed s c) o) ≡ told_still (modify_found r (volume_at s o)).outcome
     by_number None h = absurd (none_some c h)
     by_number (Some n) h = by_volume n (fin.get s.volumes n) refl h

@@ -1,9 +1,11 @@
--- What reads of a keeper find, one after the other.
-use Rattle.std.specs.Prelude.{◌≡◌, Result, IfOk}
+-- What reads of a keeper find, one after the other, and the volume that a request names.
+use Rattle.std.specs.Prelude.{◌≡◌, ℕ, Option, None, Some, Result, IfOk}
+use Rattle.std.specs.FinMap.{get}
 use Rattle.csi_keeper.specs.Keeper.{IsQuiet, Tells, count_after}
 use Rattle.csi_keeper.specs.Model.{Model}
 use Rattle.csi_keeper.specs.State.{State}
 use Rattle.csi_keeper.specs.declared.change.StoreFault.{StoreFault}
+use Rattle.csi_keeper.specs.declared.volume.Volume.{Volume}
 use Rattle.csi_machine.specs.Down.{TellsDown}
 
 -- What is found is so of each State that the keeper may have, nothing moves, and a refusal is counted. Over a keeper that is down nothing is found but what is
@@ -13,3 +15,13 @@ pub record Finds {X : Type 0} (old new : Model State) (result : Result X StoreFa
   pub quiet : IsQuiet old new
   pub count : new.refusals ≡ count_after old.refusals result
   pub down : TellsDown old.is_down (λ x. (s : State) → IsSo s x) result
+
+-- a volume with its number
+abbrev pub numbered : ℕ → Option Volume → Option (ℕ × Volume)
+numbered n None = None
+numbered n (Some v) = Some (n, v)
+
+-- the volume of a number, where one is named and stands
+abbrev pub volume_at : State → Option ℕ → Option (ℕ × Volume)
+volume_at s None = None
+volume_at s (Some n) = numbered n (get s.volumes n)

@@ -3,58 +3,20 @@
 ghost use Rattle.std.specs.Prelude.{◌≡◌, ◌≤◌, ◌++◌, length, [], IfOk, OnOk, OnErr, IfSome, None};
 ghost use Rattle.csi_types.specs.Checks.{checked};
 ghost use Rattle.frames_core.specs.declared.limits.TheConstants.{MAX_BODY_BYTES};
-ghost use Rattle.csi_machine.specs.Finding.{Finds};
 ghost use Rattle.csi_machine.specs.Answering.{Carries, Performs, body_of, verdict_of};
 ghost use Rattle.csi_keeper.specs.Invariant.{IsInvariant};
 ghost use Rattle.csi_keeper.specs.State.{State, IsBounded};
-ghost use Rattle.csi_machine.specs.Step.{by_verdict, plan, limited, step};
+ghost use Rattle.csi_machine.specs.Step.{by_verdict, limited, step};
 ghost use Rattle.csi_machine.specs.Verdicts.{Appended, IsTold, told_of};
 
 use crate::body::{Verdict, append_body};
-use crate::calls::capacity::plan_capacity;
-use crate::calls::create::plan_create;
-use crate::calls::delete::plan_delete;
-use crate::calls::identity::{
-    plan_controller_capabilities, plan_plugin_capabilities, plan_plugin_info, plan_probe,
-};
-use crate::calls::listing::plan_list;
-use crate::calls::modify::plan_modify;
-use crate::calls::publish::plan_publish;
-use crate::calls::unpublish::plan_unpublish;
-use crate::calls::validate::plan_validate;
 use crate::configured::configured;
 use crate::plan::Plan;
+use crate::planned::Planned;
 use csi_config::Config;
 use csi_keeper::{Keeper, StoreFault};
 use csi_types::{Reason, Request, Response};
 use std::alloc::{AllocError, Global};
-
-// The plan of a request, by reads alone.
-#[tactic(auto, using(csi_keeper::specs::facts::Reads::quiet_same))]
-fn plan_of<K: Keeper>(
-    alloc: Global,
-    config: &Config,
-    keeper: &mut K,
-    request: &Request,
-) -> Result<Plan, StoreFault>
-    ensures bounded { IfOk result (λ p. IfSome p.change IsBounded) }
-    ensures finds { Finds (K.model keeper.old) (K.model keeper.new) result (λ s p. p ≡ plan config.now s request.now) }
-{
-    match request {
-        Request::PluginInfo => Ok(plan_plugin_info(alloc, config)?),
-        Request::PluginCapabilities => Ok(plan_plugin_capabilities(alloc)?),
-        Request::Probe => Ok(plan_probe()),
-        Request::ControllerCapabilities => Ok(plan_controller_capabilities(alloc)?),
-        Request::Create(request) => plan_create(alloc, config, keeper, request),
-        Request::Delete(request) => plan_delete(alloc, keeper, request),
-        Request::Publish(request) => plan_publish(alloc, config, keeper, request),
-        Request::Unpublish(request) => plan_unpublish(alloc, keeper, request),
-        Request::Validate(request) => plan_validate(alloc, keeper, request),
-        Request::List(request) => plan_list(alloc, config, keeper, request),
-        Request::Capacity(request) => plan_capacity(alloc, config, keeper, request),
-        Request::Modify(request) => plan_modify(alloc, keeper, request),
-    }
-}
 
 // Appends the body of a plan's response. A body that no reply holds is a refusal, and then the plan
 // makes no change.
@@ -139,7 +101,7 @@ pub fn append_answer<K: Keeper>(
     ensures invariant { (s : State) → IsInvariant config.now s → IsInvariant config.now (step config.now s request.now).1 }
 {
     configured(config);
-    let plan = plan_of(alloc, config, keeper, request)?;
+    let plan = request.plan(alloc, config, keeper)?;
     finish(alloc, keeper, &plan, out)
 }
 

@@ -3,7 +3,7 @@
 ghost use Rattle.std.specs.Prelude.{◌≡◌, IfOk, codes};
 ghost use Rattle.std.specs.Option.{option_copied};
 ghost use Rattle.std.specs.FinMap.{empty, insert};
-ghost use Rattle.csi_machine.specs.Info.{signed, topology_of, info_at, info};
+ghost use Rattle.csi_machine.specs.Info.{signed, topology_of, info_at, segments_at};
 ghost use Rattle.csi_keeper.specs.Lookup.{pool_named};
 
 use crate::ids::id;
@@ -54,23 +54,20 @@ pub(crate) fn info_at(
     })
 }
 
-/// The first of the pools that has the name.
-pub(crate) fn pool_named<'a>(pools: &'a [Pool], name: &Text) -> Option<&'a Pool>
+fn pool_named<'a>(pools: &'a [Pool], name: &Text) -> Option<&'a Pool>
     ensures { option_copied result ≡ pool_named pools.now name.now }
 {
     pools.iter().find(|pool| pool.name == *name)
 }
 
-/// What is answered of a volume: one whose pool the configuration does not have has no topology.
-pub(crate) fn info(
-    alloc: Global,
-    config: &Config,
-    volume: &Volume,
-) -> Result<VolumeInfo, AllocError>
-    ensures { IfOk result (λ i. i ≡ info config.now volume.now) }
+/// The segments of the first pool that has the name; those of `nowhere` where the configuration has
+/// no such pool.
+pub(crate) fn segments_at<'a>(config: &'a Config, pool: &Text, nowhere: &'a Map) -> &'a Map
+    requires { nowhere.now ≡ empty }
+    ensures { result.now ≡ segments_at config.now pool.now }
 {
-    match pool_named(config.pools(), &volume.pool) {
-        Some(pool) => info_at(alloc, &pool.segments, volume),
-        None => info_at(alloc, &Map::new(alloc), volume),
+    match pool_named(config.pools(), pool) {
+        Some(pool) => &pool.segments,
+        None => nowhere,
     }
 }

@@ -1,7 +1,7 @@
 //! The volume machine: what a request makes of the volumes that a keeper keeps.
 //!
-//! A request is answered by its *plan*: a response or a refusal, and at most one change. `calls/` has a file a request: its plan, by reads of the
-//! keeper and by the rules in `capability.rt`, `size.rt`, `topology.rt`, `choice.rt`, `ids.rt` and `info.rt`, each beside its definitions in `specs/`.
+//! A request is answered by its *plan*: a response or a refusal, and at most one change. `calls/` has a file a request: its plan (`planned.rt`), by reads of the
+//! keeper and by the rules in `capability.rt`, `size.rt`, `topology.rt`, `choice.rt`, `ids.rt`, `finding.rt` and `info.rt`, each beside its definitions in `specs/`.
 //! `answering.rt` makes of a plan an answer: it appends the body (`body.rt`), makes the change, and cuts the body off again where that fails.
 //! That each plan is sound is proved over the definitions, in `proofs/CreateLemmas.antt` and its like, and put together in `proofs/AnsweringLemmas.antt`.
 //! [`laws`] has what follows for whole sequences of requests: the invariant, walks over pages, requests that are sent again.
@@ -20,10 +20,12 @@ mod calls;
 mod capability;
 mod choice;
 mod configured;
+mod finding;
 mod ids;
 mod info;
 pub mod laws;
 mod plan;
+mod planned;
 mod size;
 mod topology;
 

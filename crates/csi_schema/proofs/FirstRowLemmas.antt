@@ -1,4 +1,4 @@
--- What the INSERT of the first row makes of meta.
+-- What the INSERT of the first row makes of meta, and so what each statement makes.
 use Rattle.std.proofs.Common.{◌≡◌, ◌∙◌, refl, ap, ℕ, pos, List, [], ◌∷◌, map, arith, Ok}
 use Rattle.sqlite.specs.Command.TheVariants.{Insert}
 use Rattle.sqlite.specs.Edit.{edit_of, put_all}
@@ -10,12 +10,15 @@ use Rattle.sqlite.specs.State.{State, Executes}
 use Rattle.sqlite.specs.Term.{Term, lit}
 use Rattle.sqlite.specs.declared.types.Value.TheVariants.{Null}
 use Rattle.sqlite_tied.specs.Compute.{everything}
-use Rattle.csi_schema.specs.Making.{AddsFirst}
+use Rattle.csi_schema.specs.Making.{AddsFirst, StepMakes, schema_before, step_text}
 use Rattle.csi_schema.specs.Rows.{number_value, seen_meta}
-use Rattle.csi_schema.specs.Tables.{schema, meta, first_text}
+use Rattle.csi_schema.specs.Tables.{schema, no_schema, one_schema, two_schema, meta, volumes, attachments, meta_text, volumes_text, attachments_text, first_text}
 use Rattle.csi_schema.specs.declared.formats.TheConstants.{LATEST_FORMAT}
+use Rattle.csi_schema.specs.declared.making.Step.{Step}
+use Rattle.csi_schema.specs.declared.making.Step.TheVariants as step
 use Rattle.csi_schema.specs.facts.Steps.{cast_null, cast_int}
 use Rattle.csi_schema.specs.facts.Writes.{IsCommand, inserted}
+use Rattle.csi_schema.proofs.CreateLemmas.{attachments_create, creates, meta_create, volumes_create}
 
 abbrev numeral : ℕ → Term
 numeral n = lit (number_value n)
@@ -42,3 +45,9 @@ adds_first old new count has h =
       volumes = it.2.made.tables.1.0 (λ e. absurd (omega arith));
       attachments = it.2.made.tables.1.1.0 (λ e. absurd (omega arith));
     }
+
+pub makes : (s : Step) (old new : State) (count : ℕ) → old.now.schema ≡ schema_before s → Executes (step_text s) [] old new (Ok count) → StepMakes s old.now new.now
+makes step.Meta = creates no_schema meta_text meta meta_create
+makes step.Volumes = creates one_schema volumes_text volumes volumes_create
+makes step.Attachments = creates two_schema attachments_text attachments attachments_create
+makes step.First = adds_first

@@ -17,8 +17,10 @@ use Rattle.csi_schema.specs.Tables.{meta, volumes, attachments}
 abbrev pub plain_column : List ℕ → Kind → Bool → Column
 plain_column name kind full = record { name = name; kind = kind; is_strict = false; not_null = full; default = Null; collation = Binary }
 
--- what none of our tables has: a reference, a computed default, a stamp and a counter of rowids
-pub record IsBare (t : Table) : Type 0 where
+-- a table of the name over the tree, without what none of our tables has: a reference, a computed default, a stamp and a counter of rowids
+pub record IsBare (name : List ℕ) (tree : ℕ) (t : Table) : Type 0 where
+  pub name_is : t.name ≡ name
+  pub tree_is : t.tree ≡ tree
   pub references : t.references ≡ []
   pub computed : t.computed ≡ []
   pub stamps : t.stamps ≡ record { places = []; terms = []; formats = [] }

@@ -2,61 +2,54 @@
 
 ghost use Rattle.std.specs.Prelude.{◌≡◌, [], false};
 ghost use Rattle.csi_schema.specs.Failing.{SqlRefuses};
-ghost use Rattle.csi_schema.specs.Making.{AddsFirst, Creates, MakesTables, RefusesTables};
-ghost use Rattle.csi_schema.specs.Tables.{attachments, attachments_text, first_text, meta, meta_text, no_schema, one_schema, schema, two_schema, volumes, volumes_text};
+ghost use Rattle.csi_schema.specs.Making.{MakesTables, RefusesTables, StepMakes, schema_before, step_text};
+ghost use Rattle.csi_schema.specs.Tables.{no_schema};
 ghost use Rattle.csi_schema.specs.Transactions.{CommitsOver, RunsOver};
 
 use sqlite::{Alter, Connection, Error, Transaction};
 
-fn create_meta<S: Alter>(tx: &mut Transaction<'_, S>) -> Result<usize, Error>
-    ensures same_reference { tx.new.conn.ghost_name ≡ tx.old.conn.ghost_name }
-    ensures runs { RunsOver S.Store tx.old.conn.now tx.new.conn.now no_schema (Creates no_schema meta) (SqlRefuses meta_text []) result }
-{
-    tx.execute(
-        "CREATE TABLE meta (k INTEGER PRIMARY KEY CHECK (k = 1), format_no INTEGER NOT NULL, next_number INTEGER NOT NULL)",
-        &[],
-    )
+// The statements that make the tables, each behind those before it.
+#[derive(Clone, Copy, Debug)]
+enum Step {
+    Meta,
+    Volumes,
+    Attachments,
+    // The row of meta: the latest format, 2, and the first volume gets number 1.
+    First,
 }
 
-fn create_volumes<S: Alter>(tx: &mut Transaction<'_, S>) -> Result<usize, Error>
-    ensures same_reference { tx.new.conn.ghost_name ≡ tx.old.conn.ghost_name }
-    ensures runs { RunsOver S.Store tx.old.conn.now tx.new.conn.now one_schema (Creates one_schema volumes) (SqlRefuses volumes_text []) result }
+fn text_of(step: Step) -> &'static str
+    ensures { result.now ≡ step_text step }
 {
-    tx.execute(
-        "CREATE TABLE volumes (number INTEGER PRIMARY KEY, name TEXT NOT NULL UNIQUE, bytes INTEGER NOT NULL, pool TEXT NOT NULL, caps BLOB NOT NULL, params BLOB NOT NULL)",
-        &[],
-    )
+    match step {
+        Step::Meta => {
+            "CREATE TABLE meta (k INTEGER PRIMARY KEY CHECK (k = 1), format_no INTEGER NOT NULL, next_number INTEGER NOT NULL)"
+        }
+        Step::Volumes => {
+            "CREATE TABLE volumes (number INTEGER PRIMARY KEY, name TEXT NOT NULL UNIQUE, bytes INTEGER NOT NULL, pool TEXT NOT NULL, caps BLOB NOT NULL, params BLOB NOT NULL)"
+        }
+        Step::Attachments => {
+            "CREATE TABLE attachments (number INTEGER NOT NULL, node TEXT NOT NULL, cap BLOB NOT NULL, readonly INTEGER NOT NULL, PRIMARY KEY (number, node))"
+        }
+        Step::First => "INSERT INTO meta (k, format_no, next_number) VALUES (1, 2, 1)",
+    }
 }
 
-fn create_attachments<S: Alter>(tx: &mut Transaction<'_, S>) -> Result<usize, Error>
+fn make<S: Alter>(tx: &mut Transaction<'_, S>, step: Step) -> Result<usize, Error>
     ensures same_reference { tx.new.conn.ghost_name ≡ tx.old.conn.ghost_name }
-    ensures runs { RunsOver S.Store tx.old.conn.now tx.new.conn.now two_schema (Creates two_schema attachments) (SqlRefuses attachments_text []) result }
+    ensures runs { RunsOver S.Store tx.old.conn.now tx.new.conn.now (schema_before step) (StepMakes step) (SqlRefuses (step_text step) []) result }
 {
-    tx.execute(
-        "CREATE TABLE attachments (number INTEGER NOT NULL, node TEXT NOT NULL, cap BLOB NOT NULL, readonly INTEGER NOT NULL, PRIMARY KEY (number, node))",
-        &[],
-    )
-}
-
-/// The row of meta: the latest format, 2, and the first volume gets number 1.
-fn insert_first<S: Alter>(tx: &mut Transaction<'_, S>) -> Result<usize, Error>
-    ensures same_reference { tx.new.conn.ghost_name ≡ tx.old.conn.ghost_name }
-    ensures runs { RunsOver S.Store tx.old.conn.now tx.new.conn.now schema AddsFirst (SqlRefuses first_text []) result }
-{
-    tx.execute(
-        "INSERT INTO meta (k, format_no, next_number) VALUES (1, 2, 1)",
-        &[],
-    )
+    tx.execute(text_of(step), &[])
 }
 
 fn create_tables<S: Alter>(tx: &mut Transaction<'_, S>) -> Result<(), Error>
     ensures same_reference { tx.new.conn.ghost_name ≡ tx.old.conn.ghost_name }
     ensures runs { RunsOver S.Store tx.old.conn.now tx.new.conn.now no_schema MakesTables RefusesTables result }
 {
-    create_meta(tx)?;
-    create_volumes(tx)?;
-    create_attachments(tx)?;
-    insert_first(tx)?;
+    make(tx, Step::Meta)?;
+    make(tx, Step::Volumes)?;
+    make(tx, Step::Attachments)?;
+    make(tx, Step::First)?;
     Ok(())
 }
 

@@ -29,6 +29,7 @@ use Rattle.csi_server.proofs.Runs.{runs_start, so_far_start, so_far_push, cut_ca
 
 -- what a feed of these bytes leaves
 pub record Fed (old new : FramerState) (rest : List ℕ) (n : ℕ) : Type 0 where
+  pub within : n ≤ length rest
   pub past : new.past ≡ old.past
   pub held : new.held ≡ old.held ++ take n rest
   pub all : n < length rest → IsSettled new
@@ -55,14 +56,18 @@ some_fed old new rest n h f some =
           absurd (nothing_settled old h.1 h.0 (subst IsSettled (f.idle none) (f.all (omega arith))))
     ]
 
-pub advanced : (old new next : FramerState) (rest : List ℕ) (n : ℕ) → IsReady old → Fed old new rest n → n ≤ length rest → next ≡ record { past = new.past + length new.held; held = []; fault = None } → IsUnfinished next.held → Advances old next (length rest) n
-advanced old new next rest n ready f within e open_ =
-    subst (λ (s : FramerState). Advances old s (length rest) n) (sym e) (record {
-      count = omega (arith, f.past, ap length f.held, length-append old.held (take n rest), length-take n rest);
-      within = within;
-      some = some_fed old new rest n ready f;
-      ready = (refl, subst (λ (s : FramerState). IsUnfinished s.held) e open_);
-    })
+-- what was taken from the first piece on, with one feed more
+pub advanced_open : (first old new : FramerState) (at : ℕ) (rest : List ℕ) (n : ℕ) → Advances first old at → Fed old new rest n → IsReady new → Advances first new (at + n)
+advanced_open first old new at rest n a f ready = record {
+  count = omega (arith, a.count, f.within, f.past, ap length f.held, length-append old.held (take n rest), length-take n rest);
+  ready = ready;
+}
+
+pub advanced : (first old new next : FramerState) (at : ℕ) (rest : List ℕ) (n : ℕ) → Advances first old at → Fed old new rest n → next ≡ record { past = new.past + length new.held; held = []; fault = None } → IsUnfinished next.held → Advances first next (at + n)
+advanced first old new next at rest n a f e open_ = record {
+  count = omega (arith, a.count, f.within, f.past, ap length f.held, length-append old.held (take n rest), length-take n rest, ap (λ (s : FramerState). s.past + length s.held) e);
+  ready = (ap (λ (s : FramerState). s.fault) e, open_);
+}
 
 -- what was read, by what is given up, held and not fed yet
 all_of : (read given : List ℕ) (old new : FramerState) (rest : List ℕ) (n : ℕ) → read ≡ given ++ old.held → Fed old new rest n → read ++ rest ≡ given ++ (new.held ++ drop n rest)
@@ -74,6 +79,16 @@ all_of read given old new rest n e f =
 part_of : (read given : List ℕ) (old new : FramerState) (rest : List ℕ) (n : ℕ) → read ≡ given ++ old.held → Fed old new rest n → read ++ take n rest ≡ given ++ new.held
 part_of read given old new rest n e f =
     ap (λ (x : List ℕ). x ++ take n rest) e ∙ (append_assoc given old.held (take n rest) ∙ ap (λ (x : List ℕ). given ++ x) (sym f.held))
+
+pub fed_open : {S : Type 0} (m : Machine S) (begin now : Model S) (s : S) (read : List ℕ) (old new : FramerState) (rest : List ℕ) (n : ℕ) (held holds : Option (List ℕ)) → Live m begin now s read old held holds → Fed old new rest n → IsReady new → Live m begin now s (read ++ take n rest) new held holds
+fed_open m begin now s read old new rest n held holds h fed ready = record {
+  given = h.given;
+  so_far = h.so_far;
+  whole = part_of read h.given old new rest n h.whole fed;
+  past = fed.past ∙ h.past;
+  unknown = ready.0;
+  unfinished = ready.1;
+}
 
 no_break_at_end : (bytes : List ℕ) (at : ℕ) → Breaks bytes EndOfInput at → ⊥
 unfolding grammar.Breaks

@@ -162,67 +162,57 @@ module _ (config : Config) where
   still s [] h = tt
   still s (x ∷ xs) h = all_append (λ u. after_try config s u ≡ s) (tries_in x) (tries_of xs) (still_by s x (asked x.event.call) (moves s x).after h.0) (still s xs h.1)
 
--- a session around one of its events
-record IsAround (session : List Exchange) (before : List Event) (e : Event) (after : List Event) : Type 0 where
+-- a session around one of its events, or of its tries: what an exchange has of them, and what several have
+record IsAroundOne {X : Type 0} (in_one : Exchange → List X) (in_all : List Exchange → List X) (session : List Exchange) (before : List X) (e : X) (after : List X) : Type 0 where
   pub first : List Exchange
   pub middle : Exchange
   pub last : List Exchange
   pub whole : session ≡ first ++ middle ∷ last
-  pub is_before : events_of first ≡ before
-  pub is : middle.event ≡ e
-  pub is_after : events_of last ≡ after
+  pub is_before : in_all first ≡ before
+  pub is : in_one middle ≡ e ∷ []
+  pub is_after : in_all last ≡ after
 
-around_later : (x : Exchange) (xs : List Exchange) (b : Event) (bs : List Event) (e : Event) (after : List Event) → x.event ≡ b → IsAround xs bs e after → IsAround (x ∷ xs) (b ∷ bs) e after
-around_later x xs b bs e after is a = record {
+-- with one exchange more before it
+around_more : {X : Type 0} (in_one : Exchange → List X) (in_all : List Exchange → List X) (x : Exchange) → ((xs : List Exchange) → in_all (x ∷ xs) ≡ in_one x ++ in_all xs)
+    → (xs : List Exchange) (before rest : List X) (e : X) (after : List X) → before ≡ in_one x ++ rest → IsAroundOne in_one in_all xs rest e after → IsAroundOne in_one in_all (x ∷ xs) before e after
+around_more {X} in_one in_all x parts xs before rest e after is a = record {
   first = x ∷ a.first;
   middle = a.middle;
   last = a.last;
   whole = ap (λ (l : List Exchange). x ∷ l) a.whole;
-  is_before = ap (λ (f : Event). f ∷ events_of a.first) is ∙ ap (λ (l : List Event). b ∷ l) a.is_before;
+  is_before = parts a.first ∙ ap (λ (l : List X). in_one x ++ l) a.is_before ∙ sym is;
   is = a.is;
   is_after = a.is_after;
 }
+
+abbrev event_in : Exchange → List Event
+event_in x = x.event ∷ []
+
+abbrev IsAround : List Exchange → List Event → Event → List Event → Type 0
+IsAround session before e after = IsAroundOne event_in events_of session before e after
+
+abbrev IsAroundTry : List Exchange → List Try → Try → List Try → Type 0
+IsAroundTry session before t after = IsAroundOne tries_in tries_of session before t after
 
 around : (session : List Exchange) (before : List Event) (e : Event) (after : List Event) → events_of session ≡ before ++ e ∷ after → IsAround session before e after
 around [] [] e after h = absurd (cc)
 around [] (b ∷ bs) e after h = absurd (cc)
-around (x ∷ xs) [] e after h = record { first = []; middle = x; last = xs; whole = refl; is_before = refl; is = cc; is_after = cc }
-around (x ∷ xs) (b ∷ bs) e after h = around_later x xs b bs e after (cc) (around xs bs e after (cc))
-
--- a session around one of its tries
-record IsAroundTry (session : List Exchange) (before : List Try) (t : Try) (after : List Try) : Type 0 where
-  pub first : List Exchange
-  pub middle : Exchange
-  pub last : List Exchange
-  pub whole : session ≡ first ++ middle ∷ last
-  pub is_before : tries_of first ≡ before
-  pub is : tries_in middle ≡ t ∷ []
-  pub is_after : tries_of last ≡ after
-
-around_more : (x : Exchange) (xs : List Exchange) (before rest : List Try) (t : Try) (after : List Try) → before ≡ tries_in x ++ rest → IsAroundTry xs rest t after → IsAroundTry (x ∷ xs) before t after
-around_more x xs before rest t after is a = record {
-  first = x ∷ a.first;
-  middle = a.middle;
-  last = a.last;
-  whole = ap (λ (l : List Exchange). x ∷ l) a.whole;
-  is_before = ap (λ (l : List Try). tries_in x ++ l) a.is_before ∙ sym is;
-  is = a.is;
-  is_after = a.is_after;
-}
+around (x ∷ xs) [] e after h = let is : x.event ≡ e = cc in record { first = []; middle = x; last = xs; whole = refl; is_before = refl; is = ap (λ (f : Event). f ∷ []) is; is_after = cc }
+around (x ∷ xs) (b ∷ bs) e after h = let is : x.event ≡ b = cc in around_more event_in events_of x (λ ys. refl) xs (b ∷ bs) bs e after (ap (λ (f : Event). f ∷ bs) (sym is)) (around xs bs e after (cc))
 
 -- the first call of a session is no try, or it is the one, or it is one before
 around_by : (x : Exchange) (xs : List Exchange) (before : List Try) (t : Try) (after : List Try) → ((rest : List Try) → tries_of xs ≡ rest ++ t ∷ after → IsAroundTry xs rest t after)
     → (own : List Try) → tries_in x ≡ own → (o : Option Request) → own ≡ tries_for o (ending x.event.mark x.is_heard) → own ++ tries_of xs ≡ before ++ t ∷ after → IsAroundTry (x ∷ xs) before t after
 around_by x xs before t after next own is None none h =
     let nothing : tries_in x ≡ [] = is ∙ none in
-    around_more x xs before before t after (ap (λ (l : List Try). l ++ before) (sym nothing)) (next before (ap (λ (l : List Try). l ++ tries_of xs) (sym none) ∙ h))
+    around_more tries_in tries_of x (λ ys. refl) xs before before t after (ap (λ (l : List Try). l ++ before) (sym nothing)) (next before (ap (λ (l : List Try). l ++ tries_of xs) (sym none) ∙ h))
 around_by x xs [] t after next own is (Some r) one h =
     let both : record { request = r; end = ending x.event.mark x.is_heard } ∷ tries_of xs ≡ t ∷ after = ap (λ (l : List Try). l ++ tries_of xs) (sym one) ∙ h in
     record { first = []; middle = x; last = xs; whole = refl; is_before = refl; is = is ∙ (one ∙ ap (λ (u : Try). u ∷ []) (cc both)); is_after = cc both }
 around_by x xs (b ∷ bs) t after next own is (Some r) one h =
     let both : record { request = r; end = ending x.event.mark x.is_heard } ∷ tries_of xs ≡ b ∷ (bs ++ t ∷ after) = ap (λ (l : List Try). l ++ tries_of xs) (sym one) ∙ h in
     let same : record { request = r; end = ending x.event.mark x.is_heard } ≡ b = cc in
-    around_more x xs (b ∷ bs) bs t after (ap (λ (u : Try). u ∷ bs) (sym same) ∙ ap (λ (l : List Try). l ++ bs) (sym (is ∙ one))) (next bs (cc))
+    around_more tries_in tries_of x (λ ys. refl) xs (b ∷ bs) bs t after (ap (λ (u : Try). u ∷ bs) (sym same) ∙ ap (λ (l : List Try). l ++ bs) (sym (is ∙ one))) (next bs (cc))
 
 around_try : (session : List Exchange) (before : List Try) (t : Try) (after : List Try) → tries_of session ≡ before ++ t ∷ after → IsAroundTry session before t after
 around_try [] [] t after h = absurd (cc)
@@ -256,7 +246,7 @@ module _ (config : Config) where
     refused = record { request = p.request; end = ending a.middle.event.mark a.middle.is_heard };
     after = tries_of a.last;
     whole = ap tries_of a.whole ∙ (flat_map-append tries_in a.first (a.middle ∷ a.last) ∙ ap (λ (o : Option Request). tries_of a.first ++ (tries_for o (ending a.middle.event.mark a.middle.is_heard) ++ tries_of a.last)) asks);
-    is_marked = marked_ends a.middle.event.mark a.middle.is_heard (subst (λ (e : Event). e.mark ≢ Unmarked) (sym a.is) p.is_marked);
+    is_marked = marked_ends a.middle.event.mark a.middle.is_heard (subst (λ (e : Event). e.mark ≢ Unmarked) (sym same) p.is_marked);
     still = still config (after_tries config s (tries_of a.first)) a.last (subst (λ (l : List Event). AllByRecursion (λ e. (call_step (volumes config) (after_tries config s (tries_of a.first)) e).1 ≡ after_tries config s (tries_of a.first)) l) (sym a.is_after)
         (subst (λ (z : State). AllByRecursion (λ e. (call_step (volumes config) z e).1 ≡ z) p.after) at p.still));
     is = p.is ∙ ap (λ (z : State). (step config z p.request).1) at;
@@ -265,12 +255,15 @@ module _ (config : Config) where
       a : IsAround session p.before p.refused p.after
       a = around session p.before p.refused p.after p.whole
 
+      same : a.middle.event ≡ p.refused
+      same = cc (a.is)
+
       -- the State that the refused call met
       at : state_after (volumes config) s p.before ≡ after_tries config s (tries_of a.first)
       at = ap (λ (l : List Event). state_after (volumes config) s l) (sym a.is_before) ∙ session_after config s a.first
 
       asks : asked a.middle.event.call ≡ Some p.request
-      asks = ap (λ (e : Event). asked e.call) a.is ∙ is_asked p.refused.call p.request (record { method = p.method; called = p.called; read = p.read; passed = p.passed })
+      asks = ap (λ (e : Event). asked e.call) same ∙ is_asked p.refused.call p.request (record { method = p.method; called = p.called; read = p.read; passed = p.passed })
 
   pub session_leaves : (s t : State) (session : List Exchange) → IsLeft config s (events_of session) t → Leaves config s (tries_of session) t
   session_leaves s t session (inl is) = inl (is ∙ session_after config s session)

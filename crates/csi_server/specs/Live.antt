@@ -1,5 +1,5 @@
 -- A run of a server between two reads.
-use Rattle.std.specs.Prelude.{◌≡◌, ◌≢◌, ℕ, ◌+◌, ◌≤◌, ◌<◌, List, [], ◌++◌, length, take, All, Option, None}
+use Rattle.std.specs.Prelude.{◌≡◌, ◌≢◌, ℕ, ◌+◌, List, [], ◌++◌, length, All, Option, None}
 use Rattle.std.specs.Io.KnownBytes.{Appends, Keeps}
 use Rattle.frames_core.specs.declared.fault.FrameFault.{FrameFault}
 use Rattle.frames_core.specs.declared.fault.FrameWhy.TheVariants.{EndOfInput}
@@ -35,32 +35,25 @@ pub record Live {S : Type 0} (m : Machine S) (start now : Model S) (s : S) (read
 abbrev pub IsLive : {S : Type 0} → Machine S → Model S → Model S → S → List ℕ → FramerState → Option (List ℕ) → Option (List ℕ) → Type 0
 IsLive m start now s read framer held holds = now.doubt ≡ 0 → Live m start now s read framer held holds
 
--- one step over bytes that come behind what was read
-abbrev pub Steps : {S : Type 0} → Machine S → Model S → Model S → S → List ℕ → List ℕ → FramerState → Option (List ℕ) → Option (List ℕ) → Step → Type 0
-Steps m start now s read rest framer held holds (Fed n) = Live m start now s (read ++ take n rest) framer held holds
-Steps m start now s read rest framer held holds (Faulty f) = (f.why ≢ EndOfInput) × Answered m start now s (read ++ rest) held holds (λ calls. HasFault (read ++ rest) calls f.why f.at) []
-Steps m start now s read rest framer held holds Cut = CutOff m start now s (read ++ rest) ⊥ held holds
+-- what was read was taken, or the run is over
+abbrev pub Steps : {S : Type 0} → Machine S → Model S → Model S → S → List ℕ → FramerState → Option (List ℕ) → Option (List ℕ) → Step → Type 0
+Steps m start now s read framer held holds Fed = Live m start now s read framer held holds
+Steps m start now s read framer held holds (Faulty f) = (f.why ≢ EndOfInput) × Answered m start now s read held holds (λ calls. HasFault read calls f.why f.at) []
+Steps m start now s read framer held holds Cut = CutOff m start now s read ⊥ held holds
 
 -- a framer that takes more bytes
 abbrev pub IsReady : FramerState → Type 0
 IsReady s = (s.fault ≡ None) × IsUnfinished s.held
 
--- Of this many bytes it took some, counts them, and takes more.
-pub record Advances (old new : FramerState) (len n : ℕ) : Type 0 where
+-- It took this many bytes, and takes more.
+pub record Advances (old new : FramerState) (n : ℕ) : Type 0 where
   pub count : new.past + length new.held ≡ old.past + length old.held + n
-  pub within : n ≤ len
-  pub some : 0 < len → 0 < n
   pub ready : IsReady new
 
 abbrev pub AdvancesBy : FramerState → FramerState → ℕ → Step → Type 0
-AdvancesBy old new len (Fed n) = Advances old new len n
-AdvancesBy old new len (Faulty f) = Unit {0}
-AdvancesBy old new len Cut = Unit {0}
-
-abbrev pub IsAllFed : ℕ → Step → Type 0
-IsAllFed len (Fed n) = n ≡ len
-IsAllFed len (Faulty f) = Unit {0}
-IsAllFed len Cut = Unit {0}
+AdvancesBy old new n Fed = Advances old new n
+AdvancesBy old new n (Faulty f) = Unit {0}
+AdvancesBy old new n Cut = Unit {0}
 
 -- The frame of the fault was written, or a prefix of it.
 abbrev pub Refuses : FrameFault → Option (List ℕ) → Option (List ℕ) → RunEnd → Type 0

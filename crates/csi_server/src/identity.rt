@@ -11,7 +11,7 @@ ghost use Rattle.csi_server.specs.Service.{reply_of, HoldsBody, room};
 
 use crate::end::RunEnd;
 use crate::message::{read_message, refuse};
-use crate::refused::Refusal;
+use crate::refused::Answer;
 use crate::running::run_service;
 use crate::service::{Service, begin_body};
 use csi_machine::{Verdict, append_body};
@@ -73,7 +73,7 @@ fn answer_request(
     names: &PluginNames<'_>,
     request: &Request,
     reply: &mut Vec<u8>,
-) -> Result<(), Refusal>
+) -> Answer
     ensures step { AnswersBy (λ t. after_check (λ s r. (told_of (said names.now.name.now names.now.version.now r), s)) t request.now None) ⊤ still still tt
         (reply_of result reply.new.items) }
     ensures room { HoldsBody result reply.new.items }
@@ -92,7 +92,7 @@ fn answer_message(
     method: Method,
     message: &[u8],
     reply: &mut Vec<u8>,
-) -> Result<(), Refusal>
+) -> Answer
     ensures step { AnswersBy (λ t. after_read (λ s r. (told_of (said names.now.name.now names.now.version.now r), s)) t (read_request method message.now))
         ((r : AnyRequest) × (read_request method message.now ≡ Ok r)) still still tt (reply_of result reply.new.items) }
     ensures room { HoldsBody result reply.new.items }
@@ -129,7 +129,7 @@ impl<'a> Service<PluginNames<'a>> for Identity {
         alloc: Global,
         call: &Call<'_>,
         reply: &mut Vec<u8>,
-    ) -> Result<(), Refusal> {
+    ) -> Answer {
         match known_method(call.path) {
             Some(method) => answer_message(alloc, config, method, call.message, reply),
             None => refuse(Reason::UnknownMethod),

@@ -27,7 +27,7 @@ mod writing;
 
 pub use end::RunEnd;
 pub use identity::serve_identity;
-pub use refused::Refusal;
+pub use refused::{Answer, Refusal};
 pub use running::run_service;
 pub use service::{Service, begin_body};
 pub use volumes::serve;

@@ -9,7 +9,7 @@ ghost use Rattle.csi_server.specs.Service.{reply_of, HoldsBody};
 ghost use Rattle.csi_server.specs.Requests.{IsUnread};
 ghost use Rattle.frames_core.specs.Envelope.{IsTextByte};
 
-use crate::refused::Refusal;
+use crate::refused::{Answer, Refusal};
 use csi_checks::check;
 use csi_codec::{DecodeFault, MALFORMED_MESSAGE, decode};
 use csi_types::{Code, Method, Reason, Request};
@@ -57,7 +57,7 @@ fn malformed_start() -> &'static [u8]
 }
 
 /// The answer that refuses a call for a reason.
-pub(crate) fn refuse(reason: Reason) -> Result<(), Refusal>
+pub(crate) fn refuse(reason: Reason) -> Answer
     ensures answered { (buffer : List ℕ) → reply_of result buffer ≡ refused reason }
     ensures room { (buffer : List ℕ) → HoldsBody result buffer }
 {

@@ -16,6 +16,9 @@ pub struct Refusal {
     ghost printable: { All IsTextByte text },
 }
 
+/// What comes of a call: it is done, or refused.
+pub type Answer = Result<(), Refusal>;
+
 impl From<Reason> for Refusal {
     ghost use Rattle.csi_types.specs.Reasons.{code_of, text_of};
 

@@ -1,7 +1,7 @@
 ghost use Rattle.std.specs.Prelude.{◌≡◌, ◌≤◌, ◌<◌, ◌+◌, ◌^◌, [], ◌++◌, length, ℕ, List, Option, None, take};
 ghost use Rattle.std.specs.Io.KnownBytes.{Keeps};
 ghost use Rattle.csi_server.specs.Serving.{Serves};
-ghost use Rattle.csi_server.specs.Live.{IsLive, Steps, AdvancesBy, IsReady, IsAllFed, Refuses, Finishes};
+ghost use Rattle.csi_server.specs.Live.{IsLive, Steps, AdvancesBy, IsReady, Refuses, Finishes};
 
 use crate::end::RunEnd;
 use crate::service::Service;
@@ -16,49 +16,12 @@ const MAX_READS: u64 = 1 << 32;
 // The most bytes of one read.
 const PIECE_BYTES: usize = 4096;
 
-// What came of feeding some bytes.
+// What came of a piece.
 #[derive(Clone, Copy)]
 pub(crate) enum Step {
-    Fed(usize),
+    Fed,
     Faulty(FrameFault),
     Cut,
-}
-
-// Feeds these bytes up to the end of one frame, and answers it.
-fn answer_next<C, S: Service<C>, W: Write>(
-    alloc: Global,
-    config: &C,
-    service: &mut S,
-    framer: &mut Framer,
-    rest: &[u8],
-    reply: &mut Vec<u8>,
-    writer: &mut W,
-) -> Step
-    requires room { framer.old.past + length framer.old.held + length rest.now < 2 ^ 63 }
-    requires ready { IsReady framer.old }
-    ensures clean { (S.model config.now service.old).doubt ≤ (S.model config.now service.new).doubt }
-    ensures steps { (start : S) (s : S.State) (read : List ℕ) (held : Option (List ℕ))
-        → IsLive (S.machine config.now) (S.model config.now start) (S.model config.now service.old) s read framer.old held (W.contents writer.old)
-        → (S.model config.now service.new).doubt ≡ 0
-        → Steps (S.machine config.now) (S.model config.now start) (S.model config.now service.new) s read rest.now framer.new held
-        (W.contents writer.new) result }
-    ensures count { AdvancesBy framer.old framer.new (length rest.now) result }
-{
-    let count = framer.feed(rest);
-    if let Some(fault) = framer.fault() {
-        return Step::Faulty(fault);
-    }
-    let Some(call) = framer.frame() else {
-        return Step::Fed(count);
-    };
-    let answer = service.answer(config, alloc, &call, reply);
-    match put_reply(writer, &answer, reply) {
-        Err(_) => Step::Cut,
-        Ok(()) => {
-            framer.next_frame();
-            Step::Fed(count)
-        }
-    }
 }
 
 // Feeds the piece and answers all its frames.
@@ -77,21 +40,27 @@ fn answer_piece<C, S: Service<C>, W: Write>(
     ensures steps { (start : S) (s : S.State) (read : List ℕ) (held : Option (List ℕ))
         → IsLive (S.machine config.now) (S.model config.now start) (S.model config.now service.old) s read framer.old held (W.contents writer.old)
         → (S.model config.now service.new).doubt ≡ 0
-        → Steps (S.machine config.now) (S.model config.now start) (S.model config.now service.new) s read piece.now framer.new held
+        → Steps (S.machine config.now) (S.model config.now start) (S.model config.now service.new) s (read ++ piece.now) framer.new held
         (W.contents writer.new) result }
     ensures count { AdvancesBy framer.old framer.new (length piece.now) result }
-    ensures all { IsAllFed (length piece.now) result }
 {
     let mut at = 0;
     while at < piece.len() {
         let (_, rest) = piece.split_at(at);
-        match answer_next(alloc, config, service, framer, rest, reply, writer) {
-            Step::Fed(count) => at += count,
-            Step::Faulty(fault) => return Step::Faulty(fault),
-            Step::Cut => return Step::Cut,
+        at += framer.feed(rest);
+        if let Some(fault) = framer.fault() {
+            return Step::Faulty(fault);
         }
+        let Some(call) = framer.frame() else {
+            continue;
+        };
+        let answer = service.answer(config, alloc, &call, reply);
+        let Ok(()) = put_reply(writer, &answer, reply) else {
+            return Step::Cut;
+        };
+        framer.next_frame();
     }
-    Step::Fed(at)
+    Step::Fed
 }
 
 /// Runs a service over the calls that a reader gives, and writes their replies.
@@ -134,7 +103,7 @@ pub fn run_service<C, S: Service<C>, R: Read, W: Write>(
                     &mut reply,
                     writer,
                 ) {
-                    Step::Fed(_) => {}
+                    Step::Fed => {}
                     Step::Faulty(fault) => return refuse(&fault, writer),
                     Step::Cut => return RunEnd::WriteFailed,
                 }

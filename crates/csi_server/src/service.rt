@@ -4,7 +4,7 @@ ghost use Rattle.csi_keeper.specs.Model.{Model};
 ghost use Rattle.csi_server.specs.Machine.{Machine, Answers};
 ghost use Rattle.csi_server.specs.Service.{room};
 
-use crate::refused::Refusal;
+use crate::refused::Answer;
 use frames_core::{Call, REPLY_HEAD_BYTES};
 use std::alloc::{AllocError, Global};
 
@@ -27,13 +27,7 @@ pub trait Service<C> {
     /// # Errors
     ///
     /// The call is answered with the status and the text of the refusal, and what `reply` has is of no account.
-    fn answer(
-        &mut self,
-        config: &C,
-        alloc: Global,
-        call: &Call<'_>,
-        reply: &mut Vec<u8>,
-    ) -> Result<(), Refusal>
+    fn answer(&mut self, config: &C, alloc: Global, call: &Call<'_>, reply: &mut Vec<u8>) -> Answer
         ensures clean { (model config.now self.old).doubt ≤ (model config.now self.new).doubt }
         ensures step { (model config.now self.new).doubt ≡ 0 → (s : State) → (model config.now self.old).holds s
             → Answers (machine config.now) (model config.now self.old) (model config.now self.new) s (bytes_of call.now) (reply_of result reply.new.items) }

@@ -8,7 +8,7 @@ ghost use Rattle.csi_server.specs.Volumes.{volumes, seen, RepliesTo};
 
 use crate::end::RunEnd;
 use crate::message::{read_message, refuse};
-use crate::refused::Refusal;
+use crate::refused::Answer;
 use crate::running::run_service;
 use crate::service::{Service, begin_body};
 use csi_config::Config;
@@ -20,7 +20,7 @@ use std::alloc::Global;
 use std::io::{Read, Write};
 
 // The answer to a call of which the machine answered this.
-fn answer_of(verdict: Result<Verdict, StoreFault>) -> Result<(), Refusal>
+fn answer_of(verdict: Result<Verdict, StoreFault>) -> Answer
     ensures reply { (buffer : List ℕ) → RepliesTo buffer (reply_of result buffer) verdict }
     ensures room { (buffer : List ℕ) → (verdict ≡ Ok Verdict.Done → HasBody buffer) → HoldsBody result buffer }
 {
@@ -50,7 +50,7 @@ impl<K: Keeper> Service<Config> for K {
         alloc: Global,
         call: &Call<'_>,
         reply: &mut Vec<u8>,
-    ) -> Result<(), Refusal> {
+    ) -> Answer {
         let Some(method) = method_of(call.path) else {
             return refuse(Reason::UnknownMethod);
         };

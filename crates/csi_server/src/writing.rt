@@ -5,7 +5,7 @@ ghost use Rattle.frames_core.specs.Envelope.{reply as reply_frame};
 ghost use Rattle.csi_server.specs.Serving.{WrotePrefix, fault_frame};
 ghost use Rattle.csi_server.specs.Service.{reply_of, HoldsBody};
 
-use crate::refused::Refusal;
+use crate::refused::Answer;
 use csi_types::Code;
 use frames_core::{
     FrameFault, MAX_BODY_BYTES, REPLY_HEAD_BYTES, fault_text, refusal_frame, reply_head,
@@ -54,7 +54,7 @@ fn set_head(reply: &mut Vec<u8>)
 /// Writes the reply of an answer and flushes. The body goes out with its head in one write, where the writer takes it whole.
 pub(crate) fn put_reply<W: Write>(
     writer: &mut W,
-    answer: &Result<(), Refusal>,
+    answer: &Answer,
     reply: &mut Vec<u8>,
 ) -> io::Result<()>
     requires { HoldsBody answer.now reply.old.items }

@@ -1,5 +1,5 @@
 -- What a SELECT inside a transaction reads, and that it keeps what was committed.
-use Rattle.std.proofs.Common.{◌≡◌, ◌∙◌, ◌⊎◌, inl, inr, refl, sym, ap, subst, ℕ, List, [], ◌∷◌, map, take, true, if◌then◌else◌, Option, Some, None, Ok, Err, Result, IfOk, IfErr, IsTrue, IsPermutation}
+use Rattle.std.proofs.Common.{◌≡◌, ◌∙◌, ◌⊎◌, inl, inr, refl, sym, ap, subst, subst₂, ℕ, List, [], ◌∷◌, map, take, true, if◌then◌else◌, Option, Some, None, Ok, Err, Result, IfOk, IfErr, IsTrue, IsPermutation}
 use Rattle.sqlite.specs.Effect.{Database}
 use Rattle.sqlite.specs.Held.{Held, state}
 use Rattle.sqlite.specs.Listing.{understood}
@@ -11,7 +11,7 @@ use Rattle.sqlite.specs.Store.{Ghosts}
 use Rattle.sqlite.specs.Term.{Term, col}
 use Rattle.sqlite.specs.Tree.{Trees}
 use Rattle.sqlite.specs.declared.error.Error.{Error}
-use Rattle.sqlite.specs.declared.types.Value.TheVariants.{Null, Text}
+use Rattle.sqlite.specs.declared.types.Value.TheVariants.{Null}
 use Rattle.sqlite.proofs.Callers.{IsPlain, first_as, reads_as, one_permutation}
 use Rattle.sqlite_resolve.specs.declared.compiled.Compiled.{Compiled}
 use Rattle.sqlite_schema.specs.declared.command.Returning.{Returning}
@@ -19,13 +19,16 @@ use Rattle.sqlite_value.specs.declared.keys.Key.{Key}
 use Rattle.csi_schema.specs.Transactions.{LeavesNothingNew}
 use Rattle.csi_schema.specs.facts.Failing.{IsSelect}
 use Rattle.csi_transactions.specs.Failing.{NothingRefuses}
-use Rattle.csi_transactions.specs.Rows.{number_value, seen_meta, meta_row, Sees, Selects, Steps, Reads}
+use Rattle.csi_transactions.specs.Rows.{seen_meta, meta_row, Sees, Selects, Steps, Reads}
+use Rattle.csi_transactions.specs.Selecting.{Tells, asked, given}
+use Rattle.csi_transactions.specs.declared.statements.select.Select.{Select}
+use Rattle.csi_transactions.specs.declared.statements.select.Select.TheVariants.{Numbered, Named, Sizes, Page, PageNumbers, Nodes, Attached, Places}
 use Rattle.csi_transactions.specs.Shown.{IsShownOf, IsBeginningOf, IsNext}
 use Rattle.csi_transactions.specs.Statements.{number_query, volume_query, named_query, sizes_query, page_query, page_numbers_query, nodes_query, attached_query, places_query}
 use Rattle.csi_transactions.specs.Tables.{schema}
 use Rattle.csi_transactions.proofs.SelectLemmas.{limited, one_table, shows_all, shows_one}
 use Rattle.csi_transactions.proofs.FailLemmas.{all_told}
-use Rattle.csi_transactions.proofs.TextLemmas.{Read, Numbered, Named, Sizes, Page, PageNumbers, Nodes, Attached, Places, asked, given, is_select, is_sure, number_text, number_select}
+use Rattle.csi_transactions.proofs.TextLemmas.{is_select, is_sure, number_text, number_select}
 
 -- ---- what was committed stays
 
@@ -119,18 +122,7 @@ module _ (text : List ℕ) (t : ℕ) (test shown : List Term) (order : List (Ter
         };
   }
 
--- what each read tells of the rows
-abbrev pub Tells : Read → Database → List Row → Type 0
-Tells (Page after count) db rows = IsBeginningOf page_query (db.trees 1) (number_value after ∷ number_value count ∷ []) count rows
-Tells (PageNumbers after count) db rows = IsBeginningOf page_numbers_query (db.trees 1) (number_value after ∷ number_value count ∷ []) count rows
-Tells (Numbered number) db rows = IsShownOf volume_query (db.trees 1) (number_value number ∷ []) rows
-Tells (Named name) db rows = IsShownOf named_query (db.trees 1) (Text name ∷ []) rows
-Tells (Sizes pool) db rows = IsShownOf sizes_query (db.trees 1) (Text pool ∷ []) rows
-Tells (Nodes number) db rows = IsShownOf nodes_query (db.trees 3) (number_value number ∷ []) rows
-Tells (Attached node) db rows = IsShownOf attached_query (db.trees 3) (Text node ∷ []) rows
-Tells (Places after last) db rows = IsShownOf places_query (db.trees 3) (number_value after ∷ number_value last ∷ []) rows
-
-shows : (q : Read) (old new : State) (rows : List Row) → IsTrue old.in_transaction → Shown (asked q) (given q) old new rows → Steps (Sees (λ db. Tells q db rows)) old new
+shows : (q : Select) (old new : State) (rows : List Row) → IsTrue old.in_transaction → Shown (asked q) (given q) old new rows → Steps (Sees (λ db. Tells q db rows)) old new
 shows (Page after count) old new rows inside h = let q = page_query in selects_first _ 1 q.filter q.project q.order _ old new rows (λ db. refl) inside h count (λ all. refl) (is_select (Page after count))
 shows (PageNumbers after count) old new rows inside h = let q = page_numbers_query in selects_first _ 1 q.filter q.project q.order _ old new rows (λ db. refl) inside h count (λ all. refl) (is_select (PageNumbers after count))
 shows (Numbered number) old new rows inside h = let q = volume_query in selects _ 1 q.filter q.project q.order _ old new rows (λ db. refl) inside h (is_select (Numbered number))
@@ -140,17 +132,22 @@ shows (Nodes number) old new rows inside h = let q = nodes_query in selects _ 3 
 shows (Attached node) old new rows inside h = let q = attached_query in selects _ 3 q.filter q.project q.order _ old new rows (λ db. refl) inside h (is_select (Attached node))
 shows (Places after last) old new rows inside h = let q = places_query in selects _ 3 q.filter q.project q.order _ old new rows (λ db. refl) inside h (is_select (Places after last))
 
--- a read inside a transaction, by the clauses of the call that ran it
-pub selects_over : {S V : Type 0} {g : Ghosts S} {old new : Held S} (q : Read) (items : V → List Row) (r : Result V Error)
-    → (HasCleanDisk (state g new) → IfOk r (λ v. Shown (asked q) (given q) (state g old) (state g new) (items v)))
-    → (HasCleanDisk (state g new) → IfErr r (λ e. FailsToQuery (asked q) (given q) (state g old) (state g new) e ⊎ IsTooLate (asked q) (given q) (state g old) (state g new) e))
+-- a read inside a transaction, by the clauses of the call that ran its text
+pub selects_over : {S V : Type 0} {g : Ghosts S} {old new : Held S} (q : Select) (text : List ℕ) (params : Row) → text ≡ asked q → params ≡ given q → (items : V → List Row) (r : Result V Error)
+    → (HasCleanDisk (state g new) → IfOk r (λ v. Shown text params (state g old) (state g new) (items v)))
+    → (HasCleanDisk (state g new) → IfErr r (λ e. FailsToQuery text params (state g old) (state g new) e ⊎ IsTooLate text params (state g old) (state g new) e))
     → LeavesNothingNew g old new → Selects g old new (λ db v. Tells q db (items v)) NothingRefuses r
-selects_over {g = g} {old = old} {new = new} q items r ok err left = record {
-  ok = λ clean inside. read_all items r (Shown (asked q) (given q) (state g old) (state g new)) (λ rows. Steps (Sees (λ db. Tells q db rows)) (state g old) (state g new)) (λ rows h. shows q (state g old) (state g new) rows inside h) (ok clean);
-  failed = λ clean inside. all_told (asked q) (given q) (state g old) (state g new) r (is_sure q) inside (err clean);
-  kept = λ clean inside. all_keeps items (asked q) (given q) (state g old) (state g new) r inside (ok clean) (err clean);
-  survives = left;
-}
+selects_over {g = g} {old = old} {new = new} q text params is same items r ok err left =
+    let before = state g old in
+    let behind = state g new in
+    let did = λ (clean : HasCleanDisk behind). subst₂ (λ t p. IfOk r (λ v. Shown t p before behind (items v))) is same (ok clean) in
+    let refused = λ (clean : HasCleanDisk behind). subst₂ (λ t p. IfErr r (λ e. FailsToQuery t p before behind e ⊎ IsTooLate t p before behind e)) is same (err clean) in
+    record {
+      ok = λ clean inside. read_all items r (Shown (asked q) (given q) before behind) (λ rows. Steps (Sees (λ db. Tells q db rows)) before behind) (λ rows h. shows q before behind rows inside h) (did clean);
+      failed = λ clean inside. all_told (asked q) (given q) before behind r (is_sure q) inside (refused clean);
+      kept = λ clean inside. all_keeps items (asked q) (given q) before behind r inside (did clean) (refused clean);
+      survives = left;
+    }
 
 -- a read that is then undone
 pub reads : {What : Database → Type 0} {old new : State} → Steps (Sees What) old new → Reads What old

@@ -1,6 +1,5 @@
 -- The texts of the statements, and what each computes to under the schema.
 use Rattle.std.proofs.Common.{refl, [], ◌∷◌, arith, codes, List, ℕ}
-use Rattle.sqlite.specs.Order.{Row}
 use Rattle.sqlite.specs.Command.{Command}
 use Rattle.sqlite.specs.Command.TheVariants.{Insert, Update, Delete}
 use Rattle.sqlite.specs.Listing.{understood}
@@ -8,7 +7,7 @@ use Rattle.sqlite.specs.Query.{Query, inner, end}
 use Rattle.sqlite.specs.Source.TheVariants.{Values}
 use Rattle.sqlite.specs.Collation.TheVariants.{Binary}
 use Rattle.sqlite.specs.Term.{Term, lit, col, op1, op2}
-use Rattle.sqlite.specs.declared.types.Value.TheVariants.{Null, Text}
+use Rattle.sqlite.specs.declared.types.Value.TheVariants.{Null}
 use Rattle.sqlite_sql.specs.declared.ops.BinaryOp.TheVariants.{Compare}
 use Rattle.sqlite_sql.specs.declared.ops.CompareOp.TheVariants.{Eq}
 use Rattle.sqlite_sql.specs.declared.ops.UnaryOp.TheVariants.{ToNumeric}
@@ -16,9 +15,12 @@ use Rattle.sqlite_tied.specs.Compute.{everything}
 use Rattle.csi_schema.specs.facts.Failing.{IsAloneWrite, IsSelect, IsSure, only_limit, sure_of}
 use Rattle.csi_schema.specs.facts.Writes.{IsCommand}
 use Rattle.csi_schema.specs.declared.formats.TheConstants.{LATEST_FORMAT}
-use Rattle.csi_transactions.specs.Statements.{plain_query, number_query, volume_query, named_query, sizes_query, page_query, page_numbers_query, nodes_query, attached_query, places_query}
+use Rattle.csi_transactions.specs.Selecting.{asked, given, query}
+use Rattle.csi_transactions.specs.Statements.{plain_query, number_query}
 use Rattle.csi_transactions.specs.Rows.{number_value}
 use Rattle.csi_transactions.specs.Tables.{schema}
+use Rattle.csi_transactions.specs.declared.statements.select.Select.{Select}
+use Rattle.csi_transactions.specs.declared.statements.select.Select.TheVariants.{Numbered, Named, Sizes, Page, PageNumbers, Nodes, Attached, Places}
 use Rattle.csi_transactions.specs.Texts.{Write, arity, text, AddVolume, SetNext, SetFormat, SetParams, RemoveVolume, Attach, Detach, DetachAll}
 
 -- ---- writes
@@ -92,50 +94,10 @@ alone DetachAll = (omega arith, refl, refl, tt, refl)
 
 -- ---- reads
 
-pub data Read : Type 0 where
-  Numbered : (number : ℕ) → Read
-  Named : (name : List ℕ) → Read
-  Sizes : (pool : List ℕ) → Read
-  Page : (after count : ℕ) → Read
-  PageNumbers : (after count : ℕ) → Read
-  Nodes : (number : ℕ) → Read
-  Attached : (node : List ℕ) → Read
-  Places : (after last : ℕ) → Read
-
-abbrev pub asked : Read → List ℕ
-asked (Numbered number) = codes "SELECT number, name, bytes, pool, caps, params FROM volumes WHERE number = ?1"
-asked (Named name) = codes "SELECT number, name, bytes, pool, caps, params FROM volumes WHERE name = ?1 ORDER BY number"
-asked (Sizes pool) = codes "SELECT bytes FROM volumes WHERE pool = ?1 ORDER BY number"
-asked (Page after count) = codes "SELECT number, name, bytes, pool, caps, params FROM volumes WHERE number > ?1 ORDER BY number LIMIT ?2"
-asked (PageNumbers after count) = codes "SELECT number FROM volumes WHERE number > ?1 ORDER BY number LIMIT ?2"
-asked (Nodes number) = codes "SELECT node, cap, readonly FROM attachments WHERE number = ?1 ORDER BY node"
-asked (Attached node) = codes "SELECT number FROM attachments WHERE node = ?1 ORDER BY number"
-asked (Places after last) = codes "SELECT number, node FROM attachments WHERE number > ?1 AND number <= ?2 ORDER BY number, node"
-
-abbrev pub given : Read → Row
-given (Numbered number) = number_value number ∷ []
-given (Named name) = Text name ∷ []
-given (Sizes pool) = Text pool ∷ []
-given (Page after count) = number_value after ∷ number_value count ∷ []
-given (PageNumbers after count) = number_value after ∷ number_value count ∷ []
-given (Nodes number) = number_value number ∷ []
-given (Attached node) = Text node ∷ []
-given (Places after last) = number_value after ∷ number_value last ∷ []
-
-abbrev pub query : Read → Query
-query (Numbered number) = volume_query
-query (Named name) = named_query
-query (Sizes pool) = sizes_query
-query (Page after count) = page_query
-query (PageNumbers after count) = page_numbers_query
-query (Nodes number) = nodes_query
-query (Attached node) = attached_query
-query (Places after last) = places_query
-
 abbrev volume_names : List (List ℕ)
 volume_names = codes "number" ∷ codes "name" ∷ codes "bytes" ∷ codes "pool" ∷ codes "caps" ∷ codes "params" ∷ []
 
-pub is_select : (q : Read) → IsSelect schema (asked q) (query q)
+pub is_select : (q : Select) → IsSelect schema (asked q) (query q)
 unfolding understood everything
 is_select (Numbered number) = record { names = volume_names; is = refl; plain = (refl, refl); unlisted = refl }
 is_select (Named name) = record { names = volume_names; is = refl; plain = (refl, refl); unlisted = refl }
@@ -158,7 +120,7 @@ pub number_sure : IsSure schema number_text ([])
 unfolding understood everything
 number_sure = sure_of ([]) number_select (omega arith, refl, refl) (λ limit db e h. only_limit h (λ over. over.4))
 
-pub is_sure : (q : Read) → IsSure schema (asked q) (given q)
+pub is_sure : (q : Select) → IsSure schema (asked q) (given q)
 unfolding understood everything
 is_sure (Numbered number) = sure_of (given (Numbered number)) (is_select (Numbered number)) (omega arith, refl, refl) (λ limit db e h. only_limit h (λ over. over.4))
 is_sure (Named name) = sure_of (given (Named name)) (is_select (Named name)) (omega arith, refl, refl) (λ limit db e h. only_limit h (λ over. over.4))

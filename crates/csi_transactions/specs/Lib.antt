@@ -1,7 +1,9 @@
 pub mod Cells
 pub mod Deletes
 pub mod Failing
+pub mod Lent
 pub mod Rows
+pub mod Selecting
 pub mod Shown
 pub mod Statements
 pub mod Tables

@@ -14,7 +14,7 @@ ghost use Rattle.csi_transactions.specs.Updates.{SetsParams};
 
 use crate::statements::attachments::{delete_attachment, delete_attachments, insert_attachment};
 use crate::statements::meta::{set_next, update_format};
-use crate::statements::volumes::{delete_volume, insert_volume, update_params};
+use crate::statements::volumes::{VolumeRow, delete_volume, insert_volume, update_params};
 use sqlite::{Alter, Connection, Error};
 
 /// Adds a volume, and makes its number plus 1 the next number.
@@ -37,7 +37,15 @@ pub fn add_volume<S: Alter>(
         CommitsOver S.Store conn.old conn.new schema (AddsNumbered row (volume + 1)) (RefusesNumbered row (volume + 1)) result }
 {
     let mut tx = conn.transaction();
-    insert_volume(&mut tx, volume, name, bytes, pool, caps, params)?;
+    let row = VolumeRow {
+        number: volume,
+        name,
+        bytes,
+        pool,
+        caps,
+        params,
+    };
+    insert_volume(&mut tx, &row)?;
     set_next(&mut tx, volume + 1)?;
     tx.commit()
 }

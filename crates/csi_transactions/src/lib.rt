@@ -4,7 +4,7 @@
 //! it could leave before, or the tables after the change. [`reads`] has one a read, which is undone: it answers rows, leaves the tables, and adds nothing to
 //! what a stop may leave. The layer above makes volumes and attachments of the rows; [`values`] has the cells of a row as numbers, truths, texts and bytes.
 //!
-//! `statements/` has one statement a function, a table a module. Each text is computed under the schema by the checker (`proofs/TextLemmas.antt`), so what
+//! `statements/` has the changes, a statement a function and a table a module, and the SELECTs of rows, each a variant (`select.rt`). Each text is computed under the schema by the checker (`proofs/TextLemmas.antt`), so what
 //! a contract cites is not the text but its meaning: an INSERT adds a row (`specs/Rows.antt`), a DELETE is a filter of the table (`specs/Deletes.antt`), and
 //! a SELECT shows the rows that pass in an order (`specs/Shown.antt` over the queries of `specs/Statements.antt`). A DELETE goes by rowids, so it is a
 //! filter where no two rows share one (`AreKeyed`); an INSERT keeps that.

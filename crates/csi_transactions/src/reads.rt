@@ -8,14 +8,12 @@ ghost use Rattle.std.specs.Prelude.{◌≡◌, ◌<◌, ◌^◌, [], ◌∷◌, 
 ghost use Rattle.sqlite.specs.declared.types.Value.TheVariants.{Text};
 ghost use Rattle.csi_transactions.specs.Failing.{HasNoNext, NothingRefuses};
 ghost use Rattle.csi_transactions.specs.Rows.{ReadsOnly, number_value};
+ghost use Rattle.csi_transactions.specs.Selecting.{IsAsked, Tells};
 ghost use Rattle.csi_transactions.specs.Shown.{IsFoundBy, IsNext, IsPage, IsPageNodes, IsShownOf, last_number};
 ghost use Rattle.csi_transactions.specs.Statements.{attached_query, named_query, nodes_query, sizes_query, volume_query};
 
-use crate::statements::attachments::{select_attached, select_nodes, select_places};
 use crate::statements::meta::select_next;
-use crate::statements::volumes::{
-    select_named, select_page, select_page_numbers, select_sizes, select_volume,
-};
+use crate::statements::select::{Select, select_rows};
 use crate::values::{first, number_at};
 use sqlite::{Alter, Connection, Error, Row};
 
@@ -30,15 +28,24 @@ pub fn next_number<S: Alter>(conn: &mut Connection<S>) -> Result<Row, Error>
     Ok(row)
 }
 
+fn rows_of<S: Alter>(conn: &mut Connection<S>, read: &Select<'_>) -> Result<Vec<Row>, Error>
+    requires idle { conn.old.in_transaction ≡ false }
+    requires asked { IsAsked read.now }
+    ensures { ReadsOnly S.Store conn.old conn.new (λ db rows. Tells read.now db rows.items) NothingRefuses result }
+{
+    let mut tx = conn.transaction();
+    let rows = select_rows(&mut tx, read)?;
+    tx.rollback();
+    Ok(rows)
+}
+
 /// The volume of a number; `None` where none stands.
 pub fn by_number<S: Alter>(conn: &mut Connection<S>, volume: u64) -> Result<Option<Row>, Error>
     requires idle { conn.old.in_transaction ≡ false }
     requires volume { volume < 2 ^ 63 }
     ensures { ReadsOnly S.Store conn.old conn.new (λ db found. IsFoundBy volume_query (db.trees 1) (number_value volume ∷ []) found) NothingRefuses result }
 {
-    let mut tx = conn.transaction();
-    let rows = select_volume(&mut tx, volume)?;
-    tx.rollback();
+    let rows = rows_of(conn, &Select::Numbered(volume))?;
     Ok(first(rows))
 }
 
@@ -47,9 +54,7 @@ pub fn by_name<S: Alter>(conn: &mut Connection<S>, name: &str) -> Result<Option<
     requires idle { conn.old.in_transaction ≡ false }
     ensures { ReadsOnly S.Store conn.old conn.new (λ db found. IsFoundBy named_query (db.trees 1) (Text name.now ∷ []) found) NothingRefuses result }
 {
-    let mut tx = conn.transaction();
-    let rows = select_named(&mut tx, name)?;
-    tx.rollback();
+    let rows = rows_of(conn, &Select::Named(name))?;
     Ok(first(rows))
 }
 
@@ -61,10 +66,7 @@ pub fn attachments<S: Alter>(conn: &mut Connection<S>, volume: u64) -> Result<Ve
     ensures { ReadsOnly S.Store conn.old conn.new
         (λ db rows. IsShownOf nodes_query (db.trees 3) (number_value volume ∷ []) rows.items) NothingRefuses result }
 {
-    let mut tx = conn.transaction();
-    let rows = select_nodes(&mut tx, volume)?;
-    tx.rollback();
-    Ok(rows)
+    rows_of(conn, &Select::Nodes(volume))
 }
 
 /// The number of each volume that is attached at a node, in rising order.
@@ -72,10 +74,7 @@ pub fn attached_at<S: Alter>(conn: &mut Connection<S>, node: &str) -> Result<Vec
     requires idle { conn.old.in_transaction ≡ false }
     ensures { ReadsOnly S.Store conn.old conn.new (λ db rows. IsShownOf attached_query (db.trees 3) (Text node.now ∷ []) rows.items) NothingRefuses result }
 {
-    let mut tx = conn.transaction();
-    let rows = select_attached(&mut tx, node)?;
-    tx.rollback();
-    Ok(rows)
+    rows_of(conn, &Select::Attached(node))
 }
 
 /// The bytes of each volume of a pool, in rising order of their numbers.
@@ -83,10 +82,7 @@ pub fn sizes_in<S: Alter>(conn: &mut Connection<S>, pool: &str) -> Result<Vec<Ro
     requires idle { conn.old.in_transaction ≡ false }
     ensures { ReadsOnly S.Store conn.old conn.new (λ db rows. IsShownOf sizes_query (db.trees 1) (Text pool.now ∷ []) rows.items) NothingRefuses result }
 {
-    let mut tx = conn.transaction();
-    let rows = select_sizes(&mut tx, pool)?;
-    tx.rollback();
-    Ok(rows)
+    rows_of(conn, &Select::Sizes(pool))
 }
 
 /// The volumes with a number greater than `after`, in rising order, and of these the first `count`.
@@ -95,10 +91,7 @@ pub fn page<S: Alter>(conn: &mut Connection<S>, after: u64, count: u32) -> Resul
     requires after { after < 2 ^ 63 }
     ensures { ReadsOnly S.Store conn.old conn.new (λ db rows. IsPage after count db rows.items) NothingRefuses result }
 {
-    let mut tx = conn.transaction();
-    let rows = select_page(&mut tx, after, count)?;
-    tx.rollback();
-    Ok(rows)
+    rows_of(conn, &Select::Page(after, count))
 }
 
 /// A page of volumes, and where they are attached.
@@ -134,8 +127,8 @@ pub fn page_nodes<S: Alter>(
     ensures { ReadsOnly S.Store conn.old conn.new (λ db page. IsPageNodes after count db page.numbers.items page.places.items) NothingRefuses result }
 {
     let mut tx = conn.transaction();
-    let numbers = select_page_numbers(&mut tx, after, count)?;
-    let places = select_places(&mut tx, after, last_of(&numbers, after))?;
+    let numbers = select_rows(&mut tx, &Select::PageNumbers(after, count))?;
+    let places = select_rows(&mut tx, &Select::Places(after, last_of(&numbers, after)))?;
     tx.rollback();
     Ok(PageNodes { numbers, places })
 }

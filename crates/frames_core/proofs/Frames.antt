@@ -1,5 +1,5 @@
 -- A frame is what breaks nothing and has all of its bytes.
-use Rattle.std.proofs.Common.{◌≡◌, ◌≢◌, ℕ, zero, suc, ◌+◌, ◌-◌, ◌*◌, ◌<◌, ◌≤◌, ◌^◌, Bool, true, false, List, [], ◌∷◌, ◌++◌, length, take, drop, get_or, refl, sym, ap, ◌∙◌, arith, length-append, append_assoc, inl, inr, All, add-zero}
+use Rattle.std.proofs.Common.{◌≡◌, ◌≢◌, ℕ, zero, suc, ◌+◌, ◌-◌, ◌*◌, ◌<◌, ◌≤◌, ◌^◌, Bool, true, false, List, [], ◌∷◌, ◌++◌, length, take, drop, get_or, refl, sym, ap, subst, ◌∙◌, arith, length-append, append_assoc, inl, inr, All, add-zero}
 use Rattle.std.proofs.lemmas.List.{get_or_append_left, get_or-append-add, get_or-take, get_or-drop, get_or_past, get_or_default, take-append-drop, length-take, length-drop, drop-drop, drop_more, append-nil}
 use Rattle.std.proofs.lemmas.Bool.{cases_lt}
 use Rattle.std.proofs.lemmas.Nat.{be_bytes_2, be_bytes_4, from_be_bytes-to_be_bytes_2, from_be_bytes-to_be_bytes_4}
@@ -9,8 +9,8 @@ use Rattle.frames_core.specs.declared.kind.Kind.TheVariants.{Calls, Replies}
 use Rattle.frames_core.specs.declared.kind.Part.{Part}
 use Rattle.frames_core.specs.declared.kind.Part.TheVariants.{Status, TextLength, Text, Flag, BodyLength, Missing}
 use Rattle.frames_core.specs.Envelope.{CallBytes, ReplyBytes, frame, reply, is_status}
-use Rattle.frames_core.specs.Grammar.{Item, IsItem, spelling, lead, least_text, most_text, most_body, least_byte, IsGoodByte, text_length, body_length, HasBadStatus, Breaks, IsUnbroken, BreaksFirst, IsUnfinished, BeginsFrame, FaultAt, IsFrame}
-use Rattle.frames_core.specs.Head.{IsWhole, IsShort, item, item_in, most_head, most_frame}
+use Rattle.frames_core.specs.Grammar.{Item, IsItem, spelling, lead, least_text, most_text, most_body, least_byte, IsGoodByte, text_length, body_length, HasBadStatus, Breaks, IsUnbroken, BreaksFirst, IsUnfinished, BeginsFrame, FaultAt, IsFrame, HasPart}
+use Rattle.frames_core.specs.Head.{IsWhole, IsShort, Says, item, item_in, most_head, most_frame}
 use Rattle.frames_core.proofs.Breaking.{true_not_false}
 
 abbrev pub IsBytes : List ℕ → Type 0
@@ -224,6 +224,12 @@ whole_is_frame kind bytes fits unbroken whole =
 
 pub whole_frame : (kind : Kind) (bytes : List ℕ) → IsBytes bytes → IsUnbroken kind bytes → IsWhole kind bytes → IsFrame kind bytes
 whole_frame kind bytes fits unbroken whole = let w = whole_is_frame kind bytes fits unbroken whole in (item_in kind bytes, w.0, w.1)
+
+-- the text and the body that a whole frame has are what it says
+pub said_by : (kind : Kind) (bytes text body : List ℕ) → IsBytes bytes → IsUnbroken kind bytes → IsWhole kind bytes → text ≡ take (text_length kind bytes) (drop (lead kind + 2) bytes) → body ≡ drop (lead kind + 7 + text_length kind bytes) bytes → Says kind bytes (item kind (get_or bytes 0 0) text body)
+said_by kind bytes text body fits unbroken whole text_is body_is =
+    subst (λ (x : List ℕ). Says kind bytes (item kind (get_or bytes 0 0) x body)) (sym text_is)
+    (subst (λ (x : List ℕ). Says kind bytes (item kind (get_or bytes 0 0) (take (text_length kind bytes) (drop (lead kind + 2) bytes)) x)) (sym body_is) (whole_is_frame kind bytes fits unbroken whole))
 
 -- ---- what a frame is, as a prefix of a stream
 
@@ -450,7 +456,13 @@ short_room kind bytes unbroken short =
           ]
     ]
 
--- a call's frame has no status that could be wrong
-pub no_bad_call : (bytes : List ℕ) (at : ℕ) → BreaksFirst Calls bytes Status at → ⊥
+-- what is wrong is a part that frames of the kind have: that of a call has no status
+pub breaks_has : (kind : Kind) (bytes : List ℕ) (part : Part) (at : ℕ) → Breaks kind bytes part at → HasPart kind part
 unfolding Breaks
-no_bad_call bytes at h = omega (arith, h.breaks.1.0)
+breaks_has Calls bytes Status at h = omega (arith, h.1.0)
+breaks_has Calls bytes TextLength at h = tt
+breaks_has Calls bytes Text at h = tt
+breaks_has Calls bytes Flag at h = tt
+breaks_has Calls bytes BodyLength at h = tt
+breaks_has Calls bytes Missing at h = tt
+breaks_has Replies bytes part at h = tt

@@ -1,13 +1,14 @@
 -- What a framer's invariant says.
-use Rattle.std.proofs.Common.{◌-◌, ◌++◌, ◌≡◌, ℕ, ◌+◌, ◌<◌, ◌^◌, List, [], length, take, Option, Some, None, refl, sym, ap, subst, arith, length-append, inl, inr}
-use Rattle.std.specs.Prelude.{IsSome}
+use Rattle.std.proofs.Common.{◌-◌, ◌++◌, ◌≡◌, ℕ, ◌+◌, ◌<◌, ◌^◌, List, [], length, take, Option, Some, None, refl, sym, ap, subst, arith, length-append, inl, inr, ◌⊎◌}
+use Rattle.std.specs.Prelude.{IsSome, is_some, true, false}
 use Rattle.std.proofs.lemmas.List.{length-take}
 use Rattle.frames_core.specs.declared.kind.Kind.{Kind}
 use Rattle.frames_core.specs.declared.kind.Part.{Part}
 use Rattle.frames_core.specs.declared.head.Flaw.{Flaw}
 use Rattle.frames_core.specs.declared.prefix.Prefix.{Prefix}
+use Rattle.frames_core.specs.Framer.{CutterState}
 use Rattle.frames_core.specs.Grammar.{BreaksFirst, FaultAt, IsUnbroken, IsUnfinished, BeginsFrame, IsFrame}
-use Rattle.frames_core.specs.Head.{IsShort}
+use Rattle.frames_core.specs.Head.{IsShort, IsWhole}
 use Rattle.frames_core.specs.Prefix.{TakesPrefix, Stands}
 use Rattle.frames_core.specs.Holding.{Holds, IsBreakIn}
 use Rattle.frames_core.proofs.Breaking.{BreaksFirst-longer, nil_unbroken}
@@ -50,6 +51,43 @@ known_break kind past held part place at h is =
     let same : place ≡ at - past = omega arith in
     (omega arith, λ more. subst (λ (k : ℕ). BreaksFirst kind (held ++ more) part k) same (BreaksFirst-longer kind held more part place h))
 
+none_some : {X : Type 0} (o : Option X) → o ≡ None → IsSome o → ⊥
+none_some None e some = absurd cc
+none_some (Some x) e some = absurd cc
+
+pub known_some : {X : Type 0} (o p : Option X) → true ≡ is_some o → o ≡ p → p ≡ None → ⊥
+known_some None p some is none = absurd cc
+known_some (Some x) p some is none = absurd cc
+
+pub known_no : {X : Type 0} (o p : Option X) → false ≡ is_some o → o ≡ p → p ≡ None
+known_no None p unknown is = sym is
+known_no (Some x) p unknown is = absurd cc
+
+-- what may yet become a frame is settled by no fault
+pub not_settled : {F : Type 0} (kind : Kind) (held : List ℕ) (known : Option F) → known ≡ None → IsUnbroken kind held × IsShort kind held → IsFrame kind held ⊎ IsSome known → ⊥
+not_settled kind held known none open_ settled = elim settled [
+  | inl f ↦ (is_unfinished kind held open_.0 open_.1).frameless (frame_of kind held f)
+  | inr some ↦ none_some known none some
+]
+
+-- where no fault is known, a frame that begins is whole, and what is whole is a frame
+pub begun_whole : {F : Type 0} (kind : Kind) (part : F → Part) (at : F → ℕ) (past : ℕ) (held : List ℕ) (known : Option F) → Holds kind part at past held known → known ≡ None → BeginsFrame kind held → IsWhole kind held
+begun_whole kind part at past held None h none b = elim h.faults.1 [
+  | inl short ↦ absurd ((is_unfinished kind held h.faults.0 short).frameless b)
+  | inr whole ↦ whole
+]
+begun_whole kind part at past held (Some f) h none b = absurd cc
+
+pub whole_of : {F : Type 0} (kind : Kind) (part : F → Part) (at : F → ℕ) (past : ℕ) (held : List ℕ) (known : Option F) → Holds kind part at past held known → known ≡ None → IsBytes held → IsWhole kind held → IsFrame kind held
+whole_of kind part at past held None h none fits whole = whole_frame kind held fits h.faults.0 whole
+whole_of kind part at past held (Some f) h none fits whole = absurd cc
+
+-- no frame begins where a fault is known or nothing is whole
+pub none_begins : {F : Type 0} (kind : Kind) (part : F → Part) (at : F → ℕ) (s : CutterState F) → Holds kind part at s.past s.held s.fault → (s.fault ≡ None → IsWhole kind s.held → ⊥) → BeginsFrame kind s.held → ⊥
+none_begins kind part at s h none begins =
+    let unknown = known_none kind part at s.past s.held s.fault h begins in
+    none unknown (begun_whole kind part at s.past s.held s.fault h unknown begins)
+
 -- ---- what is taken of a piece
 
 -- how many bytes there are then
@@ -59,9 +97,15 @@ few_then kind past old piece new prefix room t = omega (arith, ap length t.held,
 pub breaks_then : (kind : Kind) (old piece new : List ℕ) (prefix : Prefix) (f : Flaw) → TakesPrefix kind old piece new prefix → prefix.flaw ≡ Some f → BreaksFirst kind new f.part f.at
 breaks_then kind old piece new prefix f t e = let P : Option Flaw → Type 0 = λ o. Stands kind new o in subst P e t.stands
 
-none_some : (o : Option Flaw) → o ≡ None → IsSome o → ⊥
-none_some None e some = absurd cc
-none_some (Some f) e some = absurd cc
+-- what the last byte that was taken breaks, for one kind under two names
+pub record Broke (kind : Kind) (past : ℕ) (new : List ℕ) (f : Flaw) : Type 0 where
+  pub few : past + length new < 2 ^ 63
+  pub breaks : BreaksFirst kind new f.part f.at
+
+pub broke : (k kind : Kind) (past : ℕ) (old piece new : List ℕ) (prefix : Prefix) (f : Flaw) → k ≡ kind → past + length old + length piece < 2 ^ 63 → TakesPrefix k old piece new prefix → prefix.flaw ≡ Some f → Broke kind past new f
+broke k kind past old piece new prefix f same room t e =
+    let taken = subst (λ (k : Kind). TakesPrefix k old piece new prefix) same t in
+    record { few = few_then kind past old piece new prefix room taken; breaks = breaks_then kind old piece new prefix f taken e }
 
 -- what is whole is a frame
 pub settled_whole : (kind : Kind) (old piece new : List ℕ) (prefix : Prefix) → TakesPrefix kind old piece new prefix → prefix.flaw ≡ None → IsBytes new → prefix.count < length piece → IsFrame kind new

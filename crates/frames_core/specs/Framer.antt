@@ -1,50 +1,107 @@
--- What a framer has taken, as its contracts see it.
-use Rattle.std.specs.Prelude.{◌≡◌, ℕ, ◌+◌, ◌-◌, ◌≤◌, List, [], ◌++◌, length, Option, Some, None, IsSome, IsNone, ◌≢◌, ◌⊎◌}
+-- What a framer has taken, as its contracts see it: a framer of calls, and one of replies.
+use Rattle.std.specs.Prelude.{ℕ, ◌+◌, List, [], length, Option, Some, None, IsSome, IsNone, ◌≢◌, ◌⊎◌}
 use Rattle.frames_core.specs.declared.fault.FrameFault.{FrameFault}
-use Rattle.frames_core.specs.declared.fault.FrameWhy.TheVariants.{EndOfInput}
-use Rattle.frames_core.specs.declared.kind.Kind.TheVariants.{Calls}
+use Rattle.frames_core.specs.declared.fault.FrameWhy.TheVariants.{EndOfInput as CallMissing}
+use Rattle.frames_core.specs.declared.reply_fault.ReplyFault.{ReplyFault}
+use Rattle.frames_core.specs.declared.reply_fault.ReplyWhy.TheVariants.{EndOfInput as ReplyMissing}
+use Rattle.frames_core.specs.declared.kind.Kind.{Kind}
+use Rattle.frames_core.specs.declared.kind.Kind.TheVariants.{Calls, Replies}
 use Rattle.frames_core.specs.declared.kind.Part.{Part}
-use Rattle.frames_core.specs.Envelope.{CallBytes, IsCall, frame}
-use Rattle.frames_core.specs.Stream.{FaultAt, BreaksFirst, part_of}
-use Rattle.frames_core.specs.Holding.{Holds}
+use Rattle.frames_core.specs.Grammar as grammar
+use Rattle.frames_core.specs.Stream.{part_of}
+use Rattle.frames_core.specs.Replies.{reply_part_of}
+use Rattle.frames_core.specs.Holding.{IsFaultIn, IsBreakIn}
 
 -- how many bytes the frames that were given up have, the bytes since then, and the fault that is known
-pub record FramerState : Type 0 where
+pub record CutterState (F : Type 0) : Type 0 where
   pub past : ℕ
   pub held : List ℕ
-  pub fault : Option FrameFault
+  pub fault : Option F
 
-abbrev pub start : FramerState
-start = record { past = 0; held = []; fault = None }
-
-abbrev pub IsFrame : List ℕ → Type 0
-IsFrame bytes = (call : CallBytes) × IsCall call × (bytes ≡ frame call)
-
--- the fault, with its place counted from the first byte of the stream
-abbrev pub IsFaultOf : ℕ → List ℕ → FrameFault → Type 0
-IsFaultOf past held f = (past ≤ f.at) × FaultAt held f.why (f.at - past)
-
--- a fault that the bytes have, whatever follows them
-abbrev pub IsBreakOf : ℕ → List ℕ → FrameFault → Type 0
-IsBreakOf past held f = (past ≤ f.at) × ((more : List ℕ) → BreaksFirst (held ++ more) f.why (f.at - past))
+-- nothing was taken
+abbrev pub begun : {F : Type 0} → CutterState F
+begun = record { past = 0; held = []; fault = None }
 
 -- nothing more is taken
-abbrev pub IsSettled : FramerState → Type 0
-IsSettled s = IsFrame s.held ⊎ IsSome s.fault
+abbrev pub IsSettledAs : {F : Type 0} → Kind → CutterState F → Type 0
+IsSettledAs kind s = grammar.IsFrame kind s.held ⊎ IsSome s.fault
 
 -- the input ends: what has begun and isn't whole is a fault at the end
-abbrev pub IsCutShort : FramerState → Type 0
-IsCutShort s = IsNone s.fault × (s.held ≢ []) × ¬ IsFrame s.held
+abbrev pub IsCutShortAs : {F : Type 0} → Kind → CutterState F → Type 0
+IsCutShortAs kind s = IsNone s.fault × (s.held ≢ []) × ¬ grammar.IsFrame kind s.held
 
-abbrev pub cut_short : FramerState → FramerState
-cut_short s = record { past = s.past; held = s.held; fault = Some (record { why = EndOfInput; at = s.past + length s.held }) }
+abbrev pub cut_with : {F : Type 0} → (ℕ → F) → CutterState F → CutterState F
+cut_with cut_at s = record { past = s.past; held = s.held; fault = Some (cut_at (s.past + length s.held)) }
 
--- what holds of the parts of every framer
+-- ---- of calls
+
+abbrev pub FramerState : Type 0
+FramerState = CutterState FrameFault
+
+abbrev pub start : FramerState
+start = begun
+
+abbrev pub IsFrame : List ℕ → Type 0
+IsFrame bytes = grammar.IsFrame Calls bytes
+
 abbrev pub part : FrameFault → Part
 part f = part_of f.why
 
 abbrev pub place : FrameFault → ℕ
 place f = f.at
 
-abbrev pub IsFramer : ℕ → List ℕ → Option FrameFault → Type 0
-IsFramer past held known = Holds Calls part place past held known
+-- the fault of an input that ends there inside a frame
+abbrev pub call_cut_at : ℕ → FrameFault
+call_cut_at at = record { why = CallMissing; at = at }
+
+-- the fault, with its place counted from the first byte of the stream
+abbrev pub IsFaultOf : ℕ → List ℕ → FrameFault → Type 0
+IsFaultOf past held f = IsFaultIn Calls past held (part f) (place f)
+
+-- a fault that the bytes have, whatever follows them
+abbrev pub IsBreakOf : ℕ → List ℕ → FrameFault → Type 0
+IsBreakOf past held f = IsBreakIn Calls past held (part f) (place f)
+
+abbrev pub IsSettled : FramerState → Type 0
+IsSettled s = IsSettledAs Calls s
+
+abbrev pub IsCutShort : FramerState → Type 0
+IsCutShort s = IsCutShortAs Calls s
+
+abbrev pub cut_short : FramerState → FramerState
+cut_short s = cut_with call_cut_at s
+
+-- ---- of replies
+
+abbrev pub ReplyFramerState : Type 0
+ReplyFramerState = CutterState ReplyFault
+
+abbrev pub reply_start : ReplyFramerState
+reply_start = begun
+
+abbrev pub IsReplyFrame : List ℕ → Type 0
+IsReplyFrame bytes = grammar.IsFrame Replies bytes
+
+abbrev pub reply_part : ReplyFault → Part
+reply_part f = reply_part_of f.why
+
+abbrev pub reply_place : ReplyFault → ℕ
+reply_place f = f.at
+
+abbrev pub reply_cut_at : ℕ → ReplyFault
+reply_cut_at at = record { why = ReplyMissing; at = at }
+
+abbrev pub IsReplyFaultOf : ℕ → List ℕ → ReplyFault → Type 0
+IsReplyFaultOf past held f = IsFaultIn Replies past held (reply_part f) (reply_place f)
+
+abbrev pub IsReplyBreakOf : ℕ → List ℕ → ReplyFault → Type 0
+IsReplyBreakOf past held f = IsBreakIn Replies past held (reply_part f) (reply_place f)
+
+abbrev pub IsReplySettled : ReplyFramerState → Type 0
+IsReplySettled s = IsSettledAs Replies s
+
+abbrev pub IsReplyCutShort : ReplyFramerState → Type 0
+IsReplyCutShort s = IsCutShortAs Replies s
+
+abbrev pub reply_cut_short : ReplyFramerState → ReplyFramerState
+reply_cut_short s = cut_with reply_cut_at s

@@ -70,6 +70,11 @@ body_length kind bytes =
 abbrev pub HasBadStatus : Kind → List ℕ → Type 0
 HasBadStatus kind bytes = (0 < lead kind) × (0 < length bytes) × (is_status (slice_index bytes 0) ≡ false)
 
+-- the parts that a frame of the kind has
+abbrev pub HasPart : Kind → Part → Type 0
+HasPart Calls Status = ⊥
+HasPart kind part = Unit {0}
+
 -- the byte at this place breaks the table of a frame, in this part of it
 unfoldable pub Breaks : Kind → List ℕ → Part → ℕ → Type 0
 Breaks kind bytes Status at = (at ≡ 0) × HasBadStatus kind bytes

@@ -3,7 +3,7 @@ use Rattle.std.specs.Prelude.{◌≡◌, ◌<◌, ℕ, slice_index, drop, take, 
 use Rattle.frames_core.specs.declared.kind.Kind.{Kind}
 use Rattle.frames_core.specs.declared.kind.Kind.TheVariants.{Calls, Replies}
 use Rattle.frames_core.specs.declared.limits.TheConstants.{MAX_HEAD_BYTES, MAX_FRAME_BYTES, MAX_REPLY_HEAD_BYTES, MAX_REPLY_BYTES}
-use Rattle.frames_core.specs.Grammar.{Item, lead, text_length, body_length, IsGoodByte, IsUnbroken, BreaksFirst}
+use Rattle.frames_core.specs.Grammar.{Item, IsItem, spelling, lead, text_length, body_length, IsGoodByte, IsUnbroken, BreaksFirst}
 use Rattle.frames_core.specs.declared.head.Flaw.{Flaw}
 use Rattle.frames_core.specs.declared.head.Head.{Head}
 use Rattle.frames_core.specs.declared.head.Look.{Look}
@@ -34,6 +34,10 @@ IsWhole kind bytes = (lead kind + 7 + text_length kind bytes ≤ length bytes) �
 abbrev pub item : (kind : Kind) → ℕ → List ℕ → List ℕ → Item kind
 item Calls status text body = record { path = text; message = body }
 item Replies status text body = record { status = status; text = text; body = body }
+
+-- the bytes are the frame of this
+abbrev pub Says : (kind : Kind) → List ℕ → Item kind → Type 0
+Says kind bytes said = IsItem kind said × (bytes ≡ spelling kind said)
 
 -- what a frame that is whole says
 abbrev pub item_in : (kind : Kind) → List ℕ → Item kind

@@ -1,11 +1,41 @@
-ghost use Rattle.std.specs.Prelude.{◌≡◌, ◌≢◌, ◌≤◌, length, All};
-ghost use Rattle.frames_core.specs.declared.kind.Part.TheVariants.{Status};
+ghost use Rattle.std.specs.Prelude.{◌≡◌, ℕ, ◌≤◌, length, All};
+ghost use Rattle.frames_core.specs.declared.kind.Kind.TheVariants.{Calls};
+ghost use Rattle.frames_core.specs.declared.kind.Part.TheVariants.{Missing};
 ghost use Rattle.frames_core.specs.Envelope.{IsTextByte};
+ghost use Rattle.frames_core.specs.Framer.{call_cut_at, part as part_of_fault, place};
+ghost use Rattle.frames_core.specs.Grammar.{HasPart};
 ghost use Rattle.frames_core.specs.Stream.{part_of};
 ghost use Rattle.frames_core.specs.Texts.{fault_words};
 
-use crate::kind::Part;
+use crate::kind::{Kind, Part};
 use thiserror::Error;
+
+/// The fault of a stream of frames, be they calls ([`FrameFault`]) or replies ([`ReplyFault`](crate::ReplyFault)).
+pub trait Fault: Copy + Drop {
+    ghost use Rattle.std.specs.Prelude.{ℕ};
+    ghost use Rattle.frames_core.specs.declared.kind.Kind.{Kind};
+    ghost use Rattle.frames_core.specs.declared.kind.Part.{Part};
+
+    // The kind of the frames, the part that is wrong, where it is, and the fault of an input that ends inside a frame.
+    ghost kind: { Kind };
+
+    ghost wrong_part: { Self → Part };
+
+    ghost place: { Self → ℕ };
+
+    ghost cut_at: { ℕ → Self };
+
+    /// The kind of the frames.
+    fn kind() -> Kind
+        ensures { result ≡ kind };
+
+    /// The fault of this part at this place.
+    fn of(part: Part, at: u64) -> Self
+        requires { HasPart kind part }
+        ensures part { wrong_part result ≡ part }
+        ensures place { place result ≡ at }
+        ensures missing { part ≡ Missing → result ≡ cut_at at };
+}
 
 /// Why bytes are not a request frame, in the order in which a frame's bytes show it.
 #[derive(Clone, Copy, Debug, PartialEq, Eq)]
@@ -40,7 +70,7 @@ impl FrameWhy {
 
     /// The reason, by the part that is wrong: a call's frame has no status.
     pub(crate) fn of(part: Part) -> FrameWhy
-        requires { part ≢ Status }
+        requires { HasPart Calls part }
         ensures { part_of result ≡ part }
     {
         match part {
@@ -62,4 +92,25 @@ pub struct FrameFault {
     pub why: FrameWhy,
     /// The byte at which it is, counted from 0 over the bytes that were given.
     pub at: u64,
+}
+
+impl Fault for FrameFault {
+    ghost kind = { Calls };
+
+    ghost wrong_part = { part_of_fault };
+
+    ghost place = { place };
+
+    ghost cut_at = { call_cut_at };
+
+    fn kind() -> Kind {
+        Kind::Calls
+    }
+
+    fn of(part: Part, at: u64) -> FrameFault {
+        FrameFault {
+            why: FrameWhy::of(part),
+            at,
+        }
+    }
 }

@@ -1,51 +1,60 @@
-ghost use Rattle.std.specs.Prelude.{◌≡◌, ℕ, ◌+◌, ◌^◌, ◌<◌, ◌≤◌, [], ◌++◌, length, take, slice_index, min, vec_len, vec_capacity, None, Some, IfOk, MatchOption, IsTrue, IsNone, IfSome, false};
-ghost use Rattle.frames_core.specs.Envelope.{IsCall, bytes_of, frame};
-ghost use Rattle.frames_core.specs.Stream.{BeginsFrame, IsUnbroken, IsUnfinished};
-ghost use Rattle.frames_core.specs.declared.kind.Kind.TheVariants.{Calls};
-ghost use Rattle.frames_core.specs.Head.{IsShort};
-ghost use Rattle.frames_core.specs.Framer.{FramerState, start, IsFrame, IsSettled, IsFaultOf, IsBreakOf, IsCutShort, cut_short};
+ghost use Rattle.std.specs.Prelude.{◌≡◌, ℕ, ◌+◌, ◌^◌, ◌<◌, ◌≤◌, [], ◌++◌, length, take, slice_index, min, vec_len, vec_capacity, None, Some, IfOk, MatchOption, IsTrue, IsNone, IfSome, is_some, false};
+ghost use Rattle.frames_core.specs.Envelope.{IsCall, bytes_of, frame, IsReply, reply_bytes_of, reply};
+ghost use Rattle.frames_core.specs.Grammar.{BeginsFrame, IsFrame, IsUnbroken, IsUnfinished};
+ghost use Rattle.frames_core.specs.declared.kind.Kind.TheVariants.{Calls, Replies};
+ghost use Rattle.frames_core.specs.Head.{IsShort, IsWhole};
+ghost use Rattle.frames_core.specs.Holding.{IsBreakIn, IsFaultIn};
+ghost use Rattle.frames_core.specs.Framer.{CutterState, begun, IsSettledAs, IsCutShortAs, cut_with};
 
 use crate::call::Call;
-use crate::fault::{FrameFault, FrameWhy};
-use crate::head::{call_of, is_whole};
-use crate::kind::Kind;
-use crate::limits::MAX_FRAME_BYTES;
+use crate::fault::{Fault, FrameFault};
+use crate::head::{call_of, is_whole, reply_of};
+use crate::kind::Part;
 use crate::prefix::{each_fits, take_prefix};
+use crate::reply::Reply;
+use crate::reply_fault::ReplyFault;
 use std::alloc::{AllocError, Global};
 use std::marker::Model;
 
-/// Cuts a stream of bytes that comes in any pieces into its frames.
+/// Cuts a stream of bytes that comes in any pieces into its frames, which are calls where `F` is [`FrameFault`], and replies where it is [`ReplyFault`].
 ///
-/// One buffer of [`MAX_FRAME_BYTES`] bytes is reserved by `new`, and no later call takes memory.
-/// Contracts see a framer as three things: how many bytes the frames have that were given up (`past`), the bytes
+/// One buffer for the longest frame is reserved by `new`, and no later call takes memory.
+/// Contracts see it as three things: how many bytes the frames have that were given up (`past`), the bytes
 /// taken since then (`held`), and the fault, once it is known (`fault`). A fault stays for good.
 #[derive(Drop)]
-pub struct Framer {
+pub struct Cutter<F: Fault> {
     buffer: Vec<u8>,
     past: u64,
-    known: Option<FrameFault>,
+    known: Option<F>,
 }
 
-impl Model for Framer {
-    ghost use Rattle.std.specs.Prelude.{◌≤◌, vec_capacity};
-    ghost use Rattle.frames_core.specs.Framer.{FramerState, IsFramer};
-    ghost use Rattle.frames_core.specs.declared.limits.TheConstants.{MAX_FRAME_BYTES};
+/// Cuts a stream into its calls: its buffer has [`MAX_FRAME_BYTES`](crate::MAX_FRAME_BYTES) bytes.
+pub type Framer = Cutter<FrameFault>;
 
-    ghost Value = { FramerState };
+/// Cuts a stream into its replies: its buffer has [`MAX_REPLY_BYTES`](crate::MAX_REPLY_BYTES) bytes.
+pub type ReplyFramer = Cutter<ReplyFault>;
+
+impl<F: Fault> Model for Cutter<F> {
+    ghost use Rattle.std.specs.Prelude.{◌≤◌, vec_capacity};
+    ghost use Rattle.frames_core.specs.Framer.{CutterState};
+    ghost use Rattle.frames_core.specs.Head.{most_frame};
+    ghost use Rattle.frames_core.specs.Holding.{Holds};
+
+    ghost Value = { CutterState F };
 
     ghost view = { λ f. record { past = f.past; held = f.buffer.items; fault = f.known } };
 
-    ghost invariant = { λ f. (MAX_FRAME_BYTES ≤ vec_capacity f.buffer) × IsFramer f.past f.buffer.items f.known };
+    ghost invariant = { λ f. (most_frame F.kind ≤ vec_capacity f.buffer) × Holds F.kind F.wrong_part F.place f.past f.buffer.items f.known };
 }
 
-impl Framer {
+impl<F: Fault> Cutter<F> {
     /// A framer that has taken nothing, with all the memory that it ever takes.
-    pub fn new(alloc: Global) -> Result<Framer, AllocError>
-        ensures empty { IfOk result (λ f. f ≡ start) }
-        ensures open { IfOk result (λ f. IsUnfinished f.held) }
+    pub fn new(alloc: Global) -> Result<Cutter<F>, AllocError>
+        ensures empty { IfOk result (λ f. f ≡ begun) }
+        ensures open { IfOk result (λ f. IsUnfinished F.kind f.held) }
     {
-        let buffer = Vec::with_capacity(alloc, MAX_FRAME_BYTES)?;
-        Ok(Framer {
+        let buffer = Vec::with_capacity(alloc, F::kind().most_frame())?;
+        Ok(Cutter {
             buffer,
             past: 0,
             known: None,
@@ -61,43 +70,38 @@ impl Framer {
     }
 
     /// The fault of the stream, once it is known, with its place counted from the start of the stream.
-    pub fn fault(&self) -> Option<FrameFault>
+    pub fn fault(&self) -> Option<F>
         ensures value { result ≡ self.now.fault }
-        ensures exact { MatchOption result (IsUnbroken self.now.held) (IsFaultOf self.now.past self.now.held) }
+        ensures exact { MatchOption result (IsUnbroken F.kind self.now.held) (λ f. IsFaultIn F.kind self.now.past self.now.held (F.wrong_part f) (F.place f)) }
     {
         self.known
     }
 
-    /// The call whose frame is whole, if one is, lent from the buffer.
-    pub fn frame(&self) -> Option<Call<'_>>
-        ensures { MatchOption result (¬ BeginsFrame self.now.held) (λ call. IsCall (bytes_of call) × (self.now.held ≡ frame (bytes_of call))) }
+    // The bytes of the frame that is whole, if one is, and what is known where none is.
+    fn whole_frame(&self) -> Option<&[u8]>
+        ensures some { IfSome result (λ bytes. (bytes.now ≡ self.now.held) × IsUnbroken F.kind bytes.now × IsWhole F.kind bytes.now × (self.now.fault ≡ None)) }
+        ensures frame { IsTrue (is_some result) → IsFrame F.kind self.now.held }
+        ensures none { IsNone result → ¬ BeginsFrame F.kind self.now.held }
+        ensures short { IsNone result → self.now.fault ≡ None → IsUnbroken F.kind self.now.held × IsShort F.kind self.now.held }
     {
-        let _past = self.past;
-        self.standing()
-    }
-
-    // The same, with what is known where there is none.
-    fn standing(&self) -> Option<Call<'_>>
-        ensures some { IfSome result (λ call. IsCall (bytes_of call) × (self.now.held ≡ frame (bytes_of call)) × (self.now.fault ≡ None)) }
-        ensures none { IsNone result → self.now.fault ≡ None → IsUnbroken self.now.held × IsShort Calls self.now.held }
-    {
-        let held = self.buffer.as_slice();
         if self.known.is_some() {
             return None;
         }
-        if !is_whole(Kind::Calls, held) {
+        let held = self.buffer.as_slice();
+        each_fits(held);
+        if !is_whole(F::kind(), held) {
             return None;
         }
-        Some(call_of(held))
+        Some(held)
     }
 
     /// Gives up the frame that is whole, so that the next one can be taken. Without one nothing changes.
     pub fn next_frame(&mut self)
-        ensures given_up { IsFrame self.old.held → self.new ≡ record { past = self.old.past + length self.old.held; held = []; fault = None } }
-        ensures open { IsFrame self.old.held → IsUnfinished self.new.held }
-        ensures kept { ¬ IsFrame self.old.held → self.new ≡ self.old }
+        ensures given_up { IsFrame F.kind self.old.held → self.new ≡ record { past = self.old.past + length self.old.held; held = []; fault = None } }
+        ensures open { IsFrame F.kind self.old.held → IsUnfinished F.kind self.new.held }
+        ensures kept { ¬ IsFrame F.kind self.old.held → self.new ≡ self.old }
     {
-        if self.frame().is_some() {
+        if self.whole_frame().is_some() {
             self.past += self.buffer.len() as u64;
             self.buffer.clear();
         }
@@ -105,23 +109,20 @@ impl Framer {
 
     /// Says that the input ends here. A frame that has begun and is not whole is then the fault `EndOfInput`; otherwise nothing changes.
     pub fn end(&mut self)
-        ensures ends { IsCutShort self.old → self.new ≡ cut_short self.old }
-        ensures kept { ¬ IsCutShort self.old → self.new ≡ self.old }
+        ensures ends { IsCutShortAs F.kind self.old → self.new ≡ cut_with F.cut_at self.old }
+        ensures kept { ¬ IsCutShortAs F.kind self.old → self.new ≡ self.old }
     {
-        if self.known.is_none() && !self.buffer.is_empty() && self.frame().is_none() {
-            self.known = Some(FrameFault {
-                why: FrameWhy::EndOfInput,
-                at: self.taken(),
-            });
+        if self.known.is_none() && !self.buffer.is_empty() && self.whole_frame().is_none() {
+            self.known = Some(F::of(Part::Missing, self.taken()));
         }
     }
 
     // Whether nothing more is taken.
     fn is_settled(&self) -> bool
-        ensures settled { IsTrue result → IsSettled self.now }
-        ensures open { (result ≡ false) → (self.now.fault ≡ None) × IsUnbroken self.now.held × IsShort Calls self.now.held }
+        ensures settled { IsTrue result → IsSettledAs F.kind self.now }
+        ensures open { (result ≡ false) → (self.now.fault ≡ None) × IsUnbroken F.kind self.now.held × IsShort F.kind self.now.held }
     {
-        self.known.is_some() || self.standing().is_some()
+        self.known.is_some() || self.whole_frame().is_some()
     }
 
     /// Takes bytes of the piece up to the end of one frame, or up to the byte at which a fault is known, and says how many.
@@ -133,25 +134,40 @@ impl Framer {
         ensures past { self.new.past ≡ self.old.past }
         ensures held { self.new.held ≡ self.old.held ++ take result piece.now }
         // It takes the least prefix of the piece that completes a frame or makes a fault known, else all of it.
-        ensures least { (k : ℕ) → k < result → IsUnfinished (self.old.held ++ take k piece.now) }
-        ensures all { result < length piece.now → IsSettled self.new }
+        ensures least { (k : ℕ) → k < result → IsUnfinished F.kind (self.old.held ++ take k piece.now) }
+        ensures all { result < length piece.now → IsSettledAs F.kind self.new }
         // A fault that it makes known is of the bytes, and not of an end of the input.
-        ensures known { self.old.fault ≡ None → IfSome self.new.fault (IsBreakOf self.new.past self.new.held) }
+        ensures known { self.old.fault ≡ None → IfSome self.new.fault (λ f. IsBreakIn F.kind self.new.past self.new.held (F.wrong_part f) (F.place f)) }
         // Nothing is taken while a frame stands or after a fault.
-        ensures settled { IsSettled self.old → result ≡ 0 }
+        ensures settled { IsSettledAs F.kind self.old → result ≡ 0 }
         ensures idle { result ≡ 0 → self.new ≡ self.old }
     {
         if self.is_settled() {
             return 0;
         }
-        let prefix = take_prefix(Kind::Calls, &mut self.buffer, piece);
+        let prefix = take_prefix(F::kind(), &mut self.buffer, piece);
         each_fits(self.buffer.as_slice());
         if let Some(flaw) = prefix.flaw {
-            self.known = Some(FrameFault {
-                why: FrameWhy::of(flaw.part),
-                at: self.past + flaw.at as u64,
-            });
+            self.known = Some(F::of(flaw.part, self.past + flaw.at as u64));
         }
         prefix.count
+    }
+}
+
+impl Cutter<FrameFault> {
+    /// The call whose frame is whole, if one is, lent from the buffer.
+    pub fn frame(&self) -> Option<Call<'_>>
+        ensures { MatchOption result (¬ BeginsFrame Calls self.now.held) (λ call. IsCall (bytes_of call) × (self.now.held ≡ frame (bytes_of call))) }
+    {
+        Some(call_of(self.whole_frame()?))
+    }
+}
+
+impl Cutter<ReplyFault> {
+    /// The reply whose frame is whole, if one is, lent from the buffer.
+    pub fn reply(&self) -> Option<Reply<'_>>
+        ensures { MatchOption result (¬ BeginsFrame Replies self.now.held) (λ r. IsReply (reply_bytes_of r) × (self.now.held ≡ reply (reply_bytes_of r))) }
+    {
+        Some(reply_of(self.whole_frame()?))
     }
 }

@@ -2,7 +2,7 @@ ghost use Rattle.std.specs.Prelude.{◌≡◌, ℕ, ◌+◌, ◌-◌, ◌<◌, �
 ghost use Rattle.frames_core.specs.declared.kind.Kind.TheVariants.{Calls, Replies};
 ghost use Rattle.frames_core.specs.Grammar.{lead, text_length, body_length, IsUnbroken};
 ghost use Rattle.frames_core.specs.Envelope.{IsCall, bytes_of, frame, IsReply, reply_bytes_of, reply};
-ghost use Rattle.frames_core.specs.Head.{IsHead, IsWhole, Looks, AreGoodBytes, IsBadByte};
+ghost use Rattle.frames_core.specs.Head.{item, Says, IsHead, IsWhole, Looks, AreGoodBytes, IsBadByte};
 
 use crate::call::Call;
 use crate::kind::{Kind, Part};
@@ -167,35 +167,39 @@ fn bad_byte(kind: Kind, bytes: &[u8], from: usize, end: usize) -> Option<usize>
     None
 }
 
-/// The call of a whole frame.
+// The text and the body of a whole frame.
 #[tactic(auto, unfolding(crate::specs::Head::IsWhole))]
-pub(crate) fn call_of(bytes: &[u8]) -> Call<'_>
-    requires unbroken { IsUnbroken Calls bytes.now }
-    requires whole { IsWhole Calls bytes.now }
-    ensures call { IsCall (bytes_of result) }
-    ensures spelled { bytes.now ≡ frame (bytes_of result) }
+fn parts(kind: Kind, bytes: &[u8]) -> (&[u8], &[u8])
+    requires unbroken { IsUnbroken kind bytes.now }
+    requires whole { IsWhole kind bytes.now }
+    ensures { Says kind bytes.now (item kind (slice_index bytes.now 0) result.0.now result.1.now) }
 {
-    let text_length = text_length_of(Kind::Calls, bytes);
-    let (_, message) = bytes.split_at(7 + text_length);
-    Call {
-        path: &bytes[2..2 + text_length],
-        message,
-    }
+    let text_length = text_length_of(kind, bytes);
+    let (_, rest) = bytes.split_at(kind.lead() + 2);
+    let (text, rest) = rest.split_at(text_length);
+    let (_, body) = rest.split_at(5);
+    (text, body)
+}
+
+/// The call of a whole frame.
+pub(crate) fn call_of(bytes: &[u8]) -> Call<'_>
+    requires { IsUnbroken Calls bytes.now × IsWhole Calls bytes.now }
+    ensures { IsCall (bytes_of result) × (bytes.now ≡ frame (bytes_of result)) }
+{
+    let (path, message) = parts(Kind::Calls, bytes);
+    Call { path, message }
 }
 
 /// The reply of a whole frame.
 #[tactic(auto, unfolding(crate::specs::Head::IsWhole))]
 pub(crate) fn reply_of(bytes: &[u8]) -> Reply<'_>
-    requires unbroken { IsUnbroken Replies bytes.now }
-    requires whole { IsWhole Replies bytes.now }
-    ensures reply { IsReply (reply_bytes_of result) }
-    ensures spelled { bytes.now ≡ reply (reply_bytes_of result) }
+    requires { IsUnbroken Replies bytes.now × IsWhole Replies bytes.now }
+    ensures { IsReply (reply_bytes_of result) × (bytes.now ≡ reply (reply_bytes_of result)) }
 {
-    let text_length = text_length_of(Kind::Replies, bytes);
-    let (_, body) = bytes.split_at(8 + text_length);
+    let (text, body) = parts(Kind::Replies, bytes);
     Reply {
         status: bytes[0],
-        text: &bytes[3..3 + text_length],
+        text,
         body,
     }
 }

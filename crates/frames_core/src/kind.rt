@@ -1,17 +1,17 @@
 ghost use Rattle.std.specs.Prelude.{◌≡◌, ◌<◌, ◌≤◌, false, IsTrue};
 ghost use Rattle.frames_core.specs.Envelope.{is_status as is_status_number};
 ghost use Rattle.frames_core.specs.Grammar.{lead, least_text, most_text, most_body, least_byte, HasBadStatus};
-ghost use Rattle.frames_core.specs.Head.{most_head};
+ghost use Rattle.frames_core.specs.Head.{most_frame, most_head};
 
 use crate::limits::{
-    MAX_BODY_BYTES, MAX_HEAD_BYTES, MAX_MESSAGE_BYTES, MAX_PATH_BYTES, MAX_REPLY_HEAD_BYTES,
-    MAX_TEXT_BYTES,
+    MAX_BODY_BYTES, MAX_FRAME_BYTES, MAX_HEAD_BYTES, MAX_MESSAGE_BYTES, MAX_PATH_BYTES,
+    MAX_REPLY_BYTES, MAX_REPLY_HEAD_BYTES, MAX_TEXT_BYTES,
 };
 
 /// The two kinds of frame, which one table reads: a text behind its length, a flag, and a body
 /// behind its length.
 #[derive(Clone, Copy)]
-pub(crate) enum Kind {
+pub enum Kind {
     /// Of calls: the text is the path, the body is the message.
     Calls,
     /// Of replies: the status stands before the text.
@@ -20,7 +20,7 @@ pub(crate) enum Kind {
 
 /// The part of a frame that is wrong.
 #[derive(Clone, Copy)]
-pub(crate) enum Part {
+pub enum Part {
     /// The status of a reply.
     Status,
     /// The length of the text.
@@ -96,6 +96,16 @@ impl Kind {
         match self {
             Kind::Calls => MAX_HEAD_BYTES,
             Kind::Replies => MAX_REPLY_HEAD_BYTES,
+        }
+    }
+
+    /// The most bytes of a frame.
+    pub(crate) fn most_frame(self) -> usize
+        ensures { result ≡ most_frame self }
+    {
+        match self {
+            Kind::Calls => MAX_FRAME_BYTES,
+            Kind::Replies => MAX_REPLY_BYTES,
         }
     }
 

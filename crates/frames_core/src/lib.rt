@@ -5,7 +5,7 @@
 //! reads both: `specs/Envelope.antt` spells a frame, `specs/Grammar.antt` says which byte breaks the table and in which part (the break of
 //! the least place is the fault), and `specs/Stream.antt` reads a list of bytes as calls and an end. Each lemma is proved once, for both kinds.
 //!
-//! [`take_frame`] and [`take_reply`] look at a whole rest; [`Framer`] and [`ReplyFramer`] take a stream in any pieces. A `Framer` appends what
+//! [`take_frame`] and [`take_reply`] look at a whole rest; [`Framer`] and [`ReplyFramer`], which are one [`Cutter`], take a stream in any pieces. It appends what
 //! may be a head, looks at it, and cuts back to where the frame or the fault ends; the body then comes as one block copy into the same buffer,
 //! the only memory that it ever takes. Heads of replies, refusals and fault texts are made in fixed arrays, without memory.
 //!
@@ -34,18 +34,17 @@ mod limits;
 mod prefix;
 mod reply;
 mod reply_fault;
-mod reply_framer;
 mod request;
 mod taken;
 mod taken_reply;
 
 pub use call::Call;
-pub use fault::{FrameFault, FrameWhy};
+pub use fault::{Fault, FrameFault, FrameWhy};
 pub use fixed::{
     Fixed, FixedFrame, FixedText, fault_text, fixed_text, refusal_frame, reply_head,
     text_and_number,
 };
-pub use framer::Framer;
+pub use framer::{Cutter, Framer, ReplyFramer};
 pub use limits::{
     MAX_BODY_BYTES, MAX_FRAME_BYTES, MAX_HEAD_BYTES, MAX_MESSAGE_BYTES, MAX_PATH_BYTES,
     MAX_REFUSAL_TEXT_BYTES, MAX_REPLY_BYTES, MAX_REPLY_HEAD_BYTES, MAX_TEXT_BYTES,
@@ -53,7 +52,6 @@ pub use limits::{
 };
 pub use reply::Reply;
 pub use reply_fault::{ReplyFault, ReplyWhy};
-pub use reply_framer::ReplyFramer;
 pub use request::put_request;
 pub use taken::{Taken, take_frame};
 pub use taken_reply::{TakenReply, take_reply};

@@ -1,8 +1,11 @@
 ghost use Rattle.std.specs.Prelude.{◌≡◌};
-ghost use Rattle.frames_core.specs.ReplyTexts.{reply_fault_words};
+ghost use Rattle.frames_core.specs.Texts.{reply_fault_words};
+ghost use Rattle.frames_core.specs.declared.kind.Kind.TheVariants.{Replies};
+ghost use Rattle.frames_core.specs.Framer.{reply_cut_at, reply_part, reply_place};
 ghost use Rattle.frames_core.specs.Replies.{reply_part_of};
 
-use crate::kind::Part;
+use crate::fault::Fault;
+use crate::kind::{Kind, Part};
 use thiserror::Error;
 
 /// Why bytes are not a reply frame, in the order in which a frame's bytes show it.
@@ -62,4 +65,25 @@ pub struct ReplyFault {
     pub why: ReplyWhy,
     /// The byte at which it is, counted from 0 over the bytes that were given.
     pub at: u64,
+}
+
+impl Fault for ReplyFault {
+    ghost kind = { Replies };
+
+    ghost wrong_part = { reply_part };
+
+    ghost place = { reply_place };
+
+    ghost cut_at = { reply_cut_at };
+
+    fn kind() -> Kind {
+        Kind::Replies
+    }
+
+    fn of(part: Part, at: u64) -> ReplyFault {
+        ReplyFault {
+            why: ReplyWhy::of(part),
+            at,
+        }
+    }
 }

@@ -1,9 +1,9 @@
-ghost use Rattle.frames_core.specs.Taken.{TakesFirst};
+ghost use Rattle.frames_core.specs.Taken.{BeginsWith, TakesFirst};
 
 use crate::call::Call;
-use crate::fault::{FrameFault, FrameWhy};
+use crate::fault::{Fault, FrameFault};
 use crate::head::{Look, call_of, look_at};
-use crate::kind::Kind;
+use crate::kind::Part;
 
 /// What stands first in the whole rest of a stream.
 #[derive(Clone, Copy, Debug)]
@@ -23,21 +23,26 @@ pub enum Taken<'a> {
 pub fn take_frame(bytes: &[u8]) -> Taken<'_>
     ensures { TakesFirst bytes.now result }
 {
-    if bytes.is_empty() {
-        return Taken::Nothing;
-    }
-    match look_at(Kind::Calls, bytes, 0) {
-        Look::Whole(size) => {
+    match first_frame(bytes) {
+        Ok(None) => Taken::Nothing,
+        Ok(Some(size)) => {
             let (prefix, _) = bytes.split_at(size);
             Taken::Frame(call_of(prefix), size)
         }
-        Look::Broken(flaw, _) => Taken::Fault(FrameFault {
-            why: FrameWhy::of(flaw.part),
-            at: flaw.at as u64,
-        }),
-        Look::Short => Taken::Fault(FrameFault {
-            why: FrameWhy::EndOfInput,
-            at: bytes.len() as u64,
-        }),
+        Err(fault) => Taken::Fault(fault),
+    }
+}
+
+/// How many bytes the first frame has, if any byte is left, or the fault that stands in its place.
+pub(crate) fn first_frame<F: Fault>(bytes: &[u8]) -> Result<Option<usize>, F>
+    ensures { BeginsWith F.kind F.wrong_part F.place bytes.now result }
+{
+    if bytes.is_empty() {
+        return Ok(None);
+    }
+    match look_at(F::kind(), bytes, 0) {
+        Look::Whole(size) => Ok(Some(size)),
+        Look::Broken(flaw, _) => Err(F::of(flaw.part, flaw.at as u64)),
+        Look::Short => Err(F::of(Part::Missing, bytes.len() as u64)),
     }
 }

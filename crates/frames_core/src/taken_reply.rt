@@ -1,9 +1,9 @@
 ghost use Rattle.frames_core.specs.TakenReply.{TakesFirstReply};
 
-use crate::head::{Look, look_at, reply_of};
-use crate::kind::Kind;
+use crate::head::reply_of;
 use crate::reply::Reply;
-use crate::reply_fault::{ReplyFault, ReplyWhy};
+use crate::reply_fault::ReplyFault;
+use crate::taken::first_frame;
 
 /// What stands first in the whole rest of a stream of replies.
 #[derive(Clone, Copy, Debug)]
@@ -24,21 +24,12 @@ pub enum TakenReply<'a> {
 pub fn take_reply(bytes: &[u8]) -> TakenReply<'_>
     ensures { TakesFirstReply bytes.now result }
 {
-    if bytes.is_empty() {
-        return TakenReply::Nothing;
-    }
-    match look_at(Kind::Replies, bytes, 0) {
-        Look::Whole(size) => {
+    match first_frame(bytes) {
+        Ok(None) => TakenReply::Nothing,
+        Ok(Some(size)) => {
             let (prefix, _) = bytes.split_at(size);
             TakenReply::Frame(reply_of(prefix), size)
         }
-        Look::Broken(flaw, _) => TakenReply::Fault(ReplyFault {
-            why: ReplyWhy::of(flaw.part),
-            at: flaw.at as u64,
-        }),
-        Look::Short => TakenReply::Fault(ReplyFault {
-            why: ReplyWhy::EndOfInput,
-            at: bytes.len() as u64,
-        }),
+        Err(fault) => TakenReply::Fault(fault),
     }
 }

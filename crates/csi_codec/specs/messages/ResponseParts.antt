@@ -3,10 +3,10 @@
 use Rattle.csi_codec.specs.Views.{Views, text, i64, inner, messages, value_of}
 use Rattle.csi_codec.specs.Schema.{Schema, AnyPayload, TextAt, MessageAt}
 use Rattle.csi_codec.specs.Canon.{Rows, Start, ◌▸◌, text_row, signed_row, option_row, messages_row, FitsText, FitsI64, FitsOption, FitsMessages}
-use Rattle.csi_codec.specs.declared.messages.response_parts.PluginInfo.{PluginInfo}
-use Rattle.csi_codec.specs.declared.messages.response_parts.Validation.{Validation}
-use Rattle.csi_codec.specs.declared.messages.response_parts.Listing.{Listing}
-use Rattle.csi_codec.specs.declared.messages.response_parts.FreeCapacity.{FreeCapacity}
+use Rattle.csi_codec.specs.declared.messages.responses.PluginInfo.{PluginInfo}
+use Rattle.csi_codec.specs.declared.messages.responses.Validation.{Validation}
+use Rattle.csi_codec.specs.declared.messages.responses.Listing.{Listing}
+use Rattle.csi_codec.specs.declared.messages.responses.FreeCapacity.{FreeCapacity}
 use Rattle.csi_codec.specs.messages.Single.{int64_value_in, canon_number}
 use Rattle.csi_codec.specs.messages.Volume.{entry_in, entry_schema, canon_entry, FitsEntry, confirmed_in, confirmed_schema, canon_confirmed, FitsConfirmed}
 

@@ -1,7 +1,7 @@
 -- Messages of one field, or of none (CSI specification, csi.proto): what the fields mean, under which
 -- numbers stand texts and embedded messages, and how a value is written.
 use Rattle.std.specs.Prelude.{ℤ, Bool, List, Option}
-use Rattle.csi_codec.specs.declared.messages.single.NoFields.{NoFields}
+use Rattle.csi_codec.specs.declared.messages.values.NoFields.{NoFields}
 use Rattle.csi_codec.specs.Views.{Views, i64, i32, flag, inner, messages, value_of}
 use Rattle.csi_codec.specs.Schema.{Schema, AnyPayload, MessageAt}
 use Rattle.csi_codec.specs.Canon.{Rows, Start, ◌▸◌, signed_row, flag_row, option_row, messages_row, FitsI32, FitsOption, FitsMessages}

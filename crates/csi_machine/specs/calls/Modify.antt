@@ -1,6 +1,5 @@
 -- ControllerModifyVolume (CSI specification, 'ControllerModifyVolume').
 use Rattle.std.specs.Prelude.{ℕ, nat_lt, Option, Some, None, if◌then◌else◌}
-use Rattle.std.specs.FinMap.{get}
 use Rattle.csi_types.specs.Checks.{map_bytes}
 use Rattle.csi_types.specs.Maps.{TextMap}
 use Rattle.csi_types.specs.Overlays.{has_each, laid_over}
@@ -11,6 +10,7 @@ use Rattle.csi_types.specs.declared.responses.Response.TheVariants as response
 use Rattle.csi_keeper.specs.declared.change.Change.TheVariants.{SetMutable}
 use Rattle.csi_keeper.specs.declared.volume.Volume.{Volume}
 use Rattle.csi_machine.specs.declared.plan.Plan.{Plan}
+use Rattle.csi_machine.specs.Finding.{volume_at}
 use Rattle.csi_machine.specs.Ids.{number_of_id}
 use Rattle.csi_machine.specs.Plan.{refuse, respond, make}
 use Rattle.csi_keeper.specs.State.{State}
@@ -25,13 +25,9 @@ modify_to n own given laid =
 abbrev pub modify_own : ℕ → TextMap → TextMap → Plan
 modify_own n own given = modify_to n own given (laid_over own given)
 
-abbrev pub modify_volume : ℕ → Modify → Option Volume → Plan
-modify_volume n r None = refuse VolumeNotFound
-modify_volume n r (Some v) = modify_own n v.mutable r.mutable
-
-abbrev pub modify_number : State → Modify → Option ℕ → Plan
-modify_number s r None = refuse VolumeNotFound
-modify_number s r (Some n) = modify_volume n r (get s.volumes n)
+abbrev pub modify_found : Modify → Option (ℕ × Volume) → Plan
+modify_found r None = refuse VolumeNotFound
+modify_found r (Some found) = modify_own found.0 found.1.mutable r.mutable
 
 abbrev pub modify : State → Modify → Plan
-modify s r = modify_number s r (number_of_id r.volume_id)
+modify s r = modify_found r (volume_at s (number_of_id r.volume_id))

@@ -1,6 +1,6 @@
 -- ControllerPublishVolume (CSI specification, 'ControllerPublishVolume').
 use Rattle.std.specs.Prelude.{ℕ, ◌&&◌, not, nat_le, Bool, true, false, List, Option, Some, None, find, length, codes, if◌then◌else◌}
-use Rattle.std.specs.FinMap.{get, empty, insert}
+use Rattle.std.specs.FinMap.{empty, insert}
 use Rattle.std.specs.List.{list_any}
 use Rattle.csi_types.specs.Maps.{TextMap, same_text}
 use Rattle.csi_types.specs.declared.capability.Capability.{Capability}
@@ -17,6 +17,7 @@ use Rattle.csi_keeper.specs.declared.volume.Attachment.{Attachment}
 use Rattle.csi_keeper.specs.declared.volume.Volume.{Volume}
 use Rattle.csi_keeper.specs.Capability.{key_of, same_key, has_key}
 use Rattle.csi_keeper.specs.Coexistence.{coexist}
+use Rattle.csi_machine.specs.Finding.{volume_at}
 use Rattle.csi_machine.specs.Ids.{number_of_id}
 use Rattle.csi_machine.specs.Plan.{refuse, respond, make}
 use Rattle.csi_keeper.specs.State.{State, attached, attached_at}
@@ -72,13 +73,9 @@ abbrev pub publish_node : State → ℕ → Volume → Publish → Option Node �
 publish_node s n v r None = refuse NodeNotFound
 publish_node s n v r (Some node) = publish_at n v (attached s n) node (attached_at s r.node_id) r (asked_key r.capability)
 
-abbrev pub publish_volume : Config → State → ℕ → Publish → Option Volume → Plan
-publish_volume config s n r None = refuse VolumeNotFound
-publish_volume config s n r (Some v) = publish_node s n v r (node_of config r.node_id)
-
-abbrev pub publish_number : Config → State → Publish → Option ℕ → Plan
-publish_number config s r None = refuse VolumeNotFound
-publish_number config s r (Some n) = publish_volume config s n r (get s.volumes n)
+abbrev pub publish_found : Config → State → Publish → Option (ℕ × Volume) → Plan
+publish_found config s r None = refuse VolumeNotFound
+publish_found config s r (Some found) = publish_node s found.0 found.1 r (node_of config r.node_id)
 
 abbrev pub publish : Config → State → Publish → Plan
-publish config s r = publish_number config s r (number_of_id r.volume_id)
+publish config s r = publish_found config s r (volume_at s (number_of_id r.volume_id))

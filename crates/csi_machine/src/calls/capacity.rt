@@ -1,19 +1,19 @@
 //! GetCapacity (CSI specification, 'GetCapacity').
 
-ghost use Rattle.std.specs.Prelude.{◌≡◌, ◌≤◌, ◌^◌, None, map, sum_by, IfOk};
+ghost use Rattle.std.specs.Prelude.{◌≡◌, ◌≤◌, ◌^◌, None, map, sum_by};
 ghost use Rattle.std.specs.List.{list_all};
 ghost use Rattle.csi_types.specs.Checks.{is_supported};
-ghost use Rattle.csi_machine.specs.Finding.{Finds};
 ghost use Rattle.csi_machine.specs.Choice.{room_value, free};
 ghost use Rattle.csi_keeper.specs.State.{up_to_u64};
 ghost use Rattle.csi_machine.specs.calls.Capacity.{is_served, served, greatest, tell_capacity, capacity_of, capacity};
 
 use crate::choice::{Room, read_rooms};
 use crate::plan::{Plan, respond};
+use crate::planned::{Planned, Planning};
 use crate::topology::serves;
 use csi_config::Config;
 use csi_config::laws::{pool_bytes_whole, sizes_whole};
-use csi_keeper::{Keeper, StoreFault};
+use csi_keeper::Keeper;
 use csi_types::{Capability, GetCapacity, Map, Response, is_supported};
 use std::alloc::Global;
 
@@ -76,22 +76,14 @@ fn capacity_of(config: &Config, rooms: &[Room<'_>], request: &GetCapacity) -> Pl
     tell_capacity(sum, config.sizes().greatest_bytes.min(greatest))
 }
 
-/// The plan of GetCapacity: what is free in the pools that serve the topology, and the greatest
-/// size of which a volume can be made there. Nothing is where a capability is not supported.
-///
-/// # Errors
-///
-/// What the keeper answers, or want of memory.
-pub(crate) fn plan_capacity<K: Keeper>(
-    alloc: Global,
-    config: &Config,
-    keeper: &mut K,
-    request: &GetCapacity,
-) -> Result<Plan, StoreFault>
-    ensures none { IfOk result (λ plan. plan.change ≡ None) }
-    ensures finds { Finds (K.model keeper.old) (K.model keeper.new) result (λ s plan. plan ≡ capacity config.now s request.now) }
-{
-    pool_bytes_whole(config);
-    let rooms = read_rooms(alloc, config, keeper)?;
-    Ok(capacity_of(config, &rooms, request))
+/// What is free in the pools that serve the topology, and the greatest size of which a volume can be
+/// made there. Nothing is where a capability is not supported.
+impl Planned for GetCapacity {
+    ghost planned = { capacity };
+
+    fn plan<K: Keeper>(&self, alloc: Global, config: &Config, keeper: &mut K) -> Planning {
+        pool_bytes_whole(config);
+        let rooms = read_rooms(alloc, config, keeper)?;
+        Ok(capacity_of(config, &rooms, self))
+    }
 }

@@ -5,17 +5,18 @@ ghost use Rattle.std.specs.Option.{option_copied};
 ghost use Rattle.csi_machine.specs.Finding.{Finds};
 ghost use Rattle.csi_machine.specs.Choice.{room_value, rooms};
 ghost use Rattle.csi_keeper.specs.State.{IsBounded};
-ghost use Rattle.csi_machine.specs.calls.Create.{is_compatible, again_at, again, made, place_in, place, fresh, create};
+ghost use Rattle.csi_machine.specs.calls.Create.{is_compatible, again, made, place_in, place, fresh, create};
 
 use crate::capability::{have_keys, keys_of};
 use crate::choice::{Room, choose, count, read_rooms};
-use crate::info::{info_at, pool_named};
+use crate::info::{info_at, segments_at};
 use crate::plan::{Plan, make, refuse, respond};
+use crate::planned::{Planned, Planning};
 use crate::size::{has_size, size};
 use crate::topology::is_reachable;
 use csi_config::laws::sizes_whole;
 use csi_config::{Config, Pool};
-use csi_keeper::{Change, Keeper, StoreFault, Volume};
+use csi_keeper::{Change, Keeper, Volume};
 use csi_types::{
     CreateVolume, MAX_NUMBER, MAX_VOLUMES, Map, Reason, Response, copy_map, copy_text, has_each,
 };
@@ -44,22 +45,6 @@ fn is_compatible(
     )
 }
 
-fn again_at(
-    alloc: Global,
-    segments: &Map,
-    request: &CreateVolume,
-    volume: &Volume,
-) -> Result<Plan, AllocError>
-    ensures value { IfOk result (λ plan. plan ≡ again_at segments.now request.now volume.now) }
-    ensures none { IfOk result (λ plan. plan.change ≡ None) }
-{
-    if !is_compatible(alloc, segments, volume, request)? {
-        return Ok(refuse(Reason::VolumeNotCompatible));
-    }
-    let info = info_at(alloc, segments, volume)?;
-    Ok(respond(Response::Create(Some(info))))
-}
-
 // The plan where a volume of the name stands.
 fn again(
     alloc: Global,
@@ -70,10 +55,13 @@ fn again(
     ensures value { IfOk result (λ plan. plan ≡ again config.now request.now volume.now) }
     ensures none { IfOk result (λ plan. plan.change ≡ None) }
 {
-    match pool_named(config.pools(), &volume.pool) {
-        Some(pool) => again_at(alloc, &pool.segments, request, volume),
-        None => again_at(alloc, &Map::new(alloc), request, volume),
+    let nowhere = Map::new(alloc);
+    let segments = segments_at(config, &volume.pool, &nowhere);
+    if !is_compatible(alloc, segments, volume, request)? {
+        return Ok(refuse(Reason::VolumeNotCompatible));
     }
+    let info = info_at(alloc, segments, volume)?;
+    Ok(respond(Response::Create(Some(info))))
 }
 
 fn made(
@@ -151,13 +139,12 @@ fn fresh(
     }
 }
 
-#[tactic(auto, using(csi_keeper::specs::facts::Reads::quiet_same, csi_keeper::specs::facts::Reads::quiet_then))]
 fn plan_fresh<K: Keeper>(
     alloc: Global,
     config: &Config,
     keeper: &mut K,
     request: &CreateVolume,
-) -> Result<Plan, StoreFault>
+) -> Planning
     ensures bounded { IfOk result (λ plan. IfSome plan.change IsBounded) }
     ensures finds { Finds (K.model keeper.old) (K.model keeper.new) result
         (λ s plan. plan ≡ fresh config.now (rooms config.now s) s.next request.now) }
@@ -167,27 +154,16 @@ fn plan_fresh<K: Keeper>(
     Ok(fresh(alloc, config, &rooms, next, request)?)
 }
 
-/// The plan of CreateVolume.
-///
 /// A volume of the name is answered again if it is as the request asks, and refused otherwise.
 /// Without one a volume is made in the chosen pool, unless the size is out of range, there are too
 /// many volumes, the numbers are used up, or no pool has room, which are asked in this order.
-///
-/// # Errors
-///
-/// What the keeper answers, or want of memory.
-#[tactic(auto, using(csi_keeper::specs::facts::Reads::quiet_same, csi_keeper::specs::facts::Reads::quiet_then))]
-pub(crate) fn plan_create<K: Keeper>(
-    alloc: Global,
-    config: &Config,
-    keeper: &mut K,
-    request: &CreateVolume,
-) -> Result<Plan, StoreFault>
-    ensures bounded { IfOk result (λ plan. IfSome plan.change IsBounded) }
-    ensures finds { Finds (K.model keeper.old) (K.model keeper.new) result (λ s plan. plan ≡ create config.now s request.now) }
-{
-    if let Some(volume) = keeper.by_name(alloc, request.name.as_str())? {
-        return Ok(again(alloc, config, request, &volume)?);
+impl Planned for CreateVolume {
+    ghost planned = { create };
+
+    fn plan<K: Keeper>(&self, alloc: Global, config: &Config, keeper: &mut K) -> Planning {
+        if let Some(volume) = keeper.by_name(alloc, self.name.as_str())? {
+            return Ok(again(alloc, config, self, &volume)?);
+        }
+        plan_fresh(alloc, config, keeper, self)
     }
-    plan_fresh(alloc, config, keeper, request)
 }

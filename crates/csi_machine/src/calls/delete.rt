@@ -1,48 +1,37 @@
 //! DeleteVolume (CSI specification, 'DeleteVolume').
 
-ghost use Rattle.std.specs.Prelude.{◌≡◌, IfOk, IfSome};
+ghost use Rattle.std.specs.Prelude.{◌≡◌, IfSome};
 ghost use Rattle.csi_keeper.specs.State.{IsBounded};
-ghost use Rattle.csi_machine.specs.Finding.{Finds};
 ghost use Rattle.csi_machine.specs.calls.Delete.{delete_volume, delete};
 
-use crate::ids::number_of_id;
+use crate::finding::volume_of;
 use crate::plan::{Plan, make, refuse, respond};
-use csi_keeper::{Attachment, Change, Keeper, StoreFault, Volume};
+use crate::planned::{Planned, Planning};
+use csi_config::Config;
+use csi_keeper::{Attachment, Change, Keeper};
 use csi_types::{DeleteVolume, Reason, Response};
 use std::alloc::Global;
 
-fn delete_volume(number: u64, volume: &Option<Volume>, attachments: &[Attachment]) -> Plan
+// The plan for a volume that stands.
+fn delete_volume(number: u64, attachments: &[Attachment]) -> Plan
     ensures bounded { IfSome result.change IsBounded }
-    ensures value { result ≡ delete_volume number volume.now attachments.now }
+    ensures value { result ≡ delete_volume number attachments.now }
 {
-    if volume.is_none() {
-        return respond(Response::Delete);
-    }
     if !attachments.is_empty() {
         return refuse(Reason::VolumeInUse);
     }
     make(Response::Delete, Change::RemoveVolume(number))
 }
 
-/// The plan of DeleteVolume: a volume that is attached is refused, one that does not stand is done
-/// with.
-///
-/// # Errors
-///
-/// What the keeper answers, or want of memory.
-#[tactic(auto, using(csi_keeper::specs::facts::Reads::quiet_same, csi_keeper::specs::facts::Reads::quiet_then))]
-pub(crate) fn plan_delete<K: Keeper>(
-    alloc: Global,
-    keeper: &mut K,
-    request: &DeleteVolume,
-) -> Result<Plan, StoreFault>
-    ensures bounded { IfOk result (λ plan. IfSome plan.change IsBounded) }
-    ensures finds { Finds (K.model keeper.old) (K.model keeper.new) result (λ s plan. plan ≡ delete s request.now) }
-{
-    let Some(number) = number_of_id(alloc, request.volume_id.as_str())? else {
-        return Ok(respond(Response::Delete));
-    };
-    let volume = keeper.by_number(alloc, number)?;
-    let attachments = keeper.attachments(alloc, number)?;
-    Ok(delete_volume(number, &volume, attachments.as_slice()))
+/// A volume that is attached is refused, one that does not stand is done with.
+impl Planned for DeleteVolume {
+    ghost planned = { λ config s r. delete s r };
+
+    fn plan<K: Keeper>(&self, alloc: Global, _config: &Config, keeper: &mut K) -> Planning {
+        let Some((number, _)) = volume_of(alloc, keeper, &self.volume_id)? else {
+            return Ok(respond(Response::Delete));
+        };
+        let attachments = keeper.attachments(alloc, number)?;
+        Ok(delete_volume(number, attachments.as_slice()))
+    }
 }

@@ -6,11 +6,12 @@ ghost use Rattle.csi_machine.specs.Size.{whole};
 ghost use Rattle.csi_machine.specs.calls.Listing.{start_of, entries_for, last_of, token_for, entry_with, entries_with, list_after, list_volumes};
 
 use crate::ids::{decimal_of, number_of};
-use crate::info::info;
-use crate::plan::{Plan, refuse, respond};
+use crate::info::{info_at, segments_at};
+use crate::plan::{refuse, respond};
+use crate::planned::{Planned, Planning};
 use csi_config::Config;
-use csi_keeper::{Keeper, StoreFault, Volume};
-use csi_types::{Entry, Items, ListVolumes, MAX_PAGE_ENTRIES, Reason, Response, Text};
+use csi_keeper::{Keeper, Volume};
+use csi_types::{Entry, Items, ListVolumes, MAX_PAGE_ENTRIES, Map, Reason, Response, Text};
 use std::alloc::{AllocError, Global};
 
 fn start_of(alloc: Global, next: u64, token: &Text) -> Result<Option<u64>, AllocError>
@@ -67,8 +68,10 @@ fn entry_with(
 ) -> Result<Entry, AllocError>
     ensures { IfOk result (λ e. e ≡ entry_with config.now volume.now nodes) }
 {
+    let nowhere = Map::new(alloc);
+    let segments = segments_at(config, &volume.pool, &nowhere);
     Ok(Entry {
-        volume: Some(info(alloc, config, volume)?),
+        volume: Some(info_at(alloc, segments, volume)?),
         nodes: Some(nodes),
     })
 }
@@ -100,7 +103,7 @@ fn list_after<K: Keeper>(
     keeper: &mut K,
     most: i32,
     after: u64,
-) -> Result<Plan, StoreFault>
+) -> Planning
     ensures finds { Finds (K.model keeper.old) (K.model keeper.new) result (λ s p. p ≡ list_after config.now s (whole most) (Some after)) }
     ensures none { IfOk result (λ p. p.change ≡ None) }
 {
@@ -113,14 +116,13 @@ fn list_after<K: Keeper>(
     Ok(respond(Response::List { entries, token }))
 }
 
-#[tactic(auto, using(csi_keeper::specs::facts::Reads::quiet_same, csi_keeper::specs::facts::Reads::quiet_then))]
 fn list_from<K: Keeper>(
     alloc: Global,
     config: &Config,
     keeper: &mut K,
     next: u64,
     request: &ListVolumes,
-) -> Result<Plan, StoreFault>
+) -> Planning
     ensures finds { Finds (K.model keeper.old) (K.model keeper.new) result
         (λ s p. p ≡ list_after config.now s (whole request.now.max_entries) (start_of next request.now.token)) }
     ensures none { IfOk result (λ p. p.change ≡ None) }
@@ -131,19 +133,13 @@ fn list_from<K: Keeper>(
     }
 }
 
-/// The plan of ListVolumes (CSI specification, the section of this name), by reads alone. A page has
-/// at most 100 entries; its token is the number of its last volume, which need not stand any more
-/// when the next page is asked for.
-#[tactic(auto, using(csi_keeper::specs::facts::Reads::quiet_same, csi_keeper::specs::facts::Reads::quiet_then))]
-pub(crate) fn plan_list<K: Keeper>(
-    alloc: Global,
-    config: &Config,
-    keeper: &mut K,
-    request: &ListVolumes,
-) -> Result<Plan, StoreFault>
-    ensures finds { Finds (K.model keeper.old) (K.model keeper.new) result (λ s p. p ≡ list_volumes config.now s request.now) }
-    ensures none { IfOk result (λ p. p.change ≡ None) }
-{
-    let next = keeper.next_number()?;
-    list_from(alloc, config, keeper, next, request)
+/// A page has at most 100 entries; its token is the number of its last volume, which need not stand
+/// any more when the next page is asked for.
+impl Planned for ListVolumes {
+    ghost planned = { list_volumes };
+
+    fn plan<K: Keeper>(&self, alloc: Global, config: &Config, keeper: &mut K) -> Planning {
+        let next = keeper.next_number()?;
+        list_from(alloc, config, keeper, next, self)
+    }
 }

@@ -3,12 +3,13 @@
 ghost use Rattle.std.specs.Prelude.{◌≡◌, nat_lt, IfOk, IfSome};
 ghost use Rattle.csi_types.specs.Checks.{map_bytes};
 ghost use Rattle.csi_keeper.specs.State.{IsBounded};
-ghost use Rattle.csi_machine.specs.Finding.{Finds};
-ghost use Rattle.csi_machine.specs.calls.Modify.{modify_own, modify_volume, modify};
+ghost use Rattle.csi_machine.specs.calls.Modify.{modify_own, modify};
 
-use crate::ids::number_of_id;
+use crate::finding::volume_of;
 use crate::plan::{Plan, make, refuse, respond};
-use csi_keeper::{Change, Keeper, StoreFault, Volume};
+use crate::planned::{Planned, Planning};
+use csi_config::Config;
+use csi_keeper::{Change, Keeper};
 use csi_types::{MAX_MAP_BYTES, Map, Modify, Reason, Response, has_each, laid_over, map_bytes};
 use std::alloc::{AllocError, Global};
 
@@ -33,40 +34,15 @@ fn modify_own(alloc: Global, number: u64, own: &Map, given: &Map) -> Result<Plan
     Ok(make(Response::Modify, Change::SetMutable(number, laid)))
 }
 
-fn modify_volume(
-    alloc: Global,
-    number: u64,
-    request: &Modify,
-    volume: &Option<Volume>,
-) -> Result<Plan, AllocError>
-    ensures bounded { IfOk result (λ p. IfSome p.change IsBounded) }
-    ensures value { IfOk result (λ p. p ≡ modify_volume number request.now volume.now) }
-{
-    match volume {
-        Some(volume) => modify_own(alloc, number, &volume.mutable, &request.mutable),
-        None => Ok(refuse(Reason::VolumeNotFound)),
-    }
-}
-
-/// The plan of ControllerModifyVolume (CSI specification, the section of this name), by reads alone:
-/// the given parameters are laid over the volume's own, whether it is published or not. A result of
+/// The given parameters are laid over the volume's own, whether it is published or not. A result of
 /// more than 4,096 bytes is refused. Where the volume has each given one already nothing changes.
-///
-/// # Errors
-///
-/// What the keeper answers, or want of memory.
-#[tactic(auto, using(csi_keeper::specs::facts::Reads::quiet_same, csi_keeper::specs::facts::Reads::quiet_then))]
-pub(crate) fn plan_modify<K: Keeper>(
-    alloc: Global,
-    keeper: &mut K,
-    request: &Modify,
-) -> Result<Plan, StoreFault>
-    ensures bounded { IfOk result (λ p. IfSome p.change IsBounded) }
-    ensures finds { Finds (K.model keeper.old) (K.model keeper.new) result (λ s p. p ≡ modify s request.now) }
-{
-    let Some(number) = number_of_id(alloc, request.volume_id.as_str())? else {
-        return Ok(refuse(Reason::VolumeNotFound));
-    };
-    let volume = keeper.by_number(alloc, number)?;
-    Ok(modify_volume(alloc, number, request, &volume)?)
+impl Planned for Modify {
+    ghost planned = { λ config s r. modify s r };
+
+    fn plan<K: Keeper>(&self, alloc: Global, _config: &Config, keeper: &mut K) -> Planning {
+        let Some((number, volume)) = volume_of(alloc, keeper, &self.volume_id)? else {
+            return Ok(refuse(Reason::VolumeNotFound));
+        };
+        Ok(modify_own(alloc, number, &volume.mutable, &self.mutable)?)
+    }
 }

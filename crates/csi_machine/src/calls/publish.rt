@@ -7,12 +7,11 @@ ghost use Rattle.csi_machine.specs.Finding.{Finds};
 ghost use Rattle.csi_machine.specs.calls.Publish.{publication, is_at, publish_again, has_conflict, attach, publish, publish_node, publish_at, publish_key, asked_key};
 ghost use Rattle.csi_keeper.specs.Lookup.{node_of};
 
-use crate::ids::number_of_id;
+use crate::finding::volume_of;
 use crate::plan::{Plan, make, refuse, respond};
+use crate::planned::{Planned, Planning};
 use csi_config::{Config, Node};
-use csi_keeper::{
-    Attachment, CapKey, Change, Keeper, StoreFault, Volume, cap_key, coexist, has_key,
-};
+use csi_keeper::{Attachment, CapKey, Change, Keeper, Volume, cap_key, coexist, has_key};
 use csi_types::{Capability, Map, Publish, Reason, Response, Text, copy_text};
 use std::alloc::{AllocError, Global};
 
@@ -130,7 +129,6 @@ fn node_of<'a>(config: &'a Config, id: &Text) -> Option<&'a Node>
     config.nodes().iter().find(|node| node.id == *id)
 }
 
-#[tactic(auto, using(csi_keeper::specs::facts::Reads::quiet_same, csi_keeper::specs::facts::Reads::quiet_then))]
 fn publish_node<K: Keeper>(
     alloc: Global,
     config: &Config,
@@ -138,7 +136,7 @@ fn publish_node<K: Keeper>(
     number: u64,
     volume: &Volume,
     request: &Publish,
-) -> Result<Plan, StoreFault>
+) -> Planning
     ensures bounded { IfOk result (λ p. IfSome p.change IsBounded) }
     ensures finds { Finds (K.model keeper.old) (K.model keeper.new) result
         (λ s p. p ≡ publish_node s number volume.now request.now (node_of config.now request.now.node_id)) }
@@ -158,23 +156,13 @@ fn publish_node<K: Keeper>(
     Ok(publish_at(alloc, &target, request)?)
 }
 
-/// The plan of ControllerPublishVolume (CSI specification, the section of this name), by reads
-/// alone.
-#[tactic(auto, using(csi_keeper::specs::facts::Reads::quiet_same, csi_keeper::specs::facts::Reads::quiet_then))]
-pub(crate) fn plan_publish<K: Keeper>(
-    alloc: Global,
-    config: &Config,
-    keeper: &mut K,
-    request: &Publish,
-) -> Result<Plan, StoreFault>
-    ensures bounded { IfOk result (λ p. IfSome p.change IsBounded) }
-    ensures finds { Finds (K.model keeper.old) (K.model keeper.new) result (λ s p. p ≡ publish config.now s request.now) }
-{
-    let Some(number) = number_of_id(alloc, request.volume_id.as_str())? else {
-        return Ok(refuse(Reason::VolumeNotFound));
-    };
-    let Some(volume) = keeper.by_number(alloc, number)? else {
-        return Ok(refuse(Reason::VolumeNotFound));
-    };
-    publish_node(alloc, config, keeper, number, &volume, request)
+impl Planned for Publish {
+    ghost planned = { publish };
+
+    fn plan<K: Keeper>(&self, alloc: Global, config: &Config, keeper: &mut K) -> Planning {
+        let Some((number, volume)) = volume_of(alloc, keeper, &self.volume_id)? else {
+            return Ok(refuse(Reason::VolumeNotFound));
+        };
+        publish_node(alloc, config, keeper, number, &volume, self)
+    }
 }

@@ -1,15 +1,15 @@
 //! ControllerUnpublishVolume (CSI specification, 'ControllerUnpublishVolume').
 
-ghost use Rattle.std.specs.Prelude.{◌≡◌, IfOk, IfSome, find};
+ghost use Rattle.std.specs.Prelude.{◌≡◌, IfOk, IfSome};
 ghost use Rattle.csi_keeper.specs.State.{IsBounded};
-ghost use Rattle.csi_machine.specs.Finding.{Finds};
-ghost use Rattle.csi_machine.specs.calls.Publish.{is_at};
-ghost use Rattle.csi_machine.specs.calls.Unpublish.{detach_all, detach_one, detach, unpublish};
+ghost use Rattle.csi_machine.specs.calls.Unpublish.{detach_all, detach, unpublish};
 
 use crate::calls::publish::attachment_at;
 use crate::ids::number_of_id;
 use crate::plan::{Plan, make, respond};
-use csi_keeper::{Attachment, Change, Keeper, StoreFault};
+use crate::planned::{Planned, Planning};
+use csi_config::Config;
+use csi_keeper::{Attachment, Change, Keeper};
 use csi_types::{Response, Text, Unpublish, copy_text};
 use std::alloc::{AllocError, Global};
 
@@ -23,22 +23,7 @@ fn detach_all(number: u64, attachments: &[Attachment]) -> Plan
     make(Response::Unpublish, Change::DetachAll(number))
 }
 
-fn detach_one(
-    alloc: Global,
-    number: u64,
-    node: &Text,
-    attachments: &[Attachment],
-) -> Result<Plan, AllocError>
-    ensures bounded { IfOk result (λ p. IfSome p.change IsBounded) }
-    ensures value { IfOk result (λ p. p ≡ detach_one number node.now (find (is_at node.now) attachments.now)) }
-{
-    if attachment_at(attachments, node).is_none() {
-        return Ok(respond(Response::Unpublish));
-    }
-    let node = copy_text(alloc, node.as_str())?;
-    Ok(make(Response::Unpublish, Change::Detach(number, node)))
-}
-
+// The plan for the attachments of one volume: an empty node id is each node.
 fn detach(
     alloc: Global,
     number: u64,
@@ -51,23 +36,22 @@ fn detach(
     if node.is_empty() {
         return Ok(detach_all(number, attachments));
     }
-    detach_one(alloc, number, node, attachments)
+    if attachment_at(attachments, node).is_none() {
+        return Ok(respond(Response::Unpublish));
+    }
+    let node = copy_text(alloc, node.as_str())?;
+    Ok(make(Response::Unpublish, Change::Detach(number, node)))
 }
 
-/// The plan of ControllerUnpublishVolume (CSI specification, the section of this name), by reads
-/// alone: a volume that is not published there, or does not stand, is answered as one that was.
-#[tactic(auto, using(csi_keeper::specs::facts::Reads::quiet_same, csi_keeper::specs::facts::Reads::quiet_then))]
-pub(crate) fn plan_unpublish<K: Keeper>(
-    alloc: Global,
-    keeper: &mut K,
-    request: &Unpublish,
-) -> Result<Plan, StoreFault>
-    ensures bounded { IfOk result (λ p. IfSome p.change IsBounded) }
-    ensures finds { Finds (K.model keeper.old) (K.model keeper.new) result (λ s p. p ≡ unpublish s request.now) }
-{
-    let Some(number) = number_of_id(alloc, request.volume_id.as_str())? else {
-        return Ok(respond(Response::Unpublish));
-    };
-    let attachments = keeper.attachments(alloc, number)?;
-    Ok(detach(alloc, number, &request.node_id, attachments.as_slice())?)
+/// A volume that is not published there, or does not stand, is answered as one that was.
+impl Planned for Unpublish {
+    ghost planned = { λ config s r. unpublish s r };
+
+    fn plan<K: Keeper>(&self, alloc: Global, _config: &Config, keeper: &mut K) -> Planning {
+        let Some(number) = number_of_id(alloc, self.volume_id.as_str())? else {
+            return Ok(respond(Response::Unpublish));
+        };
+        let attachments = keeper.attachments(alloc, number)?;
+        Ok(detach(alloc, number, &self.node_id, attachments.as_slice())?)
+    }
 }

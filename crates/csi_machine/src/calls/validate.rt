@@ -4,13 +4,14 @@ ghost use Rattle.std.specs.Prelude.{◌≡◌, ◌&&◌, ◌||◌, ◌==◌, Non
 ghost use Rattle.std.specs.FinMap.{len};
 ghost use Rattle.csi_types.specs.Maps.{same_map};
 ghost use Rattle.csi_keeper.specs.Capability.{have_keys};
-ghost use Rattle.csi_machine.specs.Finding.{Finds};
 ghost use Rattle.csi_machine.specs.calls.Validate.{confirm, deny, validate_volume, validate};
 
 use crate::capability::have_keys;
-use crate::ids::number_of_id;
+use crate::finding::volume_of;
 use crate::plan::{Plan, refuse, respond};
-use csi_keeper::{Keeper, StoreFault, Volume};
+use crate::planned::{Planned, Planning};
+use csi_config::Config;
+use csi_keeper::{Keeper, Volume};
 use csi_types::{
     Capability, Confirmed, Items, Map, Reason, Response, Text, Validate, copy_capability, copy_map,
     copy_text,
@@ -67,38 +68,24 @@ fn is_valid(alloc: Global, volume: &Volume, request: &Validate) -> Result<bool, 
     Ok(have && (request.parameters.is_empty() || volume.params == request.parameters))
 }
 
-fn validate_volume(
-    alloc: Global,
-    request: &Validate,
-    volume: &Option<Volume>,
-) -> Result<Plan, AllocError>
+fn validate_volume(alloc: Global, request: &Validate, volume: &Volume) -> Result<Plan, AllocError>
     ensures value { IfOk result (λ p. p ≡ validate_volume request.now volume.now) }
     ensures none { IfOk result (λ p. p.change ≡ None) }
 {
-    match volume {
-        Some(volume) => if is_valid(alloc, volume, request)? {
-            confirm(alloc, request)
-        } else {
-            deny(alloc)
-        },
-        None => Ok(refuse(Reason::VolumeNotFound)),
+    if is_valid(alloc, volume, request)? {
+        confirm(alloc, request)
+    } else {
+        deny(alloc)
     }
 }
 
-/// The plan of ValidateVolumeCapabilities (CSI specification, the section of this name), by reads
-/// alone.
-#[tactic(auto, using(csi_keeper::specs::facts::Reads::quiet_same, csi_keeper::specs::facts::Reads::quiet_then))]
-pub(crate) fn plan_validate<K: Keeper>(
-    alloc: Global,
-    keeper: &mut K,
-    request: &Validate,
-) -> Result<Plan, StoreFault>
-    ensures finds { Finds (K.model keeper.old) (K.model keeper.new) result (λ s p. p ≡ validate s request.now) }
-    ensures none { IfOk result (λ p. p.change ≡ None) }
-{
-    let Some(number) = number_of_id(alloc, request.volume_id.as_str())? else {
-        return Ok(refuse(Reason::VolumeNotFound));
-    };
-    let volume = keeper.by_number(alloc, number)?;
-    Ok(validate_volume(alloc, request, &volume)?)
+impl Planned for Validate {
+    ghost planned = { λ config s r. validate s r };
+
+    fn plan<K: Keeper>(&self, alloc: Global, _config: &Config, keeper: &mut K) -> Planning {
+        let Some((_, volume)) = volume_of(alloc, keeper, &self.volume_id)? else {
+            return Ok(refuse(Reason::VolumeNotFound));
+        };
+        Ok(validate_volume(alloc, self, &volume)?)
+    }
 }

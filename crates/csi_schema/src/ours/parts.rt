@@ -9,7 +9,7 @@ use sqlite_schema::schema::{Column, Index, Kind, Stamps, Table};
 use sqlite_value::keys::{Collation, Order};
 use sqlite_value::value::Value;
 
-pub(super) fn is_named(name: &[u8], wanted: &[u8]) -> bool
+fn is_named(name: &[u8], wanted: &[u8]) -> bool
     ensures { IsTrue result ↔ name.now ≡ wanted.now }
 {
     name == wanted
@@ -86,12 +86,14 @@ fn is_no_stamp(stamps: &Stamps) -> bool
     stamps.places.is_empty() & stamps.terms.roots.is_empty() & stamps.formats.is_empty()
 }
 
-/// No reference, no computed default and no counter.
-pub(super) fn is_bare(table: &Table) -> bool
-    ensures is { IsTrue result → IsBare table.now }
-    ensures whole { IsBare table.now → IsTrue result }
+/// A table of a name over a tree, with no reference, no computed default and no counter.
+pub(super) fn is_bare(table: &Table, name: &[u8], tree: u32) -> bool
+    ensures is { IsTrue result → IsBare name.now tree table.now }
+    ensures whole { IsBare name.now tree table.now → IsTrue result }
 {
-    table.references.is_empty()
+    is_named(table.name.as_slice(), name)
+        & (table.tree == tree)
+        & table.references.is_empty()
         & table.computed.is_empty()
         & is_no_stamp(&table.stamps)
         & !table.is_counted

@@ -4,7 +4,7 @@ ghost use Rattle.std.specs.Prelude.{◌≡◌, IsTrue};
 ghost use Rattle.csi_schema.specs.Tables.{attachments, meta, volumes};
 
 use super::key_check::is_key_check;
-use super::parts::{are_places, has_keys, is_bare, is_column, is_named};
+use super::parts::{are_places, has_keys, is_bare, is_column};
 use sqlite_schema::schema::{Column, Kind, Table};
 
 fn are_meta_columns(columns: &[Column]) -> bool
@@ -51,37 +51,31 @@ pub(super) fn is_meta(table: &Table) -> bool
     ensures is { IsTrue result → table.now ≡ meta }
     ensures whole { table.now ≡ meta → IsTrue result }
 {
-    is_named(table.name.as_slice(), b"meta")
-        & (table.tree == 0)
+    is_bare(table, b"meta", 0)
         & are_meta_columns(table.columns.as_slice())
         & (table.key == Some(0))
         & are_places(table.primary.as_slice(), &[0])
         & table.uniques.is_empty()
         & table.orders.is_empty()
         & is_key_check(&table.checks)
-        & is_bare(table)
 }
 
 pub(super) fn is_volumes(table: &Table) -> bool
     ensures is { IsTrue result → table.now ≡ record volumes { tree = 1 } }
     ensures whole { table.now ≡ record volumes { tree = 1 } → IsTrue result }
 {
-    is_named(table.name.as_slice(), b"volumes")
-        & (table.tree == 1)
+    is_bare(table, b"volumes", 1)
         & are_volumes_columns(table.columns.as_slice())
         & (table.key == Some(0))
         & has_keys(table, &[0], &[2])
-        & is_bare(table)
 }
 
 pub(super) fn is_attachments(table: &Table) -> bool
     ensures is { IsTrue result → table.now ≡ record attachments { tree = 3 } }
     ensures whole { table.now ≡ record attachments { tree = 3 } → IsTrue result }
 {
-    is_named(table.name.as_slice(), b"attachments")
-        & (table.tree == 3)
+    is_bare(table, b"attachments", 3)
         & are_attachments_columns(table.columns.as_slice())
         & table.key.is_none()
         & has_keys(table, &[1, 2], &[1, 2])
-        & is_bare(table)
 }

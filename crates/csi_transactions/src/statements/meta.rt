@@ -7,11 +7,12 @@ ghost use Rattle.csi_transactions.specs.Rows.{Selects, SetsFormat, SetsNext};
 ghost use Rattle.csi_transactions.specs.Shown.{IsNext};
 ghost use Rattle.csi_transactions.specs.Tables.{schema};
 
+use crate::statements::Changed;
 use crate::values::integer;
 use sqlite::{Alter, Error, Row, Transaction};
 
 /// Sets the next number. The format stays.
-pub(crate) fn set_next<S: Alter>(tx: &mut Transaction<'_, S>, next: u64) -> Result<usize, Error>
+pub(crate) fn set_next<S: Alter>(tx: &mut Transaction<'_, S>, next: u64) -> Changed
     requires { next < 2 ^ 63 }
     ensures same_reference { tx.new.conn.ghost_name ≡ tx.old.conn.ghost_name }
     ensures runs { RunsOver S.Store tx.old.conn.now tx.new.conn.now schema (SetsNext next) (RefusesNext next) result }
@@ -20,7 +21,7 @@ pub(crate) fn set_next<S: Alter>(tx: &mut Transaction<'_, S>, next: u64) -> Resu
 }
 
 /// Sets the format to the latest. The next number stays.
-pub(crate) fn update_format<S: Alter>(tx: &mut Transaction<'_, S>) -> Result<usize, Error>
+pub(crate) fn update_format<S: Alter>(tx: &mut Transaction<'_, S>) -> Changed
     ensures same_reference { tx.new.conn.ghost_name ≡ tx.old.conn.ghost_name }
     ensures runs { RunsOver S.Store tx.old.conn.now tx.new.conn.now schema SetsFormat RefusesFormat result }
 {

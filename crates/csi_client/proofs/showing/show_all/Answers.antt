@@ -2,7 +2,7 @@ use Rattle.std.proofs.Common.{rules, ℕ, ◌++◌, ◌≤◌, ◌∙◌, List, 
 use Rattle.std.specs.Prelude.{⊤}
 use Rattle.std.specs.Io.KnownBytes.{Consumes, IsAtEnd}
 use Rattle.std.proofs.KnownBytes.{Consumes-nil, Consumes-trans, Consumes-kept}
-use Rattle.frames_core.specs.ReplyFramer.{ReplyFramerState}
+use Rattle.frames_core.specs.Framer.{ReplyFramerState}
 use Rattle.csi_client.specs.declared.showing.ShowEnd.{ShowEnd}
 use Rattle.csi_client.specs.declared.showing.ShowEnd.TheVariants.{Malformed}
 use Rattle.csi_client.specs.Showing.{Ended}

@@ -1,12 +1,11 @@
-use Rattle.std.proofs.Common.{◌≡◌, ◌+◌, ◌-◌, ◌≤◌, ◌++◌, ℕ, List, length, take, Option}
-use Rattle.csi_server.specs.Live.{IsLive, IsReady}
+use Rattle.std.proofs.Common.{◌-◌, ◌≤◌, ◌++◌, ℕ, List, length, take, Option}
+use Rattle.csi_server.specs.Live.{IsLive, Advances}
 use Rattle.csi_server.proofs.running.answer_piece.Given as goal
 
 abbrev pub invariant-loop-at : goal.invariant-loop-at
 invariant-loop-at g l = record {
   within : l.at ≤ length l.piece;
-  count : l.framer.past + length l.framer.held ≡ l.initial.framer.past + length l.initial.framer.held + l.at;
-  ready : IsReady l.framer;
+  took : Advances l.initial.framer l.framer l.at;
   clean : (g.S.Service.model l.config l.initial.service).doubt ≤ (g.S.Service.model l.config l.service).doubt;
   live : (start : g.row.S.Denot) (s : g.S.Service.State) (read : List ℕ) (held : Option (List ℕ))
       → IsLive (g.S.Service.machine l.config) (g.S.Service.model l.config start) (g.S.Service.model l.config l.initial.service) s read l.initial.framer held (g.W.Write.contents l.initial.writer)

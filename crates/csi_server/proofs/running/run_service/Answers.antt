@@ -2,7 +2,7 @@ use Rattle.std.proofs.Common.{rules, ℕ, ◌++◌, ◌≤◌, List, [], length,
 use Rattle.std.specs.Io.KnownBytes.{Consumes, IsAtEnd}
 use Rattle.std.proofs.KnownBytes.{Consumes-nil, Consumes-trans, Consumes-kept}
 use Rattle.frames_core.specs.Framer.{FramerState}
-use Rattle.csi_server.proofs.Feeding.{nothing_ends, live_start, ready_start, live_ends, live_whole, finish_ends, refuse_ends, consumes_none, consumes_same}
+use Rattle.csi_server.proofs.Feeding.{nothing_ends, live_start, ready_start, live_ends, finish_ends, refuse_ends, consumes_none, consumes_same}
 use Rattle.csi_server.proofs.Runs.{cut_at}
 use Rattle.csi_server.proofs.running.run_service.Goals as goal
 
@@ -67,15 +67,14 @@ loop-turn-preserved g c =
     let w = g.W.Write.contents in
     let run = c.loop-turn.invariant.run in
     let a = c.in-Fed.ensures.count in
-    let all = c.in-Fed.ensures.all in
     record {
-      few = (let b : c.in-Ok-read.count ≤ 4096 = search rules in let i = c.loop-turn.invariant.few in omega (arith, a.count, all, c.split_at.ensures.front_len));
+      few = (let b : c.in-Ok-read.count ≤ 4096 = search rules in let i = c.loop-turn.invariant.few in omega (arith, a.count, c.split_at.ensures.front_len));
       ready = a.ready;
       run = (
         run.0 ++ c.split_at.result.0.now,
         omega (arith, run.1, length-append run.0 c.split_at.result.0.now, c.split_at.ensures.front_len),
         Consumes-trans (r c.args.reader.now) (r c.loop-turn.reader) (r c.read.new.self) run.0 c.split_at.result.0.now run.2 (subst (λ (x : List ℕ). Consumes (r c.loop-turn.reader) (r c.read.new.self) x) (sym c.split_at.ensures.front) c.in-Ok-read.ensures.bytes.0),
-        λ s h clean. live_whole (g.S.Service.machine c.args.config.now) (g.S.Service.model c.args.config.now c.args.service.now) (g.S.Service.model c.args.config.now c.answer_piece.new.service) s run.0 c.split_at.result.0.now _ c.answer_piece.new.framer (w c.args.writer.now) (w c.answer_piece.new.writer) all (c.in-Fed.ensures.steps c.args.service.now s run.0 (w c.args.writer.now) (run.3 s h) clean),
+        λ s h clean. c.in-Fed.ensures.steps c.args.service.now s run.0 (w c.args.writer.now) (run.3 s h) clean,
       );
       clean = omega (arith, c.loop-turn.invariant.clean, c.answer_piece.ensures.clean);
     }

@@ -1,6 +1,6 @@
 use Rattle.std.proofs.Common.{sym, ◌∙◌}
 use Rattle.frames_core.specs.Envelope.{reply_bytes_of}
-use Rattle.frames_core.specs.ReplyFramer.{IsReplyFrame}
+use Rattle.frames_core.specs.Framer.{IsReplyFrame}
 use Rattle.csi_client.proofs.Feeding.{Fed}
 use Rattle.csi_client.proofs.Printing.{fed_fault, fed_halted, fed_shown, advanced}
 use Rattle.csi_client.proofs.showing.Printer.show_next.Goals as goal

@@ -1,0 +1,52 @@
+//! Rules that each item of a list has to meet, and the first item that breaks one.
+
+ghost use Rattle.std.specs.Prelude.{◌≡◌, ◌<◌, take, None, OnOk, IfOk, IfErr, IfSome, Some, length};
+ghost use Rattle.csi_config.specs.Faults.{first_broken, place_broken};
+
+use crate::fault::ConfigFault;
+
+/// What stands in a list of a configuration, and has a name by which a fault tells of it.
+pub(crate) trait Ruled: Drop {
+    ghost use Rattle.std.specs.Prelude.{ℕ, Bool, List};
+    ghost use Rattle.csi_config.specs.declared.fault.ConfigFault.{ConfigFault};
+
+    type Rule: Copy;
+
+    // An item, behind some earlier ones, breaks a rule; its name; the fault by a name and the rule.
+    ghost breaks_rule: { Self.Rule → List Self → Self → Bool };
+
+    ghost name_of: { Self → List ℕ };
+
+    ghost fault_of: { List ℕ → Self.Rule → ConfigFault };
+
+    /// Whether an item, which stands behind the first `count`, breaks a rule.
+    fn breaks(rule: Self::Rule, items: &[Self], count: usize, item: &Self) -> bool
+        ensures { result ≡ breaks_rule rule (take count items.now) item.now };
+
+    /// The fault that tells of the item.
+    fn fault(self, rule: Self::Rule) -> ConfigFault
+        ensures { result ≡ fault_of (name_of self) rule };
+}
+
+// The place of the first item that breaks a rule.
+fn place_of<T: Ruled>(rule: T::Rule, items: &[T]) -> Option<usize>
+    ensures value { result ≡ place_broken T.breaks_rule rule items.now }
+    ensures within { IfSome result (λ place. place < length items.now) }
+{
+    items
+        .iter()
+        .enumerate()
+        .position(|(place, item)| T::breaks(rule, items, place, item))
+}
+
+/// Gives the items back, or the fault of the first of them that breaks a rule.
+pub(crate) fn check_rule<T: Ruled>(rule: T::Rule, mut items: Vec<T>) -> Result<Vec<T>, ConfigFault>
+    ensures same { IfOk result (λ same. same.items ≡ items.items) }
+    ensures passed { OnOk result (first_broken T.breaks_rule T.name_of T.fault_of rule items.items ≡ None) }
+    ensures refused { IfErr result (λ fault. first_broken T.breaks_rule T.name_of T.fault_of rule items.items ≡ Some fault) }
+{
+    match place_of(rule, items.as_slice()) {
+        Some(place) => Err(items.swap_remove(place).fault(rule)),
+        None => Ok(items),
+    }
+}

@@ -1,0 +1,26 @@
+//! What a request is planned by: the State alone.
+
+ghost use Rattle.std.specs.Prelude.{◌≡◌, IfOk, IfSome};
+ghost use Rattle.csi_config.specs.declared.config.Config.{Config as AnyConfig};
+ghost use Rattle.csi_keeper.specs.State.{State, IsBounded};
+ghost use Rattle.csi_machine.specs.Finding.{Finds};
+ghost use Rattle.csi_machine.specs.declared.plan.Plan.{Plan as AnyPlan};
+
+use crate::plan::Plan;
+use csi_config::Config;
+use csi_keeper::{Keeper, StoreFault};
+use std::alloc::Global;
+
+/// A plan, or why none was made: what the keeper answered, or want of memory.
+pub(crate) type Planning = Result<Plan, StoreFault>;
+
+/// A request of one method, or of any.
+pub(crate) trait Planned {
+    /// The plan that a State gives it.
+    ghost planned: { AnyConfig → State → Self → AnyPlan };
+
+    /// Its plan, by reads of the keeper alone.
+    fn plan<K: Keeper>(&self, alloc: Global, config: &Config, keeper: &mut K) -> Planning
+        ensures bounded { IfOk result (λ p. IfSome p.change IsBounded) }
+        ensures finds { Finds (K.model keeper.old) (K.model keeper.new) result (λ s p. p ≡ planned config.now s self.now) };
+}

@@ -1,0 +1,55 @@
+use Rattle.std.proofs.Common.{◌≡◌, ◌≤◌, length, vec_capacity, sym, ap, subst, arith, inl}
+use Rattle.frames_core.specs.declared.kind.Kind.{Kind}
+use Rattle.frames_core.specs.declared.kind.Part.{Part}
+use Rattle.frames_core.specs.Grammar.{BreaksFirst}
+use Rattle.frames_core.specs.Head.{most_frame}
+use Rattle.frames_core.specs.Prefix.{TakesPrefix}
+use Rattle.frames_core.proofs.Breaking.{Breaks_within}
+use Rattle.frames_core.proofs.Framing.{broke, holds_broken, known_break, not_settled, settled_whole}
+use Rattle.frames_core.proofs.Frames.{breaks_has}
+use Rattle.frames_core.proofs.framer.Cutter.feed.Goals as goal
+
+pub of-requires : goal.of-requires
+of-requires g c =
+    let b = broke c.kind.result g.F.Fault.kind c.self.inside.past c.self.inside.buffer.items c.args.piece.now c.take_prefix-prefix.new.buffer.items c.take_prefix-prefix.result c.in-Some.flaw c.kind.ensures (omega (arith, ap (λ s. s.past) c.self.view_is, ap (λ s. length s.held) c.self.view_is, c.requires.room)) c.take_prefix-prefix.ensures.takes c.in-Some.is in
+    breaks_has g.F.Fault.kind c.take_prefix-prefix.new.buffer.items c.in-Some.flaw.part c.in-Some.flaw.at b.breaks.breaks
+
+pub overflow_add-self-inside : goal.overflow_add-self-inside
+overflow_add-self-inside g c =
+    let b = broke c.kind.result g.F.Fault.kind c.self.inside.past c.self.inside.buffer.items c.args.piece.now c.take_prefix-prefix.new.buffer.items c.take_prefix-prefix.result c.in-Some.flaw c.kind.ensures (omega (arith, ap (λ s. s.past) c.self.view_is, ap (λ s. length s.held) c.self.view_is, c.requires.room)) c.take_prefix-prefix.ensures.takes c.in-Some.is in
+    omega (arith, b.few, Breaks_within g.F.Fault.kind c.take_prefix-prefix.new.buffer.items c.in-Some.flaw.part c.in-Some.flaw.at b.breaks.breaks)
+
+pub invariant_of-self : goal.invariant_of-self
+invariant_of-self g c =
+    let F = g.F.Fault in
+    let new = c.take_prefix-prefix.new.buffer.items in
+    let b = broke c.kind.result F.kind c.self.inside.past c.self.inside.buffer.items c.args.piece.now new c.take_prefix-prefix.result c.in-Some.flaw c.kind.ensures (omega (arith, ap (λ s. s.past) c.self.view_is, ap (λ s. length s.held) c.self.view_is, c.requires.room)) c.take_prefix-prefix.ensures.takes c.in-Some.is in
+    let named = subst (λ (q : Part). BreaksFirst F.kind new q c.in-Some.flaw.at) (sym c.of.ensures.part) b.breaks in
+    let room = subst (λ (k : Kind). most_frame k ≤ vec_capacity c.take_prefix-prefix.new.buffer) (let same : c.kind.result ≡ F.kind = c.kind.ensures in same) c.take_prefix-prefix.ensures.room in
+    (room, holds_broken F.kind F.wrong_part F.place c.self.inside.past new c.of.result c.in-Some.flaw.at b.few named c.of.ensures.place)
+
+pub returns-in-Some-clause-known : goal.returns-in-Some-clause-known
+returns-in-Some-clause-known g c unknown =
+    let F = g.F.Fault in
+    let new = c.take_prefix-prefix.new.buffer.items in
+    let b = broke c.kind.result F.kind c.self.inside.past c.self.inside.buffer.items c.args.piece.now new c.take_prefix-prefix.result c.in-Some.flaw c.kind.ensures (omega (arith, ap (λ s. s.past) c.self.view_is, ap (λ s. length s.held) c.self.view_is, c.requires.room)) c.take_prefix-prefix.ensures.takes c.in-Some.is in
+    let named = subst (λ (q : Part). BreaksFirst F.kind new q c.in-Some.flaw.at) (sym c.of.ensures.part) b.breaks in
+    known_break F.kind c.self.inside.past new (F.wrong_part c.of.result) c.in-Some.flaw.at (F.place c.of.result) named c.of.ensures.place
+
+pub returns-in-Some-clause-settled : goal.returns-in-Some-clause-settled
+returns-in-Some-clause-settled g c settled =
+    let open_ = c.is_settled.ensures.open c.if-is_settled.false in
+    absurd (not_settled g.F.Fault.kind c.args.self.now.held c.args.self.now.fault open_.0 (open_.1, open_.2) settled)
+
+pub returns-in_default-clause-all : goal.returns-in_default-clause-all
+returns-in_default-clause-all g c = λ less.
+    let new = c.take_prefix-prefix.new.buffer.items in
+    let t = subst (λ (k : Kind). TakesPrefix k c.self.inside.buffer.items c.args.piece.now new c.take_prefix-prefix.result) (let same : c.kind.result ≡ g.F.Fault.kind = c.kind.ensures in same) c.take_prefix-prefix.ensures.takes in
+    let bytes = c.each_fits.ensures in
+    let is = c.as_slice.ensures.value in
+    inl (settled_whole g.F.Fault.kind c.self.inside.buffer.items c.args.piece.now new c.take_prefix-prefix.result t c.in_default.is (λ k. rw is at (bytes k)) less)
+
+pub returns-in_default-clause-settled : goal.returns-in_default-clause-settled
+returns-in_default-clause-settled g c settled =
+    let open_ = c.is_settled.ensures.open c.if-is_settled.false in
+    absurd (not_settled g.F.Fault.kind c.args.self.now.held c.args.self.now.fault open_.0 (open_.1, open_.2) settled)
