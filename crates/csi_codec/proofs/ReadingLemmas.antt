@@ -8,13 +8,18 @@ use Rattle.std.proofs.lemmas.Str.{IsUtf8-from_is_utf8, is_utf8-from_IsUtf8}
 use Rattle.pbwire.specs.declared.field.WireWhy.{WireWhy}
 use Rattle.pbwire.specs.Wire.{WireField, AreFields, Part, Number, Eight, Payload, Four}
 use Rattle.pbwire.specs.Reading.{field_at}
+use Rattle.csi_types.specs.declared.method.Method.TheVariants as method
+use Rattle.csi_types.specs.declared.requests.CreateVolume.{CreateVolume}
+use Rattle.csi_types.specs.declared.requests.Request.TheVariants as request
 use Rattle.csi_codec.specs.declared.message.DecodeFault.{DecodeFault}
 use Rattle.csi_codec.specs.declared.message.DecodeFault.TheVariants as fault
 use Rattle.csi_codec.specs.Fields.{AreGood, IsRefusedAt, Means, Refuses}
 use Rattle.csi_codec.proofs.LowerLaws.{FieldLaws}
 use Rattle.csi_codec.specs.Views.{Views, value_of}
 use Rattle.csi_codec.specs.Schema.{Schema, AnyPayload, TextAt, MessageAt, Good, GoodField}
-use Rattle.csi_codec.specs.Reading.{Scan, scan_from, scan, is_whole, passes_field, passes, value_or_offset, read_message, Decodes}
+use Rattle.csi_codec.specs.Reading.{Scan, scan_from, scan, is_whole, passes_field, passes, value_or_offset, read_message, as_create, Decodes}
+use Rattle.csi_codec.specs.Methods.{request_schema, request_in}
+use Rattle.csi_codec.specs.messages.VolumeRequests.{create_schema, create_in}
 use Rattle.csi_codec.proofs.FieldLemmas.{Reads, Read, same_read, nothing_read, read_are, one_value}
 use Rattle.csi_codec.proofs.MessageLemmas.{nil_long}
 use Rattle.csi_codec.proofs.OffsetLemmas.{Stops, not_both, refused, same_offset}
@@ -150,3 +155,10 @@ decodes {V} l schema of bytes r ok err = by r ok err (read_message schema of byt
     by (Err (fault.Malformed at)) u none (Err k) is = ap (λ (n : ℕ). Err n) (same_offset is.0 none.0)
     by (Err fault.NoMemory) u some (Ok w) is = refl
     by (Err fault.NoMemory) u some (Err k) is = absurd (is.1 some)
+
+-- a CreateVolumeRequest by itself is read as the request that it is
+pub creates : FieldLaws → (bytes : List ℕ) (r : Result CreateVolume DecodeFault) → IfOk r (Means (GoodField (Good create_schema)) (value_of create_in) bytes) → IfErr r (Refuses (GoodField (Good create_schema)) bytes)
+    → Decodes (read_message (request_schema method.CreateVolume) (request_in method.CreateVolume) bytes) (as_create r)
+creates l bytes (Ok message) means u = decodes l (request_schema method.CreateVolume) (request_in method.CreateVolume) bytes (Ok (request.Create message))
+    (record { fields = means.fields; whole = means.whole; each = means.each; is = ap (λ (m : CreateVolume). request.Create m) means.is }) u
+creates l bytes (Err fault) u refused = decodes l (request_schema method.CreateVolume) (request_in method.CreateVolume) bytes (Err fault) u refused

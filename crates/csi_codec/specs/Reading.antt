@@ -5,7 +5,9 @@ use Rattle.std.specs.Option.{option_map_or}
 use Rattle.std.specs.Result.{IsOk}
 use Rattle.std.specs.Str.{is_utf8}
 use Rattle.csi_types.specs.declared.method.Method.{Method}
+use Rattle.csi_types.specs.declared.requests.CreateVolume.{CreateVolume}
 use Rattle.csi_types.specs.declared.requests.Request.{Request}
+use Rattle.csi_types.specs.declared.requests.Request.TheVariants as request
 use Rattle.csi_types.specs.declared.responses.Response.{Response}
 use Rattle.pbwire.specs.declared.field.WireWhy.{WireWhy}
 use Rattle.pbwire.specs.Wire.{WireField}
@@ -76,3 +78,8 @@ abbrev pub Decodes : {V : Type 0} → Result V ℕ → Result V DecodeFault → 
 Decodes read (Ok v) = read ≡ Ok v
 Decodes read (Err (fault.Malformed at)) = read ≡ Err at
 Decodes read (Err fault.NoMemory) = IsOk read
+
+-- what decoding a CreateVolumeRequest answers, as a request
+abbrev pub as_create : Result CreateVolume DecodeFault → Result Request DecodeFault
+as_create (Ok message) = Ok (request.Create message)
+as_create (Err fault) = Err fault

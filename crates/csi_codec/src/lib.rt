@@ -28,5 +28,5 @@ mod slots;
 mod writing;
 
 pub use message::{DecodeFault, MALFORMED_MESSAGE};
-pub use requests::{decode, encode_request};
+pub use requests::{decode, decode_create, encode_create, encode_request};
 pub use responses::{decode_response, encode_response};

@@ -3,12 +3,14 @@
 ghost use Rattle.std.specs.Prelude.{◌≡◌, ◌++◌, OnOk, OnErr, IfOk, IfErr};
 ghost use Rattle.csi_codec.specs.Kept.{Keeps};
 ghost use Rattle.csi_codec.specs.Methods.{RefusesRequest, MeansRequest, request_bytes, FitsRequest};
-ghost use Rattle.csi_codec.specs.Reading.{read_request, Decodes};
+ghost use Rattle.csi_codec.specs.Reading.{read_request, as_create, Decodes};
+ghost use Rattle.csi_types.specs.declared.method.Method.TheVariants.{CreateVolume as Creating};
+ghost use Rattle.csi_types.specs.declared.requests.Request.TheVariants.{Create};
 
 use crate::message::{DecodeFault, decode_message};
 use crate::messages::values::NoFields;
-use crate::writing::Written;
-use csi_types::{Method, Request};
+use crate::writing::{Written, whole_or_none};
+use csi_types::{CreateVolume, Method, Request};
 use pbwire::laws::spelled;
 use std::alloc::{AllocError, Global};
 
@@ -29,6 +31,18 @@ pub fn decode(alloc: Global, method: Method, bytes: &[u8]) -> Result<Request, De
 {
     spelled();
     decode_by_method(alloc, method, bytes)
+}
+
+/// The `CreateVolumeRequest` that the bytes mean, as [`decode`] reads it.
+///
+/// # Errors
+///
+/// Those of [`decode`].
+pub fn decode_create(alloc: Global, bytes: &[u8]) -> Result<CreateVolume, DecodeFault>
+    ensures { Decodes (read_request Creating bytes.now) (as_create result) }
+{
+    spelled();
+    decode_message::<CreateVolume>(alloc, bytes)
 }
 
 #[tactic(auto, unfolding(crate::specs::Methods::MeansRequest, crate::specs::Methods::IsNoRequest, crate::specs::Methods::IsGoodRequest))]
@@ -100,8 +114,21 @@ pub fn encode_request(request: &Request, out: &mut Vec<u8>) -> Result<(), AllocE
 {
     let from = out.len();
     let written = write_request(request, out);
-    if written.is_err() {
-        out.truncate(from);
-    }
-    written
+    whole_or_none(out, from, written)
+}
+
+/// Appends the one spelling of a `CreateVolumeRequest`, as [`encode_request`] does.
+///
+/// # Errors
+///
+/// Where memory is refused the vector is as it was.
+#[tactic(auto, unfolding(crate::specs::Methods::request_bytes, crate::specs::Methods::FitsRequest))]
+pub fn encode_create(message: &CreateVolume, out: &mut Vec<u8>) -> Result<(), AllocError>
+    ensures ok { OnOk result (out.new.items ≡ out.old.items ++ request_bytes (Create message.now)) }
+    ensures fitting { OnOk result (FitsRequest (Create message.now)) }
+    ensures err { OnErr result (out.new.items ≡ out.old.items) }
+{
+    let from = out.len();
+    let written = message.write(out);
+    whole_or_none(out, from, written)
 }

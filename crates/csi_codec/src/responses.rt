@@ -11,7 +11,7 @@ use crate::messages::responses::{
     put_validation,
 };
 use crate::messages::values::NoFields;
-use crate::writing::Written;
+use crate::writing::{Written, whole_or_none};
 use csi_types::{Method, Response};
 use pbwire::laws::spelled;
 use std::alloc::{AllocError, Global};
@@ -111,8 +111,5 @@ pub fn encode_response(response: &Response, out: &mut Vec<u8>) -> Result<(), All
 {
     let from = out.len();
     let written = write_response(response, out);
-    if written.is_err() {
-        out.truncate(from);
-    }
-    written
+    whole_or_none(out, from, written)
 }

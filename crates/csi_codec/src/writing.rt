@@ -2,7 +2,7 @@
 //!
 //! An embedded message is written in place: an empty field, its fields behind it, and then its length.
 
-ghost use Rattle.std.specs.Prelude.{◌≡◌, ◌++◌, ◌∷◌, [], ◌≤◌, ◌<◌, ◌^◌, List, OnOk, OnErr, option_to_list, length};
+ghost use Rattle.std.specs.Prelude.{◌≡◌, ◌++◌, ◌∷◌, [], ◌≤◌, ◌<◌, ◌^◌, List, OnOk, OnErr, option_to_list, length, take};
 ghost use Rattle.std.specs.FinMap.{entries};
 ghost use Rattle.pbwire.specs.Writing.{spellings};
 ghost use Rattle.csi_codec.specs.Canon.{Rows, bytes_of, row_fields, payload_fields, text_row, texts_row, signed_row, flag_row, presence_row, option_row, messages_row, map_row, canon_map_entry, FitsText, FitsTexts, FitsI64, FitsInner, FitsOption, FitsMessages, FitsMapEntry, FitsMap};
@@ -27,6 +27,23 @@ pub trait Written: Message {
         ensures ok { OnOk result (out.new.items ≡ out.old.items ++ bytes_of (canon self.now)) }
         ensures fitting { OnOk result (fits self.now) }
         ensures kept { Keeps out.old.items out.new.items };
+}
+
+/// Where a spelling was not written whole, takes back what stands behind the first `from` bytes.
+pub fn whole_or_none(
+    out: &mut Vec<u8>,
+    from: usize,
+    written: Result<(), AllocError>,
+) -> Result<(), AllocError>
+    requires { from ≤ length out.old.items }
+    ensures same { result ≡ written }
+    ensures ok { OnOk result (out.new.items ≡ out.old.items) }
+    ensures err { OnErr result (out.new.items ≡ take from out.old.items) }
+{
+    if written.is_err() {
+        out.truncate(from);
+    }
+    written
 }
 
 /// Appends a text, unless it is empty.

@@ -9,35 +9,25 @@ ghost use Rattle.csi_keeper.specs.Capability.{is_supported_key};
 ghost use Rattle.csi_tables.specs.Encoding.{caps_bytes, params_bytes, FitCaps, FitParams};
 ghost use Rattle.csi_scans.specs.Failing.{FailsForMemory};
 ghost use Rattle.csi_constraints.specs.Values.{if_passes};
-ghost use Rattle.csi_constraints.specs.Coding.{are_keys, are_params, is_small, created, each_key, is_before, key_in, keys_in, message_in, only, params_in, rise};
+ghost use Rattle.csi_constraints.specs.Coding.{are_keys, are_params, is_small, each_key, is_before, key_in, keys_in, message_in, only, params_in, rise};
 
-use csi_codec::{DecodeFault, decode};
+use csi_codec::{DecodeFault, decode_create};
 use csi_keeper::{CapKey, cap_key, supported};
 use csi_schema::FIRST_FORMAT;
 use csi_tables::{write_caps, write_params};
-use csi_types::{Capability, CreateVolume, Items, MAX_MAP_BYTES, Map, Method, Request, map_bytes};
+use csi_types::{Capability, CreateVolume, Items, MAX_MAP_BYTES, Map, map_bytes};
 use sqlite::{Error, ErrorCode};
 use std::alloc::{AllocError, Global};
 use std::cmp::Ordering;
 
 // ---- what is read
 
-// The message of a request to create a volume.
-fn created(request: Request) -> Option<CreateVolume>
-    ensures { result ≡ created (Ok request) }
-{
-    match request {
-        Request::Create(message) => Some(message),
-        _ => None,
-    }
-}
-
 fn message_in(alloc: Global, bytes: &[u8]) -> Result<Option<CreateVolume>, Error>
     ensures value { IfOk result (λ message. message ≡ message_in bytes.now) }
     ensures memory { FailsForMemory result }
 {
-    match decode(alloc, Method::CreateVolume, bytes) {
-        Ok(request) => Ok(created(request)),
+    match decode_create(alloc, bytes) {
+        Ok(message) => Ok(Some(message)),
         Err(DecodeFault::Malformed { .. }) => Ok(None),
         Err(DecodeFault::NoMemory) => Err(Error::SqliteFailure(ErrorCode::OutOfMemory)),
     }

@@ -1,7 +1,11 @@
 //! The volume machine over a keeper.
 
-ghost use Rattle.std.specs.Prelude.{◌≡◌, ◌≤◌, ℕ, List, Ok};
+ghost use Rattle.std.specs.Prelude.{◌≡◌, ◌≤◌, ⊤, ℕ, List, None, Ok};
 ghost use Rattle.std.specs.Io.KnownBytes.{Consumes, IsAtEnd, Keeps};
+ghost use Rattle.csi_keeper.specs.State.{State};
+ghost use Rattle.csi_machine.specs.Step.{step};
+ghost use Rattle.csi_types.specs.Checks.{checked};
+ghost use Rattle.csi_server.specs.Requests.{after_check, AnswersBy};
 ghost use Rattle.csi_server.specs.Service.{reply_of, HasBody, HoldsBody};
 ghost use Rattle.csi_server.specs.Serving.{Serves};
 ghost use Rattle.csi_server.specs.Volumes.{volumes, seen, RepliesTo};
@@ -14,7 +18,7 @@ use crate::service::{Service, begin_body};
 use csi_config::Config;
 use csi_keeper::{Keeper, StoreFault};
 use csi_machine::{Verdict, append_answer};
-use csi_types::{Reason, method_of};
+use csi_types::{Reason, Request, method_of};
 use frames_core::Call;
 use std::alloc::Global;
 use std::io::{Read, Write};
@@ -30,6 +34,26 @@ fn answer_of(verdict: Result<Verdict, StoreFault>) -> Answer
         Err(StoreFault::NoMemory) => refuse(Reason::OutOfMemory),
         Err(StoreFault::Refused) => refuse(Reason::StoreRefused),
         Err(StoreFault::Down) => refuse(Reason::StoreDown),
+    }
+}
+
+// Answers a request that passes the checks.
+fn answer_request<K: Keeper>(
+    alloc: Global,
+    config: &Config,
+    keeper: &mut K,
+    request: &Request,
+    reply: &mut Vec<u8>,
+) -> Answer
+    requires { checked request.now ≡ None }
+    ensures clean { (K.model keeper.old).doubt ≤ (K.model keeper.new).doubt }
+    ensures step { (K.model keeper.new).doubt ≡ 0 → (s : State) → (seen config.now (K.model keeper.old)).holds s
+        → AnswersBy (λ t. after_check (step config.now) t request.now None) ⊤ (seen config.now (K.model keeper.old)) (seen config.now (K.model keeper.new)) s (reply_of result reply.new.items) }
+    ensures room { HoldsBody result reply.new.items }
+{
+    match begin_body(reply) {
+        Ok(()) => answer_of(append_answer(alloc, config, keeper, request, reply)),
+        Err(_) => refuse(Reason::OutOfMemory),
     }
 }
 
@@ -54,10 +78,10 @@ impl<K: Keeper> Service<Config> for K {
         let Some(method) = method_of(call.path) else {
             return refuse(Reason::UnknownMethod);
         };
-        let request = read_message(alloc, method, call.message)?;
-        match begin_body(reply) {
-            Ok(()) => answer_of(append_answer(alloc, config, self, &request, reply)),
-            Err(_) => refuse(Reason::OutOfMemory),
+        // (no `?`, which would move the request once more)
+        match read_message(alloc, method, call.message) {
+            Ok(request) => answer_request(alloc, config, self, &request, reply),
+            Err(refusal) => Err(refusal),
         }
     }
 }

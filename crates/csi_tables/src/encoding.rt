@@ -15,9 +15,9 @@ ghost use Rattle.csi_tables.specs.declared.fault.Fault.TheVariants.{Refused};
 
 use crate::fault::Fault;
 use csi_codec::laws::{read_as_meant, round_trip};
-use csi_codec::{decode, encode_request};
+use csi_codec::{decode_create, encode_create};
 use csi_keeper::{CapKey, cap_key, capability_of};
-use csi_types::{Capability, CreateVolume, Items, Map, Method, Request, Text, copy_map};
+use csi_types::{Capability, CreateVolume, Items, Map, Text, copy_map};
 use std::alloc::{AllocError, Global};
 
 /// What is written of a request that fits is read as that request.
@@ -34,10 +34,10 @@ fn create_with(
     capabilities: Items<Capability>,
     parameters: Map,
     mutable: Map,
-) -> Request
-    ensures { result ≡ create_with capabilities parameters mutable }
+) -> CreateVolume
+    ensures { Create result ≡ create_with capabilities parameters mutable }
 {
-    Request::Create(CreateVolume {
+    CreateVolume {
         name: Text::new(alloc),
         range: None,
         capabilities,
@@ -46,15 +46,15 @@ fn create_with(
         source: false,
         topology: None,
         mutable,
-    })
+    }
 }
 
-fn write(alloc: Global, request: &Request) -> Result<Vec<u8>, AllocError>
-    ensures bytes { IfOk result (λ out. out.items ≡ request_bytes request.now) }
-    ensures fits { OnOk result (FitsRequest request.now) }
+fn write(alloc: Global, message: &CreateVolume) -> Result<Vec<u8>, AllocError>
+    ensures bytes { IfOk result (λ out. out.items ≡ request_bytes (Create message.now)) }
+    ensures fits { OnOk result (FitsRequest (Create message.now)) }
 {
     let mut out = Vec::new(alloc);
-    encode_request(request, &mut out)?;
+    encode_create(message, &mut out)?;
     Ok(out)
 }
 
@@ -78,8 +78,8 @@ fn write_parts(
     ensures bytes { IfOk result (λ out. out.items ≡ request_bytes (create_with capabilities parameters mutable)) }
     ensures fits { OnOk result (FitsRequest (create_with capabilities parameters mutable)) }
 {
-    let request = create_with(alloc, capabilities, parameters, mutable);
-    write(alloc, &request)
+    let message = create_with(alloc, capabilities, parameters, mutable);
+    write(alloc, &message)
 }
 
 /// The canonical bytes of capabilities, as they stand in a column.
@@ -123,10 +123,7 @@ fn read(alloc: Global, bytes: &[u8]) -> Result<CreateVolume, Fault>
     ensures ok { IfOk result (λ message. read_request Creating bytes.now ≡ Ok (Create message)) }
     ensures refused { IsErrOf result Refused → (m : Message) → read_request Creating bytes.now ≢ Ok (Create m) }
 {
-    match decode(alloc, Method::CreateVolume, bytes)? {
-        Request::Create(message) => Ok(message),
-        _ => Err(Fault::Refused),
-    }
+    Ok(decode_create(alloc, bytes)?)
 }
 
 fn keys_of(alloc: Global, capabilities: &[Capability]) -> Result<Items<CapKey>, Fault>

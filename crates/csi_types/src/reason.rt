@@ -4,13 +4,13 @@ ghost use Rattle.std.specs.Prelude.{◌≡◌};
 ghost use Rattle.csi_types.specs.Reasons.{code_of, text_of};
 
 use crate::code::Code;
-use thiserror::Error;
+use std::error::Error;
+use std::fmt;
 
 /// Why a request is refused. Its `Display` is its text.
 ///
 /// A message that can't be decoded is no reason: its text tells a place, and so is made apart.
-#[derive(Clone, Copy, Debug, PartialEq, Eq, Error)]
-#[error("{}", self.text())]
+#[derive(Clone, Copy, Debug, PartialEq, Eq)]
 pub enum Reason {
     /// `name` is empty.
     NameMissing,
@@ -170,3 +170,11 @@ impl Reason {
         }
     }
 }
+
+impl fmt::Display for Reason {
+    fn fmt<W: fmt::Write>(&self, f: &mut fmt::Formatter<W>) -> fmt::Result {
+        f.write_str(self.text())
+    }
+}
+
+impl Error for Reason {}

@@ -22,7 +22,12 @@ pub(crate) fn answer(alloc: Global, row: &str) -> Result<Vec<u8>, RowFault> {
     }
 }
 
-fn lines_of(alloc: Global, method: Option<Method>, reply: &Reply<'_>) -> Result<Vec<u8>, RowFault> {
+/// The lines of a reply.
+pub(crate) fn lines_of(
+    alloc: Global,
+    method: Option<Method>,
+    reply: &Reply<'_>,
+) -> Result<Vec<u8>, RowFault> {
     let mut out = Vec::new(alloc);
     put_reply_line(alloc, &mut out, reply)?;
     match put_body_lines(alloc, &mut out, method, reply) {

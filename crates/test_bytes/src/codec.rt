@@ -110,21 +110,27 @@ fn compared(alloc: Global, bytes: &[u8], canonical: &[u8]) -> Result<String, Row
     bytes_text(alloc, canonical)
 }
 
+// The limits, by their names.
+static LIMITS: [(&str, u64); 11] = [
+    ("MAX_TEXT_BYTES", MAX_TEXT_BYTES as u64),
+    ("MAX_NODE_ID_BYTES", MAX_NODE_ID_BYTES as u64),
+    ("MAX_MOUNT_FLAGS_BYTES", MAX_MOUNT_FLAGS_BYTES as u64),
+    ("MAX_MAP_BYTES", MAX_MAP_BYTES as u64),
+    ("MAX_POOLS", MAX_POOLS as u64),
+    ("MAX_SEGMENTS", MAX_SEGMENTS as u64),
+    ("MAX_NODES", MAX_NODES as u64),
+    ("MAX_VOLUMES", MAX_VOLUMES),
+    ("MAX_PAGE_ENTRIES", MAX_PAGE_ENTRIES as u64),
+    ("MAX_POOL_BYTES", MAX_POOL_BYTES),
+    ("MAX_NUMBER", MAX_NUMBER),
+];
+
 // The value of a limit.
 fn limit_answer(alloc: Global, name: &str) -> Result<String, RowFault> {
-    let value = match name {
-        "MAX_TEXT_BYTES" => MAX_TEXT_BYTES as u64,
-        "MAX_NODE_ID_BYTES" => MAX_NODE_ID_BYTES as u64,
-        "MAX_MOUNT_FLAGS_BYTES" => MAX_MOUNT_FLAGS_BYTES as u64,
-        "MAX_MAP_BYTES" => MAX_MAP_BYTES as u64,
-        "MAX_POOLS" => MAX_POOLS as u64,
-        "MAX_SEGMENTS" => MAX_SEGMENTS as u64,
-        "MAX_NODES" => MAX_NODES as u64,
-        "MAX_VOLUMES" => MAX_VOLUMES,
-        "MAX_PAGE_ENTRIES" => u64::from(MAX_PAGE_ENTRIES),
-        "MAX_POOL_BYTES" => MAX_POOL_BYTES,
-        "MAX_NUMBER" => MAX_NUMBER,
-        _ => return Err(RowFault::NotRow),
-    };
-    Ok(format!(in alloc; "{value}")?)
+    for (limit, value) in &LIMITS {
+        if *limit == name {
+            return Ok(format!(in alloc; "{value}")?);
+        }
+    }
+    Err(RowFault::NotRow)
 }

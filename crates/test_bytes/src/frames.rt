@@ -42,20 +42,26 @@ pub(crate) fn answer(alloc: Global, row: &str) -> Result<String, RowFault> {
 // The frame of a call, and whether it is read back.
 fn request_answer(alloc: Global, rest: &str) -> Result<String, RowFault> {
     let (path, notation) = first_word(rest)?;
-    let path = path.as_bytes();
     let message = bytes_of(alloc, notation)?;
-    if !has_frame(path, &message) {
+    framed(alloc, path.as_bytes(), &message)
+}
+
+fn framed(alloc: Global, path: &[u8], message: &[u8]) -> Result<String, RowFault> {
+    if !has_frame(path, message) {
         return Err(RowFault::NotRow);
     }
     let mut frame = Vec::new(alloc);
-    put_request(&mut frame, path, &message)?;
-    let read = if reads_back(&frame, path, &message) {
+    put_request(&mut frame, path, message)?;
+    frame_text(alloc, &frame, reads_back(&frame, path, message))
+}
+
+fn frame_text(alloc: Global, frame: &[u8], is_read: bool) -> Result<String, RowFault> {
+    let read = if is_read {
         "read back"
     } else {
         "not read back"
     };
-    let shown = bytes_text(alloc, &frame)?;
-    Ok(format!(in alloc; "{shown}, {read}")?)
+    Ok(format!(in alloc; "{}, {read}", bytes_text(alloc, frame)?)?)
 }
 
 // Whether a call of this path and message has a frame.

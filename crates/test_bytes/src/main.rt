@@ -14,66 +14,68 @@ mod words;
 
 use machine::Bench;
 use serve::Streams;
-use socket::{PATH, Session};
+use socket::{Calls, PATH};
 use std::fs;
+use std::io::Write;
 use std::os::unix::net::UnixListener;
 use std::process::ExitCode;
-use test_kit::{Answer, AnswerRow, RowFault, answer_rows};
+use test_kit::{Answer, AnswerRow, AnswerSection, RowFault, Rows, answer_rows};
 
 // The exit status where there is no socket.
 const SOCKET: u8 = 7;
 
-/// The section that was begun last, and what it keeps from row to row.
-#[derive(Drop)]
-enum Section {
-    /// None was begun.
-    Unbegun,
+// A section that keeps nothing from row to row.
+#[derive(Clone, Copy)]
+enum Plain {
     Codec,
     Frames,
     Types,
     Client,
     Tries,
-    Machine(Bench),
-    Serve(Streams),
-    Socket(Session),
+}
+
+impl AnswerRow for Plain {
+    fn answer_row(&mut self, rt: &HostRuntime, row: &str) -> Result<Answer, RowFault> {
+        let alloc = rt.alloc();
+        let text = match self {
+            Plain::Codec => codec::answer(alloc, row)?,
+            Plain::Frames => frames::answer(alloc, row)?,
+            Plain::Types => types::answer(alloc, row)?,
+            Plain::Tries => tries::answer(alloc, row)?,
+            Plain::Client => return Ok(Answer::Lines(client::answer(alloc, row)?)),
+        };
+        Ok(Answer::Text(text))
+    }
 }
 
 #[derive(Drop)]
-struct Rows {
+struct Sections {
     listener: UnixListener,
-    section: Section,
 }
 
-impl AnswerRow for Rows {
-    fn begin_section(&mut self, rt: &HostRuntime, name: &str) -> Result<(), RowFault> {
-        self.section = match name {
-            "codec" => Section::Codec,
-            "frames" => Section::Frames,
-            "types" => Section::Types,
-            "client" => Section::Client,
-            "tries" => Section::Tries,
-            "machine" => Section::Machine(Bench::new(rt.alloc())?),
-            "serve" => Section::Serve(Streams::new(rt.alloc())?),
-            "socket" => Section::Socket(Session::new(rt.alloc())?),
+impl AnswerSection for Sections {
+    fn answer_section<W: Write>(
+        &self,
+        rt: &HostRuntime,
+        name: &str,
+        rows: &mut Rows<'_, W>,
+    ) -> Result<(), RowFault> {
+        match name {
+            "codec" => rows.answer(rt, &mut Plain::Codec),
+            "frames" => rows.answer(rt, &mut Plain::Frames),
+            "types" => rows.answer(rt, &mut Plain::Types),
+            "client" => rows.answer(rt, &mut Plain::Client),
+            "tries" => rows.answer(rt, &mut Plain::Tries),
+            "machine" => rows.answer(rt, &mut Bench::new(rt.alloc())?),
+            "serve" => rows.answer(rt, &mut Streams::new(rt.alloc())?),
+            "socket" => {
+                let bench = &mut Bench::new(rt.alloc())?;
+                let listener = &self.listener;
+                rows.answer(rt, &mut Calls { listener, bench });
+            }
             _ => return Err(RowFault::NotRow),
-        };
+        }
         Ok(())
-    }
-
-    fn answer_row(&mut self, rt: &HostRuntime, row: &str) -> Result<Answer, RowFault> {
-        let alloc = rt.alloc();
-        let text = match &mut self.section {
-            Section::Unbegun => return Err(RowFault::NotRow),
-            Section::Codec => codec::answer(alloc, row)?,
-            Section::Frames => frames::answer(alloc, row)?,
-            Section::Types => types::answer(alloc, row)?,
-            Section::Tries => tries::answer(alloc, row)?,
-            Section::Client => return Ok(Answer::Lines(client::answer(alloc, row)?)),
-            Section::Machine(bench) => bench.answer(alloc, row)?,
-            Section::Serve(streams) => return streams.answer(alloc, row),
-            Section::Socket(session) => return session.answer(rt, &self.listener, row),
-        };
-        Ok(Answer::Text(text))
     }
 }
 
@@ -81,11 +83,7 @@ fn main(rt: HostRuntime) -> ExitCode {
     let Ok(listener) = UnixListener::bind(&rt, PATH) else {
         return ExitCode::from(SOCKET);
     };
-    let mut rows = Rows {
-        listener,
-        section: Section::Unbegun,
-    };
-    let status = answer_rows(&rt, &mut rows);
+    let status = answer_rows(&rt, &Sections { listener });
     match fs::remove_file(&rt, PATH) {
         Ok(()) => status,
         Err(_) => ExitCode::from(SOCKET),

@@ -15,7 +15,7 @@ use server::Server;
 use std::alloc::{AllocError, Global};
 use std::mem;
 use stream::Stream;
-use test_kit::{Answer, RowFault, bytes_of};
+use test_kit::{Answer, AnswerRow, RowFault, bytes_of};
 use trials::{Trials, kept_after_each};
 
 /// A configuration, and the stream that the rows put together so far.
@@ -34,8 +34,7 @@ impl Streams {
         })
     }
 
-    /// The answer to a row.
-    pub(crate) fn answer(&mut self, alloc: Global, row: &str) -> Result<Answer, RowFault> {
+    fn answer(&mut self, alloc: Global, row: &str) -> Result<Answer, RowFault> {
         let (word, rest) = row.split_once(' ').ok_or(RowFault::NotRow)?;
         match word {
             "asks" => self.put_call(alloc, true, rest)?,
@@ -64,6 +63,12 @@ impl Streams {
         let frame = bytes_of(alloc, frame)?;
         let reply = bytes_of(alloc, reply)?;
         Ok(self.stream.put_call(asks, &frame, &reply)?)
+    }
+}
+
+impl AnswerRow for Streams {
+    fn answer_row(&mut self, rt: &HostRuntime, row: &str) -> Result<Answer, RowFault> {
+        self.answer(rt.alloc(), row)
     }
 }
 

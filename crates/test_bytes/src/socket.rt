@@ -1,90 +1,77 @@
 //! Rows about calls over a socket, each by a connection of its own, to a server over one keeper in memory.
 
-use csi_client::{
-    Received, ReceivedReply, put_body_lines, put_call, put_reply_line, receive, send,
-};
-use csi_codec::DecodeFault;
-use csi_config::Config;
-use csi_keeper::MemKeeper;
+use crate::client::lines_of;
+use crate::machine::Bench;
+use crate::words::{first_word, named};
+use csi_client::{Received, put_call, receive, send};
 use csi_server::serve;
-use csi_types::{Method, method_named};
+use csi_types::Method;
 use frames_core::MAX_MESSAGE_BYTES;
-use std::alloc::{AllocError, Global};
+use std::alloc::Global;
 use std::io;
 use std::net::Shutdown;
 use std::os::unix::net::{UnixListener, UnixStream};
-use test_kit::{Answer, RowFault, bytes_of, number_of};
+use test_kit::{Answer, AnswerRow, RowFault, bytes_of, number_of};
 
 /// The file of the socket.
 pub(crate) const PATH: &str = "rows.sock";
 
-/// The sample configuration, and a keeper of the volumes that calls made.
+/// Calls, each by a connection of its own.
 #[derive(Drop)]
-pub(crate) struct Session {
-    config: Config,
-    keeper: MemKeeper,
+pub(crate) struct Calls<'a> {
+    pub(crate) listener: &'a UnixListener,
+    pub(crate) bench: &'a mut Bench,
 }
 
-impl Session {
-    /// No volumes.
-    pub(crate) fn new(alloc: Global) -> Result<Session, AllocError> {
-        Ok(Session {
-            config: Config::sample(alloc)?,
-            keeper: MemKeeper::new(alloc, 1)?,
-        })
-    }
-
-    /// The lines of the reply to a row's call, or to the first bytes of its frame.
-    pub(crate) fn answer(
-        &mut self,
-        rt: &HostRuntime,
-        listener: &UnixListener,
-        row: &str,
-    ) -> Result<Answer, RowFault> {
+impl AnswerRow for Calls<'_> {
+    // The lines of the reply to a row's call, or to the first bytes of its frame.
+    fn answer_row(&mut self, rt: &HostRuntime, row: &str) -> Result<Answer, RowFault> {
         let alloc = rt.alloc();
         let (most, call) = match row.strip_prefix("part ") {
             Some(part) => {
-                let (count, call) = part.split_once(' ').ok_or(RowFault::NotRow)?;
+                let (count, call) = first_word(part)?;
                 (number_of(count)?, call)
             }
             None => (usize::MAX, row),
         };
-        let (name, notation) = call.split_once(' ').ok_or(RowFault::NotRow)?;
-        let method = method_named(alloc, name)?.ok_or(RowFault::NotRow)?;
+        let (name, notation) = first_word(call)?;
+        let method = named(alloc, name)?;
         let mut frame = framed(alloc, method, notation)?;
         frame.truncate(most);
-        let mut client = self.served(rt, listener, &frame).map_err(socket_fault)?;
+        let mut client = served(rt, self.listener, self.bench, &frame).map_err(socket_fault)?;
         match receive(alloc, &mut client) {
-            Received::Reply(reply) => Ok(Answer::Lines(lines_of(alloc, method, &reply)?)),
+            Received::Reply(reply) => {
+                let lines = lines_of(alloc, Some(method), &reply.as_reply())?;
+                Ok(Answer::Lines(lines))
+            }
             Received::Nothing | Received::Failed => Err(RowFault::Refused("no reply")),
             Received::Malformed(_) => Err(RowFault::Refused("malformed")),
             Received::NoMemory => Err(RowFault::NoMemory),
         }
     }
+}
 
-    // Sends bytes over a new connection, ends the writing, and serves it. How the run ended is seen in what is received.
-    fn served(
-        &mut self,
-        rt: &HostRuntime,
-        listener: &UnixListener,
-        bytes: &[u8],
-    ) -> io::Result<UnixStream> {
-        let mut client = UnixStream::connect(rt, PATH)?;
-        send(&mut client, bytes)?;
-        client.shutdown(Shutdown::Write)?;
-        let (stream, _) = listener.accept()?;
-        let mut reader = &stream;
-        let mut writer = &stream;
-        let alloc = rt.alloc();
-        let _ = serve(
-            alloc,
-            &self.config,
-            &mut self.keeper,
-            &mut reader,
-            &mut writer,
-        );
-        Ok(client)
-    }
+// Sends bytes over a new connection, ends the writing, and serves it. How the run ended is seen in what is received.
+fn served(
+    rt: &HostRuntime,
+    listener: &UnixListener,
+    bench: &mut Bench,
+    bytes: &[u8],
+) -> io::Result<UnixStream> {
+    let mut client = UnixStream::connect(rt, PATH)?;
+    send(&mut client, bytes)?;
+    client.shutdown(Shutdown::Write)?;
+    let (stream, _) = listener.accept()?;
+    let mut reader = &stream;
+    let mut writer = &stream;
+    let _ = serve(
+        rt.alloc(),
+        &bench.config,
+        &mut bench.keeper,
+        &mut reader,
+        &mut writer,
+    );
+    Ok(client)
 }
 
 fn socket_fault(_error: io::Error) -> RowFault {
@@ -99,14 +86,4 @@ fn framed(alloc: Global, method: Method, notation: &str) -> Result<Vec<u8>, RowF
     let mut frame = Vec::new(alloc);
     put_call(&mut frame, method, &message)?;
     Ok(frame)
-}
-
-fn lines_of(alloc: Global, method: Method, reply: &ReceivedReply) -> Result<Vec<u8>, RowFault> {
-    let mut out = Vec::new(alloc);
-    put_reply_line(alloc, &mut out, &reply.as_reply())?;
-    match put_body_lines(alloc, &mut out, Some(method), &reply.as_reply()) {
-        Ok(()) => Ok(out),
-        Err(DecodeFault::Malformed { .. }) => Err(RowFault::Refused("malformed")),
-        Err(DecodeFault::NoMemory) => Err(RowFault::NoMemory),
-    }
 }

@@ -113,10 +113,8 @@ fn call_answer(alloc: Global, words: &[&str]) -> Result<String, RowFault> {
         return Err(RowFault::NotRow);
     }
     let (_, script) = words.split_at(2);
-    for word in script {
-        if Outcome::named(word).is_none() {
-            return Err(RowFault::NotRow);
-        }
+    if script.iter().any(|word| Outcome::named(word).is_none()) {
+        return Err(RowFault::NotRow);
     }
     let mut line = Script {
         alloc,
@@ -124,17 +122,22 @@ fn call_answer(alloc: Global, words: &[&str]) -> Result<String, RowFault> {
         exchanges: Exchanges::none(),
         is_same: true,
     };
-    let received = call_again(&mut line, FRAME, tries);
+    let outcome = Outcome::of(&call_again(&mut line, FRAME, tries));
+    told(alloc, &line, outcome)
+}
+
+// The first word of a line's that stands for an outcome, and what came of the line.
+fn told(alloc: Global, line: &Script<'_>, outcome: Outcome) -> Result<String, RowFault> {
+    let word = line
+        .words
+        .iter()
+        .find(|word| Outcome::named(word) == Some(outcome))
+        .unwrap_or(&"another outcome");
     let Exchanges {
         made,
         unanswered,
         ..
     } = line.exchanges;
-    let outcome = Outcome::of(&received);
-    let word = script
-        .iter()
-        .find(|word| Outcome::named(word) == Some(outcome))
-        .unwrap_or(&"another outcome");
     let frames = if line.is_same { "" } else { ", another frame" };
     Ok(format!(in alloc; "{word}, {made} made, {unanswered} unanswered{frames}")?)
 }

@@ -6,7 +6,7 @@ mod values;
 
 use crate::words::first_word;
 use configs::{config_answer, sample_answer};
-pub(crate) use configs::{MEBIBYTE, one_pool};
+pub(crate) use configs::{MEBIBYTE, nodes_of, one_pool, plugin_of};
 use std::alloc::Global;
 use test_kit::{RowFault, words_of};
 use values::{

@@ -1,6 +1,7 @@
 //! Why a row has no answer.
 
 use crate::notation::NotationFault;
+use csi_keeper::StoreFault;
 use std::alloc::{AllocError, AllocFailed};
 use std::fmt;
 use thiserror::Error;
@@ -49,6 +50,17 @@ impl From<NotationFault> for RowFault {
         match fault {
             NotationFault::NotBytes => RowFault::NotBytes,
             NotationFault::NoMemory => RowFault::NoMemory,
+        }
+    }
+}
+
+// A keeper that refuses memory to a row, its change, or each call.
+impl From<StoreFault> for RowFault {
+    fn from(fault: StoreFault) -> RowFault {
+        match fault {
+            StoreFault::NoMemory => RowFault::NoMemory,
+            StoreFault::Refused => RowFault::Refused("refused"),
+            StoreFault::Down => RowFault::Refused("down"),
         }
     }
 }

@@ -7,6 +7,9 @@ use std::process::ExitCode;
 // The exit status where the input cannot be read or the output cannot be written.
 const INPUT_OUTPUT: u8 = 5;
 
+// What begins the line of a section.
+const HEAD: &str = "@ ";
+
 /// What a row is answered.
 #[derive(Debug, Drop)]
 pub enum Answer {
@@ -18,21 +21,51 @@ pub enum Answer {
     Lines(Vec<u8>),
 }
 
-/// What answers rows, one after the other.
+/// What answers the rows of a section, one after the other.
 pub trait AnswerRow {
-    /// Begins the section of a name.
-    ///
-    /// # Errors
-    ///
-    /// Where there is none of this name.
-    fn begin_section(&mut self, rt: &HostRuntime, name: &str) -> Result<(), RowFault>;
-
-    /// The answer to a row of the section that was begun last.
+    /// The answer to a row.
     ///
     /// # Errors
     ///
     /// Where the row has none.
     fn answer_row(&mut self, rt: &HostRuntime, row: &str) -> Result<Answer, RowFault>;
+}
+
+/// What answers sections, one after the other.
+pub trait AnswerSection {
+    /// Answers the rows of the section of a name, by [`Rows::answer`].
+    ///
+    /// # Errors
+    ///
+    /// Where there is none of this name, or it cannot begin. Its rows are not answered then.
+    fn answer_section<W: Write>(
+        &self,
+        rt: &HostRuntime,
+        name: &str,
+        rows: &mut Rows<'_, W>,
+    ) -> Result<(), RowFault>;
+}
+
+/// The lines of a section, and where they go with their answers.
+#[derive(Drop)]
+pub struct Rows<'a, W> {
+    name: &'a str,
+    lines: &'a str,
+    out: &'a mut W,
+    // What came of the writing.
+    end: io::Result<()>,
+}
+
+impl<W: Write> Rows<'_, W> {
+    /// Answers each row.
+    pub fn answer<R: AnswerRow>(&mut self, rt: &HostRuntime, section: &mut R) {
+        self.end = writeln!(self.out, "{HEAD}{}", self.name);
+        for line in self.lines.split('\n') {
+            if self.end.is_ok() {
+                self.end = answer_line(rt, section, self.out, line);
+            }
+        }
+    }
 }
 
 fn write_answer<W: Write>(
@@ -51,38 +84,50 @@ fn write_answer<W: Write>(
     }
 }
 
-fn write_section<W: Write>(out: &mut W, line: &str, begun: Result<(), RowFault>) -> io::Result<()> {
-    match begun {
-        Ok(()) => writeln!(out, "{line}"),
-        Err(fault) => writeln!(out, "{line} -> {fault}"),
-    }
-}
-
 fn answer_line<W: Write, R: AnswerRow>(
     rt: &HostRuntime,
-    rows: &mut R,
+    section: &mut R,
     out: &mut W,
     line: &str,
 ) -> io::Result<()> {
     if line.is_empty() || line.starts_with('#') {
         return writeln!(out, "{line}");
     }
-    match line.strip_prefix("@ ") {
-        Some(name) => write_section(out, line, rows.begin_section(rt, name)),
-        None => write_answer(out, line, rows.answer_row(rt, line)),
+    write_answer(out, line, section.answer_row(rt, line))
+}
+
+// Answers a section, whose first line is its name.
+fn answer_lines<W: Write, S: AnswerSection>(
+    rt: &HostRuntime,
+    sections: &S,
+    out: &mut W,
+    section: &str,
+) -> io::Result<()> {
+    let (name, lines) = section.split_once('\n').unwrap_or((section, ""));
+    let mut rows = Rows {
+        name,
+        lines,
+        out,
+        end: Ok(()),
+    };
+    match sections.answer_section(rt, name, &mut rows) {
+        Ok(()) => rows.end,
+        Err(fault) => writeln!(rows.out, "{HEAD}{name} -> {fault}"),
     }
 }
 
-/// Answers the rows of standard input, and gives the exit status: 5 where the input cannot be read or the
+/// Answers the sections of standard input, and gives the exit status: 5 where the input cannot be read or the
 /// output cannot be written.
-pub fn answer_rows<R: AnswerRow>(rt: &HostRuntime, rows: &mut R) -> ExitCode {
+pub fn answer_rows<S: AnswerSection>(rt: &HostRuntime, sections: &S) -> ExitCode {
     let mut text = String::new(rt.alloc());
     if rt.stdin().read_to_string(&mut text).is_err() {
         return ExitCode::from(INPUT_OUTPUT);
     }
+    let text = text.strip_suffix('\n').unwrap_or(text.as_str());
+    let text = text.strip_prefix(HEAD).unwrap_or(text);
     let mut out = rt.stdout();
-    for line in text.lines() {
-        if answer_line(rt, rows, &mut out, line).is_err() {
+    for section in text.split("\n@ ") {
+        if answer_lines(rt, sections, &mut out, section).is_err() {
             return ExitCode::from(INPUT_OUTPUT);
         }
     }

@@ -1,6 +1,8 @@
 //! Constraints of what is stored in tables in memory.
 
-use crate::database::{run, with_tables};
+ghost use Rattle.std.specs.Prelude.{◌≡◌, false};
+
+use crate::database::{make, run, without_tables};
 use crate::scans::Scan;
 use csi_config::Config;
 use csi_constraints::{
@@ -9,122 +11,164 @@ use csi_constraints::{
     IsNamed, IsNumbered, IsSized, RowName, RowTrial, Sure, VolumeConstraint,
 };
 use csi_scans::RowTest;
-use sqlite::{Connection, MemStore};
+use sqlite::{Alter, Connection};
 use std::alloc::Global;
 use test_kit::{RowFault, number_at, word_at, words_of};
 
 /// The answer to a row: the constraint, and the statements that make the rows.
 pub(crate) fn answer(alloc: Global, row: &str) -> Result<String, RowFault> {
     let (constraint, statements) = row.split_once(" | ").ok_or(RowFault::NotRow)?;
-    let mut conn = with_tables(alloc)?;
-    run(&mut conn, statements)?;
-    ask(alloc, &mut conn, constraint)
+    let config = Config::sample(alloc)?;
+    let mut conn = without_tables(alloc)?;
+    look(alloc, &mut conn, &config, statements, constraint)
 }
 
-// Whether the rows of our tables meet a constraint.
-fn ask(
+// The same over a connection.
+fn look<S: Alter>(
     alloc: Global,
-    conn: &mut Connection<MemStore>,
+    conn: &mut Connection<S>,
+    config: &Config,
+    statements: &str,
     constraint: &str,
-) -> Result<String, RowFault> {
+) -> Result<String, RowFault>
+    requires { conn.old.in_transaction ≡ false }
+{
+    make(conn)?;
+    run(conn, statements)?;
     let words = words_of(alloc, constraint)?;
-    let scan = Scan::named(word_at(&words, 0)?)?;
-    let constraint = word_at(&words, 1)?;
-    match scan {
+    match Scan::named(word_at(&words, 0)?)? {
         Scan::Meta => Err(RowFault::NotRow),
-        Scan::Volumes => ask_volumes(alloc, conn, &words),
-        Scan::Attachments => ask_attachments(alloc, conn, constraint),
-        Scan::Owners => {
-            let mut fold = FirstUnowned {
-                alloc,
-                last: None,
-                found: None,
-            };
-            scan.over(conn, &mut fold)?;
-            attachment_text(alloc, fold.found, AttachmentConstraint::Owner)
-        }
-        Scan::Places => {
-            let mut fold = FirstApart {
-                alloc,
-                last: None,
-                found: None,
-            };
-            scan.over(conn, &mut fold)?;
-            attachment_text(alloc, fold.found, AttachmentConstraint::Beside)
-        }
+        Scan::Volumes => ask_volumes(alloc, conn, config, &words),
+        Scan::Attachments => ask_attachments(alloc, conn, config, word_at(&words, 1)?),
+        Scan::Owners => ask_owners(alloc, conn),
+        Scan::Places => ask_places(alloc, conn),
     }
 }
 
-fn ask_volumes(
-    alloc: Global,
-    conn: &mut Connection<MemStore>,
-    words: &[&str],
-) -> Result<String, RowFault> {
-    let scan = Scan::Volumes;
-    let config = Config::sample(alloc)?;
-    let (found, constraint) = match word_at(words, 1)? {
-        "kinds" => return row_text(alloc, surely_broken(alloc, conn, scan, HasVolumeKinds)?),
-        "number" => {
-            let next = number_at(words, 2)?;
-            let found = surely_broken(alloc, conn, scan, IsNumbered { next })?;
-            (found, VolumeConstraint::Number)
-        }
-        "name" => (
-            surely_broken(alloc, conn, scan, IsNamed)?,
-            VolumeConstraint::Name,
-        ),
-        "pool" => {
-            let found = surely_broken(alloc, conn, scan, IsInPools { config: &config })?;
-            (found, VolumeConstraint::Pool)
-        }
-        "bytes" => (
-            surely_broken(alloc, conn, scan, IsSized)?,
-            VolumeConstraint::Bytes,
-        ),
-        "caps" => (
-            first_broken(alloc, conn, scan, HasCaps { alloc })?,
-            VolumeConstraint::Caps,
-        ),
-        "params" => {
-            let format = number_at(words, 2)?;
-            let found = first_broken(alloc, conn, scan, HasParams { alloc, format })?;
-            (found, VolumeConstraint::Params)
-        }
-        _ => return Err(RowFault::NotRow),
+fn ask_owners<S: Alter>(alloc: Global, conn: &mut Connection<S>) -> Result<String, RowFault> {
+    let mut fold = FirstUnowned {
+        alloc,
+        last: None,
+        found: None,
     };
-    volume_text(alloc, found, constraint)
+    Scan::Owners.over(conn, &mut fold)?;
+    attachment_text(alloc, fold.found, AttachmentConstraint::Owner)
 }
 
-fn ask_attachments(
+fn ask_places<S: Alter>(alloc: Global, conn: &mut Connection<S>) -> Result<String, RowFault> {
+    let mut fold = FirstApart {
+        alloc,
+        last: None,
+        found: None,
+    };
+    Scan::Places.over(conn, &mut fold)?;
+    attachment_text(alloc, fold.found, AttachmentConstraint::Beside)
+}
+
+fn ask_volumes<S: Alter>(
     alloc: Global,
-    conn: &mut Connection<MemStore>,
+    conn: &mut Connection<S>,
+    config: &Config,
+    words: &[&str],
+) -> Result<String, RowFault> {
+    match word_at(words, 1)? {
+        "kinds" => ask_kinds(alloc, conn, Scan::Volumes, HasVolumeKinds),
+        "number" => {
+            let next = number_at(words, 2)?;
+            let test = Sure {
+                test: IsNumbered { next },
+            };
+            ask_volume(alloc, conn, test, VolumeConstraint::Number)
+        }
+        "name" => {
+            let test = Sure { test: IsNamed };
+            ask_volume(alloc, conn, test, VolumeConstraint::Name)
+        }
+        "pool" => {
+            let test = Sure {
+                test: IsInPools { config },
+            };
+            ask_volume(alloc, conn, test, VolumeConstraint::Pool)
+        }
+        "bytes" => {
+            let test = Sure { test: IsSized };
+            ask_volume(alloc, conn, test, VolumeConstraint::Bytes)
+        }
+        "caps" => ask_volume(alloc, conn, HasCaps { alloc }, VolumeConstraint::Caps),
+        "params" => {
+            let format = number_at(words, 2)?;
+            let test = HasParams { alloc, format };
+            ask_volume(alloc, conn, test, VolumeConstraint::Params)
+        }
+        _ => Err(RowFault::NotRow),
+    }
+}
+
+fn ask_attachments<S: Alter>(
+    alloc: Global,
+    conn: &mut Connection<S>,
+    config: &Config,
     constraint: &str,
 ) -> Result<String, RowFault> {
-    let scan = Scan::Attachments;
-    let config = Config::sample(alloc)?;
-    let (found, constraint) = match constraint {
-        "kinds" => return row_text(alloc, surely_broken(alloc, conn, scan, HasAttachmentKinds)?),
+    match constraint {
+        "kinds" => ask_kinds(alloc, conn, Scan::Attachments, HasAttachmentKinds),
         "readonly" => {
-            let found = surely_broken(alloc, conn, scan, HasFlag)?;
-            (found, AttachmentConstraint::Readonly)
+            let test = Sure { test: HasFlag };
+            ask_attachment(alloc, conn, test, AttachmentConstraint::Readonly)
         }
         "node" => {
-            let found = surely_broken(alloc, conn, scan, IsAtNode { config: &config })?;
-            (found, AttachmentConstraint::Node)
+            let test = Sure {
+                test: IsAtNode { config },
+            };
+            ask_attachment(alloc, conn, test, AttachmentConstraint::Node)
         }
-        "cap" => (
-            first_broken(alloc, conn, scan, HasCap { alloc })?,
-            AttachmentConstraint::Cap,
-        ),
-        _ => return Err(RowFault::NotRow),
-    };
-    attachment_text(alloc, found, constraint)
+        "cap" => ask_attachment(alloc, conn, HasCap { alloc }, AttachmentConstraint::Cap),
+        _ => Err(RowFault::NotRow),
+    }
+}
+
+// Whether all rows of a scan have values of the kinds that are wanted.
+fn ask_kinds<S: Alter, T: RowTest + Drop>(
+    alloc: Global,
+    conn: &mut Connection<S>,
+    scan: Scan,
+    test: T,
+) -> Result<String, RowFault> {
+    row_text(alloc, first_broken(alloc, conn, scan, Sure { test })?)
+}
+
+// Whether all volumes meet a constraint.
+fn ask_volume<S: Alter, T: RowTrial + Drop>(
+    alloc: Global,
+    conn: &mut Connection<S>,
+    test: T,
+    constraint: VolumeConstraint,
+) -> Result<String, RowFault> {
+    volume_text(
+        alloc,
+        first_broken(alloc, conn, Scan::Volumes, test)?,
+        constraint,
+    )
+}
+
+// Whether all attachments meet a constraint.
+fn ask_attachment<S: Alter, T: RowTrial + Drop>(
+    alloc: Global,
+    conn: &mut Connection<S>,
+    test: T,
+    constraint: AttachmentConstraint,
+) -> Result<String, RowFault> {
+    attachment_text(
+        alloc,
+        first_broken(alloc, conn, Scan::Attachments, test)?,
+        constraint,
+    )
 }
 
 // The first row of a scan that breaks a constraint.
-fn first_broken<T: RowTrial + Drop>(
+fn first_broken<S: Alter, T: RowTrial + Drop>(
     alloc: Global,
-    conn: &mut Connection<MemStore>,
+    conn: &mut Connection<S>,
     scan: Scan,
     test: T,
 ) -> Result<Option<RowName>, RowFault> {
@@ -141,16 +185,6 @@ fn first_broken<T: RowTrial + Drop>(
     };
     scan.over(conn, &mut fold)?;
     Ok(fold.found)
-}
-
-// The same of a constraint that takes no memory.
-fn surely_broken<T: RowTest + Drop>(
-    alloc: Global,
-    conn: &mut Connection<MemStore>,
-    scan: Scan,
-    test: T,
-) -> Result<Option<RowName>, RowFault> {
-    first_broken(alloc, conn, scan, Sure { test })
 }
 
 // That rows meet a constraint, or which is the first that does not.

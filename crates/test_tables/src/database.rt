@@ -3,7 +3,7 @@
 ghost use Rattle.std.specs.Prelude.{◌≡◌, false, IfOk};
 
 use csi_schema::make_tables;
-use sqlite::{Connection, Error as SqlError, ErrorCode, MemStore};
+use sqlite::{Alter, Connection, Error as SqlError, ErrorCode, MemStore};
 use std::alloc::Global;
 use test_kit::RowFault;
 
@@ -22,14 +22,14 @@ pub(crate) fn without_tables(alloc: Global) -> Result<Connection<MemStore>, RowF
     Ok(Connection::open_in_memory(alloc)?)
 }
 
-/// A database with our tables.
-pub(crate) fn with_tables(alloc: Global) -> Result<Connection<MemStore>, RowFault> {
-    let mut conn = without_tables(alloc)?;
-    make_tables(&mut conn).map_err(refused)?;
-    Ok(conn)
+/// Makes our tables.
+pub(crate) fn make<S: Alter>(conn: &mut Connection<S>) -> Result<(), RowFault>
+    requires { conn.old.in_transaction ≡ false }
+{
+    make_tables(conn).map_err(refused)
 }
 
 /// Carries out statements.
-pub(crate) fn run(conn: &mut Connection<MemStore>, statements: &str) -> Result<(), RowFault> {
+pub(crate) fn run<S: Alter>(conn: &mut Connection<S>, statements: &str) -> Result<(), RowFault> {
     conn.execute_batch(statements).map_err(refused)
 }

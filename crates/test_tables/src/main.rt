@@ -1,55 +1,64 @@
-//! Answers rows about tables in memory: statements and scans over them, the constraints of what is stored in them, and the volume machine
-//! over them. What the rows of a section look like stands at its head in the file `stdin` of this crate.
+//! Answers rows about tables: statements and scans over them, the constraints of what is stored in them, the volume machine over them, tables
+//! that are adopted or not, and the tables in files of which the disk stopped in a call. What the rows of a section look like stands at its head in the file
+//! `stdin` of this crate.
 #![tactic(auto)]
 
+mod adoption;
 mod cells;
 mod constraints;
 mod database;
 mod numbers;
 mod scans;
+mod state;
 mod statements;
+mod stops;
 mod tables;
 
+use std::io::Write;
 use std::process::ExitCode;
-use test_kit::{Answer, AnswerRow, RowFault, answer_rows};
+use test_kit::{Answer, AnswerRow, AnswerSection, RowFault, Rows, answer_rows};
 
-/// The section that was begun last, and what it keeps from row to row.
-#[derive(Drop)]
-enum Section {
-    /// None was begun.
-    Unbegun,
-    Statements(statements::Bench),
+// A section that keeps nothing from row to row.
+#[derive(Clone, Copy)]
+enum Plain {
     Scans,
     Constraints,
-    Tables(tables::Bench),
+    Adoption,
 }
 
-impl AnswerRow for Section {
-    fn begin_section(&mut self, rt: &HostRuntime, name: &str) -> Result<(), RowFault> {
-        let alloc = rt.alloc();
-        *self = match name {
-            "statements" => Section::Statements(statements::Bench::new(alloc)?),
-            "scans" => Section::Scans,
-            "constraints" => Section::Constraints,
-            "tables" => Section::Tables(tables::Bench::new(alloc)?),
-            _ => return Err(RowFault::NotRow),
-        };
-        Ok(())
-    }
-
+impl AnswerRow for Plain {
     fn answer_row(&mut self, rt: &HostRuntime, row: &str) -> Result<Answer, RowFault> {
-        let alloc = rt.alloc();
-        let text = match self {
-            Section::Unbegun => return Err(RowFault::NotRow),
-            Section::Statements(bench) => bench.answer(alloc, row)?,
-            Section::Scans => scans::answer(alloc, row)?,
-            Section::Constraints => constraints::answer(alloc, row)?,
-            Section::Tables(bench) => bench.answer(alloc, row)?,
-        };
-        Ok(Answer::Text(text))
+        Ok(Answer::Text(match self {
+            Plain::Scans => scans::answer(rt.alloc(), row)?,
+            Plain::Constraints => constraints::answer(rt.alloc(), row)?,
+            Plain::Adoption => adoption::answer(rt.alloc(), row)?,
+        }))
+    }
+}
+
+#[derive(Drop)]
+struct Sections;
+
+impl AnswerSection for Sections {
+    fn answer_section<W: Write>(
+        &self,
+        rt: &HostRuntime,
+        name: &str,
+        rows: &mut Rows<'_, W>,
+    ) -> Result<(), RowFault> {
+        match name {
+            "statements" => rows.answer(rt, &mut statements::Bench::new(rt.alloc())?),
+            "scans" => rows.answer(rt, &mut Plain::Scans),
+            "constraints" => rows.answer(rt, &mut Plain::Constraints),
+            "tables" => rows.answer(rt, &mut tables::Bench::new(rt.alloc())?),
+            "adoption" => rows.answer(rt, &mut Plain::Adoption),
+            "stops" => rows.answer(rt, &mut stops::Bench::new(rt.alloc())?),
+            _ => return Err(RowFault::NotRow),
+        }
+        Ok(())
     }
 }
 
 fn main(rt: HostRuntime) -> ExitCode {
-    answer_rows(&rt, &mut Section::Unbegun)
+    answer_rows(&rt, &Sections)
 }

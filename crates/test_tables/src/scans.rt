@@ -1,15 +1,17 @@
 //! Scans tables in memory.
 
+ghost use Rattle.std.specs.Prelude.{◌≡◌, false};
+
 mod folds;
 mod scan;
 
 use crate::cells::or_none;
-use crate::database::{run, with_tables, without_tables};
+use crate::database::{make, run, without_tables};
 use csi_scans::{Each, Rising, TextSum, Weight};
 use csi_schema::is_our_schema;
 use folds::Showing;
 pub(crate) use scan::Scan;
-use sqlite::{Connection, MemStore};
+use sqlite::{Alter, Connection};
 use std::alloc::Global;
 use test_kit::{RowFault, number_at, word_at, words_of};
 
@@ -18,22 +20,28 @@ use test_kit::{RowFault, number_at, word_at, words_of};
 pub(crate) fn answer(alloc: Global, row: &str) -> Result<String, RowFault> {
     let (start, rest) = row.split_once(" | ").ok_or(RowFault::NotRow)?;
     let (question, statements) = rest.split_once(" | ").ok_or(RowFault::NotRow)?;
-    let mut conn = match start {
-        "empty" => without_tables(alloc)?,
-        "tables" => with_tables(alloc)?,
+    let mut conn = without_tables(alloc)?;
+    begin(&mut conn, start, statements)?;
+    ask(alloc, &mut conn, question)
+}
+
+// Begins a database so, behind these statements.
+fn begin<S: Alter>(conn: &mut Connection<S>, start: &str, statements: &str) -> Result<(), RowFault>
+    requires { conn.old.in_transaction ≡ false }
+{
+    match start {
+        "empty" => {}
+        "tables" => make(conn)?,
         _ => return Err(RowFault::NotRow),
-    };
-    if statements != "-" {
-        run(&mut conn, statements)?;
     }
-    match question {
-        "ours" => is_ours(alloc, &conn),
-        _ => ask(alloc, &mut conn, question),
+    match statements {
+        "-" => Ok(()),
+        _ => run(conn, statements),
     }
 }
 
 // Whether the tables are ours, and nothing else is there.
-fn is_ours(alloc: Global, conn: &Connection<MemStore>) -> Result<String, RowFault> {
+fn is_ours<S: Alter>(alloc: Global, conn: &Connection<S>) -> Result<String, RowFault> {
     let word = if is_our_schema(conn.schema()) {
         "ours"
     } else {
@@ -43,7 +51,14 @@ fn is_ours(alloc: Global, conn: &Connection<MemStore>) -> Result<String, RowFaul
 }
 
 // What is asked of the rows of our tables.
-fn ask(alloc: Global, conn: &mut Connection<MemStore>, question: &str) -> Result<String, RowFault> {
+fn ask<S: Alter>(
+    alloc: Global,
+    conn: &mut Connection<S>,
+    question: &str,
+) -> Result<String, RowFault> {
+    if question == "ours" {
+        return is_ours(alloc, conn);
+    }
     let words = words_of(alloc, question)?;
     let scan = Scan::named(word_at(&words, 0)?)?;
     match word_at(&words, 1)? {
@@ -57,7 +72,11 @@ fn ask(alloc: Global, conn: &mut Connection<MemStore>, question: &str) -> Result
 }
 
 // Each row.
-fn shown(alloc: Global, conn: &mut Connection<MemStore>, scan: Scan) -> Result<String, RowFault> {
+fn shown<S: Alter>(
+    alloc: Global,
+    conn: &mut Connection<S>,
+    scan: Scan,
+) -> Result<String, RowFault> {
     let mut fold = Showing {
         alloc,
         text: String::new(alloc),
@@ -67,9 +86,9 @@ fn shown(alloc: Global, conn: &mut Connection<MemStore>, scan: Scan) -> Result<S
 }
 
 // Whether each row has an integer in a column, and each is above those before it.
-fn judged(
+fn judged<S: Alter>(
     alloc: Global,
-    conn: &mut Connection<MemStore>,
+    conn: &mut Connection<S>,
     scan: Scan,
     column: usize,
 ) -> Result<String, RowFault> {
@@ -105,9 +124,9 @@ fn sums_of(alloc: Global, words: &[&str]) -> Result<Vec<TextSum>, RowFault> {
     Ok(sums)
 }
 
-fn summed(
+fn summed<S: Alter>(
     alloc: Global,
-    conn: &mut Connection<MemStore>,
+    conn: &mut Connection<S>,
     scan: Scan,
     sums: Vec<TextSum>,
 ) -> Result<String, RowFault> {

@@ -8,9 +8,9 @@ use crate::numbers::small_at;
 use csi_schema::make_tables;
 use csi_transactions::values::flag_at;
 use csi_transactions::{changes, reads};
-use sqlite::{Connection, Error as SqlError, MemStore, Row};
+use sqlite::{Alter, Connection, Error as SqlError, MemStore, Row};
 use std::alloc::Global;
-use test_kit::{RowFault, bytes_of, number_at, put_part, word_at, words_of};
+use test_kit::{Answer, AnswerRow, RowFault, bytes_of, number_at, put_part, word_at, words_of};
 
 /// A database in memory, between two transactions.
 #[derive(Drop)]
@@ -27,8 +27,7 @@ impl Bench {
         })
     }
 
-    /// The answer to a row.
-    pub(crate) fn answer(&mut self, alloc: Global, row: &str) -> Result<String, RowFault> {
+    fn answer(&mut self, alloc: Global, row: &str) -> Result<String, RowFault> {
         let words = words_of(alloc, row)?;
         match word_at(&words, 0)? {
             "make" => done(alloc, make_tables(&mut self.conn)),
@@ -128,8 +127,14 @@ impl Bench {
     }
 }
 
+impl AnswerRow for Bench {
+    fn answer_row(&mut self, rt: &HostRuntime, row: &str) -> Result<Answer, RowFault> {
+        Ok(Answer::Text(self.answer(rt.alloc(), row)?))
+    }
+}
+
 // Gives the tables the first format, which no statement of the crate does.
-fn take_first_format(conn: &mut Connection<MemStore>) -> Result<(), SqlError>
+fn take_first_format<S: Alter>(conn: &mut Connection<S>) -> Result<(), SqlError>
     requires { conn.old.in_transaction ≡ false }
     ensures { conn.new.in_transaction ≡ false }
 {
@@ -139,7 +144,7 @@ fn take_first_format(conn: &mut Connection<MemStore>) -> Result<(), SqlError>
 }
 
 // The rows of meta: the key, the format and the next number of each.
-fn meta(conn: &mut Connection<MemStore>) -> Result<Vec<Row>, SqlError>
+fn meta<S: Alter>(conn: &mut Connection<S>) -> Result<Vec<Row>, SqlError>
     requires { conn.old.in_transaction ≡ false }
     ensures { conn.new.in_transaction ≡ false }
 {

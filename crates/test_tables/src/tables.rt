@@ -1,22 +1,22 @@
 //! The volume machine over tables in memory.
 
+ghost use Rattle.std.specs.Prelude.{◌≡◌, false};
+
 mod calls;
-mod requests;
 mod words;
 
 use crate::database::{refused, without_tables};
 use calls::call;
 use csi_config::Config;
-use csi_keeper::StoreFault;
+use csi_keeper::Keeper;
 use csi_tables::Tables;
 use csi_transactions::reads;
 use csi_types::{Method, method_named};
-use requests::{Reply, reply_to};
-use sqlite::MemStore;
+use sqlite::{Alter, Connection, MemStore};
 use std::alloc::Global;
 use std::mem;
-use test_kit::{RowFault, bytes_of, bytes_text};
-use words::{numbers_in_words, page_in_words};
+use test_kit::{Answer, AnswerRow, RowFault, bytes_of, reply_to};
+use words::numbers_in_words;
 
 /// The sample configuration, and a keeper of the volumes that requests made under it.
 #[derive(Drop)]
@@ -34,49 +34,21 @@ impl Bench {
         })
     }
 
-    /// The answer to a row.
-    pub(crate) fn answer(&mut self, alloc: Global, row: &str) -> Result<String, RowFault> {
-        let (word, rest) = row.split_once(' ').unwrap_or((row, ""));
-        match word {
-            "begin" => self.begin(alloc),
-            "make" => self.make_again(alloc),
-            "list" => self.list(alloc, rest),
-            _ => match method_named(alloc, word)? {
-                Some(method) => told(alloc, self.reply(alloc, method, rest)?),
-                None => call(alloc, &mut self.tables, row),
-            },
-        }
-    }
-
-    fn begin(&mut self, alloc: Global) -> Result<String, RowFault> {
-        self.tables = new_tables(alloc)?;
-        Ok(String::from_str(alloc, "begun")?)
-    }
-
-    // Makes the tables where they stand, which is refused, and tells the next number that the rows of
-    // the connection that was given back still have. Then it begins anew.
-    fn make_again(&mut self, alloc: Global) -> Result<String, RowFault> {
-        let tables = mem::replace(&mut self.tables, new_tables(alloc)?);
-        match Tables::make(alloc, tables.into_connection()) {
-            Ok(_) => Ok(String::from_str(alloc, "made")?),
-            Err(mut fault) => {
-                let next = reads::next_number(&mut fault.conn).map_err(refused)?;
-                numbers_in_words(alloc, &[next.get(0).map_err(refused)?])
+    fn answer(&mut self, alloc: Global, row: &str) -> Result<String, RowFault> {
+        match row {
+            "begin" => {
+                self.tables = new_tables(alloc)?;
+                Ok(String::from_str(alloc, "begun")?)
             }
+            "make" => remake(alloc, mem::replace(&mut self.tables, new_tables(alloc)?)),
+            _ => told(alloc, &self.config, &mut self.tables, row),
         }
     }
+}
 
-    fn reply(&mut self, alloc: Global, method: Method, notation: &str) -> Result<Reply, RowFault> {
-        let message = bytes_of(alloc, notation)?;
-        Ok(reply_to(alloc, &self.config, &mut self.tables, method, &message))
-    }
-
-    // A page of a listing in words.
-    fn list(&mut self, alloc: Global, notation: &str) -> Result<String, RowFault> {
-        match self.reply(alloc, Method::ListVolumes, notation)? {
-            Reply::Done(body) => page_in_words(alloc, &body),
-            reply => told(alloc, reply),
-        }
+impl AnswerRow for Bench {
+    fn answer_row(&mut self, rt: &HostRuntime, row: &str) -> Result<Answer, RowFault> {
+        Ok(Answer::Text(self.answer(rt.alloc(), row)?))
     }
 }
 
@@ -88,22 +60,39 @@ fn new_tables(alloc: Global) -> Result<Tables<MemStore>, RowFault> {
     }
 }
 
-// Why a row has no answer where the keeper failed.
-fn failed(fault: StoreFault) -> RowFault {
-    match fault {
-        StoreFault::NoMemory => RowFault::NoMemory,
-        StoreFault::Refused => RowFault::Refused("refused"),
-        StoreFault::Down => RowFault::Refused("down"),
+// Makes the tables where they stand, which is refused, and tells the next number that the rows of
+// the connection that was given back still have.
+fn remake<S: Alter + Drop>(alloc: Global, tables: Tables<S>) -> Result<String, RowFault> {
+    match Tables::make(alloc, tables.into_connection()) {
+        Ok(_) => Ok(String::from_str(alloc, "made")?),
+        Err(mut fault) => next_in(alloc, &mut fault.conn),
     }
 }
 
-fn told(alloc: Global, reply: Reply) -> Result<String, RowFault> {
-    match reply {
-        Reply::Done(body) => Ok(format!(in alloc; "0 {}", bytes_text(alloc, &body)?)?),
-        Reply::Refused(reason) => {
-            Ok(format!(in alloc; "{} {}", reason.code().number(), reason.text())?)
+fn next_in<S: Alter>(alloc: Global, conn: &mut Connection<S>) -> Result<String, RowFault>
+    requires { conn.old.in_transaction ≡ false }
+{
+    let next = reads::next_number(conn).map_err(refused)?;
+    numbers_in_words(alloc, &[next.get(0).map_err(refused)?])
+}
+
+// A request, a page of a listing in words, or a call of the keeper itself.
+fn told<K: Keeper>(
+    alloc: Global,
+    config: &Config,
+    keeper: &mut K,
+    row: &str,
+) -> Result<String, RowFault> {
+    let (word, rest) = row.split_once(' ').unwrap_or((row, ""));
+    if word == "list" {
+        let message = bytes_of(alloc, rest)?;
+        return reply_to(alloc, config, keeper, Method::ListVolumes, &message).page_text(alloc);
+    }
+    match method_named(alloc, word)? {
+        Some(method) => {
+            let message = bytes_of(alloc, rest)?;
+            reply_to(alloc, config, keeper, method, &message).text(alloc)
         }
-        Reply::NoRequest(fault) => Ok(format!(in alloc; "3 {fault}")?),
-        Reply::Failed(fault) => Err(failed(fault)),
+        None => call(alloc, keeper, row),
     }
 }

@@ -2,7 +2,7 @@
 //! of 1 MiB without segments, and no node.
 
 use super::texts::{map_of, text_at};
-use csi_config::{Config, Node, Plugin, Pool, Sizes};
+use csi_config::{Config, ConfigFault, Node, Plugin, Pool, Sizes};
 use csi_types::{Map, copy_text};
 use std::alloc::Global;
 use test_kit::{RowFault, number_at};
@@ -11,34 +11,46 @@ pub(crate) const MEBIBYTE: u64 = 1_048_576;
 
 /// The fault of a configuration with what the words give, or a word where there is none.
 pub(crate) fn config_answer(alloc: Global, kind: &str, words: &[&str]) -> Result<String, RowFault> {
-    let mut plugin = plugin_of(alloc, &["x", "1"])?;
-    let mut sizes = Sizes {
-        default_bytes: MEBIBYTE,
-        greatest_bytes: MEBIBYTE,
-    };
-    let mut pools = one_pool(alloc, MEBIBYTE, Map::new(alloc))?;
-    let mut nodes = Vec::new(alloc);
-    match kind {
-        "plugin" => plugin = plugin_of(alloc, words)?,
-        "sizes" => {
-            sizes = Sizes {
-                default_bytes: number_at(words, 0)?,
-                greatest_bytes: number_at(words, 1)?,
-            };
-        }
-        "pools" => pools = pools_of(alloc, words)?,
-        "segments" => pools = one_pool(alloc, MEBIBYTE, map_of(alloc, words)?)?,
-        "nodes" => nodes = nodes_of(alloc, words)?,
-        _ => return Err(RowFault::NotRow),
-    }
-    match Config::new(plugin, sizes, pools, nodes) {
+    match config_of(alloc, kind, words)? {
         Ok(_) => Ok(String::from_str(alloc, "faultless")?),
         Err(fault) => Ok(format!(in alloc; "{fault}")?),
     }
 }
 
-// Of `NAME VERSION`.
-fn plugin_of(alloc: Global, words: &[&str]) -> Result<Plugin, RowFault> {
+fn config_of(
+    alloc: Global,
+    kind: &str,
+    words: &[&str],
+) -> Result<Result<Config, ConfigFault>, RowFault> {
+    let plugin = match kind {
+        "plugin" => plugin_of(alloc, words)?,
+        _ => plugin_of(alloc, &["x", "1"])?,
+    };
+    let sizes = match kind {
+        "sizes" => Sizes {
+            default_bytes: number_at(words, 0)?,
+            greatest_bytes: number_at(words, 1)?,
+        },
+        _ => Sizes {
+            default_bytes: MEBIBYTE,
+            greatest_bytes: MEBIBYTE,
+        },
+    };
+    let pools = match kind {
+        "pools" => pools_of(alloc, words)?,
+        "segments" => one_pool(alloc, MEBIBYTE, map_of(alloc, words)?)?,
+        _ => one_pool(alloc, MEBIBYTE, Map::new(alloc))?,
+    };
+    let nodes = match kind {
+        "nodes" => nodes_of(alloc, words)?,
+        "plugin" | "sizes" | "pools" | "segments" => Vec::new(alloc),
+        _ => return Err(RowFault::NotRow),
+    };
+    Ok(Config::new(plugin, sizes, pools, nodes))
+}
+
+/// Of `NAME VERSION`.
+pub(crate) fn plugin_of(alloc: Global, words: &[&str]) -> Result<Plugin, RowFault> {
     Ok(Plugin {
         name: text_at(alloc, words, 0)?,
         version: text_at(alloc, words, 1)?,
@@ -60,8 +72,8 @@ fn pools_of(alloc: Global, words: &[&str]) -> Result<Vec<Pool>, RowFault> {
     Ok(pools)
 }
 
-// Of `ID VOLUMES ..`.
-fn nodes_of(alloc: Global, words: &[&str]) -> Result<Vec<Node>, RowFault> {
+/// Of `ID VOLUMES ..`.
+pub(crate) fn nodes_of(alloc: Global, words: &[&str]) -> Result<Vec<Node>, RowFault> {
     let mut nodes = Vec::new(alloc);
     for pair in words.chunks(2) {
         nodes.push(Node {

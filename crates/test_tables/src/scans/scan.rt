@@ -3,7 +3,7 @@
 use crate::database::refused;
 use csi_scans::{Fold, scan_attachments, scan_meta, scan_owners, scan_places, scan_volumes};
 use csi_schema::is_our_schema;
-use sqlite::{Connection, MemStore};
+use sqlite::{Alter, Connection};
 use test_kit::RowFault;
 
 /// A scan over our tables.
@@ -30,9 +30,9 @@ impl Scan {
     }
 
     /// Folds each row that the scan shows, between two transactions and over our tables alone.
-    pub(crate) fn over<F: Fold>(
+    pub(crate) fn over<S: Alter, F: Fold>(
         self,
-        conn: &mut Connection<MemStore>,
+        conn: &mut Connection<S>,
         fold: &mut F,
     ) -> Result<(), RowFault> {
         if !conn.is_autocommit() {

@@ -4,88 +4,79 @@ ghost use Rattle.std.specs.Prelude.{IfOk};
 ghost use Rattle.csi_keeper.specs.State.{IsBounded};
 ghost use Rattle.csi_keeper.specs.declared.change.Change.TheVariants.{AddVolume};
 
-use super::failed;
 use super::words::{attachments_in_words, nodes_in_words, numbers_in_words, volumes_in_words};
 use crate::numbers::small_at;
-use csi_keeper::{Attachment, CapKey, Change, Keeper, Kind, Volume};
-use csi_tables::Tables;
+use csi_keeper::{Attachment, CapKey, Change, Keeper, Kind, StoreFault, Volume};
 use csi_types::{Items, MAX_MAP_BYTES, Map, Text, map_bytes};
-use sqlite::MemStore;
 use std::alloc::{AllocError, Global};
 use test_kit::{RowFault, number_at, word_at, words_of};
 
 /// Makes the call of a row, and tells what it was answered.
-pub(crate) fn call(
+pub(crate) fn call<K: Keeper>(
     alloc: Global,
-    tables: &mut Tables<MemStore>,
+    keeper: &mut K,
     row: &str,
 ) -> Result<String, RowFault> {
     let words = words_of(alloc, row)?;
     match word_at(&words, 0)? {
-        "add" | "remove" | "attach" | "detach" | "set" => {
-            let change = change(alloc, &words)?;
-            tables.apply(alloc, &change).map_err(failed)?;
-            Ok(String::from_str(alloc, "done")?)
-        }
-        "refusals" => numbers_in_words(alloc, &[tables.refusals()]),
-        "next" => numbers_in_words(alloc, &[tables.next_number().map_err(failed)?]),
-        "number" | "name" | "page" => volumes(alloc, tables, &words),
-        "at" | "sizes" | "used" => numbers(alloc, tables, &words),
-        _ => places(alloc, tables, &words),
+        "add" | "remove" | "attach" | "detach" | "set" => apply(alloc, keeper, &words),
+        "refusals" => numbers_in_words(alloc, &[keeper.refusals()]),
+        "next" => numbers_in_words(alloc, &[keeper.next_number()?]),
+        "number" | "name" | "page" => volumes(alloc, keeper, &words),
+        "at" | "sizes" | "used" => numbers(alloc, keeper, &words),
+        _ => places(alloc, keeper, &words),
     }
 }
 
-fn volumes(
-    alloc: Global,
-    tables: &mut Tables<MemStore>,
-    words: &[&str],
-) -> Result<String, RowFault> {
-    let found = match word_at(words, 0)? {
-        "number" => tables.by_number(alloc, number_at(words, 1)?),
-        "name" => tables.by_name(alloc, word_at(words, 1)?),
+fn apply<K: Keeper>(alloc: Global, keeper: &mut K, words: &[&str]) -> Result<String, RowFault> {
+    match change(alloc, words) {
+        Ok(change) => done(alloc, keeper.apply(alloc, &change)),
+        Err(fault) => Err(fault),
+    }
+}
+
+fn done(alloc: Global, applied: Result<(), StoreFault>) -> Result<String, RowFault> {
+    applied?;
+    Ok(String::from_str(alloc, "done")?)
+}
+
+fn volumes<K: Keeper>(alloc: Global, keeper: &mut K, words: &[&str]) -> Result<String, RowFault> {
+    match word_at(words, 0)? {
+        "number" => found(alloc, keeper.by_number(alloc, number_at(words, 1)?)),
+        "name" => found(alloc, keeper.by_name(alloc, word_at(words, 1)?)),
         _ => {
-            let page = tables.page(alloc, number_at(words, 1)?, number_at(words, 2)?);
-            return volumes_in_words(alloc, page.map_err(failed)?.as_slice());
+            let page = keeper.page(alloc, number_at(words, 1)?, number_at(words, 2)?);
+            volumes_in_words(alloc, page?.as_slice())
         }
-    };
-    match found.map_err(failed)? {
-        Some(volume) => volumes_in_words(alloc, &[volume]),
-        None => volumes_in_words(alloc, &[]),
     }
 }
 
-fn numbers(
-    alloc: Global,
-    tables: &mut Tables<MemStore>,
-    words: &[&str],
-) -> Result<String, RowFault> {
+fn found(alloc: Global, found: Result<Option<Volume>, StoreFault>) -> Result<String, RowFault> {
+    volumes_in_words(alloc, found?.as_slice())
+}
+
+fn numbers<K: Keeper>(alloc: Global, keeper: &mut K, words: &[&str]) -> Result<String, RowFault> {
     let name = word_at(words, 1)?;
     let found = match word_at(words, 0)? {
-        "at" => tables.attached_at(alloc, name),
-        "sizes" => tables.sizes_in(alloc, name),
+        "at" => keeper.attached_at(alloc, name),
+        "sizes" => keeper.sizes_in(alloc, name),
         _ => {
-            let used = tables
-                .used_in(&Text::from_str(alloc, name)?)
-                .map_err(failed)?;
+            let used = keeper.used_in(&Text::from_str(alloc, name)?)?;
             return numbers_in_words(alloc, &[used.volumes, used.bytes]);
         }
     };
-    numbers_in_words(alloc, found.map_err(failed)?.as_slice())
+    numbers_in_words(alloc, found?.as_slice())
 }
 
-fn places(
-    alloc: Global,
-    tables: &mut Tables<MemStore>,
-    words: &[&str],
-) -> Result<String, RowFault> {
+fn places<K: Keeper>(alloc: Global, keeper: &mut K, words: &[&str]) -> Result<String, RowFault> {
     match word_at(words, 0)? {
         "nodes" => {
-            let nodes = tables.published_nodes(alloc, number_at(words, 1)?, number_at(words, 2)?);
-            nodes_in_words(alloc, nodes.map_err(failed)?.as_slice())
+            let nodes = keeper.published_nodes(alloc, number_at(words, 1)?, number_at(words, 2)?);
+            nodes_in_words(alloc, nodes?.as_slice())
         }
         "attachments" => {
-            let attachments = tables.attachments(alloc, number_at(words, 1)?);
-            attachments_in_words(alloc, attachments.map_err(failed)?.as_slice())
+            let attachments = keeper.attachments(alloc, number_at(words, 1)?);
+            attachments_in_words(alloc, attachments?.as_slice())
         }
         _ => Err(RowFault::NotRow),
     }

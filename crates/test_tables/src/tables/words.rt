@@ -1,8 +1,7 @@
 //! What a keeper tells, in words.
 
-use csi_codec::decode_response;
 use csi_keeper::{Attachment, CapKey, Kind, Volume};
-use csi_types::{Entry, Items, Map, Method, Response, Text};
+use csi_types::{Items, Map, Text};
 use std::alloc::Global;
 use std::fmt::Write;
 use test_kit::RowFault;
@@ -85,29 +84,4 @@ pub(crate) fn nodes_in_words(alloc: Global, nodes: &[Items<Text>]) -> Result<Str
         put_nodes(&mut text, nodes)?;
     }
     Ok(text)
-}
-
-/// The page that a body means: the id of each volume, with its nodes.
-pub(crate) fn page_in_words(alloc: Global, body: &[u8]) -> Result<String, RowFault> {
-    let Ok(Response::List { entries, token }) = decode_response(alloc, Method::ListVolumes, body)
-    else {
-        return Err(RowFault::NoMemory);
-    };
-    let mut text = format!(in alloc; "token '{}'", token.as_str())?;
-    for entry in &entries {
-        put_entry(&mut text, entry)?;
-    }
-    Ok(text)
-}
-
-fn put_entry(text: &mut String, entry: &Entry) -> Result<(), RowFault> {
-    let id = match &entry.volume {
-        Some(volume) => volume.id.as_str(),
-        None => "-",
-    };
-    write!(text, "; {id}")?;
-    match &entry.nodes {
-        Some(nodes) => put_nodes(text, nodes),
-        None => Ok(()),
-    }
 }

@@ -2,7 +2,8 @@
 
 ghost use Rattle.std.specs.Prelude.{◌≡◌, false, IfOk};
 
-use sqlite::{Connection, Error as SqlError, ErrorCode, FileStore, Options};
+use crate::database::run;
+use sqlite::{Alter, Connection, Error as SqlError, ErrorCode, FileStore, Options};
 use sqlite_disk::{Crash, Disk, Files, Fuse, Memory};
 use std::alloc::Global;
 use std::{fmt, io};
@@ -16,9 +17,6 @@ pub(crate) const NEVER: (u64, u64) = (u64::MAX, u64::MAX);
 
 /// Files that stop.
 pub(crate) type Disks = Files<Fuse<Memory>>;
-
-/// What a database keeps in them.
-pub(crate) type Store = FileStore<Fuse<Memory>>;
 
 /// The file that stops.
 #[derive(Clone, Copy)]
@@ -136,33 +134,33 @@ pub(crate) fn left_of(
 }
 
 /// Opens the database in two files, or gives back why it cannot be opened, and the files.
-pub(crate) fn open(alloc: Global, disks: Disks) -> Result<Connection<Store>, (SqlError, Disks)>
+pub(crate) fn open<D: Disk + Drop>(
+    alloc: Global,
+    files: Files<D>,
+) -> Result<Connection<FileStore<D>>, (SqlError, Files<D>)>
     ensures { IfOk result (λ conn. conn.in_transaction ≡ false) }
 {
-    if !disks.may_be_used() {
-        return Err((SqlError::SqliteFailure(ErrorCode::SystemIoFailure), disks));
+    if !files.may_be_used() {
+        return Err((SqlError::SqliteFailure(ErrorCode::SystemIoFailure), files));
     }
-    match Connection::open_files(alloc, disks, Options::new(SEED)) {
+    match Connection::open_files(alloc, files, Options::new(SEED)) {
         Ok(conn) => Ok(conn),
         Err((error, left)) => Err((error, left.into_files())),
     }
 }
 
 /// Makes tables ones of format 1, which have no mutable parameters.
-pub(crate) fn make_older(alloc: Global, conn: &mut Connection<Store>) -> Result<(), RowFault> {
-    match conn.execute_batch("UPDATE meta SET format_no = 1") {
-        Ok(()) => Ok(()),
-        Err(error) => Err(RowFault::Differs(format!(in alloc; "tables: {error}")?)),
-    }
+pub(crate) fn make_older<S: Alter>(conn: &mut Connection<S>) -> Result<(), RowFault> {
+    run(conn, "UPDATE meta SET format_no = 1")
 }
 
 /// Ends a connection, and gives its files back: closed, or as a stop leaves them.
-pub(crate) fn end(conn: Connection<Store>, closes: bool) -> Disks {
+pub(crate) fn end<D: Disk + Drop>(conn: Connection<FileStore<D>>, closes: bool) -> Files<D> {
     if !closes {
         return conn.into_store().close();
     }
     match conn.close_files() {
-        Ok(disks) => disks,
+        Ok(files) => files,
         Err((_, store)) => store.close(),
     }
 }

@@ -1,5 +1,5 @@
 use Rattle.csi_codec.proofs.WritingLemmas.{keeps_on, wrote_next}
-use Rattle.csi_codec.proofs.messages.values.RequirementWritten.write.Goals as goal
+use Rattle.csi_codec.proofs.messages.volumes.RequirementWritten.write.Goals as goal
 
 pub returns-in_err-put_messages-2-clause-kept : goal.returns-in_err-put_messages-2-clause-kept
 returns-in_err-put_messages-2-clause-kept c = keeps_on _ _ _ c.put_messages-2.ensures.kept c.put_messages.ensures.kept

@@ -5,7 +5,7 @@ use Rattle.std.proofs.lemmas.Int.{to_z-of_z}
 use Rattle.pbwire.specs.Writing.{spellings}
 use Rattle.csi_codec.specs.Canon.{row_fields, signed_row}
 use Rattle.csi_codec.proofs.WritingLemmas.{wrote_two}
-use Rattle.csi_codec.proofs.messages.values.CapacityRangeWritten.write.Goals as goal
+use Rattle.csi_codec.proofs.messages.volumes.CapacityRangeWritten.write.Goals as goal
 
 abbrev written_row : ℕ → ℤ → List ℕ
 written_row k z = spellings (row_fields (signed_row k z))

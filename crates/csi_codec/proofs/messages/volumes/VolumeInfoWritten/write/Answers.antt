@@ -1,5 +1,5 @@
 use Rattle.csi_codec.proofs.WritingLemmas.{keeps_on}
-use Rattle.csi_codec.proofs.messages.values.VolumeInfoWritten.write.Goals as goal
+use Rattle.csi_codec.proofs.messages.volumes.VolumeInfoWritten.write.Goals as goal
 
 pub returns-in_err-put_text-clause-kept : goal.returns-in_err-put_text-clause-kept
 returns-in_err-put_text-clause-kept c = keeps_on _ _ _ c.put_text.ensures.kept c.put_signed.ensures.kept

@@ -7,22 +7,22 @@ mod serving;
 mod trials;
 
 use csi_config::Config;
-use disks::{NEVER, copies, end, left_of, make_older, new_files};
+use disks::{NEVER, copies, left_of, new_files};
 use runs::Wanted;
-use serving::{adopted, answered, outcome_of};
+use serving::{left_by, outcome_of};
 use sqlite_disk::{Files, Memory};
 use std::alloc::{AllocError, Global};
-use test_kit::{RowFault, bytes_of, number_at};
+use test_kit::{Answer, AnswerRow, RowFault, bytes_of, number_at};
 use trials::{Trials, Way};
 
-// How a database is left.
+/// How a database is left.
 #[derive(Clone, Copy)]
-enum Ending {
-    // Closed.
+pub(crate) enum Ending {
+    /// Closed.
     Closed,
-    // What was committed stands in the log alone.
+    /// What was committed stands in the log alone.
     Open,
-    // Closed, with tables of format 1.
+    /// Closed, with tables of format 1.
     Older,
 }
 
@@ -42,8 +42,7 @@ impl Bench {
         })
     }
 
-    /// The answer to a row.
-    pub(crate) fn answer(&mut self, alloc: Global, row: &str) -> Result<String, RowFault> {
+    fn answer(&mut self, alloc: Global, row: &str) -> Result<String, RowFault> {
         let (word, rest) = row.split_once(' ').ok_or(RowFault::NotRow)?;
         match word {
             "begin" => self.begin(alloc, rest, Ending::Closed),
@@ -64,14 +63,8 @@ impl Bench {
     fn begin(&mut self, alloc: Global, calls: &str, ending: Ending) -> Result<String, RowFault> {
         let calls = bytes_of(alloc, calls)?;
         let disks = copies(alloc, &new_files(alloc), NEVER)?;
-        let mut tables = adopted(alloc, &self.config, disks)?;
-        let made = answered(alloc, &self.config, &mut tables, &calls)?;
-        let mut conn = tables.into_connection();
-        if let Ending::Older = ending {
-            make_older(alloc, &mut conn)?;
-        }
-        let closes = !matches!(ending, Ending::Open);
-        self.files = left_of(alloc, end(conn, closes), false)?;
+        let (made, disks) = left_by(alloc, &self.config, disks, &calls, ending)?;
+        self.files = left_of(alloc, disks, false)?;
         Ok(made.after)
     }
 
@@ -90,5 +83,11 @@ impl Bench {
         };
         let seen = Trials::new(wanted, step, way).all()?;
         Ok(format!(in alloc; "{}, {seen}, all allowed", whole.after)?)
+    }
+}
+
+impl AnswerRow for Bench {
+    fn answer_row(&mut self, rt: &HostRuntime, row: &str) -> Result<Answer, RowFault> {
+        Ok(Answer::Text(self.answer(rt.alloc(), row)?))
     }
 }

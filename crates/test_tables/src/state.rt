@@ -1,7 +1,7 @@
 //! The State of a keeper, as a text.
 
 use csi_config::Config;
-use csi_keeper::{Keeper, StoreFault, Volume};
+use csi_keeper::{Keeper, Volume};
 use csi_types::{Items, Text};
 use std::alloc::Global;
 use std::fmt::Write;
@@ -16,17 +16,15 @@ pub(crate) fn state_text<K: Keeper>(
     config: &Config,
     keeper: &mut K,
 ) -> Result<String, RowFault> {
-    let next = keeper.next_number().map_err(failed)?;
+    let next = keeper.next_number()?;
     let mut text = format!(in alloc; "next {next}")?;
-    let volumes = keeper.page(alloc, 0, MOST_VOLUMES).map_err(failed)?;
-    let nodes = keeper
-        .published_nodes(alloc, 0, MOST_VOLUMES)
-        .map_err(failed)?;
+    let volumes = keeper.page(alloc, 0, MOST_VOLUMES)?;
+    let nodes = keeper.published_nodes(alloc, 0, MOST_VOLUMES)?;
     for (volume, nodes) in volumes.iter().zip(nodes.iter()) {
         put_volume(&mut text, volume, nodes)?;
     }
     for pool in config.pools() {
-        let used = keeper.used_in(&pool.name).map_err(failed)?;
+        let used = keeper.used_in(&pool.name)?;
         write!(text, "; {} {} in {}", pool.name, used.bytes, used.volumes)?;
     }
     Ok(text)
@@ -45,11 +43,4 @@ fn put_volume(text: &mut String, volume: &Volume, nodes: &Items<Text>) -> Result
         write!(text, " at {node}")?;
     }
     Ok(())
-}
-
-fn failed(fault: StoreFault) -> RowFault {
-    match fault {
-        StoreFault::NoMemory => RowFault::NoMemory,
-        StoreFault::Refused | StoreFault::Down => RowFault::Refused("refused"),
-    }
 }

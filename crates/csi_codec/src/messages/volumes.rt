@@ -1,0 +1,465 @@
+//! What requests and responses are made of: capabilities, ranges of bytes, topologies, and volumes.
+
+ghost use Rattle.std.specs.Prelude.{◌≡◌, ◌++◌, ◌∷◌, [], ℕ, List, OnOk};
+ghost use Rattle.std.specs.Int.{cast_signed};
+ghost use Rattle.csi_codec.specs.Schema.{AnyPayload, GoodField, Good};
+ghost use Rattle.csi_codec.specs.Views.{one_of};
+ghost use Rattle.csi_codec.specs.Canon.{bytes_of, FitsTexts};
+ghost use Rattle.csi_codec.specs.Fields.{AreGood};
+ghost use Rattle.csi_codec.specs.Kept.{Keeps};
+ghost use Rattle.csi_codec.specs.messages.Capability.{mount_in, mount_schema, canon_mount, FitsMount, access, canon_access, FitsAccess, capability_in, capability_schema, canon_capability, FitsCapability};
+ghost use Rattle.csi_codec.specs.messages.Capacity.{range_in, canon_range, FitsRange};
+ghost use Rattle.csi_codec.specs.messages.Topology.{requirement_in, requirement_schema, canon_requirement, FitsRequirement};
+ghost use Rattle.csi_codec.specs.messages.Volume.{volume_in, volume_schema, canon_volume, FitsVolume, nodes_in, nodes_schema, canon_nodes, entry_in, entry_schema, canon_entry, FitsEntry, confirmed_in, confirmed_schema, canon_confirmed, FitsConfirmed};
+
+use crate::message::{Message, merge, read};
+use crate::messages::values::{EnumValue, MapEntry, NoFields};
+use crate::slots::{is_message, is_text, merge_entry, merge_message, push_message, set_text, text};
+use crate::writing::{
+    Written, put_map, put_message, put_messages, put_option, put_signed, put_text, put_texts,
+};
+use csi_types::{
+    Access, Capability, CapacityRange, Confirmed, Entry, Items, Map, Mount, Requirement, Text,
+    VolumeInfo,
+};
+use pbwire::put_bytes;
+use std::alloc::{AllocError, Global};
+
+#[tactic(auto, using(crate::proofs::ViewLemmas::last_after))]
+impl Message for Mount {
+    ghost schema = { mount_schema };
+
+    ghost of = { mount_in };
+
+    fn empty(alloc: Global) -> Mount {
+        Mount {
+            fs_type: Text::new(alloc),
+            flags: Items::new(alloc),
+            group: Text::new(alloc),
+        }
+    }
+
+    fn is_good(number: u32, payload: &[u8]) -> bool {
+        match number {
+            1..=3 => is_text(payload),
+            _ => true,
+        }
+    }
+
+    fn merge_number(&mut self, _number: u32, _value: u64) {}
+
+    fn merge_payload(
+        &mut self,
+        alloc: Global,
+        number: u32,
+        payload: &[u8],
+    ) -> Result<(), AllocError> {
+        match number {
+            1 => set_text(&mut self.fs_type, payload)?,
+            2 => self.flags.push(text(alloc, payload)?)?,
+            3 => set_text(&mut self.group, payload)?,
+            _ => {}
+        }
+        Ok(())
+    }
+}
+
+/// Merges a mount with its earlier occurrences, back to where another member stood.
+fn merge_mount(slot: &mut Access, alloc: Global, payload: &[u8]) -> Result<(), AllocError>
+    requires { AreGood (GoodField (Good mount_schema)) payload.now }
+    ensures { OnOk result ((ms : List (ℕ × List ℕ)) → slot.old ≡ access (one_of ms) → slot.new ≡ access (one_of (ms ++ (2, payload.now) ∷ []))) }
+{
+    match slot {
+        Access::Mount(mount) => merge(mount, alloc, payload)?,
+        Access::Missing | Access::Block => *slot = Access::Mount(read(alloc, payload)?),
+    }
+    Ok(())
+}
+
+#[tactic(auto, using(crate::proofs::ViewLemmas::one_of_push))]
+impl Message for Capability {
+    ghost schema = { capability_schema };
+
+    ghost of = { capability_in };
+
+    fn empty(_alloc: Global) -> Capability {
+        Capability {
+            access: Access::Missing,
+            mode: None,
+        }
+    }
+
+    fn is_good(number: u32, payload: &[u8]) -> bool {
+        match number {
+            1 => is_message::<NoFields>(payload),
+            2 => is_message::<Mount>(payload),
+            3 => is_message::<EnumValue>(payload),
+            _ => true,
+        }
+    }
+
+    fn merge_number(&mut self, _number: u32, _value: u64) {}
+
+    fn merge_payload(
+        &mut self,
+        alloc: Global,
+        number: u32,
+        payload: &[u8],
+    ) -> Result<(), AllocError> {
+        match number {
+            1 => self.access = Access::Block,
+            2 => merge_mount(&mut self.access, alloc, payload)?,
+            3 => merge_message(&mut self.mode, alloc, payload)?,
+            _ => {}
+        }
+        Ok(())
+    }
+}
+
+#[tactic(auto, using(crate::proofs::WritingLemmas::wrote_three, crate::proofs::WritingLemmas::keeps_on, crate::proofs::WritingLemmas::keeps_thrice))]
+impl Written for Mount {
+    ghost canon = { canon_mount };
+
+    ghost fits = { FitsMount };
+
+    fn write(&self, out: &mut Vec<u8>) -> Result<(), AllocError> {
+        put_text(out, 1, &self.fs_type)?;
+        put_texts(out, 2, &self.flags)?;
+        put_text(out, 3, &self.group)?;
+        Ok(())
+    }
+}
+
+#[tactic(auto, unfolding(crate::specs::Canon::row_fields))]
+fn put_access(out: &mut Vec<u8>, access: &Access) -> Result<(), AllocError>
+    ensures ok { OnOk result (out.new.items ≡ out.old.items ++ bytes_of (canon_access access.now)) }
+    ensures fitting { OnOk result (FitsAccess access.now) }
+    ensures kept { Keeps out.old.items out.new.items }
+{
+    match access {
+        Access::Missing => Ok(()),
+        Access::Block => put_bytes(out, 1, &[]),
+        Access::Mount(mount) => put_message(out, 2, mount),
+    }
+}
+
+#[tactic(auto, using(crate::proofs::WritingLemmas::wrote_two, crate::proofs::WritingLemmas::keeps_on))]
+impl Written for Capability {
+    ghost canon = { canon_capability };
+
+    ghost fits = { FitsCapability };
+
+    fn write(&self, out: &mut Vec<u8>) -> Result<(), AllocError> {
+        put_access(out, &self.access)?;
+        put_option(out, 3, &self.mode)?;
+        Ok(())
+    }
+}
+
+#[tactic(auto, using(crate::proofs::ViewLemmas::last_after, crate::proofs::ViewLemmas::signed_kept))]
+impl Message for CapacityRange {
+    ghost schema = { AnyPayload };
+
+    ghost of = { range_in };
+
+    fn empty(_alloc: Global) -> CapacityRange {
+        CapacityRange {
+            required: 0,
+            limit: 0,
+        }
+    }
+
+    fn is_good(_number: u32, _payload: &[u8]) -> bool {
+        true
+    }
+
+    fn merge_number(&mut self, number: u32, value: u64) {
+        match number {
+            1 => self.required = value.cast_signed(),
+            2 => self.limit = value.cast_signed(),
+            _ => {}
+        }
+    }
+
+    fn merge_payload(
+        &mut self,
+        _alloc: Global,
+        _number: u32,
+        _payload: &[u8],
+    ) -> Result<(), AllocError> {
+        Ok(())
+    }
+}
+
+#[tactic(auto, using(crate::proofs::WritingLemmas::wrote_two, crate::proofs::WritingLemmas::keeps_on))]
+impl Written for CapacityRange {
+    ghost canon = { canon_range };
+
+    ghost fits = { FitsRange };
+
+    fn write(&self, out: &mut Vec<u8>) -> Result<(), AllocError> {
+        put_signed(out, 1, self.required)?;
+        put_signed(out, 2, self.limit)?;
+        Ok(())
+    }
+}
+
+impl Message for Requirement {
+    ghost schema = { requirement_schema };
+
+    ghost of = { requirement_in };
+
+    fn empty(alloc: Global) -> Requirement {
+        Requirement {
+            requisite: Items::new(alloc),
+            preferred: Items::new(alloc),
+        }
+    }
+
+    fn is_good(number: u32, payload: &[u8]) -> bool {
+        match number {
+            1 | 2 => is_message::<Map>(payload),
+            _ => true,
+        }
+    }
+
+    fn merge_number(&mut self, _number: u32, _value: u64) {}
+
+    fn merge_payload(
+        &mut self,
+        alloc: Global,
+        number: u32,
+        payload: &[u8],
+    ) -> Result<(), AllocError> {
+        match number {
+            1 => push_message(&mut self.requisite, alloc, payload)?,
+            2 => push_message(&mut self.preferred, alloc, payload)?,
+            _ => {}
+        }
+        Ok(())
+    }
+}
+
+#[tactic(auto, using(crate::proofs::WritingLemmas::wrote_two, crate::proofs::WritingLemmas::keeps_on))]
+impl Written for Requirement {
+    ghost canon = { canon_requirement };
+
+    ghost fits = { FitsRequirement };
+
+    fn write(&self, out: &mut Vec<u8>) -> Result<(), AllocError> {
+        put_messages(out, 1, &self.requisite)?;
+        put_messages(out, 2, &self.preferred)?;
+        Ok(())
+    }
+}
+
+#[tactic(auto, using(crate::proofs::ViewLemmas::last_after, crate::proofs::ViewLemmas::signed_kept))]
+impl Message for VolumeInfo {
+    ghost schema = { volume_schema };
+
+    ghost of = { volume_in };
+
+    fn empty(alloc: Global) -> VolumeInfo {
+        VolumeInfo {
+            bytes: 0,
+            id: Text::new(alloc),
+            context: Map::new(alloc),
+            topology: Items::new(alloc),
+        }
+    }
+
+    fn is_good(number: u32, payload: &[u8]) -> bool {
+        match number {
+            2 => is_text(payload),
+            3 => is_message::<MapEntry>(payload),
+            5 => is_message::<Map>(payload),
+            _ => true,
+        }
+    }
+
+    fn merge_number(&mut self, number: u32, value: u64) {
+        if number == 1 {
+            self.bytes = value.cast_signed();
+        }
+    }
+
+    fn merge_payload(
+        &mut self,
+        alloc: Global,
+        number: u32,
+        payload: &[u8],
+    ) -> Result<(), AllocError> {
+        match number {
+            2 => set_text(&mut self.id, payload)?,
+            3 => merge_entry(&mut self.context, alloc, payload)?,
+            5 => push_message(&mut self.topology, alloc, payload)?,
+            _ => {}
+        }
+        Ok(())
+    }
+}
+
+#[tactic(auto, using(crate::proofs::WritingLemmas::wrote_two, crate::proofs::WritingLemmas::keeps_on))]
+impl Written for VolumeInfo {
+    ghost canon = { canon_volume };
+
+    ghost fits = { FitsVolume };
+
+    fn write(&self, out: &mut Vec<u8>) -> Result<(), AllocError> {
+        put_signed(out, 1, self.bytes)?;
+        put_text(out, 2, &self.id)?;
+        put_map(out, 3, &self.context)?;
+        put_messages(out, 5, &self.topology)?;
+        Ok(())
+    }
+}
+
+/// `ListVolumesResponse.VolumeStatus`: `published_node_ids`, field 1.
+pub type VolumeStatus = Items<Text>;
+
+impl Message for VolumeStatus {
+    ghost schema = { nodes_schema };
+
+    ghost of = { nodes_in };
+
+    fn empty(alloc: Global) -> VolumeStatus {
+        Items::new(alloc)
+    }
+
+    fn is_good(number: u32, payload: &[u8]) -> bool {
+        match number {
+            1 => is_text(payload),
+            _ => true,
+        }
+    }
+
+    fn merge_number(&mut self, _number: u32, _value: u64) {}
+
+    fn merge_payload(
+        &mut self,
+        alloc: Global,
+        number: u32,
+        payload: &[u8],
+    ) -> Result<(), AllocError> {
+        match number {
+            1 => self.push(text(alloc, payload)?)?,
+            _ => {}
+        }
+        Ok(())
+    }
+}
+
+#[tactic(auto, using(crate::proofs::WritingLemmas::wrote_two, crate::proofs::WritingLemmas::keeps_on))]
+impl Written for VolumeStatus {
+    ghost canon = { canon_nodes };
+
+    ghost fits = { FitsTexts };
+
+    fn write(&self, out: &mut Vec<u8>) -> Result<(), AllocError> {
+        put_texts(out, 1, self)?;
+        Ok(())
+    }
+}
+
+impl Message for Entry {
+    ghost schema = { entry_schema };
+
+    ghost of = { entry_in };
+
+    fn empty(_alloc: Global) -> Entry {
+        Entry {
+            volume: None,
+            nodes: None,
+        }
+    }
+
+    fn is_good(number: u32, payload: &[u8]) -> bool {
+        match number {
+            1 => is_message::<VolumeInfo>(payload),
+            2 => is_message::<VolumeStatus>(payload),
+            _ => true,
+        }
+    }
+
+    fn merge_number(&mut self, _number: u32, _value: u64) {}
+
+    fn merge_payload(
+        &mut self,
+        alloc: Global,
+        number: u32,
+        payload: &[u8],
+    ) -> Result<(), AllocError> {
+        match number {
+            1 => merge_message(&mut self.volume, alloc, payload)?,
+            2 => merge_message(&mut self.nodes, alloc, payload)?,
+            _ => {}
+        }
+        Ok(())
+    }
+}
+
+#[tactic(auto, using(crate::proofs::WritingLemmas::wrote_two, crate::proofs::WritingLemmas::keeps_on))]
+impl Written for Entry {
+    ghost canon = { canon_entry };
+
+    ghost fits = { FitsEntry };
+
+    fn write(&self, out: &mut Vec<u8>) -> Result<(), AllocError> {
+        put_option(out, 1, &self.volume)?;
+        put_option(out, 2, &self.nodes)?;
+        Ok(())
+    }
+}
+
+impl Message for Confirmed {
+    ghost schema = { confirmed_schema };
+
+    ghost of = { confirmed_in };
+
+    fn empty(alloc: Global) -> Confirmed {
+        Confirmed {
+            context: Map::new(alloc),
+            capabilities: Items::new(alloc),
+            parameters: Map::new(alloc),
+        }
+    }
+
+    fn is_good(number: u32, payload: &[u8]) -> bool {
+        match number {
+            1 | 3 => is_message::<MapEntry>(payload),
+            2 => is_message::<Capability>(payload),
+            _ => true,
+        }
+    }
+
+    fn merge_number(&mut self, _number: u32, _value: u64) {}
+
+    fn merge_payload(
+        &mut self,
+        alloc: Global,
+        number: u32,
+        payload: &[u8],
+    ) -> Result<(), AllocError> {
+        match number {
+            1 => merge_entry(&mut self.context, alloc, payload)?,
+            2 => push_message(&mut self.capabilities, alloc, payload)?,
+            3 => merge_entry(&mut self.parameters, alloc, payload)?,
+            _ => {}
+        }
+        Ok(())
+    }
+}
+
+#[tactic(auto, using(crate::proofs::WritingLemmas::wrote_three, crate::proofs::WritingLemmas::keeps_on, crate::proofs::WritingLemmas::keeps_thrice))]
+impl Written for Confirmed {
+    ghost canon = { canon_confirmed };
+
+    ghost fits = { FitsConfirmed };
+
+    fn write(&self, out: &mut Vec<u8>) -> Result<(), AllocError> {
+        put_map(out, 1, &self.context)?;
+        put_messages(out, 2, &self.capabilities)?;
+        put_map(out, 3, &self.parameters)?;
+        Ok(())
+    }
+}

@@ -1,0 +1,138 @@
+//! A call over a keeper, from its message to its reply.
+
+use crate::fault::RowFault;
+use crate::parts::bytes_text;
+use csi_checks::check;
+use csi_codec::{DecodeFault, decode, decode_response};
+use csi_config::Config;
+use csi_keeper::{Keeper, StoreFault};
+use csi_machine::{Verdict, answer};
+use csi_types::{Entry, Method, Reason, Request, Response};
+use std::alloc::Global;
+use std::fmt::Write;
+
+// A call for which memory is refused is made again, once.
+const TRIES: u8 = 2;
+
+/// What a call is answered.
+#[derive(Drop)]
+pub enum Reply {
+    /// The body.
+    Done(Vec<u8>),
+    /// The message means no request.
+    Malformed(DecodeFault),
+    /// The request is refused.
+    Refused(Reason),
+    /// The keeper failed.
+    Failed(StoreFault),
+}
+
+impl Reply {
+    // Whether memory was refused.
+    fn is_for_memory(&self) -> bool {
+        matches!(
+            self,
+            Reply::Malformed(DecodeFault::NoMemory) | Reply::Failed(StoreFault::NoMemory)
+        )
+    }
+
+    /// The status, and behind it the bytes of the body or the text.
+    ///
+    /// # Errors
+    ///
+    /// Where the keeper failed, or memory was refused.
+    pub fn text(&self, alloc: Global) -> Result<String, RowFault> {
+        Ok(match self {
+            Reply::Done(body) => format!(in alloc; "0 {}", bytes_text(alloc, body)?)?,
+            Reply::Malformed(fault) => format!(in alloc; "3 {fault}")?,
+            Reply::Refused(reason) => format!(in alloc; "{} {reason}", reason.code().number())?,
+            Reply::Failed(fault) => return Err(RowFault::from(*fault)),
+        })
+    }
+
+    /// The same of a listing, whose body is a page in words: how many entries it has, its token, and of each entry the id and the nodes.
+    ///
+    /// # Errors
+    ///
+    /// Where the keeper failed, or memory was refused.
+    pub fn page_text(&self, alloc: Global) -> Result<String, RowFault> {
+        match self {
+            Reply::Done(body) => page_text(alloc, body),
+            other => other.text(alloc),
+        }
+    }
+}
+
+/// Reads a message, checks it and answers it.
+pub fn reply_to<K: Keeper>(
+    alloc: Global,
+    config: &Config,
+    keeper: &mut K,
+    method: Method,
+    message: &[u8],
+) -> Reply {
+    let mut reply = Reply::Failed(StoreFault::NoMemory);
+    for _ in 0..TRIES {
+        if reply.is_for_memory() {
+            reply = message_reply(alloc, config, keeper, method, message);
+        }
+    }
+    reply
+}
+
+fn message_reply<K: Keeper>(
+    alloc: Global,
+    config: &Config,
+    keeper: &mut K,
+    method: Method,
+    message: &[u8],
+) -> Reply {
+    match decode(alloc, method, message) {
+        Ok(request) => request_reply(alloc, config, keeper, &request),
+        Err(fault) => Reply::Malformed(fault),
+    }
+}
+
+fn request_reply<K: Keeper>(
+    alloc: Global,
+    config: &Config,
+    keeper: &mut K,
+    request: &Request,
+) -> Reply {
+    if let Err(reason) = check(request) {
+        return Reply::Refused(reason);
+    }
+    let mut out = Vec::new(alloc);
+    match answer(alloc, config, keeper, request, &mut out) {
+        Ok(Verdict::Done) => Reply::Done(out),
+        Ok(Verdict::Refused(reason)) => Reply::Refused(reason),
+        Err(fault) => Reply::Failed(fault),
+    }
+}
+
+fn page_text(alloc: Global, body: &[u8]) -> Result<String, RowFault> {
+    let Ok(Response::List { entries, token }) = decode_response(alloc, Method::ListVolumes, body)
+    else {
+        return Err(RowFault::NoMemory);
+    };
+    let mut text = format!(in alloc; "{} entries, token '{token}':", entries.len())?;
+    for entry in &entries {
+        put_entry(&mut text, entry)?;
+    }
+    Ok(text)
+}
+
+// The id of a volume, and the nodes at which it is published.
+fn put_entry(text: &mut String, entry: &Entry) -> Result<(), RowFault> {
+    let id = match &entry.volume {
+        Some(volume) => volume.id.as_str(),
+        None => "-",
+    };
+    write!(text, " {id}")?;
+    if let Some(nodes) = &entry.nodes {
+        for node in nodes {
+            write!(text, "@{node}")?;
+        }
+    }
+    Ok(())
+}

@@ -1,0 +1,101 @@
+//! Tables in memory are adopted, read, given back and adopted again.
+
+ghost use Rattle.std.specs.Prelude.{◌≡◌, false};
+
+mod configs;
+
+use crate::database::{make, refused, run, without_tables};
+use crate::state::state_text;
+use configs::config_named;
+use csi_adoption::{AdoptError, AdoptFault, adopt};
+use csi_config::Config;
+use sqlite::{Alter, Connection};
+use std::alloc::Global;
+use test_kit::RowFault;
+
+/// The answer to a row: whether our tables are made first, the configuration, and the statements.
+pub(crate) fn answer(alloc: Global, row: &str) -> Result<String, RowFault> {
+    let (how, statements) = row.split_once(" |").ok_or(RowFault::NotRow)?;
+    let (start, config) = how.split_once(' ').ok_or(RowFault::NotRow)?;
+    let config = config_named(alloc, config)?;
+    let mut conn = without_tables(alloc)?;
+    begin(&mut conn, start, statements)?;
+    adopt_twice(alloc, conn, &config, start)
+}
+
+// Begins a database so, behind these statements.
+fn begin<S: Alter>(conn: &mut Connection<S>, start: &str, statements: &str) -> Result<(), RowFault>
+    requires { conn.old.in_transaction ≡ false }
+{
+    match start {
+        "tables" | "limited" | "older" => make(conn)?,
+        "empty" => {}
+        _ => return Err(RowFault::NotRow),
+    }
+    if start == "older" {
+        run(conn, "UPDATE meta SET format_no = 1")?;
+    }
+    run(conn, statements)?;
+    if start == "limited" {
+        conn.set_step_limit(Some(1));
+    }
+    Ok(())
+}
+
+// What tables are adopted as, also where they are given back and adopted again.
+fn adopt_twice<S: Alter + Drop>(
+    alloc: Global,
+    conn: Connection<S>,
+    config: &Config,
+    start: &str,
+) -> Result<String, RowFault> {
+    let (first, mut conn) = told(alloc, conn, config);
+    let format = format_of(alloc, &mut conn, start);
+    let (second, _) = told(alloc, conn, config);
+    both(alloc, first?, format?, second?)
+}
+
+fn both(alloc: Global, first: String, format: String, second: String) -> Result<String, RowFault> {
+    if first == second {
+        return Ok(format!(in alloc; "{first}{format}")?);
+    }
+    Ok(format!(in alloc; "{first}, and then {second}")?)
+}
+
+// The format that the tables have, where it was the first one.
+fn format_of<S: Alter>(
+    alloc: Global,
+    conn: &mut Connection<S>,
+    start: &str,
+) -> Result<String, RowFault> {
+    if start != "older" {
+        return Ok(String::new(alloc));
+    }
+    let row = conn
+        .query_row("SELECT format_no FROM meta", &[])
+        .map_err(refused)?;
+    let format: i64 = row.get(0).map_err(refused)?;
+    Ok(format!(in alloc; ", in format {format}")?)
+}
+
+// What tables are adopted as, or why they are not, and the connection that is given back.
+fn told<S: Alter>(
+    alloc: Global,
+    conn: Connection<S>,
+    config: &Config,
+) -> (Result<String, RowFault>, Connection<S>) {
+    if !conn.is_autocommit() {
+        return (Err(RowFault::Refused("refused")), conn);
+    }
+    match adopt(alloc, conn, config) {
+        Ok(mut tables) => {
+            let text = state_text(alloc, config, &mut tables);
+            (text, tables.into_connection())
+        }
+        Err(AdoptError { fault, conn }) => (fault_text(alloc, &fault), conn),
+    }
+}
+
+fn fault_text(alloc: Global, fault: &AdoptFault) -> Result<String, RowFault> {
+    Ok(format!(in alloc; "{fault}")?)
+}
