@@ -5,7 +5,8 @@ ghost use Rattle.csi_types.specs.Checks.{no_parts, parts};
 ghost use Rattle.csi_checks.specs.Parts.{parts_in};
 
 use csi_types::{
-    Capability, CapacityRange, CreateVolume, Map, Publish, Request, Requirement, Text, Validate,
+    Capability, CapacityRange, CreateVolume, DeleteVolume, GetCapacity, ListVolumes, Map, Modify,
+    Publish, Request, Requirement, Text, Unpublish, Validate,
 };
 use std::slice::from_ref;
 
@@ -111,6 +112,60 @@ fn parts_of_validate(request: &Validate) -> Parts<'_>
     }
 }
 
+fn parts_of_delete(request: &DeleteVolume) -> Parts<'_>
+    ensures { parts_in result ≡ parts (Request.Delete request.now) }
+{
+    Parts {
+        volume_ids: from_ref(&request.volume_id),
+        first_map: from_ref(&request.secrets),
+        ..no_parts()
+    }
+}
+
+fn parts_of_unpublish(request: &Unpublish) -> Parts<'_>
+    ensures { parts_in result ≡ parts (Request.Unpublish request.now) }
+{
+    Parts {
+        first_map: from_ref(&request.secrets),
+        volume_ids: from_ref(&request.volume_id),
+        node_ids: from_ref(&request.node_id),
+        ..no_parts()
+    }
+}
+
+fn parts_of_list(request: &ListVolumes) -> Parts<'_>
+    ensures { parts_in result ≡ parts (Request.List request.now) }
+{
+    Parts {
+        tokens: from_ref(&request.token),
+        most_entries: from_ref(&request.max_entries),
+        ..no_parts()
+    }
+}
+
+fn parts_of_capacity(request: &GetCapacity) -> Parts<'_>
+    ensures { parts_in result ≡ parts (Request.Capacity request.now) }
+{
+    Parts {
+        capabilities: request.capabilities.as_slice(),
+        topology: request.topology.as_ref(),
+        first_map: from_ref(&request.parameters),
+        ..no_parts()
+    }
+}
+
+fn parts_of_modify(request: &Modify) -> Parts<'_>
+    ensures { parts_in result ≡ parts (Request.Modify request.now) }
+{
+    Parts {
+        first_map: from_ref(&request.secrets),
+        second_map: from_ref(&request.mutable),
+        required_maps: from_ref(&request.mutable),
+        volume_ids: from_ref(&request.volume_id),
+        ..no_parts()
+    }
+}
+
 /// The parts of a request.
 pub(crate) fn parts_of(request: &Request) -> Parts<'_>
     ensures { parts_in result ≡ parts request.now }
@@ -120,37 +175,13 @@ pub(crate) fn parts_of(request: &Request) -> Parts<'_>
         | Request::PluginCapabilities
         | Request::Probe
         | Request::ControllerCapabilities => no_parts(),
-        Request::Create(request) => parts_of_create(request),
-        Request::Delete(request) => Parts {
-            volume_ids: from_ref(&request.volume_id),
-            first_map: from_ref(&request.secrets),
-            ..no_parts()
-        },
-        Request::Publish(request) => parts_of_publish(request),
-        Request::Unpublish(request) => Parts {
-            first_map: from_ref(&request.secrets),
-            volume_ids: from_ref(&request.volume_id),
-            node_ids: from_ref(&request.node_id),
-            ..no_parts()
-        },
-        Request::Validate(request) => parts_of_validate(request),
-        Request::List(request) => Parts {
-            tokens: from_ref(&request.token),
-            most_entries: from_ref(&request.max_entries),
-            ..no_parts()
-        },
-        Request::Capacity(request) => Parts {
-            capabilities: request.capabilities.as_slice(),
-            topology: request.topology.as_ref(),
-            first_map: from_ref(&request.parameters),
-            ..no_parts()
-        },
-        Request::Modify(request) => Parts {
-            first_map: from_ref(&request.secrets),
-            second_map: from_ref(&request.mutable),
-            required_maps: from_ref(&request.mutable),
-            volume_ids: from_ref(&request.volume_id),
-            ..no_parts()
-        },
+        Request::Create(request) => parts_of_create(request.get()),
+        Request::Delete(request) => parts_of_delete(request.get()),
+        Request::Publish(request) => parts_of_publish(request.get()),
+        Request::Unpublish(request) => parts_of_unpublish(request.get()),
+        Request::Validate(request) => parts_of_validate(request.get()),
+        Request::List(request) => parts_of_list(request.get()),
+        Request::Capacity(request) => parts_of_capacity(request.get()),
+        Request::Modify(request) => parts_of_modify(request.get()),
     }
 }

@@ -8,7 +8,7 @@ ghost use Rattle.csi_codec.specs.Fields.{AreGood, IsRefusedAt, Refuses, Means, f
 ghost use Rattle.csi_codec.specs.Views.{Views, views, no_views, with_number, with_payload, value_of};
 
 use crate::laws;
-use csi_types::Reason;
+use csi_types::{Boxed, Reason};
 use pbwire::laws::spelled;
 use pbwire::{Field, Fields, Value};
 use std::alloc::{AllocError, Global};
@@ -147,4 +147,16 @@ pub fn decode_message<M: Message>(alloc: Global, bytes: &[u8]) -> Result<M, Deco
         Ok(message) => Ok(message),
         Err(_) => Err(DecodeFault::NoMemory),
     }
+}
+
+/// The same, kept apart.
+pub fn decode_boxed<M: Message>(alloc: Global, bytes: &[u8]) -> Result<Boxed<M>, DecodeFault>
+    ensures ok { IfOk result (Means (GoodField (Good M.schema)) (value_of M.of) bytes.now) }
+    ensures err { IfErr result (Refuses (GoodField (Good M.schema)) bytes.now) }
+{
+    let message = decode_message(alloc, bytes)?;
+    let Ok(boxed) = Boxed::new(alloc, message) else {
+        return Err(DecodeFault::NoMemory);
+    };
+    Ok(boxed)
 }

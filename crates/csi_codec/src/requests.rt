@@ -7,7 +7,7 @@ ghost use Rattle.csi_codec.specs.Reading.{read_request, as_create, Decodes};
 ghost use Rattle.csi_types.specs.declared.method.Method.TheVariants.{CreateVolume as Creating};
 ghost use Rattle.csi_types.specs.declared.requests.Request.TheVariants.{Create};
 
-use crate::message::{DecodeFault, decode_message};
+use crate::message::{DecodeFault, decode_boxed, decode_message};
 use crate::messages::values::NoFields;
 use crate::writing::{Written, whole_or_none};
 use csi_types::{CreateVolume, Method, Request};
@@ -63,14 +63,14 @@ fn decode_by_method(alloc: Global, method: Method, bytes: &[u8]) -> Result<Reque
             let NoFields = decode_message(alloc, bytes)?;
             Ok(Request::Probe)
         }
-        Method::CreateVolume => Ok(Request::Create(decode_message(alloc, bytes)?)),
-        Method::DeleteVolume => Ok(Request::Delete(decode_message(alloc, bytes)?)),
-        Method::ControllerPublishVolume => Ok(Request::Publish(decode_message(alloc, bytes)?)),
-        Method::ControllerUnpublishVolume => Ok(Request::Unpublish(decode_message(alloc, bytes)?)),
-        Method::ValidateVolumeCapabilities => Ok(Request::Validate(decode_message(alloc, bytes)?)),
-        Method::ListVolumes => Ok(Request::List(decode_message(alloc, bytes)?)),
-        Method::GetCapacity => Ok(Request::Capacity(decode_message(alloc, bytes)?)),
-        Method::ControllerModifyVolume => Ok(Request::Modify(decode_message(alloc, bytes)?)),
+        Method::CreateVolume => Ok(Request::Create(decode_boxed(alloc, bytes)?)),
+        Method::DeleteVolume => Ok(Request::Delete(decode_boxed(alloc, bytes)?)),
+        Method::ControllerPublishVolume => Ok(Request::Publish(decode_boxed(alloc, bytes)?)),
+        Method::ControllerUnpublishVolume => Ok(Request::Unpublish(decode_boxed(alloc, bytes)?)),
+        Method::ValidateVolumeCapabilities => Ok(Request::Validate(decode_boxed(alloc, bytes)?)),
+        Method::ListVolumes => Ok(Request::List(decode_boxed(alloc, bytes)?)),
+        Method::GetCapacity => Ok(Request::Capacity(decode_boxed(alloc, bytes)?)),
+        Method::ControllerModifyVolume => Ok(Request::Modify(decode_boxed(alloc, bytes)?)),
         Method::ControllerGetCapabilities => {
             let NoFields = decode_message(alloc, bytes)?;
             Ok(Request::ControllerCapabilities)
@@ -90,14 +90,14 @@ fn write_request(request: &Request, out: &mut Vec<u8>) -> Result<(), AllocError>
         | Request::PluginCapabilities
         | Request::Probe
         | Request::ControllerCapabilities => Ok(()),
-        Request::Create(message) => message.write(out),
-        Request::Delete(message) => message.write(out),
-        Request::Publish(message) => message.write(out),
-        Request::Unpublish(message) => message.write(out),
-        Request::Validate(message) => message.write(out),
-        Request::List(message) => message.write(out),
-        Request::Capacity(message) => message.write(out),
-        Request::Modify(message) => message.write(out),
+        Request::Create(message) => message.get().write(out),
+        Request::Delete(message) => message.get().write(out),
+        Request::Publish(message) => message.get().write(out),
+        Request::Unpublish(message) => message.get().write(out),
+        Request::Validate(message) => message.get().write(out),
+        Request::List(message) => message.get().write(out),
+        Request::Capacity(message) => message.get().write(out),
+        Request::Modify(message) => message.get().write(out),
     }
 }
 

@@ -9,6 +9,7 @@ ghost use Rattle.csi_machine.specs.declared.plan.Plan.{Plan as AnyPlan};
 use crate::plan::Plan;
 use csi_config::Config;
 use csi_keeper::{Keeper, StoreFault};
+use csi_types::Boxed;
 use std::alloc::Global;
 
 /// A plan, or why none was made: what the keeper answered, or want of memory.
@@ -23,4 +24,13 @@ pub(crate) trait Planned {
     fn plan<K: Keeper>(&self, alloc: Global, config: &Config, keeper: &mut K) -> Planning
         ensures bounded { IfOk result (λ p. IfSome p.change IsBounded) }
         ensures finds { Finds (K.model keeper.old) (K.model keeper.new) result (λ s p. p ≡ planned config.now s self.now) };
+}
+
+// As the request that is kept.
+impl<T: Planned> Planned for Boxed<T> {
+    ghost planned = { T.planned };
+
+    fn plan<K: Keeper>(&self, alloc: Global, config: &Config, keeper: &mut K) -> Planning {
+        self.get().plan(alloc, config, keeper)
+    }
 }

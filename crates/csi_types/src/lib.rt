@@ -1,8 +1,8 @@
 //! The values of the Container Storage Interface (CSI 1.x, Identity and Controller services).
 //!
-//! Plain structs and enums, a module a subject, over three small types: [`Text`], [`Items`] and [`Map`]. Contracts see a `Text` as its bytes, an
-//! `Items` as a list and a `Map` as a finite map in byte order of its keys, so the declared type of a message is itself the record that the
-//! definitions speak of: there is no second set of types for proofs.
+//! Plain structs and enums, a module a subject, over four small types: [`Text`], [`Items`], [`Map`] and [`Boxed`]. Contracts see a `Text` as its
+//! bytes, an `Items` as a list, a `Map` as a finite map in byte order of its keys and a `Boxed` as the value that it keeps, so the declared type of
+//! a message is itself the record that the definitions speak of: there is no second set of types for proofs.
 //!
 //! `specs/` also has what layers above need as facts about values: the table of argument checks (`Checks`), keys folded in ASCII, which
 //! capabilities are supported, the code and the text of each refusal. `topology.rt` compares topologies for all layers; `topology/segments.rt`
@@ -16,6 +16,7 @@
 //! ```
 #![tactic(auto)]
 
+mod boxed;
 mod capability;
 mod capacity;
 mod code;
@@ -35,6 +36,7 @@ mod text;
 mod topology;
 mod volume;
 
+pub use boxed::Boxed;
 pub use capability::{
     Access, Capability, Mount, is_known_mode, is_supported, writes_beside_others,
 };

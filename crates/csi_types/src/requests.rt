@@ -2,6 +2,7 @@
 //!
 //! `Debug` shows no secrets: the requests that have some write it by hand, and leave them out.
 
+use crate::boxed::Boxed;
 use crate::capability::Capability;
 use crate::capacity::CapacityRange;
 use crate::items::Items;
@@ -177,7 +178,7 @@ impl fmt::Debug for Modify {
     }
 }
 
-/// The request of a call, by its method.
+/// The request of a call, by its method. The message of one that has fields is kept apart, so that a request is small wherever it goes.
 #[derive(Debug, PartialEq, Eq, Drop)]
 pub enum Request {
     /// `GetPluginInfoRequest`, without fields.
@@ -189,19 +190,19 @@ pub enum Request {
     /// `ControllerGetCapabilitiesRequest`, without fields.
     ControllerCapabilities,
     /// `CreateVolumeRequest`.
-    Create(CreateVolume),
+    Create(Boxed<CreateVolume>),
     /// `DeleteVolumeRequest`.
-    Delete(DeleteVolume),
+    Delete(Boxed<DeleteVolume>),
     /// `ControllerPublishVolumeRequest`.
-    Publish(Publish),
+    Publish(Boxed<Publish>),
     /// `ControllerUnpublishVolumeRequest`.
-    Unpublish(Unpublish),
+    Unpublish(Boxed<Unpublish>),
     /// `ValidateVolumeCapabilitiesRequest`.
-    Validate(Validate),
+    Validate(Boxed<Validate>),
     /// `ListVolumesRequest`.
-    List(ListVolumes),
+    List(Boxed<ListVolumes>),
     /// `GetCapacityRequest`.
-    Capacity(GetCapacity),
+    Capacity(Boxed<GetCapacity>),
     /// `ControllerModifyVolumeRequest`.
-    Modify(Modify),
+    Modify(Boxed<Modify>),
 }

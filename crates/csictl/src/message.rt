@@ -6,15 +6,15 @@ use clap::ArgMatches;
 use csi_client::put_call;
 use csi_codec::encode_request;
 use csi_types::{
-    CreateVolume, DeleteVolume, GetCapacity, ListVolumes, Method, Modify, Publish, Request, Text,
-    Unpublish, Validate, method_named,
+    Boxed, CreateVolume, DeleteVolume, GetCapacity, ListVolumes, Method, Modify, Publish, Request,
+    Text, Unpublish, Validate, method_named,
 };
 use frames_core::MAX_MESSAGE_BYTES;
 use hex::FromHexError;
 use std::alloc::Global;
 
-fn create(fields: Fields<'_, '_>) -> Result<Request, Failure> {
-    Ok(Request::Create(CreateVolume {
+fn create(fields: &Fields<'_, '_>) -> Result<CreateVolume, Failure> {
+    Ok(CreateVolume {
         name: fields.text("name")?,
         range: fields.range(),
         capabilities: fields.capabilities()?,
@@ -23,63 +23,87 @@ fn create(fields: Fields<'_, '_>) -> Result<Request, Failure> {
         source: false,
         topology: fields.requirement()?,
         mutable: fields.map("mutable")?,
-    }))
+    })
 }
 
-fn publish(fields: Fields<'_, '_>) -> Result<Request, Failure> {
-    Ok(Request::Publish(Publish {
+fn delete(fields: &Fields<'_, '_>) -> Result<DeleteVolume, Failure> {
+    Ok(DeleteVolume {
+        volume_id: fields.text("volume")?,
+        secrets: fields.no_map(),
+    })
+}
+
+fn publish(fields: &Fields<'_, '_>) -> Result<Publish, Failure> {
+    Ok(Publish {
         volume_id: fields.text("volume")?,
         node_id: fields.text("node")?,
         capability: fields.capability()?,
         readonly: fields.readonly(),
         secrets: fields.no_map(),
         context: fields.no_map(),
-    }))
+    })
 }
 
-fn validate(fields: Fields<'_, '_>) -> Result<Request, Failure> {
-    Ok(Request::Validate(Validate {
+fn unpublish(fields: &Fields<'_, '_>) -> Result<Unpublish, Failure> {
+    Ok(Unpublish {
+        volume_id: fields.text("volume")?,
+        node_id: fields.text("node")?,
+        secrets: fields.no_map(),
+    })
+}
+
+fn modify(fields: &Fields<'_, '_>) -> Result<Modify, Failure> {
+    Ok(Modify {
+        volume_id: fields.text("volume")?,
+        secrets: fields.no_map(),
+        mutable: fields.map("mutable")?,
+    })
+}
+
+fn list(fields: &Fields<'_, '_>) -> Result<ListVolumes, Failure> {
+    Ok(ListVolumes {
+        max_entries: fields.max(),
+        token: fields.text("token")?,
+    })
+}
+
+fn capacity(fields: &Fields<'_, '_>) -> Result<GetCapacity, Failure> {
+    Ok(GetCapacity {
+        capabilities: fields.capabilities()?,
+        parameters: fields.map("parameters")?,
+        topology: fields.pairs("topology")?,
+    })
+}
+
+fn validate(fields: &Fields<'_, '_>) -> Result<Validate, Failure> {
+    Ok(Validate {
         volume_id: fields.text("volume")?,
         context: fields.no_map(),
         capabilities: fields.capabilities()?,
         parameters: fields.map("parameters")?,
         secrets: fields.no_map(),
-    }))
+    })
 }
 
 // The request of a method with these fields.
-fn request(method: Method, fields: Fields<'_, '_>) -> Result<Request, Failure> {
+fn request(alloc: Global, method: Method, fields: &Fields<'_, '_>) -> Result<Request, Failure> {
     Ok(match method {
         Method::GetPluginInfo => Request::PluginInfo,
         Method::GetPluginCapabilities => Request::PluginCapabilities,
         Method::Probe => Request::Probe,
         Method::ControllerGetCapabilities => Request::ControllerCapabilities,
-        Method::CreateVolume => create(fields)?,
-        Method::DeleteVolume => Request::Delete(DeleteVolume {
-            volume_id: fields.text("volume")?,
-            secrets: fields.no_map(),
-        }),
-        Method::ControllerPublishVolume => publish(fields)?,
-        Method::ControllerUnpublishVolume => Request::Unpublish(Unpublish {
-            volume_id: fields.text("volume")?,
-            node_id: fields.text("node")?,
-            secrets: fields.no_map(),
-        }),
-        Method::ValidateVolumeCapabilities => validate(fields)?,
-        Method::ControllerModifyVolume => Request::Modify(Modify {
-            volume_id: fields.text("volume")?,
-            secrets: fields.no_map(),
-            mutable: fields.map("mutable")?,
-        }),
-        Method::ListVolumes => Request::List(ListVolumes {
-            max_entries: fields.max(),
-            token: fields.text("token")?,
-        }),
-        Method::GetCapacity => Request::Capacity(GetCapacity {
-            capabilities: fields.capabilities()?,
-            parameters: fields.map("parameters")?,
-            topology: fields.pairs("topology")?,
-        }),
+        Method::CreateVolume => Request::Create(Boxed::new(alloc, create(fields)?)?),
+        Method::DeleteVolume => Request::Delete(Boxed::new(alloc, delete(fields)?)?),
+        Method::ControllerPublishVolume => Request::Publish(Boxed::new(alloc, publish(fields)?)?),
+        Method::ControllerUnpublishVolume => {
+            Request::Unpublish(Boxed::new(alloc, unpublish(fields)?)?)
+        }
+        Method::ValidateVolumeCapabilities => {
+            Request::Validate(Boxed::new(alloc, validate(fields)?)?)
+        }
+        Method::ControllerModifyVolume => Request::Modify(Boxed::new(alloc, modify(fields)?)?),
+        Method::ListVolumes => Request::List(Boxed::new(alloc, list(fields)?)?),
+        Method::GetCapacity => Request::Capacity(Boxed::new(alloc, capacity(fields)?)?),
     })
 }
 
@@ -96,7 +120,7 @@ fn message_of_fields(
     arguments: &ArgMatches<'_>,
 ) -> Result<Vec<u8>, Failure> {
     let fields = Fields::new(alloc, method, arguments)?;
-    let request = request(method, fields)?;
+    let request = request(alloc, method, &fields)?;
     encoded(alloc, &request)
 }
 
