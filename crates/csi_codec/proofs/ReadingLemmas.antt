@@ -5,7 +5,6 @@ use Rattle.std.specs.List.{AllByRecursion}
 use Rattle.std.specs.Str.{is_utf8}
 use Rattle.std.proofs.lemmas.Bool.{eqb-true, eqb-false}
 use Rattle.std.proofs.lemmas.Str.{IsUtf8-from_is_utf8, is_utf8-from_IsUtf8}
-use Rattle.pbwire.specs.declared.field.WireWhy.{WireWhy}
 use Rattle.pbwire.specs.Wire.{WireField, AreFields, Part, Number, Eight, Payload, Four}
 use Rattle.pbwire.specs.Reading.{field_at}
 use Rattle.csi_types.specs.declared.method.Method.TheVariants as method

@@ -1,8 +1,11 @@
 -- One piece after the other.
-use Rattle.std.proofs.Common.{◌≡◌, ℕ, List, ◌++◌, Result, Ok, Err, OnOk, OnErr, sym, ap, subst, ◌∙◌, append_assoc}
+use Rattle.std.proofs.Common.{◌≡◌, ℕ, ℤ, List, ◌++◌, Result, Ok, Err, OnOk, OnErr, sym, ap, subst, ◌∙◌, append_assoc, of_z, to_z}
+use Rattle.std.specs.Int.{w64}
+use Rattle.std.proofs.lemmas.Int.{to_z-of_z}
 use Rattle.std.proofs.lemmas.Grind.{flat_map-append}
 use Rattle.pbwire.specs.Wire.{WireField}
 use Rattle.pbwire.specs.Writing.{spelling, spellings}
+use Rattle.csi_codec.specs.Canon.{FitsI64, row_fields, signed_row}
 use Rattle.csi_codec.specs.Kept.{Keeps}
 
 pub wrote_two : (old : List ℕ) (es fs : List WireField) → (old ++ spellings es) ++ spellings fs ≡ old ++ spellings (es ++ fs)
@@ -25,3 +28,7 @@ wrote_next old mid new es fs one two = two ∙ ap (λ (bs : List ℕ). bs ++ spe
 
 pub wrote_three : (old first second new : List ℕ) (es fs gs : List WireField) → first ≡ old ++ spellings es → second ≡ first ++ spellings fs → new ≡ second ++ spellings gs → new ≡ old ++ spellings ((es ++ fs) ++ gs)
 wrote_three old first second new es fs gs one two three = wrote_next old second new (es ++ fs) gs (wrote_next old first second es fs one two) three
+
+-- a signed number behind what stands, which came through its 64 bits
+pub wrote_signed : (old new : List ℕ) (k : ℕ) (z : ℤ) → FitsI64 z → new ≡ old ++ spellings (row_fields (signed_row k (to_z w64 (of_z w64 z)))) → new ≡ old ++ spellings (row_fields (signed_row k z))
+wrote_signed old new k z fits is = is ∙ ap (λ (x : ℤ). old ++ spellings (row_fields (signed_row k x))) (to_z-of_z w64 z fits)

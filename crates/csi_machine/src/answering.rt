@@ -15,7 +15,7 @@ use crate::plan::Plan;
 use crate::planned::Planned;
 use csi_config::Config;
 use csi_keeper::{Keeper, StoreFault};
-use csi_types::{Reason, Request, Response};
+use csi_types::{Boxed, Reason, Request, Response};
 use std::alloc::{AllocError, Global};
 
 // Appends the body of a plan's response. A body that no reply holds is a refusal, and then the plan
@@ -27,12 +27,12 @@ fn append_plan(plan: &Plan, out: &mut Vec<u8>) -> Result<Verdict, AllocError>
     ensures err { OnErr result (out.new.items ≡ out.old.items) }
 {
     match &plan.outcome {
-        Ok(response) => append_body(response, out),
+        Ok(response) => append_body(response.get(), out),
         Err(reason) => Ok(Verdict::Refused(*reason)),
     }
 }
 
-fn verdict_of(outcome: &Result<Response, Reason>) -> Verdict
+fn verdict_of(outcome: &Result<Boxed<Response>, Reason>) -> Verdict
     ensures { result ≡ verdict_of outcome.now }
 {
     match outcome {
@@ -47,7 +47,7 @@ fn carry_out<K: Keeper>(alloc: Global, keeper: &mut K, plan: &Plan) -> Result<Ve
     ensures { Carries plan.now (K.model keeper.old) (K.model keeper.new) result }
 {
     if let Some(change) = &plan.change {
-        keeper.apply(alloc, change)?;
+        keeper.apply(alloc, change.get())?;
     }
     Ok(verdict_of(&plan.outcome))
 }

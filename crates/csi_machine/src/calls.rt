@@ -29,7 +29,7 @@ impl Planned for Request {
         match self {
             Request::PluginInfo => Ok(plan_plugin_info(alloc, config)?),
             Request::PluginCapabilities => Ok(plan_plugin_capabilities(alloc)?),
-            Request::Probe => Ok(plan_probe()),
+            Request::Probe => Ok(plan_probe(alloc)?),
             Request::ControllerCapabilities => Ok(plan_controller_capabilities(alloc)?),
             Request::Create(request) => request.plan(alloc, config, keeper),
             Request::Delete(request) => request.plan(alloc, config, keeper),

@@ -1,18 +1,19 @@
 //! What a request is answered, and the one change that it makes.
 
-ghost use Rattle.std.specs.Prelude.{◌≡◌};
+ghost use Rattle.std.specs.Prelude.{◌≡◌, IfOk};
 ghost use Rattle.csi_machine.specs.Plan.{make, refuse, respond};
 
 use csi_keeper::Change;
-use csi_types::{Reason, Response};
+use csi_types::{Boxed, Reason, Response};
+use std::alloc::{AllocError, Global};
 
 /// What a request is answered, and the change that is made before it is.
 #[derive(Debug, Drop)]
 pub struct Plan {
     /// The response, or the reason for which the request is refused and changes nothing.
-    pub outcome: Result<Response, Reason>,
+    pub outcome: Result<Boxed<Response>, Reason>,
     /// What changes, if anything.
-    pub change: Option<Change>,
+    pub change: Option<Boxed<Change>>,
 }
 
 /// A refusal, which changes nothing.
@@ -26,21 +27,22 @@ pub(crate) fn refuse(reason: Reason) -> Plan
 }
 
 /// A response behind a change.
-pub(crate) fn make(response: Response, change: Change) -> Plan
-    ensures { result ≡ make response change }
+pub(crate) fn make(alloc: Global, response: Response, change: Change) -> Result<Plan, AllocError>
+    ensures { IfOk result (λ plan. plan ≡ make response change) }
 {
-    Plan {
-        outcome: Ok(response),
+    let change = Boxed::new(alloc, change)?;
+    Ok(Plan {
+        outcome: Ok(Boxed::new(alloc, response)?),
         change: Some(change),
-    }
+    })
 }
 
 /// A response that changes nothing.
-pub(crate) fn respond(response: Response) -> Plan
-    ensures { result ≡ respond response }
+pub(crate) fn respond(alloc: Global, response: Response) -> Result<Plan, AllocError>
+    ensures { IfOk result (λ plan. plan ≡ respond response) }
 {
-    Plan {
-        outcome: Ok(response),
+    Ok(Plan {
+        outcome: Ok(Boxed::new(alloc, response)?),
         change: None,
-    }
+    })
 }

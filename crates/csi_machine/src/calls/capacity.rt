@@ -1,6 +1,6 @@
 //! GetCapacity (CSI specification, 'GetCapacity').
 
-ghost use Rattle.std.specs.Prelude.{◌≡◌, ◌≤◌, ◌^◌, None, map, sum_by};
+ghost use Rattle.std.specs.Prelude.{◌≡◌, ◌≤◌, ◌^◌, None, IfOk, map, sum_by};
 ghost use Rattle.std.specs.List.{list_all};
 ghost use Rattle.csi_types.specs.Checks.{is_supported};
 ghost use Rattle.csi_machine.specs.Choice.{room_value, free};
@@ -15,7 +15,7 @@ use csi_config::Config;
 use csi_config::laws::{pool_bytes_whole, sizes_whole};
 use csi_keeper::Keeper;
 use csi_types::{Capability, GetCapacity, Map, Response, is_supported};
-use std::alloc::Global;
+use std::alloc::{AllocError, Global};
 
 fn all_supported(capabilities: &[Capability]) -> bool
     ensures { result ≡ list_all is_supported capabilities.now }
@@ -51,29 +51,37 @@ fn free_in(rooms: &[Room<'_>], topology: &Option<Map>) -> (u64, u64)
     (sum, greatest)
 }
 
-fn tell_capacity(available: u64, maximum: u64) -> Plan
+fn tell_capacity(alloc: Global, available: u64, maximum: u64) -> Result<Plan, AllocError>
     requires available { available ≤ 2 ^ 62 }
     requires maximum { maximum ≤ 2 ^ 62 }
-    ensures { result ≡ tell_capacity available maximum }
+    ensures { IfOk result (λ p. p ≡ tell_capacity available maximum) }
 {
-    respond(Response::Capacity {
-        available: available as i64,
-        maximum: Some(maximum as i64),
-    })
+    respond(
+        alloc,
+        Response::Capacity {
+            available: available as i64,
+            maximum: Some(maximum as i64),
+        },
+    )
 }
 
 #[tactic(auto, using(crate::proofs::CapacityLemmas::sum_small, crate::proofs::CapacityLemmas::served_told))]
-fn capacity_of(config: &Config, rooms: &[Room<'_>], request: &GetCapacity) -> Plan
+fn capacity_of(
+    alloc: Global,
+    config: &Config,
+    rooms: &[Room<'_>],
+    request: &GetCapacity,
+) -> Result<Plan, AllocError>
     requires { sum_by free (map room_value rooms.now) ≤ 2 ^ 62 }
-    ensures value { result ≡ capacity_of config.now (map room_value rooms.now) request.now }
-    ensures none { result.change ≡ None }
+    ensures value { IfOk result (λ p. p ≡ capacity_of config.now (map room_value rooms.now) request.now) }
+    ensures none { IfOk result (λ p. p.change ≡ None) }
 {
     sizes_whole(config);
     if !all_supported(request.capabilities.as_slice()) {
-        return tell_capacity(0, 0);
+        return tell_capacity(alloc, 0, 0);
     }
     let (sum, greatest) = free_in(rooms, &request.topology);
-    tell_capacity(sum, config.sizes().greatest_bytes.min(greatest))
+    tell_capacity(alloc, sum, config.sizes().greatest_bytes.min(greatest))
 }
 
 /// What is free in the pools that serve the topology, and the greatest size of which a volume can be
@@ -84,6 +92,6 @@ impl Planned for GetCapacity {
     fn plan<K: Keeper>(&self, alloc: Global, config: &Config, keeper: &mut K) -> Planning {
         pool_bytes_whole(config);
         let rooms = read_rooms(alloc, config, keeper)?;
-        Ok(capacity_of(config, &rooms, self))
+        Ok(capacity_of(alloc, config, &rooms, self)?)
     }
 }

@@ -61,7 +61,7 @@ fn again(
         return Ok(refuse(Reason::VolumeNotCompatible));
     }
     let info = info_at(alloc, segments, volume)?;
-    Ok(respond(Response::Create(Some(info))))
+    respond(alloc, Response::Create(Some(info)))
 }
 
 fn made(
@@ -98,7 +98,11 @@ fn place_in(
     };
     let volume = made(alloc, request, number, bytes, pool)?;
     let info = info_at(alloc, &pool.segments, &volume)?;
-    Ok(make(Response::Create(Some(info)), Change::AddVolume(volume)))
+    make(
+        alloc,
+        Response::Create(Some(info)),
+        Change::AddVolume(volume),
+    )
 }
 
 fn place(

@@ -1,6 +1,6 @@
 //! DeleteVolume (CSI specification, 'DeleteVolume').
 
-ghost use Rattle.std.specs.Prelude.{◌≡◌, IfSome};
+ghost use Rattle.std.specs.Prelude.{◌≡◌, IfOk, IfSome};
 ghost use Rattle.csi_keeper.specs.State.{IsBounded};
 ghost use Rattle.csi_machine.specs.calls.Delete.{delete_volume, delete};
 
@@ -10,17 +10,17 @@ use crate::planned::{Planned, Planning};
 use csi_config::Config;
 use csi_keeper::{Attachment, Change, Keeper};
 use csi_types::{DeleteVolume, Reason, Response};
-use std::alloc::Global;
+use std::alloc::{AllocError, Global};
 
 // The plan for a volume that stands.
-fn delete_volume(number: u64, attachments: &[Attachment]) -> Plan
-    ensures bounded { IfSome result.change IsBounded }
-    ensures value { result ≡ delete_volume number attachments.now }
+fn delete_volume(alloc: Global, number: u64, attachments: &[Attachment]) -> Result<Plan, AllocError>
+    ensures bounded { IfOk result (λ p. IfSome p.change IsBounded) }
+    ensures value { IfOk result (λ p. p ≡ delete_volume number attachments.now) }
 {
     if !attachments.is_empty() {
-        return refuse(Reason::VolumeInUse);
+        return Ok(refuse(Reason::VolumeInUse));
     }
-    make(Response::Delete, Change::RemoveVolume(number))
+    make(alloc, Response::Delete, Change::RemoveVolume(number))
 }
 
 /// A volume that is attached is refused, one that does not stand is done with.
@@ -29,9 +29,9 @@ impl Planned for DeleteVolume {
 
     fn plan<K: Keeper>(&self, alloc: Global, _config: &Config, keeper: &mut K) -> Planning {
         let Some((number, _)) = volume_of(alloc, keeper, &self.volume_id)? else {
-            return Ok(respond(Response::Delete));
+            return Ok(respond(alloc, Response::Delete)?);
         };
         let attachments = keeper.attachments(alloc, number)?;
-        Ok(delete_volume(number, attachments.as_slice()))
+        Ok(delete_volume(alloc, number, attachments.as_slice())?)
     }
 }

@@ -15,10 +15,9 @@ pub(crate) fn plan_plugin_info(alloc: Global, config: &Config) -> Result<Plan, A
     ensures value { IfOk result (λ p. p ≡ plugin_info config.now) }
 {
     let plugin = config.plugin();
-    Ok(respond(Response::PluginInfo {
-        name: copy_text(alloc, plugin.name.as_str())?,
-        version: copy_text(alloc, plugin.version.as_str())?,
-    }))
+    let name = copy_text(alloc, plugin.name.as_str())?;
+    let version = copy_text(alloc, plugin.version.as_str())?;
+    respond(alloc, Response::PluginInfo { name, version })
 }
 
 fn items_of(alloc: Global, types: &[Option<i32>]) -> Result<Items<Option<i32>>, AllocError>
@@ -35,15 +34,15 @@ pub(crate) fn plan_plugin_capabilities(alloc: Global) -> Result<Plan, AllocError
     ensures value { IfOk result (λ p. p ≡ plugin_capabilities) }
 {
     let types = items_of(alloc, &[Some(1), Some(2)])?;
-    Ok(respond(Response::PluginCapabilities(types)))
+    respond(alloc, Response::PluginCapabilities(types))
 }
 
 /// The plan of Probe: ready.
-pub(crate) fn plan_probe() -> Plan
-    ensures none { result.change ≡ None }
-    ensures value { result ≡ probe }
+pub(crate) fn plan_probe(alloc: Global) -> Result<Plan, AllocError>
+    ensures none { IfOk result (λ p. p.change ≡ None) }
+    ensures value { IfOk result (λ p. p ≡ probe) }
 {
-    respond(Response::Probe(Some(true)))
+    respond(alloc, Response::Probe(Some(true)))
 }
 
 /// The plan of ControllerGetCapabilities: `CREATE_DELETE_VOLUME`, `PUBLISH_UNPUBLISH_VOLUME`,
@@ -64,5 +63,5 @@ pub(crate) fn plan_controller_capabilities(alloc: Global) -> Result<Plan, AllocE
         Some(14),
     ];
     let types = items_of(alloc, &types)?;
-    Ok(respond(Response::ControllerCapabilities(types)))
+    respond(alloc, Response::ControllerCapabilities(types))
 }

@@ -113,7 +113,7 @@ fn list_after<K: Keeper>(
     let rest = keeper.page(alloc, last, 1)?;
     let entries = entries_with(alloc, config, volumes.as_slice(), nodes)?;
     let token = token_for(alloc, last, rest.as_slice())?;
-    Ok(respond(Response::List { entries, token }))
+    Ok(respond(alloc, Response::List { entries, token })?)
 }
 
 fn list_from<K: Keeper>(

@@ -29,9 +29,9 @@ fn modify_own(alloc: Global, number: u64, own: &Map, given: &Map) -> Result<Plan
         return Ok(refuse(Reason::MutableTooLarge));
     }
     if has_each(own, given) {
-        return Ok(respond(Response::Modify));
+        return respond(alloc, Response::Modify);
     }
-    Ok(make(Response::Modify, Change::SetMutable(number, laid)))
+    make(alloc, Response::Modify, Change::SetMutable(number, laid))
 }
 
 /// The given parameters are laid over the volume's own, whether it is published or not. A result of

@@ -34,7 +34,7 @@ fn publish_again(
     ensures value { IfOk result (λ p. p ≡ publish_again key.now readonly attachment.now) }
 {
     if attachment.cap == *key && attachment.readonly == readonly {
-        return Ok(respond(Response::Publish(publication(alloc, readonly)?)));
+        return respond(alloc, Response::Publish(publication(alloc, readonly)?));
     }
     Ok(refuse(Reason::PublishedOtherwise))
 }
@@ -69,7 +69,7 @@ fn attach(alloc: Global, target: &Target, mine: Attachment) -> Result<Plan, Allo
         return Ok(refuse(Reason::NodeFull));
     }
     let response = Response::Publish(publication(alloc, mine.readonly)?);
-    Ok(make(response, Change::Attach(target.number, mine)))
+    make(alloc, response, Change::Attach(target.number, mine))
 }
 
 /// The attachment at a node.

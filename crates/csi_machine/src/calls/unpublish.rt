@@ -13,14 +13,14 @@ use csi_keeper::{Attachment, Change, Keeper};
 use csi_types::{Response, Text, Unpublish, copy_text};
 use std::alloc::{AllocError, Global};
 
-fn detach_all(number: u64, attachments: &[Attachment]) -> Plan
-    ensures bounded { IfSome result.change IsBounded }
-    ensures value { result ≡ detach_all number attachments.now }
+fn detach_all(alloc: Global, number: u64, attachments: &[Attachment]) -> Result<Plan, AllocError>
+    ensures bounded { IfOk result (λ p. IfSome p.change IsBounded) }
+    ensures value { IfOk result (λ p. p ≡ detach_all number attachments.now) }
 {
     if attachments.is_empty() {
-        return respond(Response::Unpublish);
+        return respond(alloc, Response::Unpublish);
     }
-    make(Response::Unpublish, Change::DetachAll(number))
+    make(alloc, Response::Unpublish, Change::DetachAll(number))
 }
 
 // The plan for the attachments of one volume: an empty node id is each node.
@@ -34,13 +34,13 @@ fn detach(
     ensures value { IfOk result (λ p. p ≡ detach number node.now attachments.now) }
 {
     if node.is_empty() {
-        return Ok(detach_all(number, attachments));
+        return detach_all(alloc, number, attachments);
     }
     if attachment_at(attachments, node).is_none() {
-        return Ok(respond(Response::Unpublish));
+        return respond(alloc, Response::Unpublish);
     }
     let node = copy_text(alloc, node.as_str())?;
-    Ok(make(Response::Unpublish, Change::Detach(number, node)))
+    make(alloc, Response::Unpublish, Change::Detach(number, node))
 }
 
 /// A volume that is not published there, or does not stand, is answered as one that was.
@@ -49,7 +49,7 @@ impl Planned for Unpublish {
 
     fn plan<K: Keeper>(&self, alloc: Global, _config: &Config, keeper: &mut K) -> Planning {
         let Some(number) = number_of_id(alloc, self.volume_id.as_str())? else {
-            return Ok(respond(Response::Unpublish));
+            return Ok(respond(alloc, Response::Unpublish)?);
         };
         let attachments = keeper.attachments(alloc, number)?;
         Ok(detach(alloc, number, &self.node_id, attachments.as_slice())?)

@@ -40,20 +40,27 @@ fn confirm(alloc: Global, request: &Validate) -> Result<Plan, AllocError>
         capabilities: copy_capabilities(alloc, &request.capabilities)?,
         parameters: copy_map(alloc, &request.parameters)?,
     };
-    Ok(respond(Response::Validate {
-        confirmed: Some(confirmed),
-        message: Text::new(alloc),
-    }))
+    respond(
+        alloc,
+        Response::Validate {
+            confirmed: Some(confirmed),
+            message: Text::new(alloc),
+        },
+    )
 }
 
 fn deny(alloc: Global) -> Result<Plan, AllocError>
     ensures none { IfOk result (λ p. p.change ≡ None) }
     ensures value { IfOk result (λ p. p ≡ deny) }
 {
-    Ok(respond(Response::Validate {
-        confirmed: None,
-        message: copy_text(alloc, "capabilities or parameters are not supported")?,
-    }))
+    let message = copy_text(alloc, "capabilities or parameters are not supported")?;
+    respond(
+        alloc,
+        Response::Validate {
+            confirmed: None,
+            message,
+        },
+    )
 }
 
 fn is_valid(alloc: Global, volume: &Volume, request: &Validate) -> Result<bool, AllocError>

@@ -1,19 +1,12 @@
-use Rattle.std.proofs.Common.{ℕ, ℤ, List, ◌++◌, ap, ◌∙◌, rules}
-use Rattle.std.specs.Prelude.{FitsSigned}
-use Rattle.std.specs.Int.{w64}
-use Rattle.std.proofs.lemmas.Int.{to_z-of_z}
-use Rattle.pbwire.specs.Writing.{spellings}
-use Rattle.csi_codec.specs.Canon.{row_fields, signed_row}
-use Rattle.csi_codec.proofs.WritingLemmas.{wrote_two}
+use Rattle.std.proofs.Common.{rules}
+use Rattle.csi_codec.proofs.WritingLemmas.{keeps_on, wrote_next, wrote_signed}
 use Rattle.csi_codec.proofs.messages.volumes.CapacityRangeWritten.write.Goals as goal
 
-abbrev written_row : ℕ → ℤ → List ℕ
-written_row k z = spellings (row_fields (signed_row k z))
+pub returns-in_err-put_signed-2-clause-kept : goal.returns-in_err-put_signed-2-clause-kept
+returns-in_err-put_signed-2-clause-kept c = keeps_on _ _ _ c.put_signed-2.ensures.kept c.put_signed.ensures.kept
 
 pub returns-clause-ok : goal.returns-clause-ok
-returns-clause-ok c =
-    let required : FitsSigned w64 c.args.self.now.required = search rules in
-    let limit : FitsSigned w64 c.args.self.now.limit = search rules in
-    c.in_ok-put_signed-2.ensures.ok
-    ∙ (λ i. (c.in_ok-put_signed.ensures.ok ∙ ap (λ (z : ℤ). c.args.out.now.items ++ written_row 1 z) (to_z-of_z w64 c.args.self.now.required required)) i ++ written_row 2 (to_z-of_z w64 c.args.self.now.limit limit i))
-    ∙ wrote_two c.args.out.now.items (row_fields (signed_row 1 c.args.self.now.required)) (row_fields (signed_row 2 c.args.self.now.limit))
+returns-clause-ok c = wrote_next _ _ _ _ _ (wrote_signed _ _ 1 c.args.self.now.required (search rules) c.in_ok-put_signed.ensures.ok) (wrote_signed _ _ 2 c.args.self.now.limit (search rules) c.in_ok-put_signed-2.ensures.ok)
+
+pub returns-clause-kept : goal.returns-clause-kept
+returns-clause-kept c = keeps_on _ _ _ c.put_signed-2.ensures.kept c.put_signed.ensures.kept

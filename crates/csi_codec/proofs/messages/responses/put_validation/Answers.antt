@@ -1,0 +1,11 @@
+use Rattle.csi_codec.proofs.WritingLemmas.{keeps_on, wrote_next}
+use Rattle.csi_codec.proofs.messages.responses.put_validation.Goals as goal
+
+pub returns-in_err-put_text-clause-kept : goal.returns-in_err-put_text-clause-kept
+returns-in_err-put_text-clause-kept c = keeps_on _ _ _ c.put_text.ensures.kept c.put_option.ensures.kept
+
+pub returns-clause-ok : goal.returns-clause-ok
+returns-clause-ok c = wrote_next _ _ _ _ _ c.in_ok-put_option.ensures.ok c.in_ok-put_text.ensures.ok
+
+pub returns-clause-kept : goal.returns-clause-kept
+returns-clause-kept c = keeps_on _ _ _ c.put_text.ensures.kept c.put_option.ensures.kept
