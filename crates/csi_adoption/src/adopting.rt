@@ -165,10 +165,18 @@ fn judge_joined<S: Alter>(
     ensures scans { Scans S.Store conn.old conn.new result }
     ensures judged { HasCleanDisk (state S.Store conn.new) → (row : Row) → JudgesJoined config.now (state S.Store conn.old).now.trees row tables.now result }
 {
-    let unowned = see_owners(alloc, conn)?;
-    check_attachment(alloc, &unowned, AttachmentConstraint::Owner)?;
-    let apart = see_apart(alloc, conn)?;
-    check_counts(alloc, config, &apart, &tables.attachments, &tables.volumes)?;
+    check_attachment(
+        alloc,
+        &see_owners(alloc, conn)?,
+        AttachmentConstraint::Owner,
+    )?;
+    check_counts(
+        alloc,
+        config,
+        &see_apart(alloc, conn)?,
+        &tables.attachments,
+        &tables.volumes,
+    )?;
     Ok(())
 }
 

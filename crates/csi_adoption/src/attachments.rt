@@ -158,11 +158,14 @@ pub(crate) fn see_attachments<S: Alter>(
         },
         second: nodes,
     };
-    scan_attachments(conn, &mut fold)?;
-    if !fold.first.first.second.good {
+    let scanned = scan_attachments(conn, &mut fold);
+    let rises = fold.first.first.second.good;
+    let seen = seen_by(fold);
+    scanned?;
+    if !rises {
         return Err(Error::SqliteFailure(ErrorCode::DatabaseCorrupt));
     }
-    Ok(seen_by(fold))
+    Ok(seen)
 }
 
 /// The first attachment whose volume does not stand, or has not its capability.

@@ -236,11 +236,14 @@ pub(crate) fn see_volumes<S: Alter>(
         },
         second: sums,
     };
-    scan_volumes(conn, &mut fold)?;
-    if !fold.first.first.first.second.good {
+    let scanned = scan_volumes(conn, &mut fold);
+    let rises = fold.first.first.first.second.good;
+    let seen = seen_by(fold, meta.format);
+    scanned?;
+    if !rises {
         return Err(Error::SqliteFailure(ErrorCode::DatabaseCorrupt));
     }
-    Ok(seen_by(fold, meta.format))
+    Ok(seen)
 }
 
 /// The fault of a volume that breaks a constraint.

@@ -14,9 +14,6 @@ wrote_two old es fs = append_assoc old (spellings es) (spellings fs) ∙ ap (λ 
 pub keeps_on : (old mid new : List ℕ) → Keeps mid new → Keeps old mid → Keeps old new
 keeps_on old mid new b a = record { tail = a.tail ++ b.tail; is = b.is ∙ ap (λ (l : List ℕ). l ++ b.tail) a.is ∙ append_assoc old a.tail b.tail }
 
-pub keeps_thrice : (old first second new : List ℕ) → Keeps second new → Keeps first second → Keeps old first → Keeps old new
-keeps_thrice old first second new c b a = keeps_on old second new c (keeps_on old first second b a)
-
 -- what a closed field keeps, whether or not it could be closed
 pub closed_keeps : {A E : Type 0} (r : Result A E) (old mid new closed tail : List ℕ) → closed ≡ old ++ tail → Keeps old mid → OnOk r (new ≡ closed) → OnErr r (new ≡ mid) → Keeps old new
 closed_keeps (Ok x) old mid new closed tail is kept done undone = record { tail = tail; is = done ∙ is }
@@ -25,9 +22,6 @@ closed_keeps (Err e) old mid new closed tail is kept done undone = subst (λ (bs
 -- the next row behind those that stand
 pub wrote_next : (old mid new : List ℕ) (es fs : List WireField) → mid ≡ old ++ spellings es → new ≡ mid ++ spellings fs → new ≡ old ++ spellings (es ++ fs)
 wrote_next old mid new es fs one two = two ∙ ap (λ (bs : List ℕ). bs ++ spellings fs) one ∙ wrote_two old es fs
-
-pub wrote_three : (old first second new : List ℕ) (es fs gs : List WireField) → first ≡ old ++ spellings es → second ≡ first ++ spellings fs → new ≡ second ++ spellings gs → new ≡ old ++ spellings ((es ++ fs) ++ gs)
-wrote_three old first second new es fs gs one two three = wrote_next old second new (es ++ fs) gs (wrote_next old first second es fs one two) three
 
 -- a signed number behind what stands, which came through its 64 bits
 pub wrote_signed : (old new : List ℕ) (k : ℕ) (z : ℤ) → FitsI64 z → new ≡ old ++ spellings (row_fields (signed_row k (to_z w64 (of_z w64 z)))) → new ≡ old ++ spellings (row_fields (signed_row k z))

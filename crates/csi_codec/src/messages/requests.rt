@@ -70,7 +70,6 @@ impl Message for CreateVolume {
     }
 }
 
-#[tactic(auto, using(crate::proofs::WritingLemmas::wrote_two, crate::proofs::WritingLemmas::keeps_on))]
 impl Written for CreateVolume {
     ghost canon = { canon_create };
 
@@ -127,7 +126,6 @@ impl Message for DeleteVolume {
     }
 }
 
-#[tactic(auto, using(crate::proofs::WritingLemmas::wrote_two, crate::proofs::WritingLemmas::keeps_on))]
 impl Written for DeleteVolume {
     ghost canon = { canon_delete };
 
@@ -180,7 +178,6 @@ impl Message for Modify {
     }
 }
 
-#[tactic(auto, using(crate::proofs::WritingLemmas::wrote_three, crate::proofs::WritingLemmas::keeps_on, crate::proofs::WritingLemmas::keeps_thrice))]
 impl Written for Modify {
     ghost canon = { canon_modify };
 
@@ -244,7 +241,6 @@ impl Message for Publish {
     }
 }
 
-#[tactic(auto, using(crate::proofs::WritingLemmas::wrote_two, crate::proofs::WritingLemmas::keeps_on))]
 impl Written for Publish {
     ghost canon = { canon_publish };
 
@@ -301,7 +297,6 @@ impl Message for Unpublish {
     }
 }
 
-#[tactic(auto, using(crate::proofs::WritingLemmas::wrote_two, crate::proofs::WritingLemmas::keeps_on))]
 impl Written for Unpublish {
     ghost canon = { canon_unpublish };
 
@@ -360,7 +355,6 @@ impl Message for Validate {
     }
 }
 
-#[tactic(auto, using(crate::proofs::WritingLemmas::wrote_two, crate::proofs::WritingLemmas::keeps_on))]
 impl Written for Validate {
     ghost canon = { canon_validate };
 
@@ -416,7 +410,6 @@ impl Message for ListVolumes {
     }
 }
 
-#[tactic(auto, using(crate::proofs::WritingLemmas::wrote_two, crate::proofs::WritingLemmas::keeps_on))]
 impl Written for ListVolumes {
     ghost canon = { canon_list };
 
@@ -469,7 +462,6 @@ impl Message for GetCapacity {
     }
 }
 
-#[tactic(auto, using(crate::proofs::WritingLemmas::wrote_two, crate::proofs::WritingLemmas::keeps_on))]
 impl Written for GetCapacity {
     ghost canon = { canon_capacity };
 

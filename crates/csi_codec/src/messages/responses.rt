@@ -194,7 +194,6 @@ impl Message for FreeCapacity {
 }
 
 /// Appends a `GetPluginInfoResponse`. Where memory is refused a part of it may stand there, and so for the others.
-#[tactic(auto, using(crate::proofs::WritingLemmas::wrote_two, crate::proofs::WritingLemmas::keeps_on))]
 pub fn put_plugin_info(out: &mut Vec<u8>, name: &Text, version: &Text) -> Result<(), AllocError>
     ensures ok { OnOk result (out.new.items ≡ out.old.items ++ bytes_of (canon_info (record { name = name.now; version = version.now }))) }
     ensures fitting { OnOk result (FitsInfo (record { name = name.now; version = version.now })) }
@@ -206,7 +205,6 @@ pub fn put_plugin_info(out: &mut Vec<u8>, name: &Text, version: &Text) -> Result
 }
 
 /// Appends a `ValidateVolumeCapabilitiesResponse`.
-#[tactic(auto, using(crate::proofs::WritingLemmas::wrote_two, crate::proofs::WritingLemmas::keeps_on))]
 pub fn put_validation(
     out: &mut Vec<u8>,
     confirmed: &Option<Confirmed>,
@@ -222,7 +220,6 @@ pub fn put_validation(
 }
 
 /// Appends a `ListVolumesResponse`.
-#[tactic(auto, using(crate::proofs::WritingLemmas::wrote_two, crate::proofs::WritingLemmas::keeps_on))]
 pub fn put_listing(
     out: &mut Vec<u8>,
     entries: &Items<Entry>,
@@ -238,7 +235,6 @@ pub fn put_listing(
 }
 
 /// Appends a `GetCapacityResponse`.
-#[tactic(auto, using(crate::proofs::WritingLemmas::wrote_two, crate::proofs::WritingLemmas::keeps_on))]
 pub fn put_free_capacity(
     out: &mut Vec<u8>,
     available: i64,

@@ -116,7 +116,6 @@ impl Message for Capability {
     }
 }
 
-#[tactic(auto, using(crate::proofs::WritingLemmas::wrote_three, crate::proofs::WritingLemmas::keeps_on, crate::proofs::WritingLemmas::keeps_thrice))]
 impl Written for Mount {
     ghost canon = { canon_mount };
 
@@ -143,7 +142,6 @@ fn put_access(out: &mut Vec<u8>, access: &Access) -> Result<(), AllocError>
     }
 }
 
-#[tactic(auto, using(crate::proofs::WritingLemmas::wrote_two, crate::proofs::WritingLemmas::keeps_on))]
 impl Written for Capability {
     ghost canon = { canon_capability };
 
@@ -191,7 +189,6 @@ impl Message for CapacityRange {
     }
 }
 
-#[tactic(auto, using(crate::proofs::WritingLemmas::wrote_two, crate::proofs::WritingLemmas::keeps_on))]
 impl Written for CapacityRange {
     ghost canon = { canon_range };
 
@@ -240,7 +237,6 @@ impl Message for Requirement {
     }
 }
 
-#[tactic(auto, using(crate::proofs::WritingLemmas::wrote_two, crate::proofs::WritingLemmas::keeps_on))]
 impl Written for Requirement {
     ghost canon = { canon_requirement };
 
@@ -299,7 +295,6 @@ impl Message for VolumeInfo {
     }
 }
 
-#[tactic(auto, using(crate::proofs::WritingLemmas::wrote_two, crate::proofs::WritingLemmas::keeps_on))]
 impl Written for VolumeInfo {
     ghost canon = { canon_volume };
 
@@ -398,7 +393,6 @@ impl Message for Entry {
     }
 }
 
-#[tactic(auto, using(crate::proofs::WritingLemmas::wrote_two, crate::proofs::WritingLemmas::keeps_on))]
 impl Written for Entry {
     ghost canon = { canon_entry };
 
@@ -450,7 +444,6 @@ impl Message for Confirmed {
     }
 }
 
-#[tactic(auto, using(crate::proofs::WritingLemmas::wrote_three, crate::proofs::WritingLemmas::keeps_on, crate::proofs::WritingLemmas::keeps_thrice))]
 impl Written for Confirmed {
     ghost canon = { canon_confirmed };
 

@@ -7,13 +7,13 @@ use Rattle.csi_adoption.proofs.FaultLemmas.{is_err, not_memory}
 use Rattle.csi_adoption.proofs.ChainLemmas.{clean_before, ended, failed, shown_behind, chained}
 use Rattle.csi_adoption.proofs.adopting.judge_joined.Goals as goal
 
-pub returns-in_err-unowned-clause-judged : goal.returns-in_err-unowned-clause-judged
-returns-in_err-unowned-clause-judged g c = λ clean next seen fine rows same is.
-    joined_failure c.args.config.now (state g.S.Store c.args.conn.now).now.trees c.args.tables.now c.from_residual.result c.in_err-unowned.field-0.0 c.from_residual.ensures.1
+pub returns-in_err-see_owners-clause-judged : goal.returns-in_err-see_owners-clause-judged
+returns-in_err-see_owners-clause-judged g c = λ clean next seen fine rows same is.
+    joined_failure c.args.config.now (state g.S.Store c.args.conn.now).now.trees c.args.tables.now c.from_residual.result c.in_err-see_owners.field-0.0 c.from_residual.ensures.1
 
 pub returns-in_err-check_attachment-clause-scans : goal.returns-in_err-check_attachment-clause-scans
 returns-in_err-check_attachment-clause-scans g c =
-    ended g.S.Store c.args.conn.now c.see_owners.new.conn _ c.from_residual-in_err-check_attachment.result c.in_ok-unowned.ensures.scans
+    ended g.S.Store c.args.conn.now c.see_owners.new.conn _ c.from_residual-in_err-check_attachment.result c.in_ok-see_owners.ensures.scans
 
 pub returns-in_err-check_attachment-clause-judged : goal.returns-in_err-check_attachment-clause-judged
 returns-in_err-check_attachment-clause-judged g c = λ clean next seen fine rows same is.
@@ -21,44 +21,44 @@ returns-in_err-check_attachment-clause-judged g c = λ clean next seen fine rows
     let config = c.args.config.now in
     let tables = c.args.tables.now in
     let db = (state g.S.Store c.args.conn.now).now.trees in
-    let owned = c.in_ok-unowned.ensures.seen clean in
+    let owned = c.in_ok-see_owners.ensures.seen clean in
     subst (λ r. JudgesRows config db (volumes_unless tables r)) (sym answer) (judged_err config db c.in_err-check_attachment.field-0.0 (λ known.
-    owner_fault config db next rows same is tables seen owned.0 owned.1 c.in_ok-unowned.unowned owned.2 fine c.in_err-check_attachment.field-0.0 (c.in_err-check_attachment.ensures (not_memory c.in_err-check_attachment.field-0.0 known))))
+    owner_fault config db next rows same is tables seen owned.0 owned.1 c.in_ok-see_owners.field-0 owned.2 fine c.in_err-check_attachment.field-0.0 (c.in_err-check_attachment.ensures (not_memory c.in_err-check_attachment.field-0.0 known))))
 
-pub returns-in_err-apart-clause-scans : goal.returns-in_err-apart-clause-scans
-returns-in_err-apart-clause-scans g c =
-    failed g.S.Store c.args.conn.now c.see_apart.new.conn _ c.from_residual-in_err-apart.result c.from_residual-in_err-apart.ensures.0
-    (chained g.S.Store c.args.conn.now c.see_owners.new.conn c.see_apart.new.conn _ _ c.in_ok-unowned.ensures.scans c.in_err-apart.ensures.scans)
+pub returns-in_err-see_apart-clause-scans : goal.returns-in_err-see_apart-clause-scans
+returns-in_err-see_apart-clause-scans g c =
+    failed g.S.Store c.args.conn.now c.see_apart.new.conn _ c.from_residual-in_err-see_apart.result c.from_residual-in_err-see_apart.ensures.0
+    (chained g.S.Store c.args.conn.now c.see_owners.new.conn c.see_apart.new.conn _ _ c.in_ok-see_owners.ensures.scans c.in_err-see_apart.ensures.scans)
 
-pub returns-in_err-apart-clause-judged : goal.returns-in_err-apart-clause-judged
-returns-in_err-apart-clause-judged g c = λ clean next seen fine rows same is.
-    joined_failure c.args.config.now (state g.S.Store c.args.conn.now).now.trees c.args.tables.now c.from_residual-in_err-apart.result c.in_err-apart.field-0.0 c.from_residual-in_err-apart.ensures.1
+pub returns-in_err-see_apart-clause-judged : goal.returns-in_err-see_apart-clause-judged
+returns-in_err-see_apart-clause-judged g c = λ clean next seen fine rows same is.
+    joined_failure c.args.config.now (state g.S.Store c.args.conn.now).now.trees c.args.tables.now c.from_residual-in_err-see_apart.result c.in_err-see_apart.field-0.0 c.from_residual-in_err-see_apart.ensures.1
 
 pub returns-in_err-check_counts-clause-scans : goal.returns-in_err-check_counts-clause-scans
 returns-in_err-check_counts-clause-scans g c =
     ended g.S.Store c.args.conn.now c.see_apart.new.conn _ c.from_residual-in_err-check_counts.result
-    (chained g.S.Store c.args.conn.now c.see_owners.new.conn c.see_apart.new.conn _ _ c.in_ok-unowned.ensures.scans c.in_ok-apart.ensures.scans)
+    (chained g.S.Store c.args.conn.now c.see_owners.new.conn c.see_apart.new.conn _ _ c.in_ok-see_owners.ensures.scans c.in_ok-see_apart.ensures.scans)
 
 pub returns-in_err-check_counts-clause-judged : goal.returns-in_err-check_counts-clause-judged
 returns-in_err-check_counts-clause-judged g c = λ clean next seen fine rows same is.
     let answer : c.from_residual-in_err-check_counts.result ≡ Err c.in_err-check_counts.field-0.0 = is_err c.from_residual-in_err-check_counts.result c.in_err-check_counts.field-0.0 c.from_residual-in_err-check_counts.ensures.1 in
     let db = (state g.S.Store c.args.conn.now).now.trees in
-    let owned = c.in_ok-unowned.ensures.seen (clean_before g.S.Store c.see_owners.new.conn c.see_apart.new.conn _ c.in_ok-apart.ensures.scans clean) in
+    let owned = c.in_ok-see_owners.ensures.seen (clean_before g.S.Store c.see_owners.new.conn c.see_apart.new.conn _ c.in_ok-see_apart.ensures.scans clean) in
     let places = shown_behind g.S.Store c.args.conn.now c.see_owners.new.conn c.see_apart.new.conn _ _ (λ db rows. IsPermutation (map seen_attachment (db 3)) rows)
-    c.in_ok-unowned.ensures.scans c.in_ok-apart.ensures.scans c.in_ok-apart.ensures.seen clean in
+    c.in_ok-see_owners.ensures.scans c.in_ok-see_apart.ensures.scans c.in_ok-see_apart.ensures.seen clean in
     subst (λ r. JudgesRows c.args.config.now db (volumes_unless c.args.tables.now r)) (sym answer) (judged_err c.args.config.now db c.in_err-check_counts.field-0.0 (λ known.
-    counts_fault c.args.config.now db next rows same is c.args.tables.now seen owned.0 owned.1 c.in_ok-unowned.unowned owned.2 fine places.0 places.1 c.in_ok-apart.apart places.2 c.in_ok-check_attachment.ensures
+    counts_fault c.args.config.now db next rows same is c.args.tables.now seen owned.0 owned.1 c.in_ok-see_owners.field-0 owned.2 fine places.0 places.1 c.in_ok-see_apart.field-0 places.2 c.in_ok-check_attachment.ensures
     c.in_err-check_counts.field-0.0 (c.in_err-check_counts.ensures (not_memory c.in_err-check_counts.field-0.0 known))))
 
 pub returns-clause-scans : goal.returns-clause-scans
 returns-clause-scans g c =
     ended g.S.Store c.args.conn.now c.see_apart.new.conn _ _
-    (chained g.S.Store c.args.conn.now c.see_owners.new.conn c.see_apart.new.conn _ _ c.in_ok-unowned.ensures.scans c.in_ok-apart.ensures.scans)
+    (chained g.S.Store c.args.conn.now c.see_owners.new.conn c.see_apart.new.conn _ _ c.in_ok-see_owners.ensures.scans c.in_ok-see_apart.ensures.scans)
 
 pub returns-clause-judged : goal.returns-clause-judged
 returns-clause-judged g c = λ clean next seen fine rows same is.
     let db = (state g.S.Store c.args.conn.now).now.trees in
-    let owned = c.in_ok-unowned.ensures.seen (clean_before g.S.Store c.see_owners.new.conn c.see_apart.new.conn _ c.in_ok-apart.ensures.scans clean) in
+    let owned = c.in_ok-see_owners.ensures.seen (clean_before g.S.Store c.see_owners.new.conn c.see_apart.new.conn _ c.in_ok-see_apart.ensures.scans clean) in
     let places = shown_behind g.S.Store c.args.conn.now c.see_owners.new.conn c.see_apart.new.conn _ _ (λ db rows. IsPermutation (map seen_attachment (db 3)) rows)
-    c.in_ok-unowned.ensures.scans c.in_ok-apart.ensures.scans c.in_ok-apart.ensures.seen clean in
-    none_broken c.args.config.now db next rows same is c.args.tables.now seen owned.0 owned.1 c.in_ok-unowned.unowned owned.2 fine places.0 places.1 c.in_ok-apart.apart places.2 c.in_ok-check_attachment.ensures c.in_ok-check_counts.ensures
+    c.in_ok-see_owners.ensures.scans c.in_ok-see_apart.ensures.scans c.in_ok-see_apart.ensures.seen clean in
+    none_broken c.args.config.now db next rows same is c.args.tables.now seen owned.0 owned.1 c.in_ok-see_owners.field-0 owned.2 fine places.0 places.1 c.in_ok-see_apart.field-0 places.2 c.in_ok-check_attachment.ensures c.in_ok-check_counts.ensures

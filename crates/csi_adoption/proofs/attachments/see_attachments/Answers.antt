@@ -9,7 +9,7 @@ use Rattle.csi_adoption.proofs.attachments.see_attachments.Goals as goal
 
 pub returns-clause-seen : goal.returns-clause-seen
 returns-clause-seen g c clean =
-    let seen = rw c.in_ok-scan_attachments.was at (c.scan_attachments.ensures.ok clean) in
+    let seen = rw c.in_ok-scanned.was at (c.scan_attachments-scanned.ensures.ok clean) in
     let rows = seen.0 in
     let all = seen.2 in
     let kinds = c.kinds.ensures in
@@ -17,12 +17,12 @@ returns-clause-seen g c clean =
     let nodes = c.in_ok-nodes.ensures in (
       rows,
       seen.1,
-      subst (SeesAttachments c.args.config.now rows) (sym c.seen_by.ensures) (sees_attachments c.args.config.now rows _
+      subst (SeesAttachments c.args.config.now rows) (sym c.seen_by-seen.ensures) (sees_attachments c.args.config.now rows _
           (named 0 2 _ _ has_attachment_kinds _ _ rows kinds.number kinds.text kinds.none all.0.0.0.3)
           (named 1 2 _ _ has_cap _ _ rows codes.number_first codes.text_first codes.none_first all.0.1.0.3)
           (named 1 2 _ _ has_flag _ _ rows codes.number_second codes.text_second codes.none_second all.0.1.1.3)
           (named_by 1 2 _ _ (λ config. is_at_node config.nodes) _ _ _ _ rows nodes.config nodes.number nodes.text nodes.none all.1.0.3)
           (all_sums 2 (λ m. m.id) One rows c.args.config.now.nodes _ _ nodes.sums all.1.1)
-          (risen _ _ _ _ _ rows kinds.column kinds.good kinds.last all.0.0.1.1 c.if-not-fold.false)
+          (risen _ _ _ _ _ rows kinds.column kinds.good kinds.last all.0.0.1.1 c.if-not-rises.false)
           all.0.1.0.4),
     )

@@ -9,7 +9,7 @@ use Rattle.csi_adoption.proofs.volumes.see_volumes.Goals as goal
 
 pub returns-clause-seen : goal.returns-clause-seen
 returns-clause-seen g c clean =
-    let seen = rw c.in_ok-scan_volumes.was at (c.scan_volumes.ensures.ok clean) in
+    let seen = rw c.in_ok-scanned.was at (c.scan_volumes-scanned.ensures.ok clean) in
     let rows = seen.0 in
     let all = seen.2 in
     let kinds = c.kinds.ensures in
@@ -19,7 +19,7 @@ returns-clause-seen g c clean =
     let sums = c.in_ok-sums.ensures in (
       rows,
       seen.1,
-      subst (SeesVolumes c.args.config.now c.args.meta rows) (sym c.seen_by.ensures) (sees_volumes c.args.config.now c.args.meta rows _ refl
+      subst (SeesVolumes c.args.config.now c.args.meta rows) (sym c.seen_by-seen.ensures) (sees_volumes c.args.config.now c.args.meta rows _ refl
           (named 0 1 _ _ has_volume_kinds _ _ rows kinds.number kinds.text kinds.none all.0.0.0.0.3)
           (named_by 0 1 _ _ is_numbered _ _ _ _ rows names.next names.number_first names.text_first names.none_first all.0.0.1.0.3)
           (named 0 1 _ _ is_named _ _ rows names.number_second names.text_second names.none_second all.0.0.1.1.3)
@@ -30,7 +30,7 @@ returns-clause-seen g c clean =
           (all_sums 3 (λ p. p.name) (Number 2) rows c.args.config.now.pools _ _ sums.bytes all.1.0.0)
           (all_sums 3 (λ p. p.name) One rows c.args.config.now.pools _ _ sums.volumes all.1.0.1)
           (counted _ _ rows sums.rows all.1.1)
-          (risen _ _ _ _ _ rows kinds.column kinds.good kinds.last all.0.0.0.1.1 c.if-not-fold.false)
+          (risen _ _ _ _ _ rows kinds.column kinds.good kinds.last all.0.0.0.1.1 c.if-not-rises.false)
           all.0.1.1.0.4
           all.0.1.1.1.4),
     )
