@@ -1,3 +1,4 @@
+pub mod Compiling
 pub mod Failing
 pub mod Steps
 pub mod Writes

@@ -1,5 +1,5 @@
 -- The texts of the statements, and what each computes to under the schema.
-use Rattle.std.proofs.Common.{refl, [], ◌∷◌, arith, codes, List, ℕ}
+use Rattle.std.proofs.Common.{◌≡◌, refl, [], ◌∷◌, arith, codes, length, List, Ok, ℕ}
 use Rattle.sqlite.specs.Command.{Command}
 use Rattle.sqlite.specs.Command.TheVariants.{Insert, Update, Delete}
 use Rattle.sqlite.specs.Listing.{understood}
@@ -12,7 +12,9 @@ use Rattle.sqlite_sql.specs.declared.ops.BinaryOp.TheVariants.{Compare}
 use Rattle.sqlite_sql.specs.declared.ops.CompareOp.TheVariants.{Eq}
 use Rattle.sqlite_sql.specs.declared.ops.UnaryOp.TheVariants.{ToNumeric}
 use Rattle.sqlite_tied.specs.Compute.{everything}
-use Rattle.csi_schema.specs.facts.Failing.{IsAloneWrite, IsSelect, IsSure, only_limit, sure_of}
+use Rattle.csi_schema.specs.facts.Compiling as known
+use Rattle.csi_schema.specs.facts.Compiling.{Compiles, parameters, selects, whole}
+use Rattle.csi_schema.specs.facts.Failing.{IsAloneWrite, IsNeverRefused, IsSelect, IsSure, only_limit, sure_of}
 use Rattle.csi_schema.specs.facts.Writes.{IsCommand}
 use Rattle.csi_schema.specs.declared.formats.TheConstants.{LATEST_FORMAT}
 use Rattle.csi_transactions.specs.Selecting.{asked, given, query}
@@ -70,63 +72,96 @@ command Attach = Insert 2 (Values attach_terms 5)
 command Detach = Delete 2 (record { lets = []; body = detach_query })
 command DetachAll = Delete 2 (record { lets = []; body = detach_all_query })
 
+compiles_write : (w : Write) → Compiles (text w) (command w) (arity w)
+unfolding everything
+compiles_write AddVolume = record { is = refl }
+compiles_write SetNext = record { is = refl }
+compiles_write SetFormat = record { is = refl }
+compiles_write SetParams = record { is = refl }
+compiles_write RemoveVolume = record { is = refl }
+compiles_write Attach = record { is = refl }
+compiles_write Detach = record { is = refl }
+compiles_write DetachAll = record { is = refl }
+
 pub is_command : (w : Write) → IsCommand (text w) (command w)
-unfolding understood everything
-is_command AddVolume = record { is = refl; plain = (refl, refl) }
-is_command SetNext = record { is = refl; plain = (refl, refl) }
-is_command SetFormat = record { is = refl; plain = (refl, refl) }
-is_command SetParams = record { is = refl; plain = (refl, refl) }
-is_command RemoveVolume = record { is = refl; plain = (refl, refl) }
-is_command Attach = record { is = refl; plain = (refl, refl) }
-is_command Detach = record { is = refl; plain = (refl, refl) }
-is_command DetachAll = record { is = refl; plain = (refl, refl) }
+is_command w = known.is_command (compiles_write w)
+
+whole_alone : (w : Write) → IsAloneWrite (text w) (arity w) (Ok (whole (text w) (command w) (arity w)))
+whole_alone AddVolume = (omega arith, refl, refl, tt, refl)
+whole_alone SetNext = (omega arith, refl, refl, tt, refl)
+whole_alone SetFormat = (omega arith, refl, refl, tt, refl)
+whole_alone SetParams = (omega arith, refl, refl, tt, refl)
+whole_alone RemoveVolume = (omega arith, refl, refl, tt, refl)
+whole_alone Attach = (omega arith, refl, refl, tt, refl)
+whole_alone Detach = (omega arith, refl, refl, tt, refl)
+whole_alone DetachAll = (omega arith, refl, refl, tt, refl)
 
 pub alone : (w : Write) → IsAloneWrite (text w) (arity w) (understood schema (text w))
-unfolding understood everything
-alone AddVolume = (omega arith, refl, refl, tt, refl)
-alone SetNext = (omega arith, refl, refl, tt, refl)
-alone SetFormat = (omega arith, refl, refl, tt, refl)
-alone SetParams = (omega arith, refl, refl, tt, refl)
-alone RemoveVolume = (omega arith, refl, refl, tt, refl)
-alone Attach = (omega arith, refl, refl, tt, refl)
-alone Detach = (omega arith, refl, refl, tt, refl)
-alone DetachAll = (omega arith, refl, refl, tt, refl)
+alone w = known.is_alone_write (compiles_write w) (whole_alone w)
 
 -- ---- reads
 
 abbrev volume_names : List (List ℕ)
 volume_names = codes "number" ∷ codes "name" ∷ codes "bytes" ∷ codes "pool" ∷ codes "caps" ∷ codes "params" ∷ []
 
+-- what the columns are called that a SELECT shows
+abbrev shown_names : Select → List (List ℕ)
+shown_names (Numbered number) = volume_names
+shown_names (Named name) = volume_names
+shown_names (Sizes pool) = codes "bytes" ∷ []
+shown_names (Page after count) = volume_names
+shown_names (PageNumbers after count) = codes "number" ∷ []
+shown_names (Nodes number) = codes "node" ∷ codes "cap" ∷ codes "readonly" ∷ []
+shown_names (Attached node) = codes "number" ∷ []
+shown_names (Places after last) = codes "number" ∷ codes "node" ∷ []
+
+compiles_select : (q : Select) → Compiles (asked q) (selects (query q) (shown_names q)) (length (given q))
+unfolding everything
+compiles_select (Numbered number) = record { is = refl }
+compiles_select (Named name) = record { is = refl }
+compiles_select (Sizes pool) = record { is = refl }
+compiles_select (Page after count) = record { is = refl }
+compiles_select (PageNumbers after count) = record { is = refl }
+compiles_select (Nodes number) = record { is = refl }
+compiles_select (Attached node) = record { is = refl }
+compiles_select (Places after last) = record { is = refl }
+
 pub is_select : (q : Select) → IsSelect schema (asked q) (query q)
-unfolding understood everything
-is_select (Numbered number) = record { names = volume_names; is = refl; plain = (refl, refl); unlisted = refl }
-is_select (Named name) = record { names = volume_names; is = refl; plain = (refl, refl); unlisted = refl }
-is_select (Sizes pool) = record { names = codes "bytes" ∷ []; is = refl; plain = (refl, refl); unlisted = refl }
-is_select (Page after count) = record { names = volume_names; is = refl; plain = (refl, refl); unlisted = refl }
-is_select (PageNumbers after count) = record { names = codes "number" ∷ []; is = refl; plain = (refl, refl); unlisted = refl }
-is_select (Nodes number) = record { names = codes "node" ∷ codes "cap" ∷ codes "readonly" ∷ []; is = refl; plain = (refl, refl); unlisted = refl }
-is_select (Attached node) = record { names = codes "number" ∷ []; is = refl; plain = (refl, refl); unlisted = refl }
-is_select (Places after last) = record { names = codes "number" ∷ codes "node" ∷ []; is = refl; plain = (refl, refl); unlisted = refl }
+is_select q = known.is_select (compiles_select q)
 
 abbrev pub number_text : List ℕ
 number_text = codes "SELECT next_number FROM meta"
 
+compiles_number : Compiles number_text (selects number_query (codes "next_number" ∷ [])) 0
+unfolding everything
+compiles_number = record { is = refl }
+
 pub number_select : IsSelect schema number_text number_query
-unfolding understood everything
-number_select = record { names = codes "next_number" ∷ []; is = refl; plain = (refl, refl); unlisted = refl }
+number_select = known.is_select compiles_number
 
 -- nothing but a limit on its steps refuses it
 pub number_sure : IsSure schema number_text ([])
-unfolding understood everything
-number_sure = sure_of ([]) number_select (omega arith, refl, refl) (λ limit db e h. only_limit h (λ over. over.4))
+number_sure = sure_of ([]) number_select (known.is_alone compiles_number refl) (λ limit db e h. only_limit h (λ over. over.4))
+
+each_named : (q : Select) → length (parameters (length (given q))) ≡ length (given q)
+each_named (Numbered number) = refl
+each_named (Named name) = refl
+each_named (Sizes pool) = refl
+each_named (Page after count) = refl
+each_named (PageNumbers after count) = refl
+each_named (Nodes number) = refl
+each_named (Attached node) = refl
+each_named (Places after last) = refl
+
+never_refused : (q : Select) → IsNeverRefused schema (given q) (query q)
+never_refused (Numbered number) = λ limit db e h. only_limit h (λ over. over.4)
+never_refused (Named name) = λ limit db e h. only_limit h (λ over. over.4)
+never_refused (Sizes pool) = λ limit db e h. only_limit h (λ over. over.4)
+never_refused (Page after count) = λ limit db e h. only_limit h (λ over. over.4)
+never_refused (PageNumbers after count) = λ limit db e h. only_limit h (λ over. over.4)
+never_refused (Nodes number) = λ limit db e h. only_limit h (λ over. over.4)
+never_refused (Attached node) = λ limit db e h. only_limit h (λ over. over.4)
+never_refused (Places after last) = λ limit db e h. only_limit h (λ over. over.4)
 
 pub is_sure : (q : Select) → IsSure schema (asked q) (given q)
-unfolding understood everything
-is_sure (Numbered number) = sure_of (given (Numbered number)) (is_select (Numbered number)) (omega arith, refl, refl) (λ limit db e h. only_limit h (λ over. over.4))
-is_sure (Named name) = sure_of (given (Named name)) (is_select (Named name)) (omega arith, refl, refl) (λ limit db e h. only_limit h (λ over. over.4))
-is_sure (Sizes pool) = sure_of (given (Sizes pool)) (is_select (Sizes pool)) (omega arith, refl, refl) (λ limit db e h. only_limit h (λ over. over.4))
-is_sure (Page after count) = sure_of (given (Page after count)) (is_select (Page after count)) (omega arith, refl, refl) (λ limit db e h. only_limit h (λ over. over.4))
-is_sure (PageNumbers after count) = sure_of (given (PageNumbers after count)) (is_select (PageNumbers after count)) (omega arith, refl, refl) (λ limit db e h. only_limit h (λ over. over.4))
-is_sure (Nodes number) = sure_of (given (Nodes number)) (is_select (Nodes number)) (omega arith, refl, refl) (λ limit db e h. only_limit h (λ over. over.4))
-is_sure (Attached node) = sure_of (given (Attached node)) (is_select (Attached node)) (omega arith, refl, refl) (λ limit db e h. only_limit h (λ over. over.4))
-is_sure (Places after last) = sure_of (given (Places after last)) (is_select (Places after last)) (omega arith, refl, refl) (λ limit db e h. only_limit h (λ over. over.4))
+is_sure q = sure_of (given q) (is_select q) (known.is_alone (compiles_select q) (each_named q)) (never_refused q)

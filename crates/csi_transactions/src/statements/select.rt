@@ -10,7 +10,7 @@ use sqlite::types::ValueRef;
 use sqlite::{Alter, Error, Row, Transaction};
 
 /// A SELECT of rows of one table.
-#[derive(Clone, Copy, Debug)]
+#[derive(Clone, Copy)]
 pub(crate) enum Select<'a> {
     /// The volume of a number.
     Numbered(u64),

@@ -15,7 +15,7 @@ use sqlite::types::ValueRef;
 use sqlite::{Alter, Transaction};
 
 /// A row of volumes.
-#[derive(Clone, Copy, Debug)]
+#[derive(Clone, Copy)]
 pub(crate) struct VolumeRow<'a> {
     pub(crate) number: u64,
     pub(crate) name: &'a str,
