@@ -4,7 +4,7 @@
 //! change is made and committed; after a fault the State stays, and a stop may leave the change made.
 //! The totals are moved only once the change is committed, and that takes no memory.
 
-ghost use Rattle.std.specs.Prelude.{◌≡◌, ◌<◌, ◌^◌, [], ◌∷◌, List, ℕ, false, IfOk, IsErrOf, IsUtf8, OnOk};
+ghost use Rattle.std.specs.Prelude.{◌≡◌, ◌<◌, ◌^◌, [], ◌∷◌, List, ℕ, false, IfOk, IsErrOf, IsUtf8, OnOk, option_map};
 ghost use Rattle.sqlite.specs.Held.{state};
 ghost use Rattle.csi_keeper.specs.State.{State, IsBounded, changed};
 ghost use Rattle.csi_keeper.specs.Totals.{HasRoom, IsReserved, total_of};
@@ -177,6 +177,16 @@ pub(crate) fn unmake_volume<S: Alter>(
     Ok(())
 }
 
+// The parameters of a volume, which is taken apart here, where nothing fails.
+fn params_of(volume: Option<Volume>) -> Option<Map>
+    ensures { result ≡ option_map (λ v. v.params) volume }
+{
+    match volume {
+        Some(volume) => Some(volume.params),
+        None => None,
+    }
+}
+
 /// Gives a volume other mutable parameters. The volume is read first, since they stand in one column
 /// with its parameters, which stay.
 pub(crate) fn make_mutable<S: Alter>(
@@ -196,10 +206,10 @@ pub(crate) fn make_mutable<S: Alter>(
         return make_nothing(conn);
     }
     let stands = by_number(alloc, conn, number)?;
-    let Some(volume) = stands else {
+    let Some(params) = params_of(stands) else {
         return Ok(());
     };
-    let params = write_params(alloc, &volume.params, mutable)?;
+    let params = write_params(alloc, &params, mutable)?;
     set_params(conn, number, &params)?;
     Ok(())
 }

@@ -141,7 +141,6 @@ fn keys_of(alloc: Global, capabilities: &[Capability]) -> Result<Items<CapKey>, 
 }
 
 /// The keys whose bytes these are.
-#[tactic(auto, using(crate::proofs::EncodingLemmas::caps_read))]
 pub(crate) fn read_caps(alloc: Global, bytes: &[u8]) -> Result<Items<CapKey>, Fault>
     ensures ok { IfOk result (λ keys. (ks : List Key) → FitCaps ks → bytes.now ≡ caps_bytes ks → keys ≡ ks) }
     ensures refused { IsErrOf result Refused → (ks : List Key) → FitCaps ks → AreKnown ks → bytes.now ≢ caps_bytes ks }

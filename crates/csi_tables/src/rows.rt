@@ -63,13 +63,18 @@ pub(crate) fn volume_from(alloc: Global, row: &Row) -> Result<Volume, Fault>
     ensures ok { IfOk result (λ v. (e : ℕ × Stored) → IsStored e → row.now ≡ volume_entry e → v ≡ e.1) }
     ensures refused { IsErrOf result Refused → (e : ℕ × Stored) → IsReadable e → row.now ≢ volume_entry e }
 {
+    let number = number_in(row, 0)?;
+    let name = text_in(row, 1)?;
+    let bytes = number_in(row, 2)?;
+    let pool = text_in(row, 3)?;
+    let caps = caps_in(alloc, row, 4)?;
     let (params, mutable) = params_in(alloc, row, 5)?;
     Ok(Volume {
-        number: number_in(row, 0)?,
-        name: text_in(row, 1)?,
-        bytes: number_in(row, 2)?,
-        pool: text_in(row, 3)?,
-        caps: caps_in(alloc, row, 4)?,
+        number,
+        name,
+        bytes,
+        pool,
+        caps,
         params,
         mutable,
     })

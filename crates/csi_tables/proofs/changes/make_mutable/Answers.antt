@@ -1,18 +1,28 @@
-use Rattle.std.proofs.Common.{◌≡◌, ◌∙◌, sym, subst, arith, Option, IsSome, true≢false, [], ◌∷◌, rules}
+use Rattle.std.specs.Option.{option_map}
+use Rattle.std.proofs.Common.{◌≡◌, ◌∙◌, refl, sym, ap, subst, arith, Option, Some, None, IsSome, true≢false, [], ◌∷◌, rules}
 use Rattle.sqlite.specs.Held.{state}
 use Rattle.sqlite.specs.declared.types.Value.TheVariants.{Blob}
+use Rattle.csi_types.specs.Maps.{TextMap}
 use Rattle.csi_keeper.specs.declared.change.Change.TheVariants.{SetMutable}
 use Rattle.csi_keeper.specs.declared.volume.Volume.{Volume}
 use Rattle.csi_transactions.specs.Rows.{number_value}
 use Rattle.csi_transactions.specs.Texts as texts
 use Rattle.csi_transactions.specs.Updates.{SetsParams}
-use Rattle.csi_tables.specs.Encoding.{params_bytes}
+use Rattle.csi_tables.specs.Encoding.{params_bytes, FitParams}
 use Rattle.csi_tables.specs.Holding.{IsStorable}
 use Rattle.csi_tables.proofs.ChangeLemmas.{changes_behind, changes_never, changes_not_behind, stays, unmade}
 use Rattle.csi_tables.proofs.KeepLemmas.{is_quiet, fails_quiet, on_err, on_ok_so}
 use Rattle.csi_tables.proofs.RowLemmas.{none_set, nothing_set, rows_mutable, storable_mutable}
 use Rattle.csi_tables.proofs.RefusalLemmas.{refuses_same}
 use Rattle.csi_tables.proofs.changes.make_mutable.Goals as goal
+
+none_stands : (o : Option Volume) → option_map (λ (v : Volume). v.params) o ≡ None → o ≡ None
+none_stands None is = refl
+none_stands (Some v) is = absurd cc
+
+one_stands : (o : Option Volume) (p : TextMap) → option_map (λ (v : Volume). v.params) o ≡ Some p → (v : Volume) × (o ≡ Some v) × (v.params ≡ p)
+one_stands None p is = absurd cc
+one_stands (Some v) p is = (v, refl, cc)
 
 pub returns-then-number-ge-NUMBERS-clause-changes : goal.returns-then-number-ge-NUMBERS-clause-changes
 returns-then-number-ge-NUMBERS-clause-changes g c =
@@ -29,11 +39,11 @@ returns-in_err-stands-clause-changes g c =
 pub returns-in_default-clause-changes : goal.returns-in_default-clause-changes
 returns-in_default-clause-changes g c =
     changes_never (SetMutable c.args.number c.args.mutable.now) c.in_ok-stands.ensures
-    (λ clean s held allowed. true≢false (sym (subst (λ (o : Option Volume). IsSome o) (sym (c.in_ok-stands.ensures.value clean s held) ∙ c.in_default.is) allowed)))
+    (λ clean s held allowed. true≢false (sym (subst (λ (o : Option Volume). IsSome o) (sym (c.in_ok-stands.ensures.value clean s held) ∙ none_stands c.in_ok-stands.stands (sym c.params_of.ensures ∙ c.in_default.is)) allowed)))
 
 pub returns-in_default-clause-stored : goal.returns-in_default-clause-stored
 returns-in_default-clause-stored g c clean s held h =
-    subst IsStorable (sym (none_set c.args.number c.args.mutable.now s (sym (c.in_ok-stands.ensures.value clean s held) ∙ c.in_default.is))) h
+    subst IsStorable (sym (none_set c.args.number c.args.mutable.now s (sym (c.in_ok-stands.ensures.value clean s held) ∙ none_stands c.in_ok-stands.stands (sym c.params_of.ensures ∙ c.in_default.is)))) h
 
 pub returns-in_err-params-clause-changes : goal.returns-in_err-params-clause-changes
 returns-in_err-params-clause-changes g c = record {
@@ -47,11 +57,13 @@ pub returns-in_err-set_params-clause-changes : goal.returns-in_err-set_params-cl
 returns-in_err-set_params-clause-changes g c =
     let n = c.args.number in
     let m = c.args.mutable.now in
-    let v = c.in-Some.volume in
-    let bytes : c.deref.result.now ≡ params_bytes v.params m = c.deref.ensures.value ∙ c.in_ok-params.ensures.bytes in
+    let found = one_stands c.in_ok-stands.stands c.in-Some.params (sym c.params_of.ensures ∙ c.in-Some.is) in
+    let v = found.0 in
+    let fits = subst (λ (p : TextMap). FitParams p m) (sym found.2) c.in_ok-params.ensures.fits in
+    let bytes : c.deref.result.now ≡ params_bytes v.params m = c.deref.ensures.value ∙ c.in_ok-params.ensures.bytes ∙ ap (λ (p : TextMap). params_bytes p m) (sym found.2) in
     let e = c.in_err-set_params.field-0.0 in
     changes_not_behind g.S.Store c.read_back.ensures (SetMutable n m) (SetsParams n (params_bytes v.params m)) (λ old new h. h.schema) c.by_number.ensures
-    (λ clean s held old new has p allowed h. rows_mutable s n m v old new has p (sym (c.in_ok-stands.ensures.value (omega (arith, clean, c.set_params.ensures.survives.clean)) s held) ∙ c.in-Some.is) c.in_ok-params.ensures.fits h)
+    (λ clean s held old new has p allowed h. rows_mutable s n m v old new has p (sym (c.in_ok-stands.ensures.value (omega (arith, clean, c.set_params.ensures.survives.clean)) s held) ∙ found.1) fits h)
     c.from_residual-in_err-set_params.result e
     (λ now limit why. (v.params, e, refuses_same (texts.text texts.SetParams) (number_value n ∷ Blob (params_bytes v.params m) ∷ []) (state g.S.Store c.args.conn.now) (state g.S.Store c.by_number.new.conn) e now limit why))
     (rw bytes at c.in_err-set_params.ensures) c.from_residual-in_err-set_params.ensures.1
@@ -60,12 +72,16 @@ pub returns-clause-changes : goal.returns-clause-changes
 returns-clause-changes g c =
     let n = c.args.number in
     let m = c.args.mutable.now in
-    let v = c.in-Some.volume in
-    let bytes : c.deref.result.now ≡ params_bytes v.params m = c.deref.ensures.value ∙ c.in_ok-params.ensures.bytes in
+    let found = one_stands c.in_ok-stands.stands c.in-Some.params (sym c.params_of.ensures ∙ c.in-Some.is) in
+    let v = found.0 in
+    let fits = subst (λ (p : TextMap). FitParams p m) (sym found.2) c.in_ok-params.ensures.fits in
+    let bytes : c.deref.result.now ≡ params_bytes v.params m = c.deref.ensures.value ∙ c.in_ok-params.ensures.bytes ∙ ap (λ (p : TextMap). params_bytes p m) (sym found.2) in
     changes_behind g.S.Store c.read_back.ensures (SetMutable n m) (SetsParams n (params_bytes v.params m)) (λ old new h. h.schema) c.by_number.ensures
-    (λ clean s held old new has p allowed h. rows_mutable s n m v old new has p (sym (c.in_ok-stands.ensures.value (omega (arith, clean, c.set_params.ensures.survives.clean)) s held) ∙ c.in-Some.is) c.in_ok-params.ensures.fits h)
+    (λ clean s held old new has p allowed h. rows_mutable s n m v old new has p (sym (c.in_ok-stands.ensures.value (omega (arith, clean, c.set_params.ensures.survives.clean)) s held) ∙ found.1) fits h)
     g.met.S.Store.settled (rw bytes at c.in_ok-set_params.ensures)
 
 pub returns-clause-stored : goal.returns-clause-stored
 returns-clause-stored g c clean s held h =
-    storable_mutable s c.args.number c.args.mutable.now c.in-Some.volume (sym (c.in_ok-stands.ensures.value (omega (arith, clean, c.set_params.ensures.survives.clean)) s held) ∙ c.in-Some.is) c.in_ok-params.ensures.fits h
+    let found = one_stands c.in_ok-stands.stands c.in-Some.params (sym c.params_of.ensures ∙ c.in-Some.is) in
+    storable_mutable s c.args.number c.args.mutable.now found.0 (sym (c.in_ok-stands.ensures.value (omega (arith, clean, c.set_params.ensures.survives.clean)) s held) ∙ found.1)
+    (subst (λ (p : TextMap). FitParams p c.args.mutable.now) (sym found.2) c.in_ok-params.ensures.fits) h

@@ -1,8 +1,9 @@
 use Rattle.std.proofs.Common.{◌∙◌, sym, ap, map}
 use Rattle.csi_keeper.specs.Capability.{key_of}
+use Rattle.csi_keeper.specs.facts.Reads.{if_ok}
 use Rattle.csi_tables.specs.declared.fault.Fault.TheVariants.{Refused}
 use Rattle.csi_tables.proofs.CellLemmas.{handed_on}
-use Rattle.csi_tables.proofs.EncodingLemmas.{caps_not_read, caps_without_keys}
+use Rattle.csi_tables.proofs.EncodingLemmas.{caps_read, caps_not_read, caps_without_keys}
 use Rattle.csi_tables.proofs.encoding.read_caps.Goals as goal
 
 pub returns-in_err-message-clause-refused : goal.returns-in_err-message-clause-refused
@@ -12,3 +13,6 @@ returns-in_err-message-clause-refused c is ks fit known = caps_not_read c.read_b
 pub returns-clause-refused : goal.returns-clause-refused
 returns-clause-refused c is ks fit known = caps_without_keys c.read_back.ensures c.args.bytes.now c.in_ok-message.message c.in_ok-message.ensures.ok
     (λ js same. c.keys_of.ensures.refused is js (same ∙ ap (map key_of) (sym c.as_slice.ensures))) ks fit known
+
+pub returns-clause-ok : goal.returns-clause-ok
+returns-clause-ok c = if_ok (λ js same. caps_read c.read_back.ensures c.args.bytes.now c.in_ok-message.message js c.in_ok-message.ensures.ok (same ∙ ap (map key_of) c.as_slice.ensures)) c.keys_of.result c.keys_of.ensures.ok
