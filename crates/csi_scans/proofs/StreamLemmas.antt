@@ -1,5 +1,6 @@
 -- Steps of a query that is read row by row.
 use Rattle.std.proofs.Common.{◌≡◌, ◌⊎◌, inl, inr, ◌∙◌, List, [], ◌∷◌, ◌++◌, length, length-append, ℕ, ◌+◌, arith, sym, subst, Ok, Err, Result, IfErr, OnOk, Option, Some, None}
+use Rattle.std.specs.Result.{IsErrAnd}
 use Rattle.sqlite.specs.Effect.{Database}
 use Rattle.sqlite.specs.Clock.{timed}
 use Rattle.sqlite.specs.Order.{Row}
@@ -77,11 +78,20 @@ behind_rows text old mid new e plain left same h =
     fails_behind (SqlRefusesToRead text [] mid) (SqlRefusesToRead text [] old) old mid new e left.counts same.0.is_open left.limit
     (λ why. subst (λ (l : Option ℕ). SqlRefusesToRead text [] (record old { step_limit = l }) e) left.limit (subst (λ (d : Database). SqlRefusesToRead text [] (record old { now = d; step_limit = mid.step_limit }) e) now why)) told
 
+-- an error that is handed on is no answer
+pub never_ok : {X : Type 0} (r : Result X Error) (e : Error) (P : Type 0) → IsErrAnd r (λ x. x ≡ e) → OnOk r P
+never_ok (Ok x) e P is = absurd is
+never_ok (Err x) e P is = tt
+
 pub one_longer : {X : Type 0} (xs : List X) (x : X) (n : ℕ) → length xs ≡ n → length (xs ++ x ∷ []) ≡ n + 1
 one_longer xs x n h = let e = length-append xs (x ∷ []) in omega (arith, e, h)
 
-pub fails_at : (P : Error → Type 0) (old new mid : State) (e : Error) → mid ≡ new → FailsFor P old mid e → FailsFor P old new e
-fails_at P old new mid e same h = subst (λ (s : State). FailsFor P old s e) same h
+-- the rows of a query are dropped at the end, and leave the connection as the last one did
+pub dropped : {S F X : Type 0} {g : Ghosts S} {old new : Held S} {folds : F → List Row → F → Type 0} {before after : F} {Refuses : Error → Type 0} {r : Result X Error}
+    → (text : List ℕ) (last end : Held S) → end ≡ last → end ≡ new → FoldsOver g old last folds before after (Shown text [] (state g old) (state g last)) Refuses r
+    → FoldsOver g old new folds before after (Shown text [] (state g old) (state g new)) Refuses r
+dropped {g = g} {old = old} {folds = folds} {before = before} {after = after} {Refuses = Refuses} {r = r} text last end is at =
+    subst (λ (h : Held _). FoldsOver g old h folds before after (Shown text [] (state g old) (state g h)) Refuses r) (sym is ∙ at)
 
 -- a scan is refused for nothing but its rows
 scan_fails : {S X : Type 0} (g : Ghosts S) (text : List ℕ) → IsSure schema text [] → (old : Held S) (new : State) (r : Result X Error) → old.schema ≡ schema

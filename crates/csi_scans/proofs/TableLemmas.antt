@@ -6,7 +6,6 @@ use Rattle.std.specs.Ordering.{is_lt, ordering_then}
 use Rattle.std.specs.List.{AllByRecursion}
 use Rattle.std.proofs.lemmas.List.Sorted.{IsPermutation-map}
 use Rattle.sqlite.specs.Collation.TheVariants.{Binary}
-use Rattle.sqlite.specs.Listing.{understood}
 use Rattle.sqlite.specs.Order.{Row, column, value_cmp}
 use Rattle.sqlite.specs.Program.{overlay}
 use Rattle.sqlite.specs.Query.{Query, Output, output, output_cmp, inner, left, end, IsAnswer}
@@ -22,7 +21,8 @@ use Rattle.sqlite_trees.proofs.ListLemmas.{all-permutation}
 use Rattle.sqlite_value.specs.declared.keys.Key.{Key}
 use Rattle.csi_schema.specs.Rows.{seen_attachment, seen_meta, seen_volume}
 use Rattle.csi_schema.specs.Tables.{schema}
-use Rattle.csi_schema.specs.facts.Failing.{IsSelect, IsSure, only_limit, sure_of}
+use Rattle.csi_schema.specs.facts.Compiling.{Compiles, is_alone, is_select, selects}
+use Rattle.csi_schema.specs.facts.Failing.{IsNeverRefused, IsSure, only_limit, sure_of}
 use Rattle.csi_transactions.specs.Statements.{plain_query, rising}
 use Rattle.csi_scans.specs.Scans.{IsInOrder, first_cmp, keyed_attachment}
 
@@ -62,22 +62,32 @@ text scan = (asks scan).0
 abbrev pub query : Scan → Query
 query scan = (asks scan).1
 
-is_select : (scan : Scan) → IsSelect schema (text scan) (query scan)
-unfolding understood everything
-is_select Meta = record { names = codes "k" ∷ codes "format_no" ∷ codes "next_number" ∷ []; is = refl; plain = (refl, refl); unlisted = refl }
-is_select Volumes = record { names = codes "number" ∷ codes "name" ∷ codes "bytes" ∷ codes "pool" ∷ codes "caps" ∷ codes "params" ∷ []; is = refl; plain = (refl, refl); unlisted = refl }
-is_select Attachments = record { names = codes "rowid" ∷ codes "number" ∷ codes "node" ∷ codes "cap" ∷ codes "readonly" ∷ []; is = refl; plain = (refl, refl); unlisted = refl }
-is_select Places = record { names = codes "number" ∷ codes "node" ∷ codes "cap" ∷ codes "readonly" ∷ []; is = refl; plain = (refl, refl); unlisted = refl }
-is_select Owners = record { names = codes "number" ∷ codes "node" ∷ codes "cap" ∷ codes "readonly" ∷ codes "caps" ∷ []; is = refl; plain = (refl, refl); unlisted = refl }
+-- what the columns are called that a scan shows
+abbrev shown_names : Scan → List (List ℕ)
+shown_names Meta = codes "k" ∷ codes "format_no" ∷ codes "next_number" ∷ []
+shown_names Volumes = codes "number" ∷ codes "name" ∷ codes "bytes" ∷ codes "pool" ∷ codes "caps" ∷ codes "params" ∷ []
+shown_names Attachments = codes "rowid" ∷ codes "number" ∷ codes "node" ∷ codes "cap" ∷ codes "readonly" ∷ []
+shown_names Places = codes "number" ∷ codes "node" ∷ codes "cap" ∷ codes "readonly" ∷ []
+shown_names Owners = codes "number" ∷ codes "node" ∷ codes "cap" ∷ codes "readonly" ∷ codes "caps" ∷ []
+
+compiles : (scan : Scan) → Compiles (text scan) (selects (query scan) (shown_names scan)) 0
+unfolding everything
+compiles Meta = record { is = refl }
+compiles Volumes = record { is = refl }
+compiles Attachments = record { is = refl }
+compiles Places = record { is = refl }
+compiles Owners = record { is = refl }
+
+never_refused : (scan : Scan) → IsNeverRefused schema [] (query scan)
+never_refused Meta limit db e h = only_limit h (λ over. over.4)
+never_refused Volumes limit db e h = only_limit h (λ over. over.4)
+never_refused Attachments limit db e h = only_limit h (λ over. over.4)
+never_refused Places limit db e h = only_limit h (λ over. over.4)
+never_refused Owners limit db e h = only_limit h (λ over. over.4.4)
 
 -- nothing but a limit on its steps refuses it
 pub is_sure : (scan : Scan) → IsSure schema (text scan) []
-unfolding understood everything
-is_sure Meta = sure_of [] (is_select Meta) (omega arith, refl, refl) (λ limit db e h. only_limit h (λ over. over.4))
-is_sure Volumes = sure_of [] (is_select Volumes) (omega arith, refl, refl) (λ limit db e h. only_limit h (λ over. over.4))
-is_sure Attachments = sure_of [] (is_select Attachments) (omega arith, refl, refl) (λ limit db e h. only_limit h (λ over. over.4))
-is_sure Places = sure_of [] (is_select Places) (omega arith, refl, refl) (λ limit db e h. only_limit h (λ over. over.4))
-is_sure Owners = sure_of [] (is_select Owners) (omega arith, refl, refl) (λ limit db e h. only_limit h (λ over. over.4.4))
+is_sure scan = sure_of [] (is_select (compiles scan)) (is_alone (compiles scan) refl) (never_refused scan)
 
 -- ---- each row once
 
@@ -154,7 +164,7 @@ shows_in_order t first more db rows a = record {
 -- ---- the scans
 
 pub answer_of : (scan : Scan) (old new : State) (rows : List Row) → old.now.schema ≡ schema → Shown (text scan) [] old new rows → IsAnswer (query scan) (overlay old.now.trees []) [] rows
-answer_of scan old new rows has h = let it = is_select scan in (reads_as (text scan) [] old new schema has _ it.is it.plain it.unlisted rows h).answer Null
+answer_of scan old new rows has h = let it = is_select (compiles scan) in (reads_as (text scan) [] old new schema has _ it.is it.plain it.unlisted rows h).answer Null
 
 pub meta_rows : (old new : State) (rows : List Row) → old.now.schema ≡ schema → Shown (text Meta) [] old new rows → IsPermutation (map seen_meta (old.now.trees 0)) rows
 meta_rows old new rows has h = shows_each 0 (col 1 0 ∷ col 1 2 ∷ col 1 3 ∷ []) [] (overlay old.now.trees []) rows (answer_of Meta old new rows has h)
