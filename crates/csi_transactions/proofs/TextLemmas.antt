@@ -154,14 +154,14 @@ each_named (Attached node) = refl
 each_named (Places after last) = refl
 
 never_refused : (q : Select) → IsNeverRefused schema (given q) (query q)
-never_refused (Numbered number) = λ limit db e h. only_limit h (λ over. over.4)
-never_refused (Named name) = λ limit db e h. only_limit h (λ over. over.4)
-never_refused (Sizes pool) = λ limit db e h. only_limit h (λ over. over.4)
-never_refused (Page after count) = λ limit db e h. only_limit h (λ over. over.4)
-never_refused (PageNumbers after count) = λ limit db e h. only_limit h (λ over. over.4)
-never_refused (Nodes number) = λ limit db e h. only_limit h (λ over. over.4)
-never_refused (Attached node) = λ limit db e h. only_limit h (λ over. over.4)
-never_refused (Places after last) = λ limit db e h. only_limit h (λ over. over.4)
+never_refused (Numbered number) limit db e h = only_limit h (λ over. over.4)
+never_refused (Named name) limit db e h = only_limit h (λ over. over.4)
+never_refused (Sizes pool) limit db e h = only_limit h (λ over. over.4)
+never_refused (Page after count) limit db e h = only_limit h (λ over. over.4)
+never_refused (PageNumbers after count) limit db e h = only_limit h (λ over. over.4)
+never_refused (Nodes number) limit db e h = only_limit h (λ over. over.4)
+never_refused (Attached node) limit db e h = only_limit h (λ over. over.4)
+never_refused (Places after last) limit db e h = only_limit h (λ over. over.4)
 
 pub is_sure : (q : Select) → IsSure schema (asked q) (given q)
 is_sure q = sure_of (given q) (is_select q) (known.is_alone (compiles_select q) (each_named q)) (never_refused q)

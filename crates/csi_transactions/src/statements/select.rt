@@ -62,19 +62,15 @@ pub(crate) fn select_rows<S: Alter>(
 {
     let text = text_of(read);
     match *read {
-        Select::Numbered(number) => tx.query_all(text, &[integer(number)]),
-        Select::Nodes(number) => tx.query_all(text, &[integer(number)]),
-        Select::Named(name) => tx.query_all(text, &[ValueRef::Text(name.as_bytes())]),
-        Select::Sizes(pool) => tx.query_all(text, &[ValueRef::Text(pool.as_bytes())]),
-        Select::Attached(node) => tx.query_all(text, &[ValueRef::Text(node.as_bytes())]),
-        Select::Page(after, count) => tx.query_all(
-            text,
-            &[integer(after), integer(u64::from(count))],
-        ),
-        Select::PageNumbers(after, count) => tx.query_all(
-            text,
-            &[integer(after), integer(u64::from(count))],
-        ),
+        Select::Numbered(number) | Select::Nodes(number) => {
+            tx.query_all(text, &[integer(number)])
+        }
+        Select::Named(words) | Select::Sizes(words) | Select::Attached(words) => {
+            tx.query_all(text, &[ValueRef::Text(words.as_bytes())])
+        }
+        Select::Page(after, count) | Select::PageNumbers(after, count) => {
+            tx.query_all(text, &[integer(after), integer(u64::from(count))])
+        }
         Select::Places(after, last) => tx.query_all(text, &[integer(after), integer(last)]),
     }
 }
