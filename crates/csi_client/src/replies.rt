@@ -1,16 +1,17 @@
 //! What a reply says, as lines.
 
-ghost use Rattle.std.specs.Prelude.{◌≡◌, ◌++◌, ℕ, OnOk, Some, Err, codes, decimal};
+ghost use Rattle.std.specs.Prelude.{◌≡◌, ◌++◌, ℕ, IfErr, IfOk, OnOk, Some, Err, codes, decimal};
 ghost use Rattle.csi_codec.specs.declared.message.DecodeFault.TheVariants.{Malformed};
 ghost use Rattle.csi_types.specs.Codes.{name_of, number_of};
 ghost use Rattle.csi_types.specs.declared.code.Code.{Code};
 ghost use Rattle.frames_core.specs.Envelope.{reply_bytes_of};
+ghost use Rattle.csi_client.specs.Lines.{lines};
 ghost use Rattle.csi_client.specs.Replies.{content, first_line, body_lines};
 ghost use Rattle.csi_client.specs.Showing.{IsBad, IsBadAt};
 
 use crate::lines::put_lines;
 use csi_codec::{DecodeFault, decode_response};
-use csi_types::{Code, Method};
+use csi_types::{Code, Method, Response};
 use frames_core::Reply;
 use itoa::Buffer;
 use std::alloc::{AllocError, Global};
@@ -54,6 +55,21 @@ pub fn put_reply_line(alloc: Global, out: &mut Vec<u8>, reply: &Reply<'_>) -> Re
     out.extend_from_slice(b"\n")
 }
 
+// Appends what a response says that was read. It is lent, so that what owns one does nothing else that may fail.
+fn put_decoded(
+    out: &mut Vec<u8>,
+    decoded: &Result<Response, DecodeFault>,
+) -> Result<(), DecodeFault>
+    ensures ok { IfOk decoded.now (λ response. OnOk result (out.new.items ≡ out.old.items ++ lines response)) }
+    ensures err { IfErr decoded.now (λ fault. (result ≡ Err fault) × (out.new.items ≡ out.old.items)) }
+    ensures malformed { (at : ℕ) → result ≡ Err (Malformed at) → decoded.now ≡ Err (Malformed at) }
+{
+    match decoded {
+        Ok(response) => put_lines(out, response).map_err(|_| DecodeFault::NoMemory),
+        Err(fault) => Err(*fault),
+    }
+}
+
 /// Appends what the body of a reply says, as [`put_lines`](crate::put_lines) does, where the call
 /// was done (status 0) and its method is given; else nothing.
 ///
@@ -78,6 +94,9 @@ pub fn put_body_lines(
     if reply.status != 0 {
         return Ok(());
     }
-    let response = decode_response(alloc, method, reply.body)?;
-    put_lines(out, &response).map_err(|_| DecodeFault::NoMemory)
+    let decoded = decode_response(alloc, method, reply.body);
+    let put = put_decoded(out, &decoded);
+    // Named, it is dropped by one function, and not by a step for each part of each variant.
+    drop(decoded);
+    put
 }
