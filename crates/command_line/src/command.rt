@@ -68,12 +68,9 @@ pub fn arguments(rt: &HostRuntime) -> Result<Vec<String>, ArgumentsFault> {
     }
 }
 
-// Why arguments are refused, in one line: the first paragraph of what `clap` says, without the word
-// `error` before it.
-fn refusal_line(alloc: Global, error: &ClapError) -> Result<String, AllocError> {
-    let text = format!(in alloc; "{error}")?;
-    let mut line = String::new(alloc);
-    for part in text.as_str().lines() {
+// Appends the first paragraph of what `clap` says, as one line and without the word `error` before it.
+fn push_first_paragraph(line: &mut String, text: &str) -> Result<(), AllocError> {
+    for part in text.lines() {
         if part.is_empty() {
             break;
         }
@@ -83,6 +80,14 @@ fn refusal_line(alloc: Global, error: &ClapError) -> Result<String, AllocError> 
         let part = part.trim();
         line.push_str(part.strip_prefix("error: ").unwrap_or(part))?;
     }
+    Ok(())
+}
+
+// Why arguments are refused, in one line.
+fn refusal_line(alloc: Global, error: &ClapError) -> Result<String, AllocError> {
+    let text = format!(in alloc; "{error}")?;
+    let mut line = String::new(alloc);
+    push_first_paragraph(&mut line, text.as_str())?;
     Ok(line)
 }
 
