@@ -51,6 +51,26 @@ fn patience(arguments: &ArgMatches<'_>) -> Result<(u32, Option<Duration>), Failu
     Ok((tries, timeout))
 }
 
+// Makes a call on a socket, so many times at most, and shows its reply.
+fn call(
+    rt: &HostRuntime,
+    path: &str,
+    method: Method,
+    frame: &[u8],
+    patience: (u32, Option<Duration>),
+) -> Result<Ended, Failure>
+    requires { (1 ≤ patience.0) × (patience.0 ≤ 10) }
+{
+    let (tries, timeout) = patience;
+    let mut line = SocketLine::new(rt, path, tries, timeout);
+    match call_again(&mut line, frame, tries) {
+        Received::Reply(reply) => show(rt, method, &reply.as_reply()),
+        Received::Malformed(fault) => Err(Failure::Malformed(fault)),
+        Received::NoMemory => Err(Failure::NoMemory),
+        Received::Nothing | Received::Failed => Err(line.failure()),
+    }
+}
+
 /// Makes a call on a socket, again while it is not answered, and shows its reply.
 ///
 /// # Errors
@@ -59,12 +79,6 @@ fn patience(arguments: &ArgMatches<'_>) -> Result<(u32, Option<Duration>), Failu
 pub(crate) fn run(rt: &HostRuntime, arguments: &ArgMatches<'_>) -> Result<Ended, Failure> {
     let path = arguments.get_str("socket").unwrap_or("");
     let (method, frame) = called(rt.alloc(), arguments)?;
-    let (tries, timeout) = patience(arguments)?;
-    let mut line = SocketLine::new(rt, path, tries, timeout);
-    match call_again(&mut line, &frame, tries) {
-        Received::Reply(reply) => show(rt, method, &reply.as_reply()),
-        Received::Malformed(fault) => Err(Failure::Malformed(fault)),
-        Received::NoMemory => Err(Failure::NoMemory),
-        Received::Nothing | Received::Failed => Err(line.failure()),
-    }
+    let patience = patience(arguments)?;
+    call(rt, path, method, &frame, patience)
 }

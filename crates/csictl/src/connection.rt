@@ -71,6 +71,14 @@ fn connect(rt: &HostRuntime, path: &str, end: End) -> io::Result<UnixStream> {
     Err(io::Error::from(ErrorKind::TimedOut))
 }
 
+// What waits until a connection may be read or written.
+fn watch(rt: &HostRuntime, stream: &mut UnixStream) -> io::Result<Poll> {
+    let poll = Poll::new(rt)?;
+    let interests = Interest::READABLE | Interest::WRITABLE;
+    poll.registry().register(stream, ONLY, interests)?;
+    Ok(poll)
+}
+
 impl<'a> Connection<'a> {
     /// A new connection to the server of a socket. From now on it takes no longer than that until it
     /// fails with `TimedOut`.
@@ -85,9 +93,7 @@ impl<'a> Connection<'a> {
     ) -> io::Result<Connection<'a>> {
         let end = End::after(rt, timeout)?;
         let mut stream = connect(rt, path, end)?;
-        let poll = Poll::new(rt)?;
-        let interests = Interest::READABLE | Interest::WRITABLE;
-        poll.registry().register(&mut stream, ONLY, interests)?;
+        let poll = watch(rt, &mut stream)?;
         Ok(Connection {
             rt,
             stream,

@@ -6,7 +6,7 @@ ghost use Rattle.csictl.specs.Statuses.{ended_status, failure_status};
 use command_line::{ArgumentsFault, Cause, cause};
 use csi_types::Method;
 use frames_core::ReplyFault;
-use std::alloc::{AllocError, AllocFailed, Global};
+use std::alloc::{AllocError, Global};
 use std::fmt::Display;
 use std::io::{self, ErrorKind};
 use thiserror::Error;
@@ -102,12 +102,6 @@ pub(crate) enum Failure {
 
 impl From<AllocError> for Failure {
     fn from(_: AllocError) -> Failure {
-        Failure::NoMemory
-    }
-}
-
-impl<T: Drop> From<AllocFailed<T>> for Failure {
-    fn from(_: AllocFailed<T>) -> Failure {
         Failure::NoMemory
     }
 }

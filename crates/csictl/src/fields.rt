@@ -5,7 +5,31 @@ use crate::failure::Failure;
 use clap::ArgMatches;
 use command_line::{CommandOption, is_decimal};
 use csi_types::{Access, Capability, CapacityRange, Items, Map, Method, Mount, Requirement, Text};
-use std::alloc::Global;
+use std::alloc::{AllocError, Global};
+
+/// Why a field is not had. It is small, and so is what a function spells out that makes a message of many fields.
+#[derive(Clone, Copy)]
+pub(crate) enum FieldFault {
+    /// A pair has no `=`.
+    NotPair,
+    /// There is no memory.
+    NoMemory,
+}
+
+impl From<AllocError> for FieldFault {
+    fn from(_: AllocError) -> FieldFault {
+        FieldFault::NoMemory
+    }
+}
+
+impl From<FieldFault> for Failure {
+    fn from(fault: FieldFault) -> Failure {
+        match fault {
+            FieldFault::NotPair => Failure::NotPair,
+            FieldFault::NoMemory => Failure::NoMemory,
+        }
+    }
+}
 
 // The options that a method has fields for.
 fn fields_of(method: Method) -> &'static [&'static str] {
@@ -65,6 +89,15 @@ pub(crate) fn give_none(arguments: &ArgMatches<'_>) -> Result<(), Failure> {
     Ok(())
 }
 
+// A list of an item, or of none.
+fn list_of<T: Drop>(alloc: Global, item: Option<T>) -> Result<Items<T>, FieldFault> {
+    let mut list = Vec::new(alloc);
+    if let Some(item) = item {
+        list.push(item).map_err(|_| FieldFault::NoMemory)?;
+    }
+    Ok(Items::from_vec(list))
+}
+
 /// The fields of a message, as the arguments of a command give them.
 #[derive(Clone, Copy)]
 pub(crate) struct Fields<'m, 'a> {
@@ -99,7 +132,7 @@ impl<'m, 'a> Fields<'m, 'a> {
     }
 
     /// The text of an option, or the empty text.
-    pub(crate) fn text(&self, name: &str) -> Result<Text, Failure> {
+    pub(crate) fn text(&self, name: &str) -> Result<Text, FieldFault> {
         Ok(Text::from_str(self.alloc, self.arguments.get_str(name).unwrap_or(""))?)
     }
 
@@ -127,7 +160,7 @@ impl<'m, 'a> Fields<'m, 'a> {
     }
 
     // A mount of the file system that is given, or else a block device.
-    fn access(&self) -> Result<Access, Failure> {
+    fn access(&self) -> Result<Access, FieldFault> {
         let Some(fs) = self.arguments.get_str("fs") else {
             return Ok(Access::Block);
         };
@@ -139,7 +172,7 @@ impl<'m, 'a> Fields<'m, 'a> {
     }
 
     /// The one capability, where a mode is given.
-    pub(crate) fn capability(&self) -> Result<Option<Capability>, Failure> {
+    pub(crate) fn capability(&self) -> Result<Option<Capability>, FieldFault> {
         let Some(mode) = self.arguments.get_one::<i32>("mode") else {
             return Ok(None);
         };
@@ -150,44 +183,53 @@ impl<'m, 'a> Fields<'m, 'a> {
     }
 
     /// The same as a list.
-    pub(crate) fn capabilities(&self) -> Result<Items<Capability>, Failure> {
-        let mut all = Items::new(self.alloc);
-        if let Some(capability) = self.capability()? {
-            all.push(capability)?;
+    pub(crate) fn capabilities(&self) -> Result<Items<Capability>, FieldFault> {
+        list_of(self.alloc, self.capability()?)
+    }
+
+    // Adds a pair, cut at its first `=`.
+    fn insert_pair(&self, map: &mut Map, pair: &str) -> Result<(), FieldFault> {
+        let (key, value) = pair.split_once('=').ok_or(FieldFault::NotPair)?;
+        let key = Text::from_str(self.alloc, key)?;
+        let value = Text::from_str(self.alloc, value)?;
+        Ok(map.insert(key, value)?)
+    }
+
+    // Adds the pairs between commas; of equal keys the last stays.
+    fn insert_pairs(&self, map: &mut Map, text: &str) -> Result<(), FieldFault> {
+        for pair in text.split(',') {
+            self.insert_pair(map, pair)?;
         }
-        Ok(all)
+        Ok(())
     }
 
     /// The pairs of an option, where it is given: between commas, each cut at its first `=`; of equal
     /// keys the last.
-    pub(crate) fn pairs(&self, name: &str) -> Result<Option<Map>, Failure> {
+    pub(crate) fn pairs(&self, name: &str) -> Result<Option<Map>, FieldFault> {
         let Some(text) = self.arguments.get_str(name) else {
             return Ok(None);
         };
         let mut map = Map::new(self.alloc);
-        for pair in text.split(',') {
-            let (key, value) = pair.split_once('=').ok_or(Failure::NotPair)?;
-            let key = Text::from_str(self.alloc, key)?;
-            let value = Text::from_str(self.alloc, value)?;
-            map.insert(key, value)?;
-        }
+        self.insert_pairs(&mut map, text)?;
         Ok(Some(map))
     }
 
     /// The same, or no pairs.
-    pub(crate) fn map(&self, name: &str) -> Result<Map, Failure> {
-        Ok(self.pairs(name)?.unwrap_or(Map::new(self.alloc)))
+    pub(crate) fn map(&self, name: &str) -> Result<Map, FieldFault> {
+        let mut map = Map::new(self.alloc);
+        if let Some(text) = self.arguments.get_str(name) {
+            self.insert_pairs(&mut map, text)?;
+        }
+        Ok(map)
     }
 
     /// One requisite topology, where it is given.
-    pub(crate) fn requirement(&self) -> Result<Option<Requirement>, Failure> {
+    pub(crate) fn requirement(&self) -> Result<Option<Requirement>, FieldFault> {
         let Some(segments) = self.pairs("topology")? else {
             return Ok(None);
         };
-        let mut requisite = Items::new(self.alloc);
-        requisite.push(segments)?;
         Ok(Some(Requirement {
-            requisite,
+            requisite: list_of(self.alloc, Some(segments))?,
             preferred: Items::new(self.alloc),
         }))
     }

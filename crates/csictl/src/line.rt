@@ -82,15 +82,20 @@ impl<'a> SocketLine<'a> {
         thread::sleep(rt, Duration::from_millis(pause_millis(tried, chance)));
     }
 
-    // One connection, up to its reply.
-    fn converse(&self, frame: &[u8]) -> io::Result<Received> {
-        let mut connection = Connection::new(self.rt, self.path, self.timeout)?;
-        send(&mut connection, frame)?;
+    // A call on a new connection, up to its reply.
+    fn ask(&self, connection: &mut Connection<'_>, frame: &[u8]) -> io::Result<Received> {
+        send(connection, frame)?;
         connection.end_writing()?;
-        match receive(self.rt.alloc(), &mut connection) {
+        match receive(self.rt.alloc(), connection) {
             Received::Failed if connection.is_late => Err(io::Error::from(ErrorKind::TimedOut)),
             received => Ok(received),
         }
+    }
+
+    // One connection, up to its reply.
+    fn converse(&self, frame: &[u8]) -> io::Result<Received> {
+        let mut connection = Connection::new(self.rt, self.path, self.timeout)?;
+        self.ask(&mut connection, frame)
     }
 }
 

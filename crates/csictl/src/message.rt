@@ -1,7 +1,7 @@
 //! The frame of the call that the arguments ask for.
 
 use crate::failure::Failure;
-use crate::fields::{Fields, give_none};
+use crate::fields::{FieldFault, Fields, give_none};
 use clap::ArgMatches;
 use csi_client::put_call;
 use csi_codec::encode_request;
@@ -11,9 +11,9 @@ use csi_types::{
 };
 use frames_core::MAX_MESSAGE_BYTES;
 use hex::FromHexError;
-use std::alloc::Global;
+use std::alloc::{AllocError, Global};
 
-fn create(fields: &Fields<'_, '_>) -> Result<CreateVolume, Failure> {
+fn create(fields: &Fields<'_, '_>) -> Result<CreateVolume, FieldFault> {
     Ok(CreateVolume {
         name: fields.text("name")?,
         range: fields.range(),
@@ -26,14 +26,14 @@ fn create(fields: &Fields<'_, '_>) -> Result<CreateVolume, Failure> {
     })
 }
 
-fn delete(fields: &Fields<'_, '_>) -> Result<DeleteVolume, Failure> {
+fn delete(fields: &Fields<'_, '_>) -> Result<DeleteVolume, FieldFault> {
     Ok(DeleteVolume {
         volume_id: fields.text("volume")?,
         secrets: fields.no_map(),
     })
 }
 
-fn publish(fields: &Fields<'_, '_>) -> Result<Publish, Failure> {
+fn publish(fields: &Fields<'_, '_>) -> Result<Publish, FieldFault> {
     Ok(Publish {
         volume_id: fields.text("volume")?,
         node_id: fields.text("node")?,
@@ -44,7 +44,7 @@ fn publish(fields: &Fields<'_, '_>) -> Result<Publish, Failure> {
     })
 }
 
-fn unpublish(fields: &Fields<'_, '_>) -> Result<Unpublish, Failure> {
+fn unpublish(fields: &Fields<'_, '_>) -> Result<Unpublish, FieldFault> {
     Ok(Unpublish {
         volume_id: fields.text("volume")?,
         node_id: fields.text("node")?,
@@ -52,7 +52,7 @@ fn unpublish(fields: &Fields<'_, '_>) -> Result<Unpublish, Failure> {
     })
 }
 
-fn modify(fields: &Fields<'_, '_>) -> Result<Modify, Failure> {
+fn modify(fields: &Fields<'_, '_>) -> Result<Modify, FieldFault> {
     Ok(Modify {
         volume_id: fields.text("volume")?,
         secrets: fields.no_map(),
@@ -60,14 +60,14 @@ fn modify(fields: &Fields<'_, '_>) -> Result<Modify, Failure> {
     })
 }
 
-fn list(fields: &Fields<'_, '_>) -> Result<ListVolumes, Failure> {
+fn list(fields: &Fields<'_, '_>) -> Result<ListVolumes, FieldFault> {
     Ok(ListVolumes {
         max_entries: fields.max(),
         token: fields.text("token")?,
     })
 }
 
-fn capacity(fields: &Fields<'_, '_>) -> Result<GetCapacity, Failure> {
+fn capacity(fields: &Fields<'_, '_>) -> Result<GetCapacity, FieldFault> {
     Ok(GetCapacity {
         capabilities: fields.capabilities()?,
         parameters: fields.map("parameters")?,
@@ -75,7 +75,7 @@ fn capacity(fields: &Fields<'_, '_>) -> Result<GetCapacity, Failure> {
     })
 }
 
-fn validate(fields: &Fields<'_, '_>) -> Result<Validate, Failure> {
+fn validate(fields: &Fields<'_, '_>) -> Result<Validate, FieldFault> {
     Ok(Validate {
         volume_id: fields.text("volume")?,
         context: fields.no_map(),
@@ -85,32 +85,45 @@ fn validate(fields: &Fields<'_, '_>) -> Result<Validate, Failure> {
     })
 }
 
+// A message of which a request is made. Whatever it is, its type is not spelled out here.
+fn boxed<M: Drop>(alloc: Global, message: Result<M, FieldFault>) -> Result<Boxed<M>, FieldFault> {
+    Ok(Boxed::new(alloc, message?)?)
+}
+
 // The request of a method with these fields.
-fn request(alloc: Global, method: Method, fields: &Fields<'_, '_>) -> Result<Request, Failure> {
+fn request(alloc: Global, method: Method, fields: &Fields<'_, '_>) -> Result<Request, FieldFault> {
     Ok(match method {
         Method::GetPluginInfo => Request::PluginInfo,
         Method::GetPluginCapabilities => Request::PluginCapabilities,
         Method::Probe => Request::Probe,
         Method::ControllerGetCapabilities => Request::ControllerCapabilities,
-        Method::CreateVolume => Request::Create(Boxed::new(alloc, create(fields)?)?),
-        Method::DeleteVolume => Request::Delete(Boxed::new(alloc, delete(fields)?)?),
-        Method::ControllerPublishVolume => Request::Publish(Boxed::new(alloc, publish(fields)?)?),
+        Method::CreateVolume => Request::Create(boxed(alloc, create(fields))?),
+        Method::DeleteVolume => Request::Delete(boxed(alloc, delete(fields))?),
+        Method::ControllerPublishVolume => Request::Publish(boxed(alloc, publish(fields))?),
         Method::ControllerUnpublishVolume => {
-            Request::Unpublish(Boxed::new(alloc, unpublish(fields)?)?)
+            Request::Unpublish(boxed(alloc, unpublish(fields))?)
         }
-        Method::ValidateVolumeCapabilities => {
-            Request::Validate(Boxed::new(alloc, validate(fields)?)?)
-        }
-        Method::ControllerModifyVolume => Request::Modify(Boxed::new(alloc, modify(fields)?)?),
-        Method::ListVolumes => Request::List(Boxed::new(alloc, list(fields)?)?),
-        Method::GetCapacity => Request::Capacity(Boxed::new(alloc, capacity(fields)?)?),
+        Method::ValidateVolumeCapabilities => { Request::Validate(boxed(alloc, validate(fields))?) }
+        Method::ControllerModifyVolume => Request::Modify(boxed(alloc, modify(fields))?),
+        Method::ListVolumes => Request::List(boxed(alloc, list(fields))?),
+        Method::GetCapacity => Request::Capacity(boxed(alloc, capacity(fields))?),
     })
 }
 
-fn encoded(alloc: Global, request: &Request) -> Result<Vec<u8>, Failure> {
+fn encoded(alloc: Global, request: &Request) -> Result<Vec<u8>, AllocError> {
     let mut bytes = Vec::new(alloc);
     encode_request(request, &mut bytes)?;
     Ok(bytes)
+}
+
+// The bytes of the message of a method with these fields.
+fn message_of(
+    alloc: Global,
+    method: Method,
+    fields: &Fields<'_, '_>,
+) -> Result<Vec<u8>, FieldFault> {
+    let request = request(alloc, method, fields)?;
+    Ok(encoded(alloc, &request)?)
 }
 
 // The bytes of the message whose fields the arguments give.
@@ -120,8 +133,7 @@ fn message_of_fields(
     arguments: &ArgMatches<'_>,
 ) -> Result<Vec<u8>, Failure> {
     let fields = Fields::new(alloc, method, arguments)?;
-    let request = request(alloc, method, &fields)?;
-    encoded(alloc, &request)
+    Ok(message_of(alloc, method, &fields)?)
 }
 
 // The bytes of a message that is given as it is.
