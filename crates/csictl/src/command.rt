@@ -4,8 +4,12 @@ use clap::{Command, Error};
 use command_line::{CommandOption, OPTION, Takes, command_of, with_options, with_subcommand};
 use std::alloc::Global;
 
-/// The options that are fields of a message.
-pub(crate) static FIELDS: [CommandOption; 13] = [
+// What a call is made of: its method, the fields of its message, and the message as it is.
+static CALLED: [CommandOption; 15] = [
+    CommandOption {
+        is_required: true,
+        ..METHOD
+    },
     CommandOption {
         name: "name",
         takes: Takes::Text("TEXT"),
@@ -84,7 +88,18 @@ pub(crate) static FIELDS: [CommandOption; 13] = [
         help: "Where the page begins: the token of the page before",
         ..OPTION
     },
+    CommandOption {
+        name: "message",
+        takes: Takes::Text("HEX"),
+        help: "The message as it is, in hexadecimal digits, and none of the options above",
+        ..OPTION
+    },
 ];
+
+/// The options that are fields of a message.
+pub(crate) fn fields() -> &'static [CommandOption] {
+    &CALLED[1..14]
+}
 
 const METHOD: CommandOption = CommandOption {
     name: "method",
@@ -92,13 +107,6 @@ const METHOD: CommandOption = CommandOption {
     help: "The method, by its name alone, as CreateVolume",
     ..OPTION
 };
-
-static MESSAGE: [CommandOption; 1] = [CommandOption {
-    name: "message",
-    takes: Takes::Text("HEX"),
-    help: "The message as it is, in hexadecimal digits, and none of the options above",
-    ..OPTION
-}];
 
 /// The option for how often a call is tried.
 pub(crate) const TRIES: &str = "tries";
@@ -110,12 +118,6 @@ pub(crate) const MOST_TRIES: u32 = 10;
 pub(crate) const TIMEOUT: &str = "timeout";
 
 static SHOW: [CommandOption; 1] = [METHOD];
-
-// What a call is made of, before the fields of its message.
-static FRAME: [CommandOption; 1] = [CommandOption {
-    is_required: true,
-    ..METHOD
-}];
 
 static CALL: [CommandOption; 3] = [
     CommandOption {
@@ -147,15 +149,6 @@ static VECTORS: [CommandOption; 1] = [CommandOption {
     ..OPTION
 }];
 
-// With the options of a command that makes a call.
-fn with_fields<'a>(
-    alloc: Global,
-    command: Result<Command<'a>, Error>,
-) -> Result<Command<'a>, Error> {
-    let command = with_options(alloc, with_options(alloc, command?, &FRAME)?, &FIELDS)?;
-    with_options(alloc, command, &MESSAGE)
-}
-
 fn show<'a>(alloc: Global) -> Result<Command<'a>, Error> {
     let about = "Shows the replies of standard input, a line each, as no command does";
     command_of(alloc, "show", about, &SHOW)
@@ -163,12 +156,12 @@ fn show<'a>(alloc: Global) -> Result<Command<'a>, Error> {
 
 fn frame<'a>(alloc: Global) -> Result<Command<'a>, Error> {
     let about = "Writes one call to standard output";
-    with_fields(alloc, command_of(alloc, "frame", about, &[]))
+    command_of(alloc, "frame", about, &CALLED)
 }
 
 fn call<'a>(alloc: Global) -> Result<Command<'a>, Error> {
     let about = "Makes one call of a server on a socket, and shows its reply";
-    with_fields(alloc, command_of(alloc, "call", about, &CALL))
+    with_options(alloc, command_of(alloc, "call", about, &CALL)?, &CALLED)
 }
 
 fn vectors<'a>(alloc: Global) -> Result<Command<'a>, Error> {

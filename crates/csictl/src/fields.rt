@@ -1,6 +1,6 @@
 //! The fields of a message, as the arguments give them.
 
-use crate::command::FIELDS;
+use crate::command::fields;
 use crate::failure::Failure;
 use clap::ArgMatches;
 use command_line::{CommandOption, is_decimal};
@@ -81,7 +81,7 @@ fn is_odd(arguments: &ArgMatches<'_>, field: &CommandOption) -> bool {
 ///
 /// Where they give one.
 pub(crate) fn give_none(arguments: &ArgMatches<'_>) -> Result<(), Failure> {
-    for field in &FIELDS {
+    for field in fields() {
         if is_given(arguments, field.name) {
             return Err(Failure::BesideMessage(field.name));
         }
@@ -117,7 +117,7 @@ impl<'m, 'a> Fields<'m, 'a> {
         arguments: &'m ArgMatches<'a>,
     ) -> Result<Fields<'m, 'a>, Failure> {
         let known = fields_of(method);
-        for field in &FIELDS {
+        for field in fields() {
             if is_given(arguments, field.name) && !known.contains(&field.name) {
                 return Err(Failure::NoField {
                     method,

@@ -17,12 +17,12 @@ fn create(fields: &Fields<'_, '_>) -> Result<CreateVolume, FieldFault> {
     Ok(CreateVolume {
         name: fields.text("name")?,
         range: fields.range(),
-        capabilities: fields.capabilities()?,
         parameters: fields.map("parameters")?,
+        mutable: fields.map("mutable")?,
         secrets: fields.no_map(),
         source: false,
+        capabilities: fields.capabilities()?,
         topology: fields.requirement()?,
-        mutable: fields.map("mutable")?,
     })
 }
 
