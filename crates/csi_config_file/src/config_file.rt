@@ -149,6 +149,16 @@ impl<T: Drop> From<AllocFailed<T>> for ConfigError {
     }
 }
 
+fn insert_segment(
+    alloc: Global,
+    segments: &mut Map,
+    key: &str,
+    value: &str,
+) -> Result<(), AllocError> {
+    let key = Text::from_str(alloc, key)?;
+    segments.insert(key, Text::from_str(alloc, value)?)
+}
+
 // Reads the keys of one table.
 #[derive(Clone, Copy)]
 struct Keys<'a> {
@@ -194,13 +204,12 @@ impl<'a> Keys<'a> {
         }
     }
 
-    // The segments of a pool; none where the key is missing.
-    fn segments(&self, alloc: Global) -> Result<Map, ConfigError>
+    // Adds the segments of a pool; none where the key is missing.
+    fn insert_segments(&self, alloc: Global, segments: &mut Map) -> Result<(), ConfigError>
         ensures { IfErr result (λ e. IsOfDocument e) }
     {
-        let mut segments = Map::new(alloc);
         let Some(value) = self.table.get(Key::Segments.text()) else {
-            return Ok(segments);
+            return Ok(());
         };
         let Some(table) = value.as_table() else {
             return Err(self.error(Key::Segments, KeyRule::Texts));
@@ -209,11 +218,16 @@ impl<'a> Keys<'a> {
             let Some(text) = value.as_str() else {
                 return Err(self.error(Key::Segments, KeyRule::Texts));
             };
-            segments.insert(
-                Text::from_str(alloc, key.as_str())?,
-                Text::from_str(alloc, text)?,
-            )?;
+            insert_segment(alloc, segments, key.as_str(), text)?;
         }
+        Ok(())
+    }
+
+    fn segments(&self, alloc: Global) -> Result<Map, ConfigError>
+        ensures { IfErr result (λ e. IsOfDocument e) }
+    {
+        let mut segments = Map::new(alloc);
+        self.insert_segments(alloc, &mut segments)?;
         Ok(segments)
     }
 }
@@ -283,17 +297,29 @@ fn nodes(alloc: Global, top: Keys<'_>) -> Result<Vec<Node>, ConfigError>
     Ok(nodes)
 }
 
+fn plugin(alloc: Global, top: Keys<'_>) -> Result<Plugin, ConfigError>
+    ensures { IfErr result (λ e. IsOfDocument e) }
+{
+    Ok(Plugin {
+        name: top.text(alloc, Key::Name)?,
+        version: top.text(alloc, Key::VendorVersion)?,
+    })
+}
+
+fn sizes(top: Keys<'_>) -> Result<Sizes, ConfigError>
+    ensures { IfErr result (λ e. IsOfDocument e) }
+{
+    Ok(Sizes {
+        default_bytes: top.count(Key::DefaultBytes)?,
+        greatest_bytes: top.count(Key::GreatestBytes)?,
+    })
+}
+
 fn config(alloc: Global, top: Keys<'_>) -> Result<Config, ConfigError>
     ensures { IfErr result (λ e. IsOfDocument e) }
 {
-    let plugin = Plugin {
-        name: top.text(alloc, Key::Name)?,
-        version: top.text(alloc, Key::VendorVersion)?,
-    };
-    let sizes = Sizes {
-        default_bytes: top.count(Key::DefaultBytes)?,
-        greatest_bytes: top.count(Key::GreatestBytes)?,
-    };
+    let plugin = plugin(alloc, top)?;
+    let sizes = sizes(top)?;
     let pools = pools(alloc, top)?;
     let nodes = nodes(alloc, top)?;
     Config::new(plugin, sizes, pools, nodes).map_err(ConfigError::Fault)
