@@ -96,9 +96,9 @@ static CALLED: [CommandOption; 15] = [
     },
 ];
 
-/// The options that are fields of a message.
+/// The options that are fields of a message: those between the method and the message as it is.
 pub(crate) fn fields() -> &'static [CommandOption] {
-    &CALLED[1..14]
+    &CALLED[1..CALLED.len() - 1]
 }
 
 const METHOD: CommandOption = CommandOption {
