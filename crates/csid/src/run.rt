@@ -52,6 +52,24 @@ fn pipe_over_tables(
     served
 }
 
+// Answers the calls of standard input, and keeps the volumes in a file if there is to be one.
+fn pipe_over(
+    rt: &HostRuntime,
+    config: &Config,
+    tables: Option<&str>,
+    is_existing: bool,
+) -> Result<(), Failure> {
+    match tables {
+        Some(path) => pipe_over_tables(
+            rt,
+            config,
+            path,
+            Blank::refused_if(is_existing, Blank::Make),
+        ),
+        None => pipe_over_memory(rt, config),
+    }
+}
+
 fn pipe(
     rt: &HostRuntime,
     config: Option<&str>,
@@ -59,15 +77,7 @@ fn pipe(
     is_existing: bool,
 ) -> Result<(), Failure> {
     let config = configuration(rt, config, false)?;
-    match tables {
-        Some(path) => pipe_over_tables(
-            rt,
-            &config,
-            path,
-            Blank::refused_if(is_existing, Blank::Make),
-        ),
-        None => pipe_over_memory(rt, &config),
-    }
+    pipe_over(rt, &config, tables, is_existing)
 }
 
 // Looks whether the tables have a path, and whether they stand, if they have to.

@@ -10,8 +10,7 @@ use crate::standing::{Fault, fault_of_standing, make_private};
 use csi_adoption::{AdoptError, AdoptFault, adopt};
 use csi_config::Config;
 use csi_tables::Tables;
-use sqlite::{Connection, Error, ErrorCode, File, FileStore};
-use sqlite_disk::Disk;
+use sqlite::{Alter, Connection, Error, ErrorCode, File, FileStore};
 use std::alloc::Global;
 
 /// The store of a file on the disk.
@@ -100,12 +99,12 @@ fn of_adoption(alloc: Global, path: &str, fault: &AdoptFault) -> Failure
 }
 
 // A keeper over the tables on a connection, which are made where the file is new.
-fn keep<D: Disk + Drop>(
+fn keep<S: Alter + Drop>(
     rt: &HostRuntime,
     path: &str,
-    conn: Connection<FileStore<D>>,
+    conn: Connection<S>,
     config: &Config,
-) -> Result<Tables<FileStore<D>>, Failure>
+) -> Result<Tables<S>, Failure>
     requires { conn.in_transaction ≡ false }
     ensures { IfErr result (λ failure. IsOrNoMemory 4 failure) }
 {
@@ -116,13 +115,13 @@ fn keep<D: Disk + Drop>(
 }
 
 // A keeper over the tables on a connection; what is done where it has none is decided by the caller.
-fn take<D: Disk + Drop>(
+fn take<S: Alter + Drop>(
     rt: &HostRuntime,
     path: &str,
-    conn: Connection<FileStore<D>>,
+    conn: Connection<S>,
     config: &Config,
     blank: Blank,
-) -> Result<Tables<FileStore<D>>, Failure>
+) -> Result<Tables<S>, Failure>
     requires { conn.in_transaction ≡ false }
     ensures { IfErr result (λ failure. IsOrNoMemory 4 failure) }
 {
@@ -186,10 +185,16 @@ fn tell_content(rt: &HostRuntime, path: &str, content: Result<Content, Error>) {
     }
 }
 
-// Says what the tables of a keeper have, and closes their file.
-fn tell_and_close(rt: &HostRuntime, path: &str, tables: Tables<Store>) {
+// What the tables of a keeper have, and the connection to their file. Its proof does not spell the store out.
+fn content_of<S: Alter + Drop>(tables: Tables<S>) -> (Connection<S>, Result<Content, Error>) {
     let mut conn = tables.into_connection();
     let content = read_content(&mut conn);
+    (conn, content)
+}
+
+// Says what the tables of a keeper have, and closes their file.
+fn tell_and_close(rt: &HostRuntime, path: &str, tables: Tables<Store>) {
+    let (conn, content) = content_of(tables);
     if let Err(failure) = disconnect(rt.alloc(), path, conn) {
         say(rt, &failure);
     }
