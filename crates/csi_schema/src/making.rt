@@ -9,7 +9,7 @@ ghost use Rattle.csi_schema.specs.Transactions.{CommitsOver, RunsOver};
 use sqlite::{Alter, Connection, Error, Transaction};
 
 // The statements that make the tables, each behind those before it.
-#[derive(Clone, Copy, Debug)]
+#[derive(Clone, Copy)]
 enum Step {
     Meta,
     Volumes,
