@@ -33,6 +33,21 @@ fn pipe_over_memory(rt: &HostRuntime, config: &Config) -> Result<(), Failure> {
     serve_pipe(rt, config, &mut keeper)
 }
 
+// What came of calls and of the file behind them: both are said, and the program ends with what became of the file.
+fn ended(
+    rt: &HostRuntime,
+    served: Result<(), Failure>,
+    closed: Result<(), Failure>,
+) -> Result<(), Failure> {
+    let Err(closing) = closed else {
+        return served;
+    };
+    if let Err(failure) = &served {
+        say(rt, failure);
+    }
+    Err(closing)
+}
+
 // Answers the calls of standard input, and keeps the volumes in a file.
 fn pipe_over_tables(
     rt: &HostRuntime,
@@ -42,14 +57,7 @@ fn pipe_over_tables(
 ) -> Result<(), Failure> {
     let mut tables = open(rt, path, config, blank)?;
     let served = serve_pipe(rt, config, &mut tables);
-    if let Err(closing) = close(rt.alloc(), path, tables) {
-        // Both are said, and the program ends with what became of the file.
-        if let Err(failure) = &served {
-            say(rt, failure);
-        }
-        return Err(closing);
-    }
-    served
+    ended(rt, served, close(rt.alloc(), path, tables))
 }
 
 // Answers the calls of standard input, and keeps the volumes in a file if there is to be one.

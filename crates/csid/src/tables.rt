@@ -177,6 +177,13 @@ pub(crate) fn close(alloc: Global, path: &str, tables: Tables<Store>) -> Result<
     disconnect(alloc, path, tables.into_connection())
 }
 
+// Says why a file could not be closed, where it could not.
+fn tell_closed(rt: &HostRuntime, closed: Result<(), Failure>) {
+    if let Err(failure) = closed {
+        say(rt, &failure);
+    }
+}
+
 // Says what the tables in a file have.
 fn tell_content(rt: &HostRuntime, path: &str, content: Result<Content, Error>) {
     match content {
@@ -195,9 +202,7 @@ fn content_of<S: Alter + Drop>(tables: Tables<S>) -> (Connection<S>, Result<Cont
 // Says what the tables of a keeper have, and closes their file.
 fn tell_and_close(rt: &HostRuntime, path: &str, tables: Tables<Store>) {
     let (conn, content) = content_of(tables);
-    if let Err(failure) = disconnect(rt.alloc(), path, conn) {
-        say(rt, &failure);
-    }
+    tell_closed(rt, disconnect(rt.alloc(), path, conn));
     tell_content(rt, path, content);
 }
 
