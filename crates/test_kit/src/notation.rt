@@ -181,18 +181,7 @@ fn first_part(text: &[u8]) -> Option<(Part<'_>, &[u8])> {
     let (first, rest) = text.split_first()?;
     match *first {
         b' ' => Some((Part::Space, rest)),
-        b'"' => {
-            let end = rest.iter().position(|byte| *byte == b'"')?;
-            Some((Part::Text(rest.get(..end)?), rest.get(end + 1..)?))
-        }
-        b'(' => {
-            let end = closing(rest)?;
-            Some((Part::Sized(rest.get(..end)?), rest.get(end + 1..)?))
-        }
-        b'[' => {
-            let end = closing(rest)?;
-            Some((Part::Group(rest.get(..end)?), rest.get(end + 1..)?))
-        }
+        b'"' | b'(' | b'[' => enclosed(*first, rest),
         b'#' => {
             let (digits, rest) = rest.split_first()?;
             Some((Part::Count(digit(*digits)?), rest))
@@ -202,6 +191,22 @@ fn first_part(text: &[u8]) -> Option<(Part<'_>, &[u8])> {
             Some((Part::Byte(digit(high)? * 16 + digit(*low)?), rest))
         }
     }
+}
+
+// The part that begins with a quotation mark or a bracket, and what follows what closes it.
+fn enclosed(opening: u8, text: &[u8]) -> Option<(Part<'_>, &[u8])> {
+    let end = match opening {
+        b'"' => text.iter().position(|byte| *byte == b'"'),
+        _ => closing(text),
+    }?;
+    let (inside, behind) = text.split_at_checked(end)?;
+    let (_, rest) = behind.split_first()?;
+    let part = match opening {
+        b'"' => Part::Text(inside),
+        b'(' => Part::Sized(inside),
+        _ => Part::Group(inside),
+    };
+    Some((part, rest))
 }
 
 // The value of a hexadecimal digit.

@@ -111,12 +111,19 @@ fn request_reply<K: Keeper>(
 }
 
 fn page_text(alloc: Global, body: &[u8]) -> Result<String, RowFault> {
-    let Ok(Response::List { entries, token }) = decode_response(alloc, Method::ListVolumes, body)
-    else {
+    match decode_response(alloc, Method::ListVolumes, body) {
+        Ok(response) => entries_text(alloc, &response),
+        Err(_) => Err(RowFault::NoMemory),
+    }
+}
+
+// A response is lent here, since so large a value is dear to own.
+fn entries_text(alloc: Global, response: &Response) -> Result<String, RowFault> {
+    let Response::List { entries, token } = response else {
         return Err(RowFault::NoMemory);
     };
     let mut text = format!(in alloc; "{} entries, token '{token}':", entries.len())?;
-    for entry in &entries {
+    for entry in entries {
         put_entry(&mut text, entry)?;
     }
     Ok(text)
