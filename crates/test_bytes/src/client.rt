@@ -15,8 +15,11 @@ pub(crate) fn answer(alloc: Global, row: &str) -> Result<Vec<u8>, RowFault> {
         "-" => None,
         name => Some(named(alloc, name)?),
     };
-    let bytes = bytes_of(alloc, notation)?;
-    match take_reply(&bytes) {
+    first_lines(alloc, method, &bytes_of(alloc, notation)?)
+}
+
+fn first_lines(alloc: Global, method: Option<Method>, bytes: &[u8]) -> Result<Vec<u8>, RowFault> {
+    match take_reply(bytes) {
         TakenReply::Frame(reply, _) => lines_of(alloc, method, &reply),
         TakenReply::Nothing | TakenReply::Fault(_) => Err(RowFault::Refused("no reply")),
     }

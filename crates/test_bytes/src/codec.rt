@@ -2,6 +2,7 @@
 
 mod wire;
 
+use crate::shown::{displayed, in_rust};
 use crate::words::{first_word, named};
 use csi_checks::check;
 use csi_codec::{DecodeFault, decode, decode_response, encode_request, encode_response};
@@ -20,7 +21,7 @@ pub(crate) fn answer(alloc: Global, row: &str) -> Result<String, RowFault> {
     let (name, rest) = first_word(row)?;
     match name {
         "limit" => limit_answer(alloc, rest),
-        "fault" if rest == "NoMemory" => Ok(format!(in alloc; "{}", DecodeFault::NoMemory)?),
+        "fault" if rest == "NoMemory" => displayed(alloc, &DecodeFault::NoMemory),
         "fields" => fields_answer(alloc, rest),
         "prefixes" => prefixes_answer(alloc, rest),
         "write" => write_answer(alloc, rest),
@@ -57,7 +58,7 @@ fn read_answer<M: Message>(
 ) -> Result<String, RowFault> {
     match message {
         Ok(message) => message.answer(alloc, question, bytes),
-        Err(fault) => Ok(format!(in alloc; "{fault}")?),
+        Err(fault) => displayed(alloc, &fault),
     }
 }
 
@@ -76,8 +77,8 @@ impl Message for Request {
                 let canonical = compared(alloc, bytes, &out)?;
                 Ok(format!(in alloc; "{canonical}, {}", checked(self))?)
             }
-            "check" => Ok(String::from_str(alloc, checked(self))?),
-            "request-value" => Ok(format!(in alloc; "{self:?}")?),
+            "check" => displayed(alloc, &checked(self)),
+            "request-value" => in_rust(alloc, self),
             _ => Err(RowFault::NotRow),
         }
     }
@@ -86,7 +87,7 @@ impl Message for Request {
 impl Message for Response {
     fn answer(&self, alloc: Global, question: &str, bytes: &[u8]) -> Result<String, RowFault> {
         if question == "response-value" {
-            return Ok(format!(in alloc; "{self:?}")?);
+            return in_rust(alloc, self);
         }
         let mut out = Vec::new(alloc);
         encode_response(self, &mut out)?;
@@ -105,7 +106,7 @@ fn checked(request: &Request) -> &'static str {
 // The canonical bytes, or a word where they are those of the row.
 fn compared(alloc: Global, bytes: &[u8], canonical: &[u8]) -> Result<String, RowFault> {
     if canonical == bytes {
-        return Ok(String::from_str(alloc, "same")?);
+        return displayed(alloc, &"same");
     }
     bytes_text(alloc, canonical)
 }
@@ -129,7 +130,7 @@ static LIMITS: [(&str, u64); 11] = [
 fn limit_answer(alloc: Global, name: &str) -> Result<String, RowFault> {
     for (limit, value) in &LIMITS {
         if *limit == name {
-            return Ok(format!(in alloc; "{value}")?);
+            return displayed(alloc, value);
         }
     }
     Err(RowFault::NotRow)

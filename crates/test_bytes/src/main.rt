@@ -7,6 +7,7 @@ mod codec;
 mod frames;
 mod machine;
 mod serve;
+mod shown;
 mod socket;
 mod tries;
 mod types;

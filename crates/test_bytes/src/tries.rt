@@ -1,5 +1,6 @@
 //! Rows about calls that are sent again.
 
+use crate::shown::displayed;
 use csi_client::{Exchanges, Line, Received, ReceivedReply, call_again, pause_millis};
 use frames_core::{ReplyFault, ReplyWhy};
 use std::alloc::Global;
@@ -146,5 +147,5 @@ fn told(alloc: Global, line: &Script<'_>, outcome: Outcome) -> Result<String, Ro
 fn pause_answer(alloc: Global, words: &[&str]) -> Result<String, RowFault> {
     let tried: u32 = number_at(words, 1)?;
     let chance: u32 = number_at(words, 2)?;
-    Ok(format!(in alloc; "{}", pause_millis(tried, chance))?)
+    displayed(alloc, &pause_millis(tried, chance))
 }

@@ -2,6 +2,7 @@
 
 ghost use Rattle.std.specs.Prelude.{◌≤◌, ◌<◌, ◌^◌};
 
+use crate::shown::displayed;
 use crate::words::first_word;
 use pbwire::{
     Field, Fields, Value, WireFault, WireWhy, close_bytes, put_bytes, put_entry, put_map,
@@ -23,7 +24,7 @@ pub(crate) fn fields_answer(alloc: Global, notation: &str) -> Result<String, Row
         match fields.next_field() {
             Some(Ok(field)) => put_part(&mut out, &field_text(alloc, &field)?)?,
             Some(Err(fault)) => {
-                put_part(&mut out, &format!(in alloc; "{fault}")?)?;
+                put_part(&mut out, &displayed(alloc, &fault)?)?;
                 break;
             }
             None => break,
@@ -60,19 +61,27 @@ fn field_text(alloc: Global, field: &Field<'_>) -> Result<String, RowFault> {
 
 /// How many prefixes of a field, of one byte to all but one, are cut short at byte 0.
 pub(crate) fn prefixes_answer(alloc: Global, notation: &str) -> Result<String, RowFault> {
+    let bytes = bytes_of(alloc, notation)?;
+    let count = cut_short_of(&bytes);
+    Ok(format!(in alloc; "{count} of {}", bytes.len().saturating_sub(1))?)
+}
+
+fn cut_short_of(bytes: &[u8]) -> usize {
+    let mut count: usize = 0;
+    for size in 1..bytes.len() {
+        if is_cut_short(&bytes[..size]) {
+            count = count.saturating_add(1);
+        }
+    }
+    count
+}
+
+fn is_cut_short(prefix: &[u8]) -> bool {
     let cut_short = WireFault {
         why: WireWhy::CutShort,
         at: 0,
     };
-    let bytes = bytes_of(alloc, notation)?;
-    let mut count: usize = 0;
-    for size in 1..bytes.len() {
-        let prefix = bytes.get(..size).ok_or(RowFault::NotRow)?;
-        if Fields::new(prefix).next_field() == Some(Err(cut_short)) {
-            count = count.saturating_add(1);
-        }
-    }
-    Ok(format!(in alloc; "{count} of {}", bytes.len().saturating_sub(1))?)
+    Fields::new(prefix).next_field() == Some(Err(cut_short))
 }
 
 /// Fields as they are written, one behind the other.

@@ -1,5 +1,6 @@
 //! Rows about frames that are whole in memory.
 
+use crate::shown::displayed;
 use frames_core::{Call, FrameFault, Reply, ReplyFault, Taken, TakenReply, take_frame, take_reply};
 use std::alloc::Global;
 use std::str;
@@ -104,7 +105,7 @@ pub(crate) fn call_fault_text(
         why: fault.why,
         at: from.saturating_add(fault.at),
     };
-    Ok(format!(in alloc; "{placed}")?)
+    displayed(alloc, &placed)
 }
 
 /// The text of a fault of bytes that begin at this place of a stream of replies.
@@ -117,7 +118,7 @@ pub(crate) fn reply_fault_text(
         why: fault.why,
         at: from.saturating_add(fault.at),
     };
-    Ok(format!(in alloc; "{placed}")?)
+    displayed(alloc, &placed)
 }
 
 /// A call: its path and its message.

@@ -2,6 +2,7 @@
 
 use super::framer::AnyFramer;
 use super::parts::Kind;
+use crate::shown::displayed;
 use crate::words::first_word;
 use std::alloc::Global;
 use test_kit::{RowFault, bytes_of, number_of, put_part};
@@ -65,7 +66,7 @@ pub(crate) fn steps_answer(alloc: Global, kind: Kind, steps: &str) -> Result<Str
             "end" => framer.end(),
             notation => {
                 let count = framer.feed(&bytes_of(alloc, notation)?)?;
-                put_part(&mut out, &format!(in alloc; "{count}")?)?;
+                put_part(&mut out, &displayed(alloc, &count)?)?;
             }
         }
     }

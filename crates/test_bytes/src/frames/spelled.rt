@@ -1,6 +1,7 @@
 //! Rows about parts of replies, texts and limits.
 
 use super::parts::text_of;
+use crate::shown::displayed;
 use frames_core::{
     FrameFault, FrameWhy, MAX_BODY_BYTES, MAX_FRAME_BYTES, MAX_HEAD_BYTES, MAX_MESSAGE_BYTES,
     MAX_PATH_BYTES, MAX_REFUSAL_TEXT_BYTES, MAX_REPLY_BYTES, MAX_REPLY_HEAD_BYTES, MAX_TEXT_BYTES,
@@ -40,8 +41,7 @@ pub(crate) fn texts_answer(alloc: Global, at: &str) -> Result<String, RowFault> 
     ] {
         let fault = FrameFault { why, at };
         put_part(&mut out, text_of(fault_text(&fault).bytes())?)?;
-        let displayed = format!(in alloc; "{fault}")?;
-        if displayed.as_bytes() != fault_text(&fault).bytes() {
+        if displayed(alloc, &fault)?.as_bytes() != fault_text(&fault).bytes() {
             put_part(&mut out, "displayed otherwise")?;
         }
     }
@@ -74,7 +74,7 @@ pub(crate) fn limits_answer(alloc: Global) -> Result<String, RowFault> {
         MAX_REPLY_BYTES,
         MAX_REFUSAL_TEXT_BYTES,
     ] {
-        put_part(&mut out, &format!(in alloc; "{limit}")?)?;
+        put_part(&mut out, &displayed(alloc, &limit)?)?;
     }
     Ok(out)
 }

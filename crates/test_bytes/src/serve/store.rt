@@ -129,21 +129,26 @@ impl Trials<'_> {
     // it that ask it.
     fn after_change(&self, call: usize) -> Result<Replies, AllocError> {
         let mut bytes = self.refused_behind(call)?;
-        let mut refusals = 1u64;
-        let behind = call.saturating_add(1);
+        let refused = self.put_down_behind(call.saturating_add(1), &mut bytes)?;
+        Ok(Replies {
+            bytes,
+            kept: String::from_str(self.alloc, self.kept_after(call))?,
+            refusals: refused.saturating_add(1),
+        })
+    }
+
+    // The replies to the calls behind so many, where the store is down. How many of them are refused for it.
+    fn put_down_behind(&self, behind: usize, bytes: &mut Vec<u8>) -> Result<u64, AllocError> {
+        let mut refused: u64 = 0;
         for (later, next) in self.stream.calls.iter().enumerate().skip(behind) {
             if next.asks {
                 bytes.extend_from_slice(STORE_DOWN)?;
-                refusals = refusals.saturating_add(1);
+                refused = refused.saturating_add(1);
             } else {
                 bytes.extend_from_slice(self.stream.reply(later))?;
             }
         }
-        Ok(Replies {
-            bytes,
-            kept: String::from_str(self.alloc, self.kept_after(call))?,
-            refusals,
-        })
+        Ok(refused)
     }
 
     // The replies to the first calls, and the refusal of the next.

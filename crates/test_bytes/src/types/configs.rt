@@ -2,6 +2,7 @@
 //! of 1 MiB without segments, and no node.
 
 use super::texts::{map_of, text_at};
+use crate::shown::{displayed, in_rust};
 use csi_config::{Config, ConfigFault, Node, Plugin, Pool, Sizes};
 use csi_types::{Map, copy_text};
 use std::alloc::Global;
@@ -12,8 +13,8 @@ pub(crate) const MEBIBYTE: u64 = 1_048_576;
 /// The fault of a configuration with what the words give, or a word where there is none.
 pub(crate) fn config_answer(alloc: Global, kind: &str, words: &[&str]) -> Result<String, RowFault> {
     match config_of(alloc, kind, words)? {
-        Ok(_) => Ok(String::from_str(alloc, "faultless")?),
-        Err(fault) => Ok(format!(in alloc; "{fault}")?),
+        Ok(_) => displayed(alloc, &"faultless"),
+        Err(fault) => displayed(alloc, &fault),
     }
 }
 
@@ -97,5 +98,5 @@ pub(crate) fn one_pool(alloc: Global, bytes: u64, segments: Map) -> Result<Vec<P
 
 /// The value of the sample.
 pub(crate) fn sample_answer(alloc: Global) -> Result<String, RowFault> {
-    Ok(format!(in alloc; "{:?}", Config::sample(alloc)?)?)
+    in_rust(alloc, &Config::sample(alloc)?)
 }

@@ -1,6 +1,7 @@
 //! Rows about values.
 
 use super::texts::{map_of, text_at, texts_of};
+use crate::shown::{displayed, in_rust};
 use csi_types::{
     Access, Capability, Code, Map, Mount, Reason, copy_capability, copy_map, has_each, laid_over,
     map_bytes, method_of, name_reason,
@@ -8,7 +9,7 @@ use csi_types::{
 use std::alloc::Global;
 use std::convert::AsStr;
 use std::fmt::Write;
-use test_kit::{RowFault, number_of, word_at};
+use test_kit::{RowFault, number_at, word_at};
 
 // All reasons.
 const REASONS: [Reason; 36] = [
@@ -52,19 +53,17 @@ const REASONS: [Reason; 36] = [
 
 /// Of `code NUMBER`: the name.
 pub(crate) fn code_answer(alloc: Global, words: &[&str]) -> Result<String, RowFault> {
-    let name = match Code::of(number_of(word_at(words, 0)?)?) {
-        Some(code) => code.name(),
-        None => "no code",
-    };
-    Ok(String::from_str(alloc, name)?)
+    match Code::of(number_at(words, 0)?) {
+        Some(code) => displayed(alloc, &code.name()),
+        None => displayed(alloc, &"no code"),
+    }
 }
 
 /// Of `reason NAME`: the status code's number and the text.
 pub(crate) fn reason_answer(alloc: Global, words: &[&str]) -> Result<String, RowFault> {
     let name = word_at(words, 0)?;
     for reason in REASONS {
-        let shown = format!(in alloc; "{reason:?}")?;
-        if shown.as_str() == name {
+        if in_rust(alloc, &reason)?.as_str() == name {
             return Ok(format!(in alloc; "{} {reason}", reason.code().number())?);
         }
     }
@@ -75,8 +74,8 @@ pub(crate) fn reason_answer(alloc: Global, words: &[&str]) -> Result<String, Row
 pub(crate) fn method_answer(alloc: Global, words: &[&str]) -> Result<String, RowFault> {
     let path = text_at(alloc, words, 0)?;
     match method_of(path.as_bytes()) {
-        Some(method) => Ok(format!(in alloc; "{method:?}")?),
-        None => Ok(String::from_str(alloc, "no method")?),
+        Some(method) => in_rust(alloc, &method),
+        None => displayed(alloc, &"no method"),
     }
 }
 
@@ -84,8 +83,8 @@ pub(crate) fn method_answer(alloc: Global, words: &[&str]) -> Result<String, Row
 pub(crate) fn name_answer(alloc: Global, words: &[&str]) -> Result<String, RowFault> {
     let name = text_at(alloc, words, 0)?;
     match name_reason(name.as_str()) {
-        Some(reason) => Ok(format!(in alloc; "{reason}")?),
-        None => Ok(String::from_str(alloc, "passed")?),
+        Some(reason) => displayed(alloc, &reason),
+        None => displayed(alloc, &"passed"),
     }
 }
 
@@ -142,7 +141,7 @@ pub(crate) fn over_answer(alloc: Global, words: &[&str]) -> Result<String, RowFa
 /// Of `capability none`, `capability block` or `capability mount TYPE GROUP MODE FLAG ..`: the value of a copy.
 pub(crate) fn capability_answer(alloc: Global, words: &[&str]) -> Result<String, RowFault> {
     let capability = capability_of(alloc, words)?;
-    Ok(format!(in alloc; "{:?}", copy_capability(alloc, &capability)?)?)
+    in_rust(alloc, &copy_capability(alloc, &capability)?)
 }
 
 fn capability_of(alloc: Global, words: &[&str]) -> Result<Capability, RowFault> {
@@ -156,7 +155,7 @@ fn capability_of(alloc: Global, words: &[&str]) -> Result<Capability, RowFault> 
             mode: None,
         }),
         "mount" => Ok(Capability {
-            mode: Some(number_of(word_at(words, 3)?)?),
+            mode: Some(number_at(words, 3)?),
             access: Access::Mount(mount_of(alloc, words)?),
         }),
         _ => Err(RowFault::NotRow),

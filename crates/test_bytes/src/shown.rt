@@ -1,0 +1,15 @@
+//! A value as the text of an answer. What is shown is lent to a function that does not spell out its type.
+
+use std::alloc::Global;
+use std::fmt::{Debug, Display};
+use test_kit::RowFault;
+
+/// The value as it is displayed.
+pub(crate) fn displayed<T: Display>(alloc: Global, value: &T) -> Result<String, RowFault> {
+    Ok(format!(in alloc; "{value}")?)
+}
+
+/// The value in Rust.
+pub(crate) fn in_rust<T: Debug>(alloc: Global, value: &T) -> Result<String, RowFault> {
+    Ok(format!(in alloc; "{value:?}")?)
+}
