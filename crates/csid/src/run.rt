@@ -8,12 +8,14 @@ use crate::config::configuration;
 use crate::failure::{Failure, Peer, outcome};
 use crate::say::say;
 use crate::socket::{listen, serve_all};
-use crate::tables::{Blank, check_standing, close, open, survey};
+use crate::tables::{Blank, OverTables, check_standing, over_tables, survey};
 use clap::ArgMatches;
 use command_line::{ArgumentsFault, arguments, matches};
 use csi_config::Config;
 use csi_keeper::{Keeper, MemKeeper};
 use csi_server::serve;
+use csi_tables::Tables;
+use sqlite::{Alter, Connection};
 use std::alloc::Global;
 
 /// The number that the first volume gets.
@@ -48,6 +50,21 @@ fn ended(
     Err(closing)
 }
 
+// Answers the calls of standard input.
+#[derive(Drop)]
+struct Piping<'a> {
+    rt: &'a HostRuntime,
+    config: &'a Config,
+    served: Result<(), Failure>,
+}
+
+impl OverTables for Piping<'_> {
+    fn run<S: Alter + Drop>(&mut self, mut tables: Tables<S>) -> Connection<S> {
+        self.served = serve_pipe(self.rt, self.config, &mut tables);
+        tables.into_connection()
+    }
+}
+
 // Answers the calls of standard input, and keeps the volumes in a file.
 fn pipe_over_tables(
     rt: &HostRuntime,
@@ -55,9 +72,13 @@ fn pipe_over_tables(
     path: &str,
     blank: Blank,
 ) -> Result<(), Failure> {
-    let mut tables = open(rt, path, config, blank)?;
-    let served = serve_pipe(rt, config, &mut tables);
-    ended(rt, served, close(rt.alloc(), path, tables))
+    let mut piping = Piping {
+        rt,
+        config,
+        served: Ok(()),
+    };
+    let closed = over_tables(rt, path, config, blank, &mut piping);
+    ended(rt, piping.served, closed)
 }
 
 // Answers the calls of standard input, and keeps the volumes in a file if there is to be one.

@@ -10,12 +10,13 @@ use crate::peer::{Patient, has_gone, settle};
 use crate::pending::{Pending, Start};
 use crate::run::FIRST_NUMBER;
 use crate::say::{say, say_of};
-use crate::tables::{Blank, Store, close, open};
+use crate::tables::{Blank, OverTables, over_tables};
 use crate::waiting::Waiting;
 use csi_config::Config;
 use csi_keeper::{Keeper, MemKeeper};
 use csi_server::{RunEnd, serve};
 use csi_tables::Tables;
+use sqlite::{Alter, Connection};
 use std::alloc::Global;
 use std::fs::{self, Permissions};
 use std::io::{self, ErrorKind};
@@ -115,13 +116,30 @@ fn refuse_peer(rt: &HostRuntime, config: &Config, peer: &Pending) {
 }
 
 // Says what the database refused.
-fn tell_refusals(rt: &HostRuntime, path: &str, tables: &Tables<Store>) {
+fn tell_refusals<S: Alter>(rt: &HostRuntime, path: &str, tables: &Tables<S>) {
     if tables.is_down() {
         let what =
             "a change was refused, by the database or for memory; from then on the connection was told that the store is down";
         say_of(rt, path, &what);
     } else if tables.refusals() > 0 {
         say_of(rt, path, &"the database refused a read");
+    }
+}
+
+// Answers the calls of a connection.
+#[derive(Clone, Copy)]
+struct Answering<'a> {
+    rt: &'a HostRuntime,
+    config: &'a Config,
+    path: &'a str,
+    peer: &'a Pending,
+}
+
+impl OverTables for Answering<'_> {
+    fn run<S: Alter + Drop>(&mut self, mut tables: Tables<S>) -> Connection<S> {
+        serve_one(self.rt, self.config, &mut tables, self.peer);
+        tell_refusals(self.rt, self.path, &tables);
+        tables.into_connection()
     }
 }
 
@@ -133,10 +151,13 @@ fn answer_over_tables(
     peer: &Pending,
 ) -> Result<(), Failure> {
     let blank = Blank::refused_if(serving.is_existing, Blank::MakeAndSay);
-    let mut tables = open(rt, serving.tables, config, blank)?;
-    serve_one(rt, config, &mut tables, peer);
-    tell_refusals(rt, serving.tables, &tables);
-    close(rt.alloc(), serving.tables, tables)
+    let mut answering = Answering {
+        rt,
+        config,
+        path: serving.tables,
+        peer,
+    };
+    over_tables(rt, serving.tables, config, blank, &mut answering)
 }
 
 // Answers the calls of one connection over the tables, which are opened for it; where they cannot be,

@@ -14,7 +14,7 @@ use sqlite::{Alter, Connection, Error, ErrorCode, File, FileStore};
 use std::alloc::Global;
 
 /// The store of a file on the disk.
-pub(crate) type Store = FileStore<File>;
+type Store = FileStore<File>;
 
 /// What is done where a file is missing or has no tables.
 #[derive(Clone, Copy, PartialEq)]
@@ -136,27 +136,7 @@ fn take<S: Alter + Drop>(
     kept
 }
 
-/// A keeper over the tables in a file.
-///
-/// # Errors
-///
-/// Where they cannot be had, or memory is refused.
-pub(crate) fn open(
-    rt: &HostRuntime,
-    path: &str,
-    config: &Config,
-    blank: Blank,
-) -> Result<Tables<Store>, Failure>
-    ensures { IfErr result (λ failure. IsOrNoMemory 4 failure) }
-{
-    if path.is_empty() {
-        return Err(Failure::NoTablesPath);
-    }
-    prepare(rt, path, blank)?;
-    take(rt, path, connect(rt, path)?, config, blank)
-}
-
-// Closes a connection to a file, as `close` does.
+// Copies what was committed into the file itself, and closes it. Where that fails, nothing is lost: it stays in the log beside the file.
 fn disconnect(alloc: Global, path: &str, conn: Connection<Store>) -> Result<(), Failure>
     ensures { IfErr result (λ failure. IsOrNoMemory 4 failure) }
 {
@@ -166,21 +146,52 @@ fn disconnect(alloc: Global, path: &str, conn: Connection<Store>) -> Result<(), 
     }
 }
 
-/// Copies what was committed into the file itself, and closes it. Where that fails, nothing is lost: it stays in the log beside the file.
+/// What is done over the tables in a file. It does not know how they are stored, and nor does its proof.
+pub(crate) trait OverTables {
+    /// Does it, and gives the connection back.
+    fn run<S: Alter + Drop>(&mut self, tables: Tables<S>) -> Connection<S>;
+}
+
+// Does a task over the tables on a connection, and gives it back.
+fn run_over<S: Alter + Drop, T: OverTables>(
+    rt: &HostRuntime,
+    path: &str,
+    conn: Connection<S>,
+    config: &Config,
+    blank: Blank,
+    task: &mut T,
+) -> Result<Connection<S>, Failure>
+    requires { conn.in_transaction ≡ false }
+    ensures { IfErr result (λ failure. IsOrNoMemory 4 failure) }
+{
+    match take(rt, path, conn, config, blank) {
+        Ok(tables) => Ok(task.run(tables)),
+        Err(failure) => Err(failure),
+    }
+}
+
+/// Opens and judges the tables in a file, does a task over them, and closes the file: what was committed is copied into the file itself. Where that
+/// fails, nothing is lost: it stays in the log beside the file.
 ///
 /// # Errors
 ///
-/// Where it cannot be copied, or memory is refused.
-pub(crate) fn close(alloc: Global, path: &str, tables: Tables<Store>) -> Result<(), Failure>
+/// Where the tables cannot be had, and then the task is not done; where the file cannot be closed; or where memory is refused.
+pub(crate) fn over_tables<T: OverTables>(
+    rt: &HostRuntime,
+    path: &str,
+    config: &Config,
+    blank: Blank,
+    task: &mut T,
+) -> Result<(), Failure>
     ensures { IfErr result (λ failure. IsOrNoMemory 4 failure) }
 {
-    disconnect(alloc, path, tables.into_connection())
-}
-
-// Says why a file could not be closed, where it could not.
-fn tell_closed(rt: &HostRuntime, closed: Result<(), Failure>) {
-    if let Err(failure) = closed {
-        say(rt, &failure);
+    if path.is_empty() {
+        return Err(Failure::NoTablesPath);
+    }
+    prepare(rt, path, blank)?;
+    match run_over(rt, path, connect(rt, path)?, config, blank, task) {
+        Ok(conn) => disconnect(rt.alloc(), path, conn),
+        Err(failure) => Err(failure),
     }
 }
 
@@ -192,24 +203,27 @@ fn tell_content(rt: &HostRuntime, path: &str, content: Result<Content, Error>) {
     }
 }
 
-// What the tables of a keeper have, and the connection to their file. Its proof does not spell the store out.
-fn content_of<S: Alter + Drop>(tables: Tables<S>) -> (Connection<S>, Result<Content, Error>) {
-    let mut conn = tables.into_connection();
-    let content = read_content(&mut conn);
-    (conn, content)
+// Looks what the tables have.
+#[derive(Drop)]
+struct Surveying {
+    content: Option<Result<Content, Error>>,
 }
 
-// Says what the tables of a keeper have, and closes their file.
-fn tell_and_close(rt: &HostRuntime, path: &str, tables: Tables<Store>) {
-    let (conn, content) = content_of(tables);
-    tell_closed(rt, disconnect(rt.alloc(), path, conn));
-    tell_content(rt, path, content);
+impl OverTables for Surveying {
+    fn run<S: Alter + Drop>(&mut self, tables: Tables<S>) -> Connection<S> {
+        let mut conn = tables.into_connection();
+        self.content = Some(read_content(&mut conn));
+        conn
+    }
 }
 
 /// Opens and judges the tables in a file once, and says what they have, or why they cannot be had. The file is closed by then.
 pub(crate) fn survey(rt: &HostRuntime, path: &str, config: &Config, blank: Blank) {
-    match open(rt, path, config, blank) {
-        Ok(tables) => tell_and_close(rt, path, tables),
-        Err(failure) => say(rt, &failure),
+    let mut surveying = Surveying { content: None };
+    if let Err(failure) = over_tables(rt, path, config, blank, &mut surveying) {
+        say(rt, &failure);
+    }
+    if let Some(content) = surveying.content {
+        tell_content(rt, path, content);
     }
 }

@@ -18,9 +18,7 @@ pub(crate) fn answer(alloc: Global, row: &str) -> Result<String, RowFault> {
     let (how, statements) = row.split_once(" |").ok_or(RowFault::NotRow)?;
     let (start, config) = how.split_once(' ').ok_or(RowFault::NotRow)?;
     let config = config_named(alloc, config)?;
-    let mut conn = without_tables(alloc)?;
-    begin(&mut conn, start, statements)?;
-    adopt_twice(alloc, conn, &config, start)
+    adopt_twice(alloc, without_tables(alloc)?, &config, start, statements)
 }
 
 // Begins a database so, behind these statements.
@@ -42,13 +40,17 @@ fn begin<S: Alter>(conn: &mut Connection<S>, start: &str, statements: &str) -> R
     Ok(())
 }
 
-// What tables are adopted as, also where they are given back and adopted again.
+// What tables are adopted as that begin so, also where they are given back and adopted again.
 fn adopt_twice<S: Alter + Drop>(
     alloc: Global,
-    conn: Connection<S>,
+    mut conn: Connection<S>,
     config: &Config,
     start: &str,
-) -> Result<String, RowFault> {
+    statements: &str,
+) -> Result<String, RowFault>
+    requires { conn.in_transaction ≡ false }
+{
+    begin(&mut conn, start, statements)?;
     let (first, mut conn) = told(alloc, conn, config);
     let format = format_of(alloc, &mut conn, start);
     let (second, _) = told(alloc, conn, config);

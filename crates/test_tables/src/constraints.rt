@@ -10,9 +10,10 @@ use csi_constraints::{
     HasAttachmentKinds, HasCap, HasCaps, HasFlag, HasParams, HasVolumeKinds, IsAtNode, IsInPools,
     IsNamed, IsNumbered, IsSized, RowName, RowTrial, Sure, VolumeConstraint,
 };
-use csi_scans::RowTest;
+use csi_types::copy_text;
 use sqlite::{Alter, Connection};
 use std::alloc::Global;
+use std::fmt::{Display, Write};
 use test_kit::{RowFault, number_at, word_at, words_of};
 
 /// The answer to a row: the constraint, and the statements that make the rows.
@@ -52,7 +53,11 @@ fn ask_owners<S: Alter>(alloc: Global, conn: &mut Connection<S>) -> Result<Strin
         found: None,
     };
     Scan::Owners.over(conn, &mut fold)?;
-    attachment_text(alloc, fold.found, AttachmentConstraint::Owner)
+    told(
+        alloc,
+        &fold.found,
+        Words::Attachment(AttachmentConstraint::Owner),
+    )
 }
 
 fn ask_places<S: Alter>(alloc: Global, conn: &mut Connection<S>) -> Result<String, RowFault> {
@@ -62,7 +67,11 @@ fn ask_places<S: Alter>(alloc: Global, conn: &mut Connection<S>) -> Result<Strin
         found: None,
     };
     Scan::Places.over(conn, &mut fold)?;
-    attachment_text(alloc, fold.found, AttachmentConstraint::Beside)
+    told(
+        alloc,
+        &fold.found,
+        Words::Attachment(AttachmentConstraint::Beside),
+    )
 }
 
 fn ask_volumes<S: Alter>(
@@ -72,7 +81,12 @@ fn ask_volumes<S: Alter>(
     words: &[&str],
 ) -> Result<String, RowFault> {
     match word_at(words, 1)? {
-        "kinds" => ask_kinds(alloc, conn, Scan::Volumes, HasVolumeKinds),
+        "kinds" => {
+            let test = Sure {
+                test: HasVolumeKinds,
+            };
+            ask(alloc, conn, Scan::Volumes, test, Words::Row)
+        }
         "number" => {
             let next = number_at(words, 2)?;
             let test = Sure {
@@ -104,6 +118,15 @@ fn ask_volumes<S: Alter>(
     }
 }
 
+fn ask_volume<S: Alter, T: RowTrial + Drop>(
+    alloc: Global,
+    conn: &mut Connection<S>,
+    test: T,
+    constraint: VolumeConstraint,
+) -> Result<String, RowFault> {
+    ask(alloc, conn, Scan::Volumes, test, Words::Volume(constraint))
+}
+
 fn ask_attachments<S: Alter>(
     alloc: Global,
     conn: &mut Connection<S>,
@@ -111,67 +134,45 @@ fn ask_attachments<S: Alter>(
     constraint: &str,
 ) -> Result<String, RowFault> {
     match constraint {
-        "kinds" => ask_kinds(alloc, conn, Scan::Attachments, HasAttachmentKinds),
+        "kinds" => {
+            let test = Sure {
+                test: HasAttachmentKinds,
+            };
+            ask(alloc, conn, Scan::Attachments, test, Words::Row)
+        }
         "readonly" => {
-            let test = Sure { test: HasFlag };
-            ask_attachment(alloc, conn, test, AttachmentConstraint::Readonly)
+            let words = Words::Attachment(AttachmentConstraint::Readonly);
+            ask(
+                alloc,
+                conn,
+                Scan::Attachments,
+                Sure { test: HasFlag },
+                words,
+            )
         }
         "node" => {
+            let words = Words::Attachment(AttachmentConstraint::Node);
             let test = Sure {
                 test: IsAtNode { config },
             };
-            ask_attachment(alloc, conn, test, AttachmentConstraint::Node)
+            ask(alloc, conn, Scan::Attachments, test, words)
         }
-        "cap" => ask_attachment(alloc, conn, HasCap { alloc }, AttachmentConstraint::Cap),
+        "cap" => {
+            let words = Words::Attachment(AttachmentConstraint::Cap);
+            ask(alloc, conn, Scan::Attachments, HasCap { alloc }, words)
+        }
         _ => Err(RowFault::NotRow),
     }
 }
 
-// Whether all rows of a scan have values of the kinds that are wanted.
-fn ask_kinds<S: Alter, T: RowTest + Drop>(
+// Whether all rows of a scan meet a constraint.
+fn ask<S: Alter, T: RowTrial + Drop>(
     alloc: Global,
     conn: &mut Connection<S>,
     scan: Scan,
     test: T,
+    words: Words,
 ) -> Result<String, RowFault> {
-    row_text(alloc, first_broken(alloc, conn, scan, Sure { test })?)
-}
-
-// Whether all volumes meet a constraint.
-fn ask_volume<S: Alter, T: RowTrial + Drop>(
-    alloc: Global,
-    conn: &mut Connection<S>,
-    test: T,
-    constraint: VolumeConstraint,
-) -> Result<String, RowFault> {
-    volume_text(
-        alloc,
-        first_broken(alloc, conn, Scan::Volumes, test)?,
-        constraint,
-    )
-}
-
-// Whether all attachments meet a constraint.
-fn ask_attachment<S: Alter, T: RowTrial + Drop>(
-    alloc: Global,
-    conn: &mut Connection<S>,
-    test: T,
-    constraint: AttachmentConstraint,
-) -> Result<String, RowFault> {
-    attachment_text(
-        alloc,
-        first_broken(alloc, conn, Scan::Attachments, test)?,
-        constraint,
-    )
-}
-
-// The first row of a scan that breaks a constraint.
-fn first_broken<S: Alter, T: RowTrial + Drop>(
-    alloc: Global,
-    conn: &mut Connection<S>,
-    scan: Scan,
-    test: T,
-) -> Result<Option<RowName>, RowFault> {
     let (number, text) = match scan {
         Scan::Attachments => (1, 2),
         _ => (0, 1),
@@ -184,61 +185,60 @@ fn first_broken<S: Alter, T: RowTrial + Drop>(
         found: None,
     };
     scan.over(conn, &mut fold)?;
-    Ok(fold.found)
+    told(alloc, &fold.found, words)
+}
+
+// In which words a row is told that breaks a constraint.
+#[derive(Clone, Copy)]
+enum Words {
+    // What it is named by.
+    Row,
+    // Those of a constraint of volumes.
+    Volume(VolumeConstraint),
+    // Those of a constraint of attachments.
+    Attachment(AttachmentConstraint),
 }
 
 // That rows meet a constraint, or which is the first that does not.
-fn row_text(alloc: Global, found: Option<RowName>) -> Result<String, RowFault> {
-    let Some(RowName { number, text }) = found else {
-        return Ok(String::from_str(alloc, "holds")?);
-    };
-    let text = match (number, text) {
-        (Some(number), Some(text)) => format!(in alloc; "broken by {number} '{text}'")?,
-        (Some(number), None) => format!(in alloc; "broken by {number}")?,
-        (None, Some(text)) => format!(in alloc; "broken by '{text}'")?,
-        (None, None) => format!(in alloc; "broken")?,
-    };
-    Ok(text)
-}
-
-// The same, in the words of the constraint.
-fn volume_text(
-    alloc: Global,
-    found: Option<RowName>,
-    constraint: VolumeConstraint,
-) -> Result<String, RowFault> {
+fn told(alloc: Global, found: &Option<RowName>, words: Words) -> Result<String, RowFault> {
     match found {
-        Some(
-            RowName {
-                number: Some(number),
-                ..
-            },
-        ) => { Ok(format!(in alloc; "{}", BrokenConstraint::Volume { number, constraint })?) }
-        found => row_text(alloc, found),
+        Some(row) => broken_text(alloc, row, words),
+        None => Ok(String::from_str(alloc, "holds")?),
     }
 }
 
-fn attachment_text(
-    alloc: Global,
-    found: Option<RowName>,
-    constraint: AttachmentConstraint,
-) -> Result<String, RowFault> {
-    match found {
-        Some(
-            RowName {
-                number: Some(number),
-                text: Some(node),
-            },
-        ) => {
-            Ok(format!(in alloc;
-                "{}",
-                BrokenConstraint::Attachment {
-                    number,
-                    node,
-                    constraint
-                }
-            )?)
+// A row without what the words tell of it is told by what it has.
+fn broken_text(alloc: Global, row: &RowName, words: Words) -> Result<String, RowFault> {
+    match (words, row.number, &row.text) {
+        (Words::Volume(constraint), Some(number), _) => {
+            displayed(alloc, &BrokenConstraint::Volume { number, constraint })
         }
-        found => row_text(alloc, found),
+        (Words::Attachment(constraint), Some(number), Some(node)) => {
+            let broken = BrokenConstraint::Attachment {
+                number,
+                node: copy_text(alloc, node.as_str())?,
+                constraint,
+            };
+            displayed(alloc, &broken)
+        }
+        _ => row_text(alloc, row),
     }
+}
+
+fn row_text(alloc: Global, row: &RowName) -> Result<String, RowFault> {
+    let mut out = String::from_str(alloc, "broken")?;
+    if row.number.is_some() || row.text.is_some() {
+        out.push_str(" by")?;
+    }
+    if let Some(number) = row.number {
+        write!(out, " {number}")?;
+    }
+    if let Some(text) = &row.text {
+        write!(out, " '{text}'")?;
+    }
+    Ok(out)
+}
+
+fn displayed<T: Display>(alloc: Global, value: &T) -> Result<String, RowFault> {
+    Ok(format!(in alloc; "{value}")?)
 }

@@ -47,16 +47,25 @@ impl AnswerSection for Sections {
         rows: &mut Rows<'_, W>,
     ) -> Result<(), RowFault> {
         match name {
-            "statements" => rows.answer(rt, &mut statements::Bench::new(rt.alloc())?),
-            "scans" => rows.answer(rt, &mut Plain::Scans),
-            "constraints" => rows.answer(rt, &mut Plain::Constraints),
-            "tables" => rows.answer(rt, &mut tables::Bench::new(rt.alloc())?),
-            "adoption" => rows.answer(rt, &mut Plain::Adoption),
-            "stops" => rows.answer(rt, &mut stops::Bench::new(rt.alloc())?),
-            _ => return Err(RowFault::NotRow),
+            "statements" => answer(rt, rows, statements::Bench::new(rt.alloc())),
+            "scans" => answer(rt, rows, Ok(Plain::Scans)),
+            "constraints" => answer(rt, rows, Ok(Plain::Constraints)),
+            "tables" => answer(rt, rows, tables::Bench::new(rt.alloc())),
+            "adoption" => answer(rt, rows, Ok(Plain::Adoption)),
+            "stops" => answer(rt, rows, stops::Bench::new(rt.alloc())),
+            _ => Err(RowFault::NotRow),
         }
-        Ok(())
     }
+}
+
+// Answers the rows of a section that could begin. The large values that sections keep are owned here, where their types are not spelled out.
+fn answer<W: Write, R: AnswerRow + Drop>(
+    rt: &HostRuntime,
+    rows: &mut Rows<'_, W>,
+    section: Result<R, RowFault>,
+) -> Result<(), RowFault> {
+    rows.answer(rt, &mut section?);
+    Ok(())
 }
 
 fn main(rt: HostRuntime) -> ExitCode {

@@ -13,6 +13,7 @@ use folds::Showing;
 pub(crate) use scan::Scan;
 use sqlite::{Alter, Connection};
 use std::alloc::Global;
+use std::fmt::Write;
 use test_kit::{RowFault, number_at, word_at, words_of};
 
 /// The answer to a row: what a database begins as, what is asked of it, and the statements that come
@@ -21,8 +22,21 @@ pub(crate) fn answer(alloc: Global, row: &str) -> Result<String, RowFault> {
     let (start, rest) = row.split_once(" | ").ok_or(RowFault::NotRow)?;
     let (question, statements) = rest.split_once(" | ").ok_or(RowFault::NotRow)?;
     let mut conn = without_tables(alloc)?;
-    begin(&mut conn, start, statements)?;
-    ask(alloc, &mut conn, question)
+    look(alloc, &mut conn, start, statements, question)
+}
+
+// The same over a connection.
+fn look<S: Alter>(
+    alloc: Global,
+    conn: &mut Connection<S>,
+    start: &str,
+    statements: &str,
+    question: &str,
+) -> Result<String, RowFault>
+    requires { conn.old.in_transaction ≡ false }
+{
+    begin(conn, start, statements)?;
+    ask(alloc, conn, question)
 }
 
 // Begins a database so, behind these statements.
@@ -112,11 +126,9 @@ fn sums_of(alloc: Global, words: &[&str]) -> Result<Vec<TextSum>, RowFault> {
     let column = number_at(words, place)?;
     let mut sums = Vec::new(alloc);
     for word in word_at(words, place + 1)?.split(',') {
-        let mut text = Vec::new(alloc);
-        text.extend_from_slice(word.as_bytes())?;
         sums.push(TextSum {
             column,
-            text,
+            text: Vec::from_slice(alloc, word.as_bytes())?,
             weight,
             sum: 0,
         })?;
@@ -132,12 +144,16 @@ fn summed<S: Alter>(
 ) -> Result<String, RowFault> {
     let mut fold = Each { parts: sums };
     scan.over(conn, &mut fold)?;
+    sums_text(alloc, &fold.parts)
+}
+
+fn sums_text(alloc: Global, sums: &[TextSum]) -> Result<String, RowFault> {
     let mut text = String::new(alloc);
-    for part in &fold.parts {
+    for part in sums {
         if !text.is_empty() {
             text.push(' ')?;
         }
-        text.push_str(&format!(in alloc; "{}", part.sum)?)?;
+        write!(text, "{}", part.sum)?;
     }
     Ok(text)
 }

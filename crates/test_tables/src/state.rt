@@ -18,16 +18,38 @@ pub(crate) fn state_text<K: Keeper>(
 ) -> Result<String, RowFault> {
     let next = keeper.next_number()?;
     let mut text = format!(in alloc; "next {next}")?;
+    put_volumes(&mut text, alloc, keeper)?;
+    put_pools(&mut text, config, keeper)?;
+    Ok(text)
+}
+
+fn put_volumes<K: Keeper>(
+    text: &mut String,
+    alloc: Global,
+    keeper: &mut K,
+) -> Result<(), RowFault> {
     let volumes = keeper.page(alloc, 0, MOST_VOLUMES)?;
     let nodes = keeper.published_nodes(alloc, 0, MOST_VOLUMES)?;
+    put_each(text, volumes.as_slice(), nodes.as_slice())
+}
+
+fn put_each(text: &mut String, volumes: &[Volume], nodes: &[Items<Text>]) -> Result<(), RowFault> {
     for (volume, nodes) in volumes.iter().zip(nodes.iter()) {
-        put_volume(&mut text, volume, nodes)?;
+        put_volume(text, volume, nodes)?;
     }
+    Ok(())
+}
+
+fn put_pools<K: Keeper>(
+    text: &mut String,
+    config: &Config,
+    keeper: &mut K,
+) -> Result<(), RowFault> {
     for pool in config.pools() {
         let used = keeper.used_in(&pool.name)?;
         write!(text, "; {} {} in {}", pool.name, used.bytes, used.volumes)?;
     }
-    Ok(text)
+    Ok(())
 }
 
 fn put_volume(text: &mut String, volume: &Volume, nodes: &Items<Text>) -> Result<(), RowFault> {

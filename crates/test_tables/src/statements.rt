@@ -28,20 +28,23 @@ impl Bench {
     }
 
     fn answer(&mut self, alloc: Global, row: &str) -> Result<String, RowFault> {
-        let words = words_of(alloc, row)?;
-        match word_at(&words, 0)? {
+        self.answer_words(alloc, &words_of(alloc, row)?)
+    }
+
+    fn answer_words(&mut self, alloc: Global, words: &[&str]) -> Result<String, RowFault> {
+        match word_at(words, 0)? {
             "make" => done(alloc, make_tables(&mut self.conn)),
-            "add" => self.add(alloc, &words),
-            "remove" => self.remove(alloc, &words),
-            "attach" => self.attach(alloc, &words),
-            "detach" => self.detach(alloc, &words),
-            "params" => self.params(alloc, &words),
+            "add" => self.add(alloc, words),
+            "remove" => self.remove(alloc, words),
+            "attach" => self.attach(alloc, words),
+            "detach" => self.detach(alloc, words),
+            "params" => self.params(alloc, words),
             "format" => done(alloc, changes::set_format(&mut self.conn)),
             "first" => done(alloc, take_first_format(&mut self.conn)),
             "meta" => all(alloc, meta(&mut self.conn)),
-            "next" | "number" | "name" => self.find(alloc, &words),
-            "attachments" | "at" | "sizes" => self.list(alloc, &words),
-            "page" | "nodes" => self.page(alloc, &words),
+            "next" | "number" | "name" => self.find(alloc, words),
+            "attachments" | "at" | "sizes" => self.list(alloc, words),
+            "page" | "nodes" => self.page(alloc, words),
             _ => Err(RowFault::NotRow),
         }
     }
@@ -121,9 +124,7 @@ impl Bench {
             return all(alloc, reads::page(&mut self.conn, after, count));
         }
         let page = reads::page_nodes(&mut self.conn, after, count).map_err(refused)?;
-        let numbers = all(alloc, Ok(page.numbers))?;
-        let places = all(alloc, Ok(page.places))?;
-        Ok(format!(in alloc; "{numbers}; {places}")?)
+        both(alloc, &page.numbers, &page.places)
     }
 }
 
@@ -168,21 +169,35 @@ fn found(alloc: Global, found: Result<Option<Row>, SqlError>) -> Result<String, 
 }
 
 fn all(alloc: Global, rows: Result<Vec<Row>, SqlError>) -> Result<String, RowFault> {
+    rows_text(alloc, &rows.map_err(refused)?)
+}
+
+fn rows_text(alloc: Global, rows: &[Row]) -> Result<String, RowFault> {
     let mut text = String::new(alloc);
-    for row in &rows.map_err(refused)? {
+    for row in rows {
         put_row(&mut text, alloc, row)?;
     }
     Ok(or_none(text)?)
+}
+
+fn both(alloc: Global, numbers: &[Row], places: &[Row]) -> Result<String, RowFault> {
+    let numbers = rows_text(alloc, numbers)?;
+    let places = rows_text(alloc, places)?;
+    Ok(format!(in alloc; "{numbers}; {places}")?)
 }
 
 // Of each attachment its node, its capability, and whether it is readonly.
 fn attachments(alloc: Global, rows: Result<Vec<Row>, SqlError>) -> Result<String, RowFault> {
     let mut text = String::new(alloc);
     for row in &rows.map_err(refused)? {
-        let node = cell_text(alloc, row, 0)?;
-        let cap = cell_text(alloc, row, 1)?;
-        let readonly = flag_at(row, 2).ok_or(RowFault::Refused("no flag"))?;
-        put_part(&mut text, &format!(in alloc; "{node} {cap} {readonly}")?)?;
+        put_part(&mut text, &attachment_text(alloc, row)?)?;
     }
     Ok(or_none(text)?)
+}
+
+fn attachment_text(alloc: Global, row: &Row) -> Result<String, RowFault> {
+    let readonly = flag_at(row, 2).ok_or(RowFault::Refused("no flag"))?;
+    let node = cell_text(alloc, row, 0)?;
+    let cap = cell_text(alloc, row, 1)?;
+    Ok(format!(in alloc; "{node} {cap} {readonly}")?)
 }

@@ -11,7 +11,7 @@ use disks::{NEVER, copies, left_of, new_files};
 use runs::Wanted;
 use serving::{left_by, outcome_of};
 use sqlite_disk::{Files, Memory};
-use std::alloc::{AllocError, Global};
+use std::alloc::Global;
 use test_kit::{Answer, AnswerRow, RowFault, bytes_of, number_at};
 use trials::{Trials, Way};
 
@@ -35,7 +35,7 @@ pub(crate) struct Bench {
 
 impl Bench {
     /// New files.
-    pub(crate) fn new(alloc: Global) -> Result<Bench, AllocError> {
+    pub(crate) fn new(alloc: Global) -> Result<Bench, RowFault> {
         Ok(Bench {
             config: Config::sample(alloc)?,
             files: new_files(alloc),
@@ -63,8 +63,8 @@ impl Bench {
     fn begin(&mut self, alloc: Global, calls: &str, ending: Ending) -> Result<String, RowFault> {
         let calls = bytes_of(alloc, calls)?;
         let disks = copies(alloc, &new_files(alloc), NEVER)?;
-        let (made, disks) = left_by(alloc, &self.config, disks, &calls, ending)?;
-        self.files = left_of(alloc, disks, false)?;
+        let (made, mut disks) = left_by(alloc, &self.config, disks, &calls, ending)?;
+        self.files = left_of(alloc, &mut disks, false)?;
         Ok(made.after)
     }
 

@@ -36,11 +36,8 @@ impl Bench {
 
     fn answer(&mut self, alloc: Global, row: &str) -> Result<String, RowFault> {
         match row {
-            "begin" => {
-                self.tables = new_tables(alloc)?;
-                Ok(String::from_str(alloc, "begun")?)
-            }
-            "make" => remake(alloc, mem::replace(&mut self.tables, new_tables(alloc)?)),
+            "begin" => begin(alloc, &mut self.tables, new_tables(alloc)),
+            "make" => remake(alloc, &mut self.tables, new_tables(alloc)),
             _ => told(alloc, &self.config, &mut self.tables, row),
         }
     }
@@ -60,10 +57,25 @@ fn new_tables(alloc: Global) -> Result<Tables<MemStore>, RowFault> {
     }
 }
 
+// New tables take the place of those before.
+fn begin<T: Drop>(
+    alloc: Global,
+    tables: &mut T,
+    new: Result<T, RowFault>,
+) -> Result<String, RowFault> {
+    *tables = new?;
+    Ok(String::from_str(alloc, "begun")?)
+}
+
 // Makes the tables where they stand, which is refused, and tells the next number that the rows of
-// the connection that was given back still have.
-fn remake<S: Alter + Drop>(alloc: Global, tables: Tables<S>) -> Result<String, RowFault> {
-    match Tables::make(alloc, tables.into_connection()) {
+// the connection that was given back still have. New ones take their place.
+fn remake<S: Alter + Drop>(
+    alloc: Global,
+    tables: &mut Tables<S>,
+    new: Result<Tables<S>, RowFault>,
+) -> Result<String, RowFault> {
+    let before = mem::replace(tables, new?);
+    match Tables::make(alloc, before.into_connection()) {
         Ok(_) => Ok(String::from_str(alloc, "made")?),
         Err(mut fault) => next_in(alloc, &mut fault.conn),
     }

@@ -6,7 +6,7 @@ use crate::database::run;
 use sqlite::{Alter, Connection, Error as SqlError, ErrorCode, FileStore, Options};
 use sqlite_disk::{Crash, Disk, Files, Fuse, Memory};
 use std::alloc::Global;
-use std::{fmt, io};
+use std::fmt;
 use test_kit::RowFault;
 
 // The seed of the salts in the log, of which no answer depends.
@@ -82,17 +82,22 @@ pub(crate) fn new_files(alloc: Global) -> Files<Memory> {
     }
 }
 
-// A file in memory refuses nothing but memory.
-fn no_memory(_error: io::Error) -> RowFault {
-    RowFault::NoMemory
-}
-
 // A file with the same bytes, all synchronised.
 fn copied(alloc: Global, file: &Memory) -> Result<Memory, RowFault> {
     let mut copy = Memory::new(alloc);
-    copy.write_at(0, file.bytes()).map_err(no_memory)?;
-    copy.sync().map_err(no_memory)?;
+    // A file in memory refuses nothing but memory.
+    if copy.write_at(0, file.bytes()).is_err() || copy.sync().is_err() {
+        return Err(RowFault::NoMemory);
+    }
     Ok(copy)
+}
+
+fn copied_files(alloc: Global, log: &Memory, db: &Memory) -> Result<Files<Memory>, RowFault> {
+    let log = copied(alloc, log)?;
+    Ok(Files {
+        log,
+        db: copied(alloc, db)?,
+    })
 }
 
 /// Files with the same bytes, all synchronised, which stop behind so many calls of the log and of the database file.
@@ -101,9 +106,10 @@ pub(crate) fn copies(
     files: &Files<Memory>,
     calls: (u64, u64),
 ) -> Result<Disks, RowFault> {
+    let copies = copied_files(alloc, &files.log, &files.db)?;
     Ok(Files {
-        log: Fuse::new(copied(alloc, &files.log)?, calls.0),
-        db: Fuse::new(copied(alloc, &files.db)?, calls.1),
+        log: Fuse::new(copies.log, calls.0),
+        db: Fuse::new(copies.db, calls.1),
     })
 }
 
@@ -120,21 +126,18 @@ pub(crate) fn has_stopped(disks: &mut Disks) -> bool {
 /// What the next start finds of files.
 pub(crate) fn left_of(
     alloc: Global,
-    mut disks: Disks,
+    disks: &mut Disks,
     loses: bool,
 ) -> Result<Files<Memory>, RowFault> {
     if loses {
         disks.log.crash();
         disks.db.crash();
     }
-    Ok(Files {
-        log: copied(alloc, disks.log.inner())?,
-        db: copied(alloc, disks.db.inner())?,
-    })
+    copied_files(alloc, disks.log.inner(), disks.db.inner())
 }
 
-/// Opens the database in two files, or gives back why it cannot be opened, and the files.
-pub(crate) fn open<D: Disk + Drop>(
+// Opens the database in two files, or gives back why it cannot be opened, and the files.
+fn open<D: Disk + Drop>(
     alloc: Global,
     files: Files<D>,
 ) -> Result<Connection<FileStore<D>>, (SqlError, Files<D>)>
@@ -154,13 +157,33 @@ pub(crate) fn make_older<S: Alter>(conn: &mut Connection<S>) -> Result<(), RowFa
     run(conn, "UPDATE meta SET format_no = 1")
 }
 
-/// Ends a connection, and gives its files back: closed, or as a stop leaves them.
-pub(crate) fn end<D: Disk + Drop>(conn: Connection<FileStore<D>>, closes: bool) -> Files<D> {
+// Ends a connection, and gives its files back: closed, or as a stop leaves them.
+fn end<D: Disk + Drop>(conn: Connection<FileStore<D>>, closes: bool) -> Files<D> {
     if !closes {
         return conn.into_store().close();
     }
     match conn.close_files() {
         Ok(files) => files,
         Err((_, store)) => store.close(),
+    }
+}
+
+/// What is done over a database, wherever it is stored.
+pub(crate) trait Task {
+    /// Does it, and gives the connection back.
+    fn run<S: Alter + Drop>(&mut self, conn: Connection<S>) -> Connection<S>
+        requires { conn.in_transaction ≡ false };
+}
+
+/// Opens files, does a task over them, and gives them back, closed or as a stop leaves them; or says why they cannot be opened.
+pub(crate) fn over<D: Disk + Drop, T: Task>(
+    alloc: Global,
+    files: Files<D>,
+    closes: bool,
+    task: &mut T,
+) -> (Files<D>, Result<(), SqlError>) {
+    match open(alloc, files) {
+        Ok(conn) => (end(task.run(conn), closes), Ok(())),
+        Err((error, files)) => (files, Err(error)),
     }
 }

@@ -1,7 +1,7 @@
 //! One run over files that stop, and what the next start finds of them.
 
 use super::disks::{Stop, copies, has_stopped, left_of};
-use super::serving::{Outcome, outcome_of, serve_files};
+use super::serving::{Outcome, outcome_of, serve_files, unlike};
 use csi_config::Config;
 use sqlite_disk::{Files, Memory};
 use std::alloc::{AllocError, Global};
@@ -52,8 +52,8 @@ pub(crate) struct Came {
 impl Wanted<'_> {
     /// A run over files in which the disk stops.
     pub(crate) fn run(&self, files: &Files<Memory>, stop: Stop) -> Result<Left, RowFault> {
-        let mut reply = Vec::new(self.alloc);
         let disks = copies(self.alloc, files, stop.calls_of_each())?;
+        let mut reply = Vec::new(self.alloc);
         let mut disks = serve_files(
             self.alloc,
             self.config,
@@ -65,7 +65,7 @@ impl Wanted<'_> {
         Ok(Left {
             is_stopped: has_stopped(&mut disks),
             reply,
-            files: left_of(self.alloc, disks, stop.loses)?,
+            files: left_of(self.alloc, &mut disks, stop.loses)?,
         })
     }
 
@@ -73,7 +73,7 @@ impl Wanted<'_> {
     pub(crate) fn find(&self, stop: Stop, files: Files<Memory>) -> Result<Found, RowFault> {
         match outcome_of(self.alloc, self.config, &files, self.call) {
             Ok(outcome) => Ok(Found { files, outcome }),
-            Err(fault) => Err(RowFault::Differs(format!(in self.alloc; "{stop}: {fault}")?)),
+            Err(fault) => Err(unlike(self.alloc, &stop, &fault)),
         }
     }
 

@@ -3,14 +3,13 @@
 ghost use Rattle.std.specs.Prelude.{◌≡◌, false};
 
 use super::Ending;
-use super::disks::{NEVER, copies, end, make_older, open};
+use super::disks::{NEVER, Task, copies, make_older, over};
 use crate::state::state_text;
 use csi_adoption::{AdoptError, adopt};
 use csi_config::Config;
 use csi_keeper::Keeper;
 use csi_server::serve;
-use csi_tables::Tables;
-use sqlite::{Alter, Connection, FileStore};
+use sqlite::{Alter, Connection};
 use sqlite_disk::{Disk, Files, Memory};
 use std::alloc::Global;
 use std::fmt;
@@ -38,22 +37,30 @@ fn serve_calls<K: Keeper>(
     serve(alloc, config, keeper, &mut reader, replies);
 }
 
-// Adopts the tables and answers the calls, and gives the connection back.
-fn served<S: Alter>(
+// Calls, and the replies to them. Over tables that are not adopted they have none.
+#[derive(Drop)]
+struct Serving<'a> {
     alloc: Global,
-    config: &Config,
-    conn: Connection<S>,
-    calls: &[u8],
-    replies: &mut Vec<u8>,
-) -> Connection<S>
-    requires { conn.in_transaction ≡ false }
-{
-    match adopt(alloc, conn, config) {
-        Ok(mut tables) => {
-            serve_calls(alloc, config, &mut tables, calls, replies);
-            tables.into_connection()
+    config: &'a Config,
+    calls: &'a [u8],
+    replies: &'a mut Vec<u8>,
+}
+
+impl Task for Serving<'_> {
+    fn run<S: Alter + Drop>(&mut self, conn: Connection<S>) -> Connection<S> {
+        match adopt(self.alloc, conn, self.config) {
+            Ok(mut tables) => {
+                serve_calls(
+                    self.alloc,
+                    self.config,
+                    &mut tables,
+                    self.calls,
+                    self.replies,
+                );
+                tables.into_connection()
+            }
+            Err(AdoptError { conn, .. }) => conn,
         }
-        Err(AdoptError { conn, .. }) => conn,
     }
 }
 
@@ -67,33 +74,24 @@ pub(crate) fn serve_files<D: Disk + Drop>(
     replies: &mut Vec<u8>,
     closes: bool,
 ) -> Files<D> {
-    match open(alloc, files) {
-        Ok(conn) => end(served(alloc, config, conn, calls, replies), closes),
-        Err((_, files)) => files,
-    }
+    let mut serving = Serving {
+        alloc,
+        config,
+        calls,
+        replies,
+    };
+    over(alloc, files, closes, &mut serving).0
 }
 
-// What was not wanted, and why.
-fn unlike<T: fmt::Display>(alloc: Global, what: &str, why: &T) -> RowFault {
+/// What was not wanted, and why.
+pub(crate) fn unlike<W: fmt::Display, T: fmt::Display>(
+    alloc: Global,
+    what: &W,
+    why: &T,
+) -> RowFault {
     match format!(in alloc; "{what}: {why}") {
         Ok(text) => RowFault::Differs(text),
         Err(_) => RowFault::NoMemory,
-    }
-}
-
-// A keeper over the tables in files.
-fn adopted<D: Disk + Drop>(
-    alloc: Global,
-    config: &Config,
-    files: Files<D>,
-) -> Result<Tables<FileStore<D>>, RowFault> {
-    let conn = match open(alloc, files) {
-        Ok(conn) => conn,
-        Err((error, _)) => return Err(unlike(alloc, "files", &error)),
-    };
-    match adopt(alloc, conn, config) {
-        Ok(tables) => Ok(tables),
-        Err(AdoptError { fault, .. }) => Err(unlike(alloc, "not adopted", &fault)),
     }
 }
 
@@ -114,24 +112,41 @@ fn answered<K: Keeper>(
     })
 }
 
-fn outcome_over<D: Disk + Drop>(
+// Calls over tables that have to be adopted, and what came of them.
+#[derive(Drop)]
+struct Telling<'a> {
     alloc: Global,
-    config: &Config,
-    files: Files<D>,
-    calls: &[u8],
-) -> Result<Outcome, RowFault> {
-    let mut tables = adopted(alloc, config, files)?;
-    answered(alloc, config, &mut tables, calls)
+    config: &'a Config,
+    calls: &'a [u8],
+    is_older: bool,
+    outcome: Result<Outcome, RowFault>,
 }
 
-/// What calls are answered over copies of files.
-pub(crate) fn outcome_of(
-    alloc: Global,
-    config: &Config,
-    files: &Files<Memory>,
-    calls: &[u8],
-) -> Result<Outcome, RowFault> {
-    outcome_over(alloc, config, copies(alloc, files, NEVER)?, calls)
+impl Telling<'_> {
+    fn make_older<S: Alter>(&mut self, conn: &mut Connection<S>) {
+        if self.is_older {
+            if let Err(fault) = make_older(conn) {
+                self.outcome = Err(fault);
+            }
+        }
+    }
+}
+
+impl Task for Telling<'_> {
+    fn run<S: Alter + Drop>(&mut self, conn: Connection<S>) -> Connection<S> {
+        match adopt(self.alloc, conn, self.config) {
+            Ok(mut tables) => {
+                self.outcome = answered(self.alloc, self.config, &mut tables, self.calls);
+                let mut conn = tables.into_connection();
+                self.make_older(&mut conn);
+                conn
+            }
+            Err(AdoptError { fault, conn }) => {
+                self.outcome = Err(unlike(self.alloc, &"not adopted", &fault));
+                conn
+            }
+        }
+    }
 }
 
 /// What calls are answered over files, and these as they are left then, in this way.
@@ -142,14 +157,29 @@ pub(crate) fn left_by<D: Disk + Drop>(
     calls: &[u8],
     ending: Ending,
 ) -> Result<(Outcome, Files<D>), RowFault> {
-    let mut tables = adopted(alloc, config, files)?;
-    let outcome = answered(alloc, config, &mut tables, calls);
-    let mut conn = tables.into_connection();
-    let made = match ending {
-        Ending::Older => make_older(&mut conn),
-        Ending::Closed | Ending::Open => Ok(()),
+    let mut telling = Telling {
+        alloc,
+        config,
+        calls,
+        is_older: matches!(ending, Ending::Older),
+        outcome: Err(RowFault::Refused("not opened")),
     };
-    let files = end(conn, !matches!(ending, Ending::Open));
-    made?;
-    Ok((outcome?, files))
+    let closes = !matches!(ending, Ending::Open);
+    let (files, opened) = over(alloc, files, closes, &mut telling);
+    match opened {
+        Ok(()) => Ok((telling.outcome?, files)),
+        Err(error) => Err(unlike(alloc, &"files", &error)),
+    }
+}
+
+/// What calls are answered over copies of files.
+pub(crate) fn outcome_of(
+    alloc: Global,
+    config: &Config,
+    files: &Files<Memory>,
+    calls: &[u8],
+) -> Result<Outcome, RowFault> {
+    let copies = copies(alloc, files, NEVER)?;
+    let (outcome, _) = left_by(alloc, config, copies, calls, Ending::Open)?;
+    Ok(outcome)
 }

@@ -128,13 +128,31 @@ impl<'a> Trials<'a> {
             reply,
             files,
         } = self.wanted.run(self.wanted.files, stop)?;
-        let files = self.left_again(files, stop)?;
-        let found = match self.found.take() {
-            Some(found) if are_same(&found.files, &files) => found,
-            _ => self.wanted.find(stop, files)?,
-        };
-        self.seen.note(self.wanted.judge(stop, is_stopped, &reply, &found.outcome)?);
-        self.found = Some(found);
+        self.find(stop, files)?;
+        self.judge(stop, is_stopped, &reply)?;
         Ok(is_stopped)
+    }
+
+    // Looks for what the next start finds of files, where it was not found last.
+    fn find(&mut self, stop: Stop, files: Files<Memory>) -> Result<(), RowFault> {
+        let files = self.left_again(files, stop)?;
+        if !self.is_found(&files) {
+            self.found = Some(self.wanted.find(stop, files)?);
+        }
+        Ok(())
+    }
+
+    fn is_found(&self, files: &Files<Memory>) -> bool {
+        match &self.found {
+            Some(found) => are_same(&found.files, files),
+            None => false,
+        }
+    }
+
+    fn judge(&mut self, stop: Stop, is_stopped: bool, reply: &[u8]) -> Result<(), RowFault> {
+        let found = self.found.as_ref().ok_or(RowFault::NotRow)?;
+        let came = self.wanted.judge(stop, is_stopped, reply, &found.outcome)?;
+        self.seen.note(came);
+        Ok(())
     }
 }

@@ -108,28 +108,34 @@ fn set(alloc: Global, words: &[&str]) -> Result<Change, RowFault>
     ensures { IfOk result IsBounded }
 {
     let number = number_at(words, 1)?;
-    let mut mutable = Map::new(alloc);
-    if words.len() > 3 {
-        let key = Text::from_str(alloc, word_at(words, 2)?)?;
-        mutable.insert(key, Text::from_str(alloc, word_at(words, 3)?)?)?;
-    }
+    let mutable = mutable(alloc, words)?;
     if map_bytes(&mutable) > MAX_MAP_BYTES {
         return Err(RowFault::NotRow);
     }
     Ok(Change::SetMutable(number, mutable))
 }
 
+fn mutable(alloc: Global, words: &[&str]) -> Result<Map, RowFault> {
+    let mut mutable = Map::new(alloc);
+    if words.len() > 3 {
+        let key = Text::from_str(alloc, word_at(words, 2)?)?;
+        mutable.insert(key, Text::from_str(alloc, word_at(words, 3)?)?)?;
+    }
+    Ok(mutable)
+}
+
 fn volume(alloc: Global, words: &[&str]) -> Result<Volume, RowFault>
     ensures { IfOk result (λ volume. IsBounded (AddVolume volume)) }
 {
     let number = small_at(words, 1)?;
-    let name = Text::from_str(alloc, word_at(words, 2)?)?;
     let bytes = small_at(words, 3)?;
+    let pool = word_at(words, 4)?;
+    let name = Text::from_str(alloc, word_at(words, 2)?)?;
     Ok(Volume {
         number,
         name,
         bytes,
-        pool: Text::from_str(alloc, word_at(words, 4)?)?,
+        pool: Text::from_str(alloc, pool)?,
         caps: Items::new(alloc),
         params: Map::new(alloc),
         mutable: Map::new(alloc),
