@@ -7,6 +7,7 @@ import (
 	"os"
 	"time"
 
+	"github.com/prometheus/client_golang/prometheus"
 	"google.golang.org/grpc/codes"
 )
 
@@ -25,10 +26,20 @@ type backend struct {
 	// The last connection that gave no reply, or could not be made: why, and when that was seen. A reply wipes it out.
 	failure   error
 	failureAt time.Time
+	// Connections that were made, and attempts that failed.
+	connections prometheus.Counter
+	failures    prometheus.Counter
 }
 
 func newBackend(path string, late time.Duration) *backend {
-	return &backend{path: path, late: late, turn: make(chan struct{}, 1), pace: pace{pause: leastPause}}
+	return &backend{
+		path:        path,
+		late:        late,
+		turn:        make(chan struct{}, 1),
+		pace:        pace{pause: leastPause},
+		connections: newCounter("connections_total", "Connections to csid that were made."),
+		failures:    newCounter("connection_failures_total", "Attempts at a connection to csid that failed."),
+	}
 }
 
 // call hands a call to csid when it is its turn, and gives the reply. No call is sent twice: where an error comes csid may have done
@@ -96,9 +107,12 @@ func (b *backend) ready(ctx context.Context, came time.Time) (isOld bool, err er
 		return false, err
 	}
 	if b.kept, err = connect(b.path); err != nil {
+		b.failures.Inc()
 		b.failed(err)
+		return false, err
 	}
-	return false, err
+	b.connections.Inc()
+	return false, nil
 }
 
 // send begins an exchange over the connection that is kept.

@@ -35,11 +35,12 @@ func (bytesCodec) String() string                             { return "bytes" }
 type handler struct {
 	backend  *backend
 	messages *messages
+	metrics  *metrics
 	log      *log.Logger
 }
 
 func newHandler(asked options, log *log.Logger) *handler {
-	return &handler{newBackend(asked.csid, asked.late), newMessages(asked.waiting << 20), log}
+	return &handler{newBackend(asked.csid, asked.late), newMessages(asked.waiting << 20), newMetrics(), log}
 }
 
 func newServer(h *handler) *grpc.Server {
@@ -54,16 +55,22 @@ func newServer(h *handler) *grpc.Server {
 	)
 }
 
-// handle answers one call, and says why where it is refused. The message goes into no log: it may have secrets.
+// handle answers one call of a client, counts it, and says why where it is refused.
 func (h *handler) handle(_ interface{}, stream grpc.ServerStream) error {
 	begin := time.Now()
 	path, _ := grpc.MethodFromServerStream(stream)
 	err := h.answer(path, stream)
+	why, took := status.Convert(err), time.Since(begin)
+	h.metrics.ended(path, why.Code(), took)
 	if err != nil {
-		why := status.Convert(err)
-		h.log.Printf("%s %d %q %d ms", shownPath(path), why.Code(), why.Message(), time.Since(begin).Milliseconds())
+		h.logRefusal(path, why, took)
 	}
 	return err
+}
+
+// logRefusal tells of a call that was refused. Its message goes into no log: it may have secrets.
+func (h *handler) logRefusal(path string, why *status.Status, took time.Duration) {
+	h.log.Printf("%s %d %q %d ms", shownPath(path), why.Code(), why.Message(), took.Milliseconds())
 }
 
 func (h *handler) answer(path string, stream grpc.ServerStream) error {
@@ -75,26 +82,46 @@ func (h *handler) answer(path string, stream grpc.ServerStream) error {
 		return err
 	}
 	defer h.messages.giveBack(message)
-	answer, err := h.backend.call(stream.Context(), path, message)
+	h.metrics.waiting.Inc()
+	body, err := h.ask(stream.Context(), path, message)
+	h.metrics.waiting.Dec()
 	if err != nil {
-		return refusal(stream.Context(), err)
+		return err
 	}
-	if answer.code != codes.OK {
-		return status.Error(shownCode(answer), answer.text)
-	}
-	return stream.SendMsg(&answer.body)
+	return stream.SendMsg(&body)
 }
 
-// shownCode is the code that an orchestrator is told. Whether a change was made behind which csid says one of these three is open, and
-// sidecars take INTERNAL for a final answer, after which they believe that it was not.
-func shownCode(answer reply) codes.Code {
-	if answer.code == codes.Internal {
-		switch answer.text {
-		case "out of memory", "store refused", "store is down":
-			return codes.Unavailable
+// ask hands a call to csid, and gives the body of the reply, or what an orchestrator is told.
+func (h *handler) ask(ctx context.Context, path string, message []byte) ([]byte, error) {
+	answer, err := h.backend.call(ctx, path, message)
+	if err != nil {
+		return nil, refusal(ctx, err)
+	}
+	if isOpen(answer) {
+		h.metrics.refusals.WithLabelValues(answer.text).Inc()
+		return nil, status.Error(codes.Unavailable, answer.text)
+	}
+	if answer.code != codes.OK {
+		return nil, status.Error(answer.code, answer.text)
+	}
+	return answer.body, nil
+}
+
+// openReasons are the texts of status 13 behind which it is open whether a change was made.
+var openReasons = []string{"out of memory", "store refused", "store is down"}
+
+// isOpen tells whether csid says one of these. An orchestrator is then told UNAVAILABLE: sidecars take INTERNAL for a final answer, after
+// which they believe that no change was made.
+func isOpen(answer reply) bool {
+	if answer.code != codes.Internal {
+		return false
+	}
+	for _, reason := range openReasons {
+		if answer.text == reason {
+			return true
 		}
 	}
-	return answer.code
+	return false
 }
 
 // refusal is the answer to a call that got no reply. It has one of the codes after which an orchestrator takes the outcome as open,

@@ -1,6 +1,7 @@
 // front answers gRPC over HTTP/2 on a Unix socket by a csid that listens on another one.
 //
-// It knows no message and no method: a call's path and bytes go on as one frame, and the reply's status, text and body come back.
+// A call's path and bytes go on as one frame, and the reply's status, text and body come back. Of messages it knows the two that it asks
+// csid for itself: Probe and GetCapacity, for who watches it.
 package main
 
 import (
@@ -52,8 +53,14 @@ func run(log *log.Logger) int {
 		log.Print(err)
 		return noSocket
 	}
-	server := newServer(newHandler(asked, log))
-	failed := make(chan error, 1)
+	defer listener.Close()
+	h := newHandler(asked, log)
+	failed := make(chan error, 2)
+	if err := startMonitor(h, asked, failed); err != nil {
+		log.Print(err)
+		return noSocket
+	}
+	server := newServer(h)
 	go func() { failed <- serve(server, listener) }()
 	select {
 	case err := <-failed:

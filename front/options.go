@@ -5,13 +5,15 @@ import (
 	"flag"
 	"fmt"
 	"io"
+	"net"
+	"strconv"
 	"strings"
 	"time"
 )
 
 const usage = `Answers gRPC calls on a Unix socket by a csid that serves another one (docs/DEPLOY.md).
 
-usage: front --csid PATH [--listen PATH] [--grace TIME] [--late TIME] [--waiting MIB]
+usage: front --csid PATH [--listen PATH] [--grace TIME] [--late TIME] [--waiting MIB] [--metrics HOST:PORT [--metrics-topology KEY=VALUE,..]..]
        front --version
 `
 
@@ -25,7 +27,10 @@ type options struct {
 	grace   time.Duration
 	late    time.Duration
 	waiting int
-	version bool
+	// Where metrics are told; nowhere if it is empty.
+	metrics    string
+	topologies []topology
+	version    bool
 }
 
 // readOptions reads the words; endpoint is the value of CSI_ENDPOINT, and counts where no --listen is given.
@@ -38,6 +43,8 @@ func readOptions(words []string, endpoint string, shown io.Writer) (options, err
 	flags.DurationVar(&asked.grace, "grace", 20*time.Second, "how long calls may go on after SIGTERM, as 20s: a `TIME`")
 	flags.DurationVar(&asked.late, "late", time.Minute, "how long csid may take for the reply to a call that was given up, before its connection is closed: a `TIME`")
 	flags.IntVar(&asked.waiting, "waiting", 64, "how many `MIB` the messages of all calls that wait may have together")
+	flags.StringVar(&asked.metrics, "metrics", "", "the `HOST:PORT` on which /metrics and /healthz are answered over HTTP; port 0 is any that is free, and the log says which")
+	flags.Func("metrics-topology", "a topology whose available capacity is one of the metrics, as `KEY=VALUE,..`; may be given again", asked.addTopology)
 	flags.BoolVar(&asked.version, "version", false, "print the version, and end")
 	if err := flags.Parse(words); err != nil {
 		if errors.Is(err, flag.ErrHelp) {
@@ -74,7 +81,42 @@ func checked(asked options) (options, error) {
 	if asked.waiting < 1 || asked.waiting > maxWaiting {
 		return options{}, fmt.Errorf("--waiting: %d is not 1 to %d", asked.waiting, maxWaiting)
 	}
+	if err := checkMetrics(asked); err != nil {
+		return options{}, err
+	}
 	return asked, nil
+}
+
+func checkMetrics(asked options) error {
+	if asked.metrics == "" {
+		if len(asked.topologies) > 0 {
+			return errors.New("--metrics-topology: there is no --metrics")
+		}
+		return nil
+	}
+	_, port, err := net.SplitHostPort(asked.metrics)
+	if err != nil {
+		return fmt.Errorf("--metrics: %q is no HOST:PORT", asked.metrics)
+	}
+	if _, err := strconv.ParseUint(port, 10, 16); err != nil {
+		return fmt.Errorf("--metrics: %q is no port from 0 to 65535", port)
+	}
+	return nil
+}
+
+// addTopology takes one --metrics-topology. Each is one series, so none can be there twice.
+func (asked *options) addTopology(name string) error {
+	added, err := readTopology(name)
+	if err != nil {
+		return err
+	}
+	for _, earlier := range asked.topologies {
+		if earlier.name == name {
+			return errors.New("it is there twice")
+		}
+	}
+	asked.topologies = append(asked.topologies, added)
+	return nil
 }
 
 // socketPath is the path of a socket that is given as a path or as unix://PATH.

@@ -4,6 +4,7 @@ import (
 	"errors"
 	"flag"
 	"io"
+	"reflect"
 	"strings"
 	"testing"
 	"time"
@@ -12,6 +13,11 @@ import (
 func TestOptions(t *testing.T) {
 	with := func(grace, late time.Duration, waiting int) options {
 		return options{listen: "l", csid: "c", grace: grace, late: late, waiting: waiting}
+	}
+	watched := func(metrics string, topologies ...topology) options {
+		asked := with(20*time.Second, time.Minute, 64)
+		asked.metrics, asked.topologies = metrics, topologies
+		return asked
 	}
 	rows := []struct {
 		words, endpoint string
@@ -23,10 +29,16 @@ func TestOptions(t *testing.T) {
 		{"--csid c", "/run/csi.sock", options{listen: "/run/csi.sock", csid: "c", grace: 20 * time.Second, late: time.Minute, waiting: 64}},
 		{"--csid unix:c", "unix:l", with(20*time.Second, time.Minute, 64)},
 		{"--csid c --listen unix://l", "unix:///run/csi.sock", with(20*time.Second, time.Minute, 64)},
+		{"--csid c --listen l --metrics 127.0.0.1:0", "", watched("127.0.0.1:0")},
+		{"--csid c --listen l --metrics [::1]:65535", "", watched("[::1]:65535")},
+		{"--csid c --listen l --metrics :9809", "", watched(":9809")},
+		{"--csid c --listen l --metrics-topology zone=a --metrics :9809 --metrics-topology zone=b,rack=", "", watched(":9809",
+			topology{"zone=a", fromHex(t, "1a0b 0a09 0a047a6f6e65 120161")},
+			topology{"zone=b,rack=", fromHex(t, "1a15 0a09 0a047a6f6e65 120162 0a08 0a047261636b 1200")})},
 	}
 	for _, row := range rows {
 		got, err := readOptions(strings.Fields(row.words), row.endpoint, io.Discard)
-		if err != nil || got != row.want {
+		if err != nil || !reflect.DeepEqual(got, row.want) {
 			t.Errorf("%s, %s: %v, %v", row.words, row.endpoint, got, err)
 		}
 	}
@@ -47,6 +59,17 @@ func TestRefusedOptions(t *testing.T) {
 		{"--csid c --listen l --waiting 0", "", "--waiting: 0 is not 1 to 1048576"},
 		{"--csid c --listen l --waiting 1048577", "", "--waiting: 1048577 is not 1 to 1048576"},
 		{"--csid c --listen l --waiting x", "", "waiting"},
+		{"--csid c --listen l --metrics 9809", "", `--metrics: "9809" is no HOST:PORT`},
+		{"--csid c --listen l --metrics localhost:x", "", `--metrics: "x" is no port from 0 to 65535`},
+		{"--csid c --listen l --metrics localhost:65536", "", `--metrics: "65536" is no port from 0 to 65535`},
+		{"--csid c --listen l --metrics localhost:", "", `--metrics: "" is no port from 0 to 65535`},
+		{"--csid c --listen l --metrics-topology zone=a", "", "--metrics-topology: there is no --metrics"},
+		{"--csid c --listen l --metrics :0 --metrics-topology zone", "", `"zone" is not KEY=VALUE`},
+		{"--csid c --listen l --metrics :0 --metrics-topology =a", "", `"=a" is not KEY=VALUE`},
+		{"--csid c --listen l --metrics :0 --metrics-topology zone=a,", "", `"" is not KEY=VALUE`},
+		{"--csid c --listen l --metrics :0 --metrics-topology zone=a,zone=b", "", `the key "zone" is there twice`},
+		{"--csid c --listen l --metrics :0 --metrics-topology zone=a --metrics-topology zone=a", "", "it is there twice"},
+		{"--csid c --listen l --metrics :0 --metrics-topology zone=\xff", "", "it is not UTF-8"},
 		{"--version x", "", "a word that is not known"},
 		{"--csid", "l", "needs an argument"},
 	}
@@ -63,7 +86,7 @@ func TestHelp(t *testing.T) {
 	if !errors.Is(err, flag.ErrHelp) {
 		t.Error(err)
 	}
-	for _, word := range []string{"usage: ", "-csid", "-listen", "-grace", "-late", "-waiting", "-version"} {
+	for _, word := range []string{"usage: ", "-csid", "-listen", "-grace", "-late", "-waiting", "-metrics", "-metrics-topology", "-version"} {
 		if !strings.Contains(shown.String(), word) {
 			t.Errorf("no %s in %s", word, shown.String())
 		}

@@ -1,0 +1,35 @@
+package main
+
+// Paths that the front itself calls or answers.
+const (
+	identity    = "/csi.v1.Identity/"
+	controller  = "/csi.v1.Controller/"
+	probe       = identity + "Probe"
+	getCapacity = controller + "GetCapacity"
+)
+
+// otherMethod is the label of each method that is not one of the table: a client can call any, and each label is a series.
+const otherMethod = "other"
+
+// methods are those that csid answers (docs/PROTOCOL.md, "Paths").
+var methods = map[string]bool{
+	identity + "GetPluginInfo":                true,
+	identity + "GetPluginCapabilities":        true,
+	probe:                                     true,
+	controller + "CreateVolume":               true,
+	controller + "DeleteVolume":               true,
+	controller + "ControllerPublishVolume":    true,
+	controller + "ControllerUnpublishVolume":  true,
+	controller + "ValidateVolumeCapabilities": true,
+	controller + "ListVolumes":                true,
+	getCapacity:                               true,
+	controller + "ControllerGetCapabilities":  true,
+	controller + "ControllerModifyVolume":     true,
+}
+
+func methodLabel(path string) string {
+	if methods[path] {
+		return path
+	}
+	return otherMethod
+}

@@ -1,0 +1,119 @@
+package main
+
+import (
+	"context"
+	"runtime"
+	"time"
+
+	"github.com/prometheus/client_golang/prometheus"
+	"github.com/prometheus/client_golang/prometheus/collectors"
+	"google.golang.org/grpc/codes"
+)
+
+// The prefix of the names of all metrics that are the front's own.
+const namespace = "csid_front"
+
+// The bounds of the histogram, in seconds: from a call that csid answers at once to the greatest deadlines of sidecars.
+var buckets = []float64{.001, .0025, .005, .01, .025, .05, .1, .25, .5, 1, 2.5, 5, 10, 30, 60}
+
+// metrics counts the calls of clients.
+type metrics struct {
+	calls    *prometheus.CounterVec
+	seconds  *prometheus.HistogramVec
+	waiting  prometheus.Gauge
+	refusals *prometheus.CounterVec
+}
+
+func newMetrics() *metrics {
+	m := &metrics{
+		calls: prometheus.NewCounterVec(prometheus.CounterOpts{
+			Namespace: namespace, Name: "calls_total", Help: "Calls that were answered, by method and gRPC code.",
+		}, []string{"method", "code"}),
+		seconds: prometheus.NewHistogramVec(prometheus.HistogramOpts{
+			Namespace: namespace, Name: "call_duration_seconds", Help: "Seconds from the beginning of a call to its answer, by method.", Buckets: buckets,
+		}, []string{"method"}),
+		waiting: prometheus.NewGauge(prometheus.GaugeOpts{
+			Namespace: namespace, Name: "waiting_calls", Help: "Calls that wait for their turn at csid, or for its reply.",
+		}),
+		refusals: prometheus.NewCounterVec(prometheus.CounterOpts{
+			Namespace: namespace, Name: "internal_refusals_total", Help: "Calls that csid refused for want of memory or for its store, by reason.",
+		}, []string{"reason"}),
+	}
+	for _, reason := range openReasons {
+		m.refusals.WithLabelValues(reason)
+	}
+	return m
+}
+
+func newCounter(name, help string) prometheus.Counter {
+	return prometheus.NewCounter(prometheus.CounterOpts{Namespace: namespace, Name: name, Help: help})
+}
+
+// ended counts a call that was answered.
+func (m *metrics) ended(path string, code codes.Code, took time.Duration) {
+	method := methodLabel(path)
+	m.calls.WithLabelValues(method, code.String()).Inc()
+	m.seconds.WithLabelValues(method).Observe(took.Seconds())
+}
+
+// newRegistry has all that is told at /metrics.
+func newRegistry(h *handler, topologies []topology) *prometheus.Registry {
+	registry := prometheus.NewRegistry()
+	registry.MustRegister(
+		h.metrics.calls, h.metrics.seconds, h.metrics.waiting, h.metrics.refusals,
+		h.backend.connections, h.backend.failures,
+		newStanding(h, topologies),
+		buildInfo(),
+		collectors.NewGoCollector(),
+		collectors.NewProcessCollector(collectors.ProcessCollectorOpts{}),
+	)
+	return registry
+}
+
+func buildInfo() prometheus.Collector {
+	info := prometheus.NewGauge(prometheus.GaugeOpts{
+		Namespace: namespace, Name: "build_info", Help: "Always 1, with the version of the front and of Go.",
+		ConstLabels: prometheus.Labels{"version": version, "goversion": runtime.Version()},
+	})
+	info.Set(1)
+	return info
+}
+
+// standing asks csid each time it is collected: whether it is ready, and how many bytes each topology has.
+type standing struct {
+	handler    *handler
+	topologies []topology
+	up         *prometheus.Desc
+	capacity   *prometheus.Desc
+}
+
+func newStanding(h *handler, topologies []topology) *standing {
+	return &standing{
+		handler:    h,
+		topologies: append([]topology{everywhere}, topologies...),
+		up:         prometheus.NewDesc(namespace+"_csid_up", "Whether csid answered that it is ready.", nil, nil),
+		capacity: prometheus.NewDesc(namespace+"_available_capacity_bytes",
+			"Bytes that are free in the pools that serve a topology, by GetCapacity; without a topology, in all pools.", []string{"topology"}, nil),
+	}
+}
+
+func (s *standing) Describe(told chan<- *prometheus.Desc) {
+	told <- s.up
+	told <- s.capacity
+}
+
+// Collect tells nothing of a topology of which csid tells nothing: the log says why.
+func (s *standing) Collect(told chan<- prometheus.Metric) {
+	ctx, cancel := context.WithTimeout(context.Background(), questionTime)
+	defer cancel()
+	if s.handler.isReady(ctx) != nil {
+		told <- prometheus.MustNewConstMetric(s.up, prometheus.GaugeValue, 0)
+		return
+	}
+	told <- prometheus.MustNewConstMetric(s.up, prometheus.GaugeValue, 1)
+	for _, topology := range s.topologies {
+		if bytes, err := s.handler.capacity(ctx, topology); err == nil {
+			told <- prometheus.MustNewConstMetric(s.capacity, prometheus.GaugeValue, float64(bytes), topology.name)
+		}
+	}
+}

@@ -1,0 +1,56 @@
+package main
+
+import (
+	"context"
+	"fmt"
+	"net"
+	"net/http"
+	"time"
+
+	"github.com/prometheus/client_golang/prometheus/promhttp"
+	"google.golang.org/grpc/status"
+)
+
+// How many scrapes are answered at once: each asks csid.
+const maxScrapes = 4
+
+// What a client of the monitor may take for its request, and the monitor for its answer.
+const (
+	requestTime = 5 * time.Second
+	answerTime  = 2 * questionTime
+)
+
+// newMonitor answers who watches the front: /metrics for Prometheus, /healthz for a liveness probe.
+func newMonitor(h *handler, topologies []topology) http.Handler {
+	mux := http.NewServeMux()
+	mux.Handle("/metrics", promhttp.HandlerFor(newRegistry(h, topologies), promhttp.HandlerOpts{MaxRequestsInFlight: maxScrapes}))
+	mux.HandleFunc("/healthz", h.healthz)
+	return mux
+}
+
+// startMonitor begins to answer at --metrics, if there is one. An end of it is told as a failure, since nothing ends it but the end of
+// the front.
+func startMonitor(h *handler, asked options, failed chan<- error) error {
+	if asked.metrics == "" {
+		return nil
+	}
+	listener, err := net.Listen("tcp", asked.metrics)
+	if err != nil {
+		return fmt.Errorf("--metrics: %w", err)
+	}
+	h.log.Printf("metrics at %s", listener.Addr())
+	server := &http.Server{Handler: newMonitor(h, asked.topologies), ReadTimeout: requestTime, WriteTimeout: answerTime}
+	go func() { failed <- fmt.Errorf("telling metrics: %w", server.Serve(listener)) }()
+	return nil
+}
+
+// healthz tells whether a Probe through csid succeeds, or why not.
+func (h *handler) healthz(answer http.ResponseWriter, request *http.Request) {
+	ctx, cancel := context.WithTimeout(request.Context(), questionTime)
+	defer cancel()
+	if err := h.isReady(ctx); err != nil {
+		http.Error(answer, status.Convert(err).Message(), http.StatusServiceUnavailable)
+		return
+	}
+	fmt.Fprintln(answer, "ok")
+}

@@ -1,0 +1,118 @@
+package main
+
+import (
+	"context"
+	"errors"
+	"fmt"
+	"strings"
+	"time"
+	"unicode/utf8"
+
+	"google.golang.org/grpc/codes"
+	"google.golang.org/grpc/status"
+	"google.golang.org/protobuf/encoding/protowire"
+)
+
+// How long the front waits for csid where it asks for itself.
+const questionTime = 5 * time.Second
+
+// topology is what GetCapacity is asked for: it sums up the pools that serve it.
+type topology struct {
+	// As the command line has it: KEY=VALUE, and more of them behind commas.
+	name string
+	// The message of GetCapacity for it.
+	message []byte
+}
+
+// everywhere is the topology that all pools serve.
+var everywhere topology
+
+// readTopology reads segments, and spells the message: a field 3, in which each segment is a field 1 of key 1 and value 2.
+func readTopology(name string) (topology, error) {
+	if !utf8.ValidString(name) {
+		return topology{}, errors.New("it is not UTF-8")
+	}
+	var segments []byte
+	known := map[string]bool{}
+	for _, segment := range strings.Split(name, ",") {
+		key, value, isPair := strings.Cut(segment, "=")
+		if !isPair || key == "" {
+			return topology{}, fmt.Errorf("%q is not KEY=VALUE", segment)
+		}
+		if known[key] {
+			return topology{}, fmt.Errorf("the key %q is there twice", key)
+		}
+		known[key] = true
+		entry := append(bytesField(1, []byte(key)), bytesField(2, []byte(value))...)
+		segments = append(segments, bytesField(1, entry)...)
+	}
+	return topology{name, bytesField(3, segments)}, nil
+}
+
+func bytesField(number protowire.Number, value []byte) []byte {
+	return protowire.AppendBytes(protowire.AppendTag(nil, number, protowire.BytesType), value)
+}
+
+// question hands a call of the front's own to csid. Where it is refused that is logged, as it is of a client's call.
+func (h *handler) question(ctx context.Context, path string, message []byte) ([]byte, error) {
+	begin := time.Now()
+	body, err := h.ask(ctx, path, message)
+	if err != nil {
+		h.logRefusal(path, status.Convert(err), time.Since(begin))
+	}
+	return body, err
+}
+
+// isReady asks csid by Probe, and tells why it is not. Where the answer says neither, it is ready (CSI, "Probe").
+func (h *handler) isReady(ctx context.Context) error {
+	body, err := h.question(ctx, probe, nil)
+	if err != nil {
+		return err
+	}
+	wrapped, is, err := lastField(body, 1, protowire.BytesType)
+	if err != nil || !is {
+		return err
+	}
+	ready, _ := protowire.ConsumeBytes(wrapped)
+	value, _, err := lastField(ready, 1, protowire.VarintType)
+	if err != nil {
+		return err
+	}
+	if number, _ := protowire.ConsumeVarint(value); number == 0 {
+		return status.Error(codes.Unavailable, "csid is not ready")
+	}
+	return nil
+}
+
+// capacity asks csid by GetCapacity. Where the answer has no number, it is 0.
+func (h *handler) capacity(ctx context.Context, asked topology) (int64, error) {
+	body, err := h.question(ctx, getCapacity, asked.message)
+	if err != nil {
+		return 0, err
+	}
+	value, _, err := lastField(body, 1, protowire.VarintType)
+	if err != nil {
+		return 0, err
+	}
+	bytes, _ := protowire.ConsumeVarint(value)
+	return int64(bytes), nil
+}
+
+// lastField is the last field of a message with this number and wire type, without its tag.
+func lastField(message []byte, number protowire.Number, kind protowire.Type) (value []byte, is bool, err error) {
+	for len(message) > 0 {
+		gotNumber, gotKind, size := protowire.ConsumeTag(message)
+		if size < 0 {
+			return nil, false, protowire.ParseError(size)
+		}
+		message = message[size:]
+		if size = protowire.ConsumeFieldValue(gotNumber, gotKind, message); size < 0 {
+			return nil, false, protowire.ParseError(size)
+		}
+		if gotNumber == number && gotKind == kind {
+			value, is = message[:size], true
+		}
+		message = message[size:]
+	}
+	return value, is, nil
+}

@@ -1,0 +1,281 @@
+package tests
+
+import (
+	"fmt"
+	"io"
+	"net/http"
+	"os"
+	"os/exec"
+	"path/filepath"
+	"regexp"
+	"strings"
+	"testing"
+	"time"
+
+	"google.golang.org/grpc/codes"
+)
+
+const getCapacity = controller + "GetCapacity"
+
+// watched is a front that tells metrics, and where it does.
+func watched(t *testing.T, csid string, words ...string) (*process, string) {
+	t.Helper()
+	front := startFront(t, csid, append([]string{"--metrics", "127.0.0.1:0"}, words...)...)
+	var told []string
+	eventually(t, "the address of metrics", func() bool {
+		told = regexp.MustCompile(`(?m)^front: metrics at (127\.0\.0\.1:[1-9][0-9]*)$`).FindStringSubmatch(front.log.String())
+		return told != nil
+	})
+	return front, "http://" + told[1]
+}
+
+// get is the status and the text that are answered at a place.
+func get(t *testing.T, url string) (int, string) {
+	t.Helper()
+	client := http.Client{Timeout: patience}
+	answer, err := client.Get(url)
+	if err != nil {
+		t.Fatal(err)
+	}
+	defer answer.Body.Close()
+	text, err := io.ReadAll(answer.Body)
+	if err != nil {
+		t.Fatal(err)
+	}
+	return answer.StatusCode, string(text)
+}
+
+// series is each series that a front tells of itself, with its value; the parts of histograms only by their counts.
+func series(t *testing.T, monitor string) map[string]string {
+	t.Helper()
+	status, text := get(t, monitor+"/metrics")
+	if status != http.StatusOK {
+		t.Fatalf("status %d: %s", status, text)
+	}
+	all := map[string]string{}
+	for _, line := range regexp.MustCompile(`(?m)^(csid_front_.*) (\S+)$`).FindAllStringSubmatch(text, -1) {
+		all[line[1]] = line[2]
+	}
+	return all
+}
+
+// wantsSeries compares all series whose names begin so.
+func wantsSeries(t *testing.T, got map[string]string, prefix string, want map[string]string) {
+	t.Helper()
+	for name, value := range got {
+		if strings.HasPrefix(name, prefix) && want[name] != value {
+			t.Errorf("%s is %s, wanted %q", name, value, want[name])
+		}
+	}
+	for name, value := range want {
+		if _, is := got[name]; !is {
+			t.Errorf("%s is not there, wanted %s", name, value)
+		}
+	}
+}
+
+// Each series after calls of each kind. GetCapacity's field 3 is a topology, whose field 1 is a segment.
+func TestMetrics(t *testing.T) {
+	t.Parallel()
+	const create, remove = controller + "CreateVolume", controller + "DeleteVolume"
+	csid := startFake(t,
+		step{write: okFrame("01")},
+		step{write: refusalFrame(8, "no room in the topology")},
+		step{write: refusalFrame(8, "no room in the topology")},
+		step{write: refusalFrame(13, "store refused")},
+		step{write: refusalFrame(13, "else")},
+		step{write: refusalFrame(12, "unknown method")},
+		step{write: okFrame(ready)},
+		step{write: okFrame("0880808007 1205 0880808004")},
+		step{write: okFrame("")},
+		step{write: refusalFrame(3, "topology keys are alike")},
+	)
+	process, monitor := watched(t, csid.socket, "--metrics-topology", "zone=a", "--metrics-topology", "zone=b,Zone=b")
+	front := newClient(t, process.socket)
+	for _, path := range []string{create, create, create, remove, remove, "/a/b", "/a/ b"} {
+		front.call(t, path, "")
+	}
+	got := series(t, monitor)
+	wantsSeries(t, got, "csid_front_calls_total", map[string]string{
+		`csid_front_calls_total{code="OK",method="` + create + `"}`:                "1",
+		`csid_front_calls_total{code="ResourceExhausted",method="` + create + `"}`: "2",
+		`csid_front_calls_total{code="Unavailable",method="` + remove + `"}`:       "1",
+		`csid_front_calls_total{code="Internal",method="` + remove + `"}`:          "1",
+		`csid_front_calls_total{code="Unimplemented",method="other"}`:              "2",
+	})
+	wantsSeries(t, got, "csid_front_call_duration_seconds_count", map[string]string{
+		`csid_front_call_duration_seconds_count{method="` + create + `"}`: "3",
+		`csid_front_call_duration_seconds_count{method="` + remove + `"}`: "2",
+		`csid_front_call_duration_seconds_count{method="other"}`:          "2",
+	})
+	wantsSeries(t, got, "csid_front_internal_refusals_total", map[string]string{
+		`csid_front_internal_refusals_total{reason="out of memory"}`: "0",
+		`csid_front_internal_refusals_total{reason="store refused"}`: "1",
+		`csid_front_internal_refusals_total{reason="store is down"}`: "0",
+	})
+	wantsSeries(t, got, "csid_front_available_capacity_bytes", map[string]string{
+		`csid_front_available_capacity_bytes{topology=""}`:       "1.4680064e+07",
+		`csid_front_available_capacity_bytes{topology="zone=a"}`: "0",
+	})
+	for name, value := range map[string]string{
+		// One more behind each reply with status 13.
+		"csid_front_connections_total":         "3",
+		"csid_front_connection_failures_total": "0",
+		"csid_front_waiting_calls":             "0",
+		"csid_front_csid_up":                   "1",
+	} {
+		wantsSeries(t, got, name, map[string]string{name: value})
+	}
+	csid.sees(t, create+" ", create+" ", create+" ", remove+" ", remove+" ", "/a/b ",
+		probe+" ", getCapacity+" ", getCapacity+" 1a0b0a090a047a6f6e65120161", getCapacity+" 1a160a090a047a6f6e651201620a090a045a6f6e65120162")
+	eventually(t, "what was refused in the log", func() bool {
+		return strings.Contains(process.log.String(), "front: "+getCapacity+` 3 "topology keys are alike" `)
+	})
+}
+
+// The version is told, and what Go and the process take.
+func TestMetricsOfTheProcess(t *testing.T) {
+	t.Parallel()
+	number, err := os.ReadFile("../../VERSION")
+	if err != nil {
+		t.Fatal(err)
+	}
+	_, monitor := watched(t, startFake(t).socket)
+	_, text := get(t, monitor+"/metrics")
+	version := regexp.QuoteMeta(strings.TrimSpace(string(number)))
+	for _, line := range []string{`csid_front_build_info\{goversion="go[0-9.]+",version="` + version + `"\} 1`, `go_goroutines [0-9]+`, `process_open_fds [0-9]+`} {
+		if !regexp.MustCompile(`(?m)^` + line + `$`).MatchString(text) {
+			t.Errorf("no line %s", line)
+		}
+	}
+}
+
+// Methods that are none add no series but one for each code, however many a client calls.
+func TestMetricsOfInventedMethods(t *testing.T) {
+	t.Parallel()
+	process, monitor := watched(t, startFake(t).socket)
+	front := newClient(t, process.socket)
+	for i := 0; i < 50; i++ {
+		front.wants(t, fmt.Sprintf("/csi.v1.Controller/Invented%d", i), "", ok(ready))
+	}
+	got := series(t, monitor)
+	wantsSeries(t, got, "csid_front_calls_total", map[string]string{`csid_front_calls_total{code="OK",method="other"}`: "50"})
+	for name := range got {
+		if strings.Contains(name, "Invented") {
+			t.Error(name)
+		}
+	}
+}
+
+// While csid stands still, who watches is told so within a short time, and which calls wait; the histogram has how long they took.
+func TestMetricsWhileCsidStandsStill(t *testing.T) {
+	t.Parallel()
+	let := make(chan struct{})
+	csid := startFake(t, step{wait: let, write: okFrame("01")})
+	process, monitor := watched(t, csid.socket)
+	front := newClient(t, process.socket)
+	came := make(chan answer)
+	for call := 0; call < 3; call++ {
+		go func() { came <- front.send(soon(t, 3*patience), probe, nil) }()
+	}
+	csid.called(t, 1)
+	begin := time.Now()
+	health := make(chan string)
+	go func() {
+		status, text := get(t, monitor+"/healthz")
+		health <- fmt.Sprint(status, " ", text)
+	}()
+	var got map[string]string
+	eventually(t, "three calls that wait", func() bool {
+		got = series(t, monitor)
+		return got["csid_front_waiting_calls"] == "3"
+	})
+	if told := <-health; told != "503 context deadline exceeded\n" {
+		t.Errorf("told %q", told)
+	}
+	if spent := time.Since(begin); spent > patience {
+		t.Errorf("it took %v", spent)
+	}
+	wantsSeries(t, got, "csid_front_csid_up", map[string]string{"csid_front_csid_up": "0"})
+	wantsSeries(t, got, "csid_front_available_capacity_bytes", nil)
+	close(let)
+	for call := 0; call < 3; call++ {
+		<-came
+	}
+	bucket := func(bound string) string {
+		return series(t, monitor)[`csid_front_call_duration_seconds_bucket{method="`+probe+`",le="`+bound+`"}`]
+	}
+	if short, long := bucket("2.5"), bucket("60"); short != "0" || long != "3" {
+		t.Errorf("%s calls took 2.5 seconds at most, %s took 60", short, long)
+	}
+}
+
+// The sample configuration has 10 MiB in zone a and 4 MiB in zone b. 1 MiB is taken there, and 3 MiB here.
+func TestMetricsOfPools(t *testing.T) {
+	t.Parallel()
+	process, monitor := watched(t, startCsid(t).socket(), "--metrics-topology", "zone=a", "--metrics-topology", "zone=b", "--metrics-topology", "zone=c")
+	front := newClient(t, process.socket)
+	front.wants(t, controller+"CreateVolume", createA, ok(volume1))
+	front.wants(t, controller+"CreateVolume", "0a0162"+threeB+block+zoneB, ok(volume2))
+	wantsSeries(t, series(t, monitor), "csid_front_available_capacity_bytes", map[string]string{
+		`csid_front_available_capacity_bytes{topology=""}`:       "1.048576e+07",
+		`csid_front_available_capacity_bytes{topology="zone=a"}`: "9.437184e+06",
+		`csid_front_available_capacity_bytes{topology="zone=b"}`: "1.048576e+06",
+		`csid_front_available_capacity_bytes{topology="zone=c"}`: "0",
+	})
+}
+
+func TestHealthOverHTTP(t *testing.T) {
+	t.Parallel()
+	csid := newServer(t, "")
+	_, monitor := watched(t, csid.socket())
+	wants := func(when string, wantedStatus int, wanted string) {
+		t.Helper()
+		if status, text := get(t, monitor+"/healthz"); status != wantedStatus || !regexp.MustCompile("^"+wanted+"\n$").MatchString(text) {
+			t.Errorf("%s: %d %q", when, status, text)
+		}
+	}
+	const away = "csid: dial unix .*"
+	wants("before csid", 503, away)
+	csid.start(t)
+	wants("while csid is up", 200, "ok")
+	csid.kill(t)
+	wants("behind a kill", 503, away)
+	csid.start(t)
+	wants("while csid is up again", 200, "ok")
+	if status, _ := get(t, monitor+"/else"); status != 404 {
+		t.Errorf("status %d", status)
+	}
+}
+
+// A front whose metrics cannot be told does not start, and leaves no socket.
+func TestMetricsThatCannotBeTold(t *testing.T) {
+	t.Parallel()
+	csid := startFake(t)
+	_, monitor := watched(t, csid.socket)
+	address := strings.TrimPrefix(monitor, "http://")
+	rows := []struct {
+		metrics, part string
+		status        int
+	}{
+		{address, "front: --metrics: listen tcp " + address + ": bind: address already in use\n", 7},
+		{"9809", "front: --metrics: \"9809\" is no HOST:PORT\n", 2},
+	}
+	for _, row := range rows {
+		socket := filepath.Join(folder(t), "csi.sock")
+		start(t, socket, exec.Command(frontProgram(t), "--csid", csid.socket, "--listen", socket, "--metrics", row.metrics)).refuses(t, row.status, row.part)
+		if _, err := os.Lstat(socket); !os.IsNotExist(err) {
+			t.Errorf("%s: the socket: %v", row.metrics, err)
+		}
+	}
+}
+
+// A call that the front refuses without csid is counted, too.
+func TestMetricsOfGreatMessages(t *testing.T) {
+	t.Parallel()
+	process, monitor := watched(t, startFake(t).socket)
+	if got := newClient(t, process.socket).send(soon(t, patience), probe, make([]byte, 1048577)); got.code != codes.ResourceExhausted {
+		t.Errorf("%v", got)
+	}
+	wantsSeries(t, series(t, monitor), "csid_front_calls_total", map[string]string{`csid_front_calls_total{code="ResourceExhausted",method="` + probe + `"}`: "1"})
+}
