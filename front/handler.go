@@ -2,7 +2,6 @@ package main
 
 import (
 	"context"
-	"log"
 	"strconv"
 	"time"
 
@@ -31,16 +30,18 @@ func (bytesCodec) Marshal(v interface{}) ([]byte, error)      { return *v.(*[]by
 func (bytesCodec) Unmarshal(data []byte, v interface{}) error { *v.(*[]byte) = data; return nil }
 func (bytesCodec) String() string                             { return "bytes" }
 
-// handler answers every unary method by csid.
+// handler answers every unary method by csid, but Check of the health service where that is asked for.
 type handler struct {
 	backend  *backend
 	messages *messages
 	metrics  *metrics
-	log      *log.Logger
+	log      *logger
+	// Whether the health service of gRPC is answered.
+	hasHealth bool
 }
 
-func newHandler(asked options, log *log.Logger) *handler {
-	return &handler{newBackend(asked.csid, asked.late), newMessages(asked.waiting << 20), newMetrics(), log}
+func newHandler(asked options, log *logger) *handler {
+	return &handler{newBackend(asked.csid, asked.late), newMessages(asked.waiting << 20), newMetrics(), log, asked.health}
 }
 
 func newServer(h *handler) *grpc.Server {
@@ -63,14 +64,9 @@ func (h *handler) handle(_ interface{}, stream grpc.ServerStream) error {
 	why, took := status.Convert(err), time.Since(begin)
 	h.metrics.ended(path, why.Code(), took)
 	if err != nil {
-		h.logRefusal(path, why, took)
+		h.log.refuses(path, why, took)
 	}
 	return err
-}
-
-// logRefusal tells of a call that was refused. Its message goes into no log: it may have secrets.
-func (h *handler) logRefusal(path string, why *status.Status, took time.Duration) {
-	h.log.Printf("%s %d %q %d ms", shownPath(path), why.Code(), why.Message(), took.Milliseconds())
 }
 
 func (h *handler) answer(path string, stream grpc.ServerStream) error {
@@ -83,12 +79,19 @@ func (h *handler) answer(path string, stream grpc.ServerStream) error {
 	}
 	defer h.messages.giveBack(message)
 	h.metrics.waiting.Inc()
-	body, err := h.ask(stream.Context(), path, message)
+	body, err := h.respond(stream.Context(), path, message)
 	h.metrics.waiting.Dec()
 	if err != nil {
 		return err
 	}
 	return stream.SendMsg(&body)
+}
+
+func (h *handler) respond(ctx context.Context, path string, message []byte) ([]byte, error) {
+	if h.hasHealth && path == healthCheck {
+		return h.checkHealth(ctx, message)
+	}
+	return h.ask(ctx, path, message)
 }
 
 // ask hands a call to csid, and gives the body of the reply, or what an orchestrator is told.

@@ -8,7 +8,6 @@ import (
 	"errors"
 	"flag"
 	"fmt"
-	"log"
 	"net"
 	"os"
 	"os/signal"
@@ -30,16 +29,17 @@ const (
 var version = "unknown"
 
 func main() {
-	os.Exit(run(log.New(os.Stderr, "front: ", 0)))
+	os.Exit(run())
 }
 
-func run(log *log.Logger) int {
+func run() int {
 	asked, err := readOptions(os.Args[1:], os.Getenv("CSI_ENDPOINT"), os.Stdout)
 	if errors.Is(err, flag.ErrHelp) {
 		return done
 	}
+	log := newLogger(os.Stderr, asked.logFormat)
 	if err != nil {
-		log.Print(err)
+		log.fails(err)
 		return badWords
 	}
 	if asked.version {
@@ -50,21 +50,21 @@ func run(log *log.Logger) int {
 	signal.Notify(stop, syscall.SIGTERM, syscall.SIGINT)
 	listener, err := listen(asked.listen)
 	if err != nil {
-		log.Print(err)
+		log.fails(err)
 		return noSocket
 	}
 	defer listener.Close()
 	h := newHandler(asked, log)
 	failed := make(chan error, 2)
 	if err := startMonitor(h, asked, failed); err != nil {
-		log.Print(err)
+		log.fails(err)
 		return noSocket
 	}
 	server := newServer(h)
 	go func() { failed <- serve(server, listener) }()
 	select {
 	case err := <-failed:
-		log.Print(err)
+		log.fails(err)
 		return noSocket
 	case <-stop:
 		return end(server, stop, asked.grace, log)
@@ -79,7 +79,7 @@ func serve(server *grpc.Server, listener net.Listener) error {
 }
 
 // end takes no further calls, and waits for those that run: for so long, or until a second signal.
-func end(server *grpc.Server, stop <-chan os.Signal, grace time.Duration, log *log.Logger) int {
+func end(server *grpc.Server, stop <-chan os.Signal, grace time.Duration, log *logger) int {
 	ended := make(chan struct{})
 	go func() {
 		server.GracefulStop()
@@ -91,6 +91,6 @@ func end(server *grpc.Server, stop <-chan os.Signal, grace time.Duration, log *l
 	case <-stop:
 	case <-time.After(grace):
 	}
-	log.Print("ended, and cut calls off")
+	log.cutOff()
 	return cutOff
 }

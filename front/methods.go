@@ -6,6 +6,7 @@ const (
 	controller  = "/csi.v1.Controller/"
 	probe       = identity + "Probe"
 	getCapacity = controller + "GetCapacity"
+	healthCheck = "/grpc.health.v1.Health/Check"
 )
 
 // otherMethod is the label of each method that is not one of the table: a client can call any, and each label is a series.
@@ -28,7 +29,7 @@ var methods = map[string]bool{
 }
 
 func methodLabel(path string) string {
-	if methods[path] {
+	if methods[path] || path == healthCheck {
 		return path
 	}
 	return otherMethod

@@ -2,7 +2,6 @@ package main
 
 import (
 	"io"
-	"log"
 	"os"
 	"reflect"
 	"regexp"
@@ -16,7 +15,7 @@ import (
 
 // inFront is the handler of a front before a csid at this path.
 func inFront(path string) *handler {
-	return newHandler(options{csid: path, late: time.Minute, waiting: 1}, log.New(io.Discard, "", 0))
+	return newHandler(options{csid: path, late: time.Minute, waiting: 1}, newLogger(io.Discard, textLines))
 }
 
 // The methods that have a label are those that csid answers.
@@ -45,6 +44,8 @@ func TestMethodLabel(t *testing.T) {
 		"":                                "other",
 		"other":                           "other",
 		"/\xff":                           "other",
+		"/grpc.health.v1.Health/Check":    "/grpc.health.v1.Health/Check",
+		"/grpc.health.v1.Health/Watch":    "other",
 	}
 	for path, want := range rows {
 		if got := methodLabel(path); got != want {

@@ -3,6 +3,7 @@ package main
 import (
 	"context"
 	"fmt"
+	"log"
 	"net"
 	"net/http"
 	"time"
@@ -38,8 +39,13 @@ func startMonitor(h *handler, asked options, failed chan<- error) error {
 	if err != nil {
 		return fmt.Errorf("--metrics: %w", err)
 	}
-	h.log.Printf("metrics at %s", listener.Addr())
-	server := &http.Server{Handler: newMonitor(h, asked.topologies), ReadTimeout: requestTime, WriteTimeout: answerTime}
+	h.log.listens(listener.Addr().String())
+	server := &http.Server{
+		Handler:      newMonitor(h, asked.topologies),
+		ReadTimeout:  requestTime,
+		WriteTimeout: answerTime,
+		ErrorLog:     log.New(h.log, "", 0),
+	}
 	go func() { failed <- fmt.Errorf("telling metrics: %w", server.Serve(listener)) }()
 	return nil
 }

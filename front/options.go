@@ -13,7 +13,8 @@ import (
 
 const usage = `Answers gRPC calls on a Unix socket by a csid that serves another one (docs/DEPLOY.md).
 
-usage: front --csid PATH [--listen PATH] [--grace TIME] [--late TIME] [--waiting MIB] [--metrics HOST:PORT [--metrics-topology KEY=VALUE,..]..]
+usage: front --csid PATH [--listen PATH] [--grace TIME] [--late TIME] [--waiting MIB] [--log-format text|json]
+             [--health] [--metrics HOST:PORT [--metrics-topology KEY=VALUE,..]..]
        front --version
 `
 
@@ -22,11 +23,13 @@ const maxWaiting = 1 << 20
 
 // options is what the command line asks for.
 type options struct {
-	listen  string
-	csid    string
-	grace   time.Duration
-	late    time.Duration
-	waiting int
+	listen    string
+	csid      string
+	grace     time.Duration
+	late      time.Duration
+	waiting   int
+	logFormat string
+	health    bool
 	// Where metrics are told; nowhere if it is empty.
 	metrics    string
 	topologies []topology
@@ -43,6 +46,8 @@ func readOptions(words []string, endpoint string, shown io.Writer) (options, err
 	flags.DurationVar(&asked.grace, "grace", 20*time.Second, "how long calls may go on after SIGTERM, as 20s: a `TIME`")
 	flags.DurationVar(&asked.late, "late", time.Minute, "how long csid may take for the reply to a call that was given up, before its connection is closed: a `TIME`")
 	flags.IntVar(&asked.waiting, "waiting", 64, "how many `MIB` the messages of all calls that wait may have together")
+	flags.StringVar(&asked.logFormat, "log-format", textLines, "the `FORMAT` of lines on standard error: text, or json for one object a line")
+	flags.BoolVar(&asked.health, "health", false, "answer gRPC's health service: Check, by a Probe")
 	flags.StringVar(&asked.metrics, "metrics", "", "the `HOST:PORT` on which /metrics and /healthz are answered over HTTP; port 0 is any that is free, and the log says which")
 	flags.Func("metrics-topology", "a topology whose available capacity is one of the metrics, as `KEY=VALUE,..`; may be given again", asked.addTopology)
 	flags.BoolVar(&asked.version, "version", false, "print the version, and end")
@@ -80,6 +85,9 @@ func checked(asked options) (options, error) {
 	}
 	if asked.waiting < 1 || asked.waiting > maxWaiting {
 		return options{}, fmt.Errorf("--waiting: %d is not 1 to %d", asked.waiting, maxWaiting)
+	}
+	if asked.logFormat != textLines && asked.logFormat != jsonLines {
+		return options{}, fmt.Errorf("--log-format: %q is neither text nor json", asked.logFormat)
 	}
 	if err := checkMetrics(asked); err != nil {
 		return options{}, err

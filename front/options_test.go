@@ -12,8 +12,12 @@ import (
 
 func TestOptions(t *testing.T) {
 	with := func(grace, late time.Duration, waiting int) options {
-		return options{listen: "l", csid: "c", grace: grace, late: late, waiting: waiting}
+		return options{listen: "l", csid: "c", grace: grace, late: late, waiting: waiting, logFormat: "text"}
 	}
+	elsewhere := with(20*time.Second, time.Minute, 64)
+	elsewhere.listen = "/run/csi.sock"
+	inJSON := with(20*time.Second, time.Minute, 64)
+	inJSON.logFormat, inJSON.health = "json", true
 	watched := func(metrics string, topologies ...topology) options {
 		asked := with(20*time.Second, time.Minute, 64)
 		asked.metrics, asked.topologies = metrics, topologies
@@ -25,10 +29,11 @@ func TestOptions(t *testing.T) {
 	}{
 		{"--csid c --listen l", "", with(20*time.Second, time.Minute, 64)},
 		{"-csid=c -listen=l -grace=1m -late=30s -waiting=1", "", with(time.Minute, 30*time.Second, 1)},
-		{"--csid c", "unix:///run/csi.sock", options{listen: "/run/csi.sock", csid: "c", grace: 20 * time.Second, late: time.Minute, waiting: 64}},
-		{"--csid c", "/run/csi.sock", options{listen: "/run/csi.sock", csid: "c", grace: 20 * time.Second, late: time.Minute, waiting: 64}},
+		{"--csid c", "unix:///run/csi.sock", elsewhere},
+		{"--csid c", "/run/csi.sock", elsewhere},
 		{"--csid unix:c", "unix:l", with(20*time.Second, time.Minute, 64)},
 		{"--csid c --listen unix://l", "unix:///run/csi.sock", with(20*time.Second, time.Minute, 64)},
+		{"--csid c --listen l --log-format json --health", "", inJSON},
 		{"--csid c --listen l --metrics 127.0.0.1:0", "", watched("127.0.0.1:0")},
 		{"--csid c --listen l --metrics [::1]:65535", "", watched("[::1]:65535")},
 		{"--csid c --listen l --metrics :9809", "", watched(":9809")},
@@ -59,6 +64,8 @@ func TestRefusedOptions(t *testing.T) {
 		{"--csid c --listen l --waiting 0", "", "--waiting: 0 is not 1 to 1048576"},
 		{"--csid c --listen l --waiting 1048577", "", "--waiting: 1048577 is not 1 to 1048576"},
 		{"--csid c --listen l --waiting x", "", "waiting"},
+		{"--csid c --listen l --log-format xml", "", `--log-format: "xml" is neither text nor json`},
+		{"--csid c --listen l --log-format=", "", `--log-format: "" is neither text nor json`},
 		{"--csid c --listen l --metrics 9809", "", `--metrics: "9809" is no HOST:PORT`},
 		{"--csid c --listen l --metrics localhost:x", "", `--metrics: "x" is no port from 0 to 65535`},
 		{"--csid c --listen l --metrics localhost:65536", "", `--metrics: "65536" is no port from 0 to 65535`},
@@ -86,7 +93,7 @@ func TestHelp(t *testing.T) {
 	if !errors.Is(err, flag.ErrHelp) {
 		t.Error(err)
 	}
-	for _, word := range []string{"usage: ", "-csid", "-listen", "-grace", "-late", "-waiting", "-metrics", "-metrics-topology", "-version"} {
+	for _, word := range []string{"usage: ", "-csid", "-listen", "-grace", "-late", "-waiting", "-log-format", "-health", "-metrics", "-metrics-topology", "-version"} {
 		if !strings.Contains(shown.String(), word) {
 			t.Errorf("no %s in %s", word, shown.String())
 		}

@@ -58,7 +58,7 @@ func (h *handler) question(ctx context.Context, path string, message []byte) ([]
 	begin := time.Now()
 	body, err := h.ask(ctx, path, message)
 	if err != nil {
-		h.logRefusal(path, status.Convert(err), time.Since(begin))
+		h.log.refuses(path, status.Convert(err), time.Since(begin))
 	}
 	return body, err
 }

@@ -1,0 +1,77 @@
+package main
+
+import (
+	"encoding/json"
+	"errors"
+	"reflect"
+	"strings"
+	"testing"
+	"time"
+
+	"google.golang.org/grpc/codes"
+	"google.golang.org/grpc/status"
+)
+
+// Each line in both formats. A number of JSON is a float64 to encoding/json.
+func TestLines(t *testing.T) {
+	type fields = map[string]interface{}
+	rows := []struct {
+		tell func(*logger)
+		text string
+		want fields
+	}{
+		{
+			func(l *logger) { l.fails(errors.New(`no "socket"`)) },
+			"front: no \"socket\"\n",
+			fields{"level": "error", "message": "the front ends", "error": `no "socket"`},
+		},
+		{
+			func(l *logger) { l.cutOff() },
+			"front: ended, and cut calls off\n",
+			fields{"level": "error", "message": "ended, and cut calls off"},
+		},
+		{
+			func(l *logger) { l.listens("[::1]:9809") },
+			"front: metrics at [::1]:9809\n",
+			fields{"level": "info", "message": "metrics", "address": "[::1]:9809"},
+		},
+		{
+			func(l *logger) {
+				l.refuses("/a/b", status.New(codes.FailedPrecondition, "volume is in use"), 1999*time.Microsecond)
+			},
+			"front: /a/b 9 \"volume is in use\" 1 ms\n",
+			fields{"level": "warn", "message": "call refused", "path": "/a/b", "code": 9.0, "text": "volume is in use", "milliseconds": 1.0},
+		},
+		{
+			func(l *logger) { l.refuses("/a\n", status.New(codes.Unimplemented, ""), 0) },
+			"front: \"/a\\n\" 12 \"\" 0 ms\n",
+			fields{"level": "warn", "message": "call refused", "path": `"/a\n"`, "code": 12.0, "text": "", "milliseconds": 0.0},
+		},
+		{
+			func(l *logger) { l.Write([]byte("http: it <broke>\n")) },
+			"front: http: it <broke>\n",
+			fields{"level": "warn", "message": "HTTP server", "error": "http: it <broke>"},
+		},
+	}
+	for _, row := range rows {
+		var text, object strings.Builder
+		row.tell(newLogger(&text, textLines))
+		if text.String() != row.text {
+			t.Errorf("%q, wanted %q", text.String(), row.text)
+		}
+		begin := time.Now()
+		row.tell(newLogger(&object, jsonLines))
+		var got fields
+		if err := json.Unmarshal([]byte(object.String()), &got); err != nil || strings.Count(object.String(), "\n") != 1 {
+			t.Fatalf("%q: %v", object.String(), err)
+		}
+		said, _ := got["time"].(string)
+		if at, err := time.Parse(time.RFC3339, said); err != nil || at.Before(begin) || at.After(time.Now()) {
+			t.Errorf("the time %q, %v", said, err)
+		}
+		delete(got, "time")
+		if !reflect.DeepEqual(got, row.want) {
+			t.Errorf("%v, wanted %v", got, row.want)
+		}
+	}
+}

@@ -1,0 +1,95 @@
+package tests
+
+import (
+	"context"
+	"testing"
+	"time"
+
+	"google.golang.org/grpc"
+	"google.golang.org/grpc/codes"
+	"google.golang.org/grpc/health/grpc_health_v1"
+)
+
+// health asks the health service by its own client.
+type health struct {
+	grpc_health_v1.HealthClient
+}
+
+func newHealth(t *testing.T, socket string) health {
+	t.Helper()
+	conn, err := grpc.Dial("unix:"+socket, grpc.WithInsecure(), grpc.WithBlock(), grpc.WithTimeout(patience))
+	if err != nil {
+		t.Fatal(err)
+	}
+	t.Cleanup(func() { conn.Close() })
+	return health{grpc_health_v1.NewHealthClient(conn)}
+}
+
+func (h health) wants(t *testing.T, service string, want grpc_health_v1.HealthCheckResponse_ServingStatus, code codes.Code) {
+	t.Helper()
+	got, err := h.Check(soon(t, patience), &grpc_health_v1.HealthCheckRequest{Service: service})
+	if grpc.Code(err) != code || got.GetStatus() != want {
+		t.Errorf("%q: %v, %v", service, got, err)
+	}
+}
+
+// Check follows csid, for all of the plugin and for its two services.
+func TestHealth(t *testing.T) {
+	t.Parallel()
+	const serving, notServing = grpc_health_v1.HealthCheckResponse_SERVING, grpc_health_v1.HealthCheckResponse_NOT_SERVING
+	csid := newServer(t, "")
+	health := newHealth(t, startFront(t, csid.socket(), "--health").socket)
+	for round := 0; round < 2; round++ {
+		health.wants(t, "", notServing, codes.OK)
+		csid.start(t)
+		eventually(t, "a csid that serves", func() bool {
+			got, err := health.Check(soon(t, patience), &grpc_health_v1.HealthCheckRequest{})
+			return err == nil && got.Status == serving
+		})
+		for _, service := range []string{"csi.v1.Identity", "csi.v1.Controller"} {
+			health.wants(t, service, serving, codes.OK)
+		}
+		for _, service := range []string{"csi.v1.Node", "csi.v1", "grpc.health.v1.Health"} {
+			health.wants(t, service, grpc_health_v1.HealthCheckResponse_UNKNOWN, codes.NotFound)
+		}
+		csid.kill(t)
+	}
+}
+
+// A csid that stands still does not serve, and that is told within a short time.
+func TestHealthWhileCsidStandsStill(t *testing.T) {
+	t.Parallel()
+	csid := startFake(t, step{mute: true})
+	health := newHealth(t, startFront(t, csid.socket, "--health").socket)
+	begin := time.Now()
+	health.wants(t, "", grpc_health_v1.HealthCheckResponse_NOT_SERVING, codes.OK)
+	if spent := time.Since(begin); spent > patience/2 {
+		t.Errorf("it took %v", spent)
+	}
+}
+
+// Watch is answered as csid answers any method that it does not know. So is Check without --health (TestCallsOfVolumes).
+func TestHealthThatIsNotAnswered(t *testing.T) {
+	t.Parallel()
+	csid := startCsid(t)
+	watching, err := newHealth(t, startFront(t, csid.socket(), "--health").socket).Watch(soon(t, patience), &grpc_health_v1.HealthCheckRequest{})
+	if err != nil {
+		t.Fatal(err)
+	}
+	if got, err := watching.Recv(); grpc.Code(err) != codes.Unimplemented {
+		t.Errorf("%v, %v", got, err)
+	}
+}
+
+// A Check without meaning is refused, counted and logged as any call.
+func TestMalformedHealthCheck(t *testing.T) {
+	t.Parallel()
+	process, monitor := watched(t, startFake(t).socket, "--health")
+	const check = "/grpc.health.v1.Health/Check"
+	newClient(t, process.socket).wants(t, check, "0a", refused(codes.InvalidArgument, "malformed message"))
+	newHealth(t, process.socket).Check(context.Background(), &grpc_health_v1.HealthCheckRequest{})
+	wantsSeries(t, series(t, monitor), "csid_front_calls_total", map[string]string{
+		`csid_front_calls_total{code="InvalidArgument",method="` + check + `"}`: "1",
+		`csid_front_calls_total{code="OK",method="` + check + `"}`:              "1",
+	})
+}
