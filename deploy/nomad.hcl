@@ -6,6 +6,48 @@ job "pools-controller" {
   group "controller" {
     count = 1
 
+    # The port of the front's metrics.
+    network {
+      port "metrics" {
+        to = 9809
+      }
+    }
+
+    # By a Probe through the front to csid. Where six in a row fail, which takes a minute, both are started again.
+    service {
+      name     = "csid-front"
+      port     = "metrics"
+      provider = "nomad"
+
+      check {
+        name     = "front"
+        task     = "front"
+        type     = "http"
+        path     = "/healthz"
+        interval = "10s"
+        timeout  = "10s"
+
+        check_restart {
+          limit = 6
+          grace = "10s"
+        }
+      }
+
+      check {
+        name     = "csid"
+        task     = "csid"
+        type     = "http"
+        path     = "/healthz"
+        interval = "10s"
+        timeout  = "10s"
+
+        check_restart {
+          limit = 6
+          grace = "10s"
+        }
+      }
+    }
+
     # The volumes that csid keeps: a host volume of the client that runs this group.
     volume "tables" {
       type   = "host"
@@ -73,7 +115,8 @@ TOML
         image      = "registry.example.org/csid:1"
         entrypoint = ["tini", "--"]
         command    = "front"
-        args       = ["--csid", "/alloc/csid.sock", "--grace", "20s"]
+        args       = ["--csid", "/alloc/csid.sock", "--grace", "20s", "--metrics", ":9809"]
+        ports      = ["metrics"]
 
         readonly_rootfs = true
         cap_drop        = ["all"]

@@ -39,10 +39,20 @@ func newMetrics() *metrics {
 			Namespace: namespace, Name: "internal_refusals_total", Help: "Calls that csid refused for want of memory or for its store, by reason.",
 		}, []string{"reason"}),
 	}
+	m.begin()
+	return m
+}
+
+// begin tells each counter that can be foreseen as 0: where one begins at 1, Prometheus sees no increase.
+func (m *metrics) begin() {
+	for method := range methods {
+		for code := codes.OK; code <= codes.Unauthenticated; code++ {
+			m.calls.WithLabelValues(method, code.String())
+		}
+	}
 	for _, reason := range openReasons {
 		m.refusals.WithLabelValues(reason)
 	}
-	return m
 }
 
 func newCounter(name, help string) prometheus.Counter {

@@ -88,7 +88,7 @@ func TestMalformedHealthCheck(t *testing.T) {
 	const check = "/grpc.health.v1.Health/Check"
 	newClient(t, process.socket).wants(t, check, "0a", refused(codes.InvalidArgument, "malformed message"))
 	newHealth(t, process.socket).Check(context.Background(), &grpc_health_v1.HealthCheckRequest{})
-	wantsSeries(t, series(t, monitor), "csid_front_calls_total", map[string]string{
+	wantsSeries(t, counted(series(t, monitor)), "csid_front_calls_total", map[string]string{
 		`csid_front_calls_total{code="InvalidArgument",method="` + check + `"}`: "1",
 		`csid_front_calls_total{code="OK",method="` + check + `"}`:              "1",
 	})

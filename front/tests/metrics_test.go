@@ -74,6 +74,17 @@ func wantsSeries(t *testing.T, got map[string]string, prefix string, want map[st
 	}
 }
 
+// counted is the series that are not 0.
+func counted(all map[string]string) map[string]string {
+	some := map[string]string{}
+	for name, value := range all {
+		if value != "0" {
+			some[name] = value
+		}
+	}
+	return some
+}
+
 // Each series after calls of each kind. GetCapacity's field 3 is a topology, whose field 1 is a segment.
 func TestMetrics(t *testing.T) {
 	t.Parallel()
@@ -96,7 +107,7 @@ func TestMetrics(t *testing.T) {
 		front.call(t, path, "")
 	}
 	got := series(t, monitor)
-	wantsSeries(t, got, "csid_front_calls_total", map[string]string{
+	wantsSeries(t, counted(got), "csid_front_calls_total", map[string]string{
 		`csid_front_calls_total{code="OK",method="` + create + `"}`:                "1",
 		`csid_front_calls_total{code="ResourceExhausted",method="` + create + `"}`: "2",
 		`csid_front_calls_total{code="Unavailable",method="` + remove + `"}`:       "1",
@@ -133,6 +144,23 @@ func TestMetrics(t *testing.T) {
 	})
 }
 
+// What can be foreseen begins at 0, so that its first increase is seen.
+func TestMetricsBeforeAnyCall(t *testing.T) {
+	t.Parallel()
+	_, monitor := watched(t, startFake(t).socket)
+	got := series(t, monitor)
+	for _, name := range []string{
+		`csid_front_calls_total{code="ResourceExhausted",method="` + controller + `CreateVolume"}`,
+		`csid_front_calls_total{code="OK",method="` + probe + `"}`,
+		`csid_front_calls_total{code="Unauthenticated",method="` + getCapacity + `"}`,
+		`csid_front_internal_refusals_total{reason="store is down"}`,
+	} {
+		if got[name] != "0" {
+			t.Errorf("%s is %q", name, got[name])
+		}
+	}
+}
+
 // The version is told, and what Go and the process take.
 func TestMetricsOfTheProcess(t *testing.T) {
 	t.Parallel()
@@ -159,7 +187,7 @@ func TestMetricsOfInventedMethods(t *testing.T) {
 		front.wants(t, fmt.Sprintf("/csi.v1.Controller/Invented%d", i), "", ok(ready))
 	}
 	got := series(t, monitor)
-	wantsSeries(t, got, "csid_front_calls_total", map[string]string{`csid_front_calls_total{code="OK",method="other"}`: "50"})
+	wantsSeries(t, counted(got), "csid_front_calls_total", map[string]string{`csid_front_calls_total{code="OK",method="other"}`: "50"})
 	for name := range got {
 		if strings.Contains(name, "Invented") {
 			t.Error(name)
@@ -274,5 +302,5 @@ func TestMetricsOfGreatMessages(t *testing.T) {
 	if got := newClient(t, process.socket).send(soon(t, patience), probe, make([]byte, 1048577)); got.code != codes.ResourceExhausted {
 		t.Errorf("%v", got)
 	}
-	wantsSeries(t, series(t, monitor), "csid_front_calls_total", map[string]string{`csid_front_calls_total{code="ResourceExhausted",method="` + probe + `"}`: "1"})
+	wantsSeries(t, counted(series(t, monitor)), "csid_front_calls_total", map[string]string{`csid_front_calls_total{code="ResourceExhausted",method="` + probe + `"}`: "1"})
 }
