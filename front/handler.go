@@ -100,7 +100,7 @@ func (h *handler) ask(ctx context.Context, path string, message []byte) ([]byte,
 	if err != nil {
 		return nil, refusal(ctx, err)
 	}
-	if isOpen(answer) {
+	if answer.code == codes.Internal && openReasons[answer.text] {
 		h.metrics.refusals.WithLabelValues(answer.text).Inc()
 		return nil, status.Error(codes.Unavailable, answer.text)
 	}
@@ -110,22 +110,9 @@ func (h *handler) ask(ctx context.Context, path string, message []byte) ([]byte,
 	return answer.body, nil
 }
 
-// openReasons are the texts of status 13 behind which it is open whether a change was made.
-var openReasons = []string{"out of memory", "store refused", "store is down"}
-
-// isOpen tells whether csid says one of these. An orchestrator is then told UNAVAILABLE: sidecars take INTERNAL for a final answer, after
-// which they believe that no change was made.
-func isOpen(answer reply) bool {
-	if answer.code != codes.Internal {
-		return false
-	}
-	for _, reason := range openReasons {
-		if answer.text == reason {
-			return true
-		}
-	}
-	return false
-}
+// openReasons are the texts of status 13 behind which it is open whether a change was made. An orchestrator is then told UNAVAILABLE:
+// sidecars take INTERNAL for a final answer, after which they believe that none was.
+var openReasons = map[string]bool{"out of memory": true, "store refused": true, "store is down": true}
 
 // refusal is the answer to a call that got no reply. It has one of the codes after which an orchestrator takes the outcome as open,
 // and repeats the call.

@@ -50,7 +50,7 @@ func (m *metrics) begin() {
 			m.calls.WithLabelValues(method, code.String())
 		}
 	}
-	for _, reason := range openReasons {
+	for reason := range openReasons {
 		m.refusals.WithLabelValues(reason)
 	}
 }
@@ -72,7 +72,7 @@ func newRegistry(h *handler, topologies []topology) *prometheus.Registry {
 	registry.MustRegister(
 		h.metrics.calls, h.metrics.seconds, h.metrics.waiting, h.metrics.refusals,
 		h.backend.connections, h.backend.failures,
-		newStanding(h, topologies),
+		newCsidCollector(h, topologies),
 		buildInfo(),
 		collectors.NewGoCollector(),
 		collectors.NewProcessCollector(collectors.ProcessCollectorOpts{}),
@@ -89,16 +89,16 @@ func buildInfo() prometheus.Collector {
 	return info
 }
 
-// standing asks csid each time it is collected: whether it is ready, and how many bytes each topology has.
-type standing struct {
+// csidCollector asks csid each time it is collected: whether it is ready, and how many bytes each topology has.
+type csidCollector struct {
 	handler    *handler
 	topologies []topology
 	up         *prometheus.Desc
 	capacity   *prometheus.Desc
 }
 
-func newStanding(h *handler, topologies []topology) *standing {
-	return &standing{
+func newCsidCollector(h *handler, topologies []topology) *csidCollector {
+	return &csidCollector{
 		handler:    h,
 		topologies: append([]topology{everywhere}, topologies...),
 		up:         prometheus.NewDesc(namespace+"_csid_up", "Whether csid answered that it is ready.", nil, nil),
@@ -107,23 +107,23 @@ func newStanding(h *handler, topologies []topology) *standing {
 	}
 }
 
-func (s *standing) Describe(told chan<- *prometheus.Desc) {
-	told <- s.up
-	told <- s.capacity
+func (c *csidCollector) Describe(told chan<- *prometheus.Desc) {
+	told <- c.up
+	told <- c.capacity
 }
 
 // Collect tells nothing of a topology of which csid tells nothing: the log says why.
-func (s *standing) Collect(told chan<- prometheus.Metric) {
+func (c *csidCollector) Collect(told chan<- prometheus.Metric) {
 	ctx, cancel := context.WithTimeout(context.Background(), questionTime)
 	defer cancel()
-	if s.handler.isReady(ctx) != nil {
-		told <- prometheus.MustNewConstMetric(s.up, prometheus.GaugeValue, 0)
+	if c.handler.isReady(ctx) != nil {
+		told <- prometheus.MustNewConstMetric(c.up, prometheus.GaugeValue, 0)
 		return
 	}
-	told <- prometheus.MustNewConstMetric(s.up, prometheus.GaugeValue, 1)
-	for _, topology := range s.topologies {
-		if bytes, err := s.handler.capacity(ctx, topology); err == nil {
-			told <- prometheus.MustNewConstMetric(s.capacity, prometheus.GaugeValue, float64(bytes), topology.name)
+	told <- prometheus.MustNewConstMetric(c.up, prometheus.GaugeValue, 1)
+	for _, topology := range c.topologies {
+		if bytes, err := c.handler.capacity(ctx, topology); err == nil {
+			told <- prometheus.MustNewConstMetric(c.capacity, prometheus.GaugeValue, float64(bytes), topology.name)
 		}
 	}
 }

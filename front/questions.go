@@ -16,6 +16,9 @@ import (
 // How long the front waits for csid where it asks for itself.
 const questionTime = 5 * time.Second
 
+// errNoMessage is of a body that csid cannot have meant.
+var errNoMessage = status.Error(codes.Unavailable, "csid: malformed reply: bad message")
+
 // topology is what GetCapacity is asked for: it sums up the pools that serve it.
 type topology struct {
 	// As the command line has it: KEY=VALUE, and more of them behind commas.
@@ -53,23 +56,23 @@ func bytesField(number protowire.Number, value []byte) []byte {
 	return protowire.AppendBytes(protowire.AppendTag(nil, number, protowire.BytesType), value)
 }
 
-// question hands a call of the front's own to csid. Where it is refused that is logged, as it is of a client's call.
-func (h *handler) question(ctx context.Context, path string, message []byte) ([]byte, error) {
+// question hands a call of the front's own to csid, and gives field 1 of the reply. Where it is refused that is logged, as it is of a
+// client's call.
+func (h *handler) question(ctx context.Context, path string, message []byte, kind protowire.Type) (value []byte, is bool, err error) {
 	begin := time.Now()
 	body, err := h.ask(ctx, path, message)
+	if err == nil {
+		value, is, err = lastField(body, 1, kind)
+	}
 	if err != nil {
 		h.log.refuses(path, status.Convert(err), time.Since(begin))
 	}
-	return body, err
+	return value, is, err
 }
 
 // isReady asks csid by Probe, and tells why it is not. Where the answer says neither, it is ready (CSI, "Probe").
 func (h *handler) isReady(ctx context.Context) error {
-	body, err := h.question(ctx, probe, nil)
-	if err != nil {
-		return err
-	}
-	wrapped, is, err := lastField(body, 1, protowire.BytesType)
+	wrapped, is, err := h.question(ctx, probe, nil, protowire.BytesType)
 	if err != nil || !is {
 		return err
 	}
@@ -86,11 +89,7 @@ func (h *handler) isReady(ctx context.Context) error {
 
 // capacity asks csid by GetCapacity. Where the answer has no number, it is 0.
 func (h *handler) capacity(ctx context.Context, asked topology) (int64, error) {
-	body, err := h.question(ctx, getCapacity, asked.message)
-	if err != nil {
-		return 0, err
-	}
-	value, _, err := lastField(body, 1, protowire.VarintType)
+	value, _, err := h.question(ctx, getCapacity, asked.message, protowire.VarintType)
 	if err != nil {
 		return 0, err
 	}
@@ -103,11 +102,11 @@ func lastField(message []byte, number protowire.Number, kind protowire.Type) (va
 	for len(message) > 0 {
 		gotNumber, gotKind, size := protowire.ConsumeTag(message)
 		if size < 0 {
-			return nil, false, protowire.ParseError(size)
+			return nil, false, errNoMessage
 		}
 		message = message[size:]
 		if size = protowire.ConsumeFieldValue(gotNumber, gotKind, message); size < 0 {
-			return nil, false, protowire.ParseError(size)
+			return nil, false, errNoMessage
 		}
 		if gotNumber == number && gotKind == kind {
 			value, is = message[:size], true

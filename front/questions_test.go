@@ -44,7 +44,9 @@ func TestReadiness(t *testing.T) {
 		{"not ready", "00 0000 00 00000004 0a020800", "rpc error: code = Unavailable desc = csid is not ready"},
 		{"not ready, as the default", "00 0000 00 00000002 0a00", "rpc error: code = Unavailable desc = csid is not ready"},
 		{"the last one counts", "00 0000 00 00000008 0a020801 0a020800", "rpc error: code = Unavailable desc = csid is not ready"},
-		{"cut short", "00 0000 00 00000002 0a02", "unexpected EOF"},
+		{"cut short", "00 0000 00 00000002 0a02", "rpc error: code = Unavailable desc = csid: malformed reply: bad message"},
+		{"cut short inside", "00 0000 00 00000003 0a0108", "rpc error: code = Unavailable desc = csid: malformed reply: bad message"},
+		{"no tag", "00 0000 00 00000001 00", "rpc error: code = Unavailable desc = csid: malformed reply: bad message"},
 		{"refused", "09 0002 6e6f 00 00000000", "rpc error: code = FailedPrecondition desc = no"},
 	}
 	for _, row := range rows {
