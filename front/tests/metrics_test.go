@@ -3,6 +3,7 @@ package tests
 import (
 	"fmt"
 	"io"
+	"net"
 	"net/http"
 	"os"
 	"os/exec"
@@ -235,6 +236,41 @@ func TestMetricsWhileCsidStandsStill(t *testing.T) {
 	}
 	if short, long := bucket("2.5"), bucket("60"); short != "0" || long != "3" {
 		t.Errorf("%s calls took 2.5 seconds at most, %s took 60", short, long)
+	}
+}
+
+// While csid stands still, scrapes beyond the fourth are turned away.
+func TestScrapesAtOnce(t *testing.T) {
+	t.Parallel()
+	_, monitor := watched(t, startFake(t, step{mute: true}).socket)
+	statuses := make(chan int, 7)
+	together(cap(statuses), func(int) {
+		status, _ := get(t, monitor+"/metrics")
+		statuses <- status
+	})
+	close(statuses)
+	counts := map[int]int{}
+	for status := range statuses {
+		counts[status]++
+	}
+	if counts[http.StatusOK] != 4 || counts[http.StatusServiceUnavailable] != 3 {
+		t.Errorf("statuses %v", counts)
+	}
+}
+
+// A client that never sends its whole request is closed.
+func TestSilentScrape(t *testing.T) {
+	t.Parallel()
+	_, monitor := watched(t, startFake(t).socket)
+	conn, err := net.Dial("tcp", strings.TrimPrefix(monitor, "http://"))
+	if err != nil {
+		t.Fatal(err)
+	}
+	defer conn.Close()
+	conn.SetDeadline(time.Now().Add(patience))
+	io.WriteString(conn, "GET /metr")
+	if _, err := io.ReadAll(conn); err != nil {
+		t.Errorf("it was not closed: %v", err)
 	}
 }
 
