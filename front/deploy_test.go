@@ -48,6 +48,7 @@ func page(t *testing.T, name string) string {
 var (
 	named    = regexp.MustCompile(`\bcsid_front_\w+`)
 	matched  = regexp.MustCompile(`\b(csid_front_\w+)\{([^}]*)\}`)
+	grouped  = regexp.MustCompile(`by \(([^)]*)\) \(\w+\((csid_front_\w+)`)
 	matchers = regexp.MustCompile(`(\w+)(?:=|!=|=~|!~)\\?"([^"\\]*)\\?"`)
 )
 
@@ -67,6 +68,13 @@ func TestMetricsThatAreNamed(t *testing.T) {
 		for _, name := range found {
 			if names[name] == nil {
 				t.Errorf("%s names %s", file, name)
+			}
+		}
+		for _, group := range grouped.FindAllStringSubmatch(text, -1) {
+			for _, label := range strings.Split(group[1], ", ") {
+				if !names[group[2]][label] {
+					t.Errorf("%s: %s has no label %s", file, group[2], label)
+				}
 			}
 		}
 		for _, selector := range matched.FindAllStringSubmatch(text, -1) {
