@@ -27,10 +27,16 @@ inline std::string Canonical(const google::protobuf::MessageLite& message) {
   return out;
 }
 
-inline void AppendVarint(size_t number, std::string* out) {
+inline void AppendVarint(uint64_t number, std::string* out) {
   uint8_t bytes[10];
   const uint8_t* end = google::protobuf::io::CodedOutputStream::WriteVarint64ToArray(number, bytes);
   out->append(reinterpret_cast<const char*>(bytes), end - bytes);
+}
+
+// Appends a field that is a number.
+inline void AppendNumber(int field, uint64_t number, std::string* out) {
+  out->push_back(static_cast<char>(field << 3));
+  AppendVarint(number, out);
 }
 
 // Appends the head of a field that holds so many bytes.

@@ -48,17 +48,18 @@ void AddCapability(const Key& key, csi::v1::CreateVolumeRequest* request) {
   capability.mutable_access_mode()->set_mode(static_cast<csi::v1::VolumeCapability::AccessMode::Mode>(key.mode));
 }
 
-std::string CapsOf(const std::vector<Key>& keys) {
-  csi::v1::CreateVolumeRequest request;
-  for (const Key& key : keys) AddCapability(key, &request);
-  return Canonical(request);
+// The messages are those of the caller, so that their memory serves again.
+std::string CapsOf(const std::vector<Key>& keys, csi::v1::CreateVolumeRequest* message) {
+  message->Clear();
+  for (const Key& key : keys) AddCapability(key, message);
+  return Canonical(*message);
 }
 
-std::string ParamsOf(const Volume& volume) {
-  csi::v1::CreateVolumeRequest request;
-  request.mutable_parameters()->insert(volume.parameters.begin(), volume.parameters.end());
-  request.mutable_changeable_parameters()->insert(volume.mutable_parameters.begin(), volume.mutable_parameters.end());
-  return Canonical(request);
+std::string ParamsOf(const Volume& volume, csi::v1::CreateVolumeRequest* message) {
+  message->Clear();
+  message->mutable_parameters()->insert(volume.parameters.begin(), volume.parameters.end());
+  message->mutable_changeable_parameters()->insert(volume.mutable_parameters.begin(), volume.mutable_parameters.end());
+  return Canonical(*message);
 }
 
 size_t SizeOf(const Parameters& parameters) {
@@ -72,25 +73,24 @@ void Want(bool holds, uint64_t number, const char* rule) {
 }
 
 // The keys whose bytes these are; none where they are others'.
-std::vector<Key> KeysIn(std::string_view bytes) {
-  csi::v1::CreateVolumeRequest request;
+std::vector<Key> KeysIn(std::string_view bytes, csi::v1::CreateVolumeRequest* message) {
   std::vector<Key> keys;
-  if (!request.ParseFromArray(bytes.data(), static_cast<int>(bytes.size()))) return keys;
-  for (const csi::v1::VolumeCapability& capability : request.volume_capabilities()) keys.push_back(KeyOf(capability));
+  if (!message->ParseFromArray(bytes.data(), static_cast<int>(bytes.size()))) return keys;
+  for (const csi::v1::VolumeCapability& capability : message->volume_capabilities()) keys.push_back(KeyOf(capability));
   const bool is_known =
       std::all_of(keys.begin(), keys.end(), [](const Key& it) { return it.mode >= 1 && it.mode <= 7 && it.IsSupported(); });
   const bool is_in_order =
       std::adjacent_find(keys.begin(), keys.end(), [](const Key& it, const Key& next) { return !(it < next); }) == keys.end();
-  if (!is_known || !is_in_order || CapsOf(keys) != bytes) keys.clear();
+  if (!is_known || !is_in_order || CapsOf(keys, message) != bytes) keys.clear();
   return keys;
 }
 
-bool ReadParams(std::string_view bytes, Volume* volume) {
-  csi::v1::CreateVolumeRequest request;
-  if (!request.ParseFromArray(bytes.data(), static_cast<int>(bytes.size()))) return false;
-  volume->parameters = Parameters(request.parameters().begin(), request.parameters().end());
-  volume->mutable_parameters = Parameters(request.changeable_parameters().begin(), request.changeable_parameters().end());
-  return SizeOf(volume->parameters) <= kMaxMapBytes && SizeOf(volume->mutable_parameters) <= kMaxMapBytes && ParamsOf(*volume) == bytes;
+bool ReadParams(std::string_view bytes, csi::v1::CreateVolumeRequest* message, Volume* volume) {
+  if (!message->ParseFromArray(bytes.data(), static_cast<int>(bytes.size()))) return false;
+  volume->parameters = Parameters(message->parameters().begin(), message->parameters().end());
+  volume->mutable_parameters = Parameters(message->changeable_parameters().begin(), message->changeable_parameters().end());
+  return SizeOf(volume->parameters) <= kMaxMapBytes && SizeOf(volume->mutable_parameters) <= kMaxMapBytes &&
+         ParamsOf(*volume, message) == bytes;
 }
 
 }  // namespace
@@ -179,12 +179,12 @@ void Tables::ReadVolumes(Volumes* volumes) {
     Want(number >= 1 && number < volumes->next(), number, "its number is not from 1 to below the next number");
     const std::optional<size_t> pool = volumes->FindPool(rows.Text(3));
     Want(pool.has_value(), number, "its pool is not one of the configuration");
-    Volume volume{number, std::string(rows.Text(1)), rows.Number(2), *pool, KeysIn(rows.BlobBytes(4)), {}, {}, {}, {}};
+    Volume volume{number, std::string(rows.Text(1)), rows.Number(2), *pool, KeysIn(rows.BlobBytes(4), &message_), {}, {}, {}, {}};
     Want(IsName(volume.name), number, "its name is not one that a volume can be made with");
     Want(volume.bytes > 0 && volume.bytes % kMebibyte == 0, number, "its bytes are not a positive multiple of 1048576");
     Want(volume.bytes <= volumes->FreeIn(*pool), number, "its pool has not so many bytes");
     Want(!volume.keys.empty(), number, "its caps are not the bytes of supported capabilities in order");
-    Want(ReadParams(rows.BlobBytes(5), &volume), number, "its params are not the bytes of parameters of at most 4096 bytes");
+    Want(ReadParams(rows.BlobBytes(5), &message_, &volume), number, "its params are not the bytes of parameters of at most 4096 bytes");
     Want(volumes->size() < kMaxVolumes, number, "there are more than 100000 volumes");
     volumes->Add(std::move(volume));
   }
@@ -196,7 +196,7 @@ void Tables::ReadAttachments(Volumes* volumes) {
     const uint64_t number = static_cast<uint64_t>(rows.Number(0));
     const std::optional<size_t> node = volumes->FindNode(rows.Text(1));
     Want(node.has_value(), number, "it is attached at a node that is not one of the configuration");
-    const std::vector<Key> keys = KeysIn(rows.BlobBytes(2));
+    const std::vector<Key> keys = KeysIn(rows.BlobBytes(2), &message_);
     Want(keys.size() == 1, number, "the cap of an attachment is not the bytes of one supported capability");
     const int64_t readonly = rows.Number(3);
     Want(readonly == 0 || readonly == 1, number, "the readonly of an attachment is not 0 or 1");
@@ -211,7 +211,7 @@ void Tables::ReadAttachments(Volumes* volumes) {
 }
 
 void Tables::Add(const Volume& volume) {
-  const std::string caps = CapsOf(volume.keys), params = ParamsOf(volume);
+  const std::string caps = CapsOf(volume.keys, &message_), params = ParamsOf(volume, &message_);
   begin_.Run();
   try {
     insert_volume_.Run(volume.number, std::string_view(volume.name), static_cast<uint64_t>(volume.bytes),
@@ -227,7 +227,7 @@ void Tables::Add(const Volume& volume) {
 void Tables::Remove(uint64_t number) { delete_volume_.Run(number); }
 
 void Tables::Attach(uint64_t number, const Attachment& attachment) {
-  const std::string cap = CapsOf({attachment.key});
+  const std::string cap = CapsOf({attachment.key}, &message_);
   insert_attachment_.Run(number, std::string_view(config_.nodes[attachment.node].id), Blob{cap},
                          static_cast<uint64_t>(attachment.readonly));
 }

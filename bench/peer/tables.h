@@ -78,6 +78,8 @@ class Tables {
 
   const Config& config_;
   Database database_;
+  // What rows are read and written with.
+  csi::v1::CreateVolumeRequest message_;
   Statement begin_, commit_, rollback_, insert_volume_, set_next_, delete_volume_, insert_attachment_, delete_attachment_,
       delete_attachments_;
 };

@@ -13,16 +13,24 @@ using AccessMode = VolumeCapability::AccessMode;
 
 bool IsOfOneNode(int mode) { return mode == AccessMode::SINGLE_NODE_SINGLE_WRITER || mode == AccessMode::SINGLE_NODE_MULTI_WRITER; }
 
-std::string AnswerOf(const Volume& volume, const Pool& pool) {
-  csi::v1::CreateVolumeResponse response;
-  csi::v1::Volume& answer = *response.mutable_volume();
-  answer.set_capacity_bytes(volume.bytes);
-  answer.set_volume_id(VolumeId(volume.number));
+// What is answered of a volume by its pool alone.
+std::string AnswerOf(const Pool& pool) {
+  csi::v1::Volume answer;
   (*answer.mutable_volume_context())["pool"] = pool.name;
   if (!pool.segments.empty()) {
     answer.add_accessible_topology()->mutable_segments()->insert(pool.segments.begin(), pool.segments.end());
   }
-  return Canonical(response);
+  return Canonical(answer);
+}
+
+std::string AnswerOf(const Volume& volume, const std::string& pool_answer) {
+  std::string fields;
+  AppendNumber(csi::v1::Volume::kCapacityBytesFieldNumber, volume.bytes, &fields);
+  AppendField(csi::v1::Volume::kVolumeIdFieldNumber, VolumeId(volume.number), &fields);
+  std::string answer;
+  answer.reserve(SizeOfField(fields.size() + pool_answer.size()));
+  AppendHead(csi::v1::CreateVolumeResponse::kVolumeFieldNumber, fields.size() + pool_answer.size(), &answer);
+  return answer.append(fields).append(pool_answer);
 }
 
 }  // namespace
@@ -66,6 +74,7 @@ const Attachment* Volume::At(size_t node) const {
 std::string VolumeId(uint64_t number) { return "vol-" + std::to_string(number); }
 
 Volumes::Volumes(const Config& config) : config_(config), used_(config.pools.size()), at_node_(config.nodes.size()) {
+  for (const Pool& pool : config.pools) pool_answers_.push_back(AnswerOf(pool));
   for (size_t node = 0; node < config.nodes.size(); ++node) nodes_.emplace(config.nodes[node].id, node);
 }
 
@@ -97,7 +106,7 @@ std::optional<size_t> Volumes::FindPool(std::string_view name) const {
 }
 
 const Volume& Volumes::Add(Volume volume) {
-  volume.answer = AnswerOf(volume, config_.pools[volume.pool]);
+  volume.answer = AnswerOf(volume, pool_answers_[volume.pool]);
   used_[volume.pool] += volume.bytes;
   const uint64_t number = volume.number;
   const Volume& kept = by_number_.emplace_hint(by_number_.end(), number, std::move(volume))->second;

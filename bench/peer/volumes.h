@@ -94,6 +94,7 @@ class Volumes {
   // The names are those of the volumes, which stay at their places.
   std::unordered_map<std::string_view, uint64_t> by_name_;
   std::unordered_map<std::string_view, size_t> nodes_;
+  std::vector<std::string> pool_answers_;
   std::vector<int64_t> used_;
   std::vector<size_t> at_node_;
 };
