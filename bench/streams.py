@@ -99,7 +99,9 @@ def creates(count, standing=0):
 
 
 def pages(standing, count):
-    return [page(100 * (number % (standing // 100)), 100, standing) for number in range(count)]
+    """Walks over all volumes, of as many pages together."""
+    walk = [page(after, 100, standing) for after in range(0, standing, 100)]
+    return [walk[number % len(walk)] for number in range(count)]
 
 
 def mix(standing, rounds, with_capacity=True):
