@@ -70,17 +70,10 @@ Status CheckSizes(bool has_large_map, bool has_long_text) {
 
 Status CheckId(const std::string& id) { return id.empty() ? Invalid("volume id is missing") : Status{}; }
 
-bool HasAlikeKeys(const Topology& topology) {
-  if (topology.segments().size() < 2) return false;
-  std::vector<std::string> keys;
-  keys.reserve(topology.segments().size());
-  for (const auto& segment : topology.segments()) keys.push_back(Folded(segment.first));
-  std::sort(keys.begin(), keys.end());
-  return std::adjacent_find(keys.begin(), keys.end()) != keys.end();
-}
-
 bool AnyHasAlikeKeys(const RepeatedPtrField<Topology>& topologies) {
-  return std::any_of(topologies.begin(), topologies.end(), HasAlikeKeys);
+  Term term;
+  return std::any_of(topologies.begin(), topologies.end(),
+                     [&](const Topology& it) { return it.segments().size() > 1 && term.Assign(it).HasAlikeKeys(); });
 }
 
 // The segments as one text, which differs for topologies that differ.
@@ -209,7 +202,7 @@ Status Check(const csi::v1::GetCapacityRequest& request) {
                  return CheckSizes(IsLarge(request.parameters()) || IsLarge(request.accessible_topology().segments()),
                                    AnyHasLongText(request.volume_capabilities()));
                },
-               [&] { return HasAlikeKeys(request.accessible_topology()) ? Invalid("topology keys are alike") : Status{}; });
+               [&] { return Term().Assign(request.accessible_topology()).HasAlikeKeys() ? Invalid("topology keys are alike") : Status{}; });
 }
 
 }  // namespace peer

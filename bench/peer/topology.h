@@ -20,6 +20,11 @@ class Term {
 
   const Segments& segments() const { return segments_; }
 
+  bool HasAlikeKeys() const {
+    auto are_alike = [](const auto& one, const auto& next) { return one.first == next.first; };
+    return std::adjacent_find(segments_.begin(), segments_.end(), are_alike) != segments_.end();
+  }
+
   bool IsServedBy(const Pool& pool) const { return Includes(segments_, pool.folded) || Includes(pool.folded, segments_); }
 
  private:
