@@ -1,0 +1,20 @@
+"""The options that programs list in their help."""
+import re
+import subprocess
+
+# How long a program may take to show its help.
+SECONDS = 20
+# Of every command of clap, and shown by Go without being listed.
+COMMON = {"--help", "--version"}
+SUBCOMMANDS = {"csid": ["pipe", "serve"], "csictl": ["show", "frame", "call", "vectors"], "csid-front": []}
+
+
+def listed(program, words):
+    """The options that a program lists: clap's as --name, Go's as -name."""
+    done = subprocess.run([program, *words, "--help"], capture_output=True, text=True, timeout=SECONDS, check=True)
+    return {"--" + it for it in re.findall(r"^ +(?:-\w, )?--?([a-z][a-z-]+)\b", done.stdout, re.M)}
+
+
+def options_of(name, program):
+    """The options of a program, by its subcommands; those of '' are what it takes without one. The common ones are left out."""
+    return {it: listed(program, [it] if it else []) - COMMON for it in ["", *SUBCOMMANDS[name]]}
