@@ -1,0 +1,150 @@
+"""What the programs of a release stand on, as far as it can be told here: the crates of the Rattle kit, and Debian's packages of Go's sources.
+
+A crate of the kit names in its README.md the Rust crate that it follows, and has the texts of its licences beside it. A Debian package has its
+version in dpkg's records and its licence in its file of copyright. What is not said there is told as unknown.
+"""
+import os
+import re
+import shutil
+import subprocess
+
+TOP = os.path.dirname(os.path.dirname(os.path.realpath(__file__)))
+UNKNOWN = "NOASSERTION"
+# How the texts of licences in the kit are known.
+TEXTS = [("MIT", "Permission is hereby granted, free of charge"), ("Apache-2.0", "Apache License"), ("Unicode-3.0", "UNICODE LICENSE V3")]
+# The short names of Debian's files of copyright that are other ones in SPDX.
+SHORT = {"BSD-3-clause": "BSD-3-Clause", "Go": "BSD-3-Clause", "Expat": "MIT"}
+
+
+class Failure(Exception):
+    """What the programs stand on cannot be told."""
+
+
+class Part:
+    """One thing that a program stands on: its version and licence, where it is from, the files with the licence's text, and what it needs."""
+
+    def __init__(self, name, version, licence, source, files, needs=()):
+        self.name, self.version, self.licence, self.source, self.files, self.needs = name, version, licence, source, files, needs
+
+
+def read(path):
+    with open(path, encoding="utf-8") as file:
+        return file.read()
+
+
+# The Rattle kit.
+
+def kit():
+    """The folder of the kit, whose rt is on the PATH."""
+    found = shutil.which("rt")
+    if found is None:
+        raise Failure("'rt' is not on the PATH: the Rattle toolchain is needed (README.md, 'Build, run, test')")
+    return os.path.dirname(os.path.dirname(os.path.realpath(found)))
+
+
+def kit_name():
+    """The kit's name and version, as rattle-kit and 13f."""
+    return read(os.path.join(kit(), "KIT-ID")).split()[0].rpartition("-")[::2]
+
+
+def crates():
+    """The crates of this repository, by name, each with the crates that it uses."""
+    lines = [it for it in read(os.path.join(TOP, "crates.txt")).split("\n") if ":" in it and not it.startswith("#")]
+    return {it.partition(":")[0].split()[0]: it.partition(":")[2].split() for it in lines}
+
+
+def needs_of_crate(name, own):
+    """What a crate uses: one of this repository by crates.txt, one of the kit by what its library says."""
+    if name in own:
+        return own[name]
+    return re.findall(r"^dep (\S+)$", read_head(os.path.join(kit(), "rlibs", name + ".rlib", "format")), re.M)
+
+
+def read_head(path):
+    with open(path, encoding="utf-8", errors="replace") as file:
+        return file.read(1 << 16)
+
+
+def closure(name, needs):
+    """A name and all that it needs, in order."""
+    found, waiting = {}, [name]
+    while waiting:
+        it = waiting.pop()
+        if it not in found:
+            found[it] = sorted(needs(it))
+            waiting += found[it]
+    return {it: found[it] for it in sorted(found)}
+
+
+def licence_files(folder):
+    return sorted(os.path.join(folder, it) for it in os.listdir(folder) if it.startswith("LICENSE"))
+
+
+def licence_of(files):
+    """The licence that texts are known to be: one, or the choice that Rust crates give. Of other sets of texts it cannot be told which holds where."""
+    known = [next((short for short, words in TEXTS if words in read(it)), UNKNOWN) for it in files]
+    if [os.path.basename(it) for it in files] == ["LICENSE-APACHE", "LICENSE-MIT"]:
+        return " OR ".join(known)
+    return known[0] if len(known) == 1 else UNKNOWN
+
+
+def source_of(folder, name):
+    """What a crate of the kit says that it follows."""
+    path = os.path.join(folder, "README.md")
+    found = re.search(r"Rust crate `%s` (\d[\w.]*\d)" % re.escape(name), read(path)) if os.path.isfile(path) else None
+    said = ", which follows the Rust crate %s %s" % (name, found.group(1)) if found else ""
+    return "a crate of %s-%s%s" % (*kit_name(), said)
+
+
+def kit_part(name, needs):
+    folder = os.path.join(kit(), "rattle", name)
+    files = licence_files(folder) if os.path.isdir(folder) else []
+    return Part(name, kit_name()[1], licence_of(files), source_of(folder, name), files, needs)
+
+
+def kit_parts(program):
+    """The crates of the kit under a program in Rattle, each with those that it needs."""
+    own = crates()
+    found = closure(program, lambda it: needs_of_crate(it, own))
+    return [kit_part(name, needs) for name, needs in found.items() if name not in own]
+
+
+def kit_crates_used(program):
+    """The crates of the kit that a program in Rattle or a crate of this repository under it names."""
+    own = crates()
+    found = closure(program, lambda it: own.get(it, []))
+    return [name for name in found if name not in own]
+
+
+# Go.
+
+def said(*command):
+    done = subprocess.run(command, capture_output=True, text=True)
+    if done.returncode != 0:
+        raise Failure("%s: %s" % (" ".join(command[:2]), done.stderr.strip() or "it failed"))
+    return done.stdout
+
+
+def go_folders():
+    """The folders of the packages that the front is made of, its own left out."""
+    listed = said(os.path.join(TOP, "front", "go"), "list", "-deps", "-f", "{{.Dir}}", ".")
+    return sorted({os.path.realpath(it) for it in listed.split("\n") if it and not it.startswith(TOP)})
+
+
+def debian_names(folders):
+    """The Debian packages that files of these folders are from. Each folder has sources, and those are in one package."""
+    sources = [os.path.join(it, next(name for name in sorted(os.listdir(it)) if name.endswith((".go", ".s")))) for it in folders]
+    return sorted({line.split(":")[0] for line in said("dpkg-query", "--search", *sources).split("\n") if line})
+
+
+def debian_part(name):
+    path = "/usr/share/doc/%s/copyright" % name
+    found = re.search(r"^Files: \*\n(?:.+\n)*?License: (\S+)", read(path), re.M) if os.path.isfile(path) else None
+    licence = SHORT.get(found.group(1), found.group(1)) if found else UNKNOWN
+    version = said("dpkg-query", "--show", "--showformat=${Version}", name)
+    return Part(name, version, licence, "a Debian package", [path] if os.path.isfile(path) else [])
+
+
+def go_parts():
+    """Debian's packages of the sources that the front is made of: Go's own library, and those that it imports."""
+    return [debian_part(it) for it in debian_names(go_folders())]
