@@ -1,0 +1,22 @@
+"""Rows of tests, counted."""
+
+
+class LeftOut(Exception):
+    """Rows that need what is not there."""
+
+
+def count(parts):
+    """Compares what came with what was wanted in each row of each part, says what differs, and returns the exit status."""
+    passed = failed = 0
+    for part in parts:
+        try:
+            for name, got, want in part:
+                if got == want:
+                    passed += 1
+                else:
+                    failed += 1
+                    print("failed: %s: %r, wanted %r" % (name, got, want))
+        except LeftOut as why:
+            print("left out: %s: %s" % (part.__name__, why))
+    print("%d rows passed, %d failed" % (passed, failed))
+    return 1 if failed else 0
