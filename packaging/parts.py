@@ -8,7 +8,8 @@ import re
 import shutil
 import subprocess
 
-TOP = os.path.dirname(os.path.dirname(os.path.realpath(__file__)))
+from sources import TOP, read
+
 UNKNOWN = "NOASSERTION"
 # How the texts of licences in the kit are known.
 TEXTS = [("MIT", "Permission is hereby granted, free of charge"), ("Apache-2.0", "Apache License"), ("Unicode-3.0", "UNICODE LICENSE V3")]
@@ -25,11 +26,6 @@ class Part:
 
     def __init__(self, name, version, licence, source, files, needs=()):
         self.name, self.version, self.licence, self.source, self.files, self.needs = name, version, licence, source, files, needs
-
-
-def read(path):
-    with open(path, encoding="utf-8") as file:
-        return file.read()
 
 
 # The Rattle kit.
@@ -49,7 +45,7 @@ def kit_name():
 
 def crates():
     """The crates of this repository, by name, each with the crates that it uses."""
-    lines = [it for it in read(os.path.join(TOP, "crates.txt")).split("\n") if ":" in it and not it.startswith("#")]
+    lines = [it for it in read("crates.txt").split("\n") if ":" in it and not it.startswith("#")]
     return {it.partition(":")[0].split()[0]: it.partition(":")[2].split() for it in lines}
 
 

@@ -1,24 +1,19 @@
-#!/usr/bin/env python3
-"""Tests a Debian package of csid: what it holds, what lintian says, and that it can be installed, used, upgraded, removed and purged.
+"""The Debian package: what it holds, what lintian says, and that it can be installed, used, upgraded, removed and purged.
 
-usage: packaging/test-package PACKAGE
 It is installed into a temporary folder with a system that is no more than the maintainer scripts need; the programs of systemd there write down
-how they were called. Rows whose tools are not there, or that only root can do, are left out, and a line says so.
-The last line is 'N rows passed, M failed'; the exit status is 0 only where none failed.
+how they were called.
 """
 import os
 import re
 import shlex
 import shutil
 import subprocess
-import sys
 import tempfile
 import time
 
-sys.dont_write_bytecode = True
-from rows import LeftOut, count
+from sources import read, version
+from tests.rows import LeftOut
 
-TOP = os.path.dirname(os.path.dirname(os.path.realpath(__file__)))
 # How long a program may take to make its socket, or to answer.
 SECONDS = 20
 # What the maintainer scripts call in the system, and what they call of systemd.
@@ -34,7 +29,7 @@ LEFT = "csid: /var/lib/csid has the record of volumes and is left; remove it by 
 VOLUME = "volume vol-1 1048576"
 
 
-def read(path):
+def content(path):
     with open(path, "rb") as file:
         return file.read()
 
@@ -87,14 +82,14 @@ class System:
         self.write("calls", "", 0o644)
         status, _, error = run("dpkg", "--root=" + self.root, "--log=" + self.path("dpkg.log"), "--force-depends", "--force-confold", *words)
         said = [line + "\n" for line in error.splitlines() if line.startswith(("csid: ", "dpkg: error"))]
-        return status, "".join(said), read(self.path("calls")).decode().splitlines()
+        return status, "".join(said), read(self.path("calls")).splitlines()
 
     def inside(self, *words):
         return run("chroot", self.root, *words)
 
     def command(self, unit):
         """The words that a unit starts."""
-        text = re.sub(r"\\\n\s*", "", read(self.path("lib/systemd/system/" + unit)).decode())
+        text = re.sub(r"\\\n\s*", "", read(self.path("lib/systemd/system/" + unit)))
         return shlex.split(re.search(r"^ExecStart=(.*)$", text, re.M).group(1)), dict(re.findall(r"^Environment=(\w+)=(.*)$", text, re.M))
 
     def start(self, unit, socket):
@@ -108,7 +103,7 @@ class System:
 
     def tables(self):
         """The record of volumes and the log beside it."""
-        return {name: read(self.path(name)) for name in (TABLES, TABLES + "-wal") if os.path.exists(self.path(name))}
+        return {name: content(self.path(name)) for name in (TABLES, TABLES + "-wal") if os.path.exists(self.path(name))}
 
 
 def ended(process):
@@ -119,8 +114,7 @@ def ended(process):
 def content_rows(package):
     """The paths and modes, and that no file of volumes is among them."""
     listed = [re.sub(r" +\d+ \d{4}-\d\d-\d\d \d\d:\d\d ", " ", it) for it in run("dpkg-deb", "--contents", package)[1].splitlines()]
-    with open(os.path.join(TOP, "packaging", "debian", "contents"), encoding="utf-8") as file:
-        wanted = file.read().splitlines()
+    wanted = read("packaging", "debian", "contents").splitlines()
     yield "what is there and is not listed", sorted(set(listed) - set(wanted)), []
     yield "what is listed and is not there", sorted(set(wanted) - set(listed)), []
 
@@ -136,11 +130,11 @@ def called(system, *words):
     return status, out.partition("\n")[2].strip(), error
 
 
-def use_rows(system, version):
+def use_rows(system):
     """The programs, and what the units start with the configuration of the package."""
     for name in ["csid", "csictl", "csid-front"]:
         system.put_libraries(system.path("usr/bin/" + name))
-        yield name + " --version", system.inside("/usr/bin/" + name, "--version"), (0, "%s %s\n" % (name.replace("csid-", ""), version), "")
+        yield name + " --version", system.inside("/usr/bin/" + name, "--version"), (0, "%s %s\n" % (name.replace("csid-", ""), version()), "")
     yield "the configuration", system.inside("/usr/bin/csid", "pipe", "--config", "/" + CONFIG), (0, "", "")
     os.makedirs(system.path("var/lib/csid"))
     yield "csid-new makes the file of volumes", system.inside(*system.command("csid-new.service")[0]), (0, "", "")
@@ -156,7 +150,7 @@ def later(package, folder):
     tree, made = os.path.join(folder, "later"), os.path.join(folder, "later.deb")
     run("dpkg-deb", "--raw-extract", package, tree)
     control = os.path.join(tree, "DEBIAN", "control")
-    text = re.sub(r"^(Version: .*)$", r"\1+later", read(control).decode(), flags=re.M)
+    text = re.sub(r"^(Version: .*)$", r"\1+later", read(control), flags=re.M)
     with open(control, "w", encoding="utf-8") as file:
         file.write(text)
     run("dpkg-deb", "--root-owner-group", "-Zgzip", "-z1", "--build", tree, made)
@@ -165,11 +159,11 @@ def later(package, folder):
 
 def upgrade_rows(system, package, folder):
     """What the operator has stays over an upgrade, and what runs is stopped and started."""
-    before, config = system.tables(), read(system.path(CONFIG)).decode() + "# mine\n"
+    before, config = system.tables(), read(system.path(CONFIG)) + "# mine\n"
     system.write(CONFIG, config, 0o644)
     yield "an upgrade", system.dpkg("--install", later(package, folder)), (0, "", UPDATED + RESTARTED)
     yield "the tables behind it", system.tables(), before
-    yield "the configuration behind it", read(system.path(CONFIG)).decode(), config
+    yield "the configuration behind it", read(system.path(CONFIG)), config
     os.unlink(system.path("run/csid/csid.sock"))
     csid = system.start("csid.service", "run/csid/csid.sock")
     yield "the volumes behind it", called(system, "ListVolumes"), (0, VOLUME + " -", "")
@@ -195,24 +189,15 @@ def install_rows(package):
         raise LeftOut("only root can install packages")
     for tool in TOOLS + ["chroot", "ldd"]:
         need(tool)
-    version = run("dpkg-deb", "--field", package, "Version")[1].strip()
     with tempfile.TemporaryDirectory() as folder:
         system = System(os.path.join(folder, "root"))
         yield "an install", system.dpkg("--install", package), (0, "", UPDATED)
-        yield "the user", re.findall(r"^(csid):x:\d+:\d+:(.*)$", read(system.path("etc/passwd")).decode(), re.M), [("csid", "CSI controller plugin csid:/var/lib/csid:/usr/sbin/nologin")]
+        yield "the user", re.findall(r"^(csid):x:\d+:\d+:(.*)$", read(system.path("etc/passwd")), re.M), [("csid", "CSI controller plugin csid:/var/lib/csid:/usr/sbin/nologin")]
         yield "no file of volumes", os.path.exists(system.path("var/lib/csid")), False
-        yield from use_rows(system, version)
+        yield from use_rows(system)
         yield from upgrade_rows(system, package, folder)
         yield from remove_rows(system, package)
 
 
-def main(words):
-    if len(words) != 1:
-        print("test-package: usage: packaging/test-package PACKAGE", file=sys.stderr)
-        return 2
-    package = os.path.abspath(words[0])
-    return count([content_rows(package), lintian_rows(package), install_rows(package)])
-
-
-if __name__ == "__main__":
-    sys.exit(main(sys.argv[1:]))
+def parts(package):
+    return [content_rows(package), lintian_rows(package), install_rows(package)]

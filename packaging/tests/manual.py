@@ -1,21 +1,14 @@
-#!/usr/bin/env python3
-"""Tests the pages of manual: their parts and options, what is refused, and that man and groff have no warning where they are installed.
-
-usage: packaging/test-manual CSID CSICTL FRONT   The three programs.
-The last line is 'N rows passed, M failed'; the exit status is 0 only where none failed.
-"""
+"""The pages of manual: their parts and options, what is refused, and that man and groff have no warning where they are installed."""
 import os
 import re
 import shutil
 import subprocess
-import sys
 import tempfile
 
-sys.dont_write_bytecode = True
-from helps import options_of
-from rows import LeftOut, count
+from sources import TOP, read, version
+from tests.helps import options_of
+from tests.rows import LeftOut
 
-TOP = os.path.dirname(os.path.dirname(os.path.realpath(__file__)))
 MANUAL = os.path.join(TOP, "packaging", "manual")
 # The sections of each page that the others do not have by chance.
 SECTIONS = {
@@ -65,11 +58,6 @@ def run(manual, *words):
     return done.returncode, done.stderr
 
 
-def read(path):
-    with open(path, encoding="utf-8") as file:
-        return file.read()
-
-
 def copied(folder, source, old, new):
     """A copy of what the pages are made of, with another text in one file of docs/."""
     for name in ("docs", "deploy", "packaging"):
@@ -83,12 +71,12 @@ def copied(folder, source, old, new):
     return os.path.join(folder, "packaging", "manual")
 
 
-def page_rows(pages, version):
+def page_rows(pages):
     for name, wanted in SECTIONS.items():
         found = [it.strip('"') for it in re.findall(r"^\.SH (.*)$", pages[name], re.M)]
         yield "the sections of " + name, [it for it in found if it in wanted], wanted
     for name, text in TEXTS:
-        text = text.replace("VERSION", version)
+        text = text.replace("VERSION", version())
         yield "in %s: %r" % (name, text), text in pages[name], True
 
 
@@ -134,16 +122,11 @@ def made_rows(programs, folder):
     yield "the pages are made", run(MANUAL, folder), (0, "")
     pages = {name: read(os.path.join(folder, name)) for name in os.listdir(folder)}
     yield "the pages", sorted(pages), sorted(SECTIONS)
-    yield from page_rows(pages, read(os.path.join(TOP, "VERSION")).strip())
+    yield from page_rows(pages)
     yield from option_rows(pages, programs)
 
 
-def main(words):
-    programs = dict(zip(("csid", "csictl", "csid-front"), map(os.path.abspath, words), strict=True))
-    with tempfile.TemporaryDirectory() as folder:
-        warnings = [warning_rows(folder, "groff", "-man", "-ww", "-z"), warning_rows(folder, "man", "--warnings", "-l", "-Tutf8")]
-        return count([made_rows(programs, folder), piece_rows(), refusal_rows(), *warnings])
-
-
-if __name__ == "__main__":
-    sys.exit(main(sys.argv[1:]))
+def parts(programs, folder):
+    """The rows, of which the later ones read the pages that the first ones make in a folder."""
+    warnings = [warning_rows(folder, "groff", "-man", "-ww", "-z"), warning_rows(folder, "man", "--warnings", "-l", "-Tutf8")]
+    return [made_rows(programs, folder), piece_rows(), refusal_rows(), *warnings]

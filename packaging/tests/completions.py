@@ -1,0 +1,78 @@
+"""The completions: what bash offers behind some words, and that the options are those that the programs list."""
+import os
+import re
+import subprocess
+import tempfile
+
+from sources import TOP, read
+from tests.helps import COMMON, options_of
+
+# Completes the last of the words that it is given behind the file of completions.
+COMPLETE = """
+source "$1"
+shift
+COMP_WORDS=("$@")
+COMP_CWORD=$((${#COMP_WORDS[@]} - 1))
+function=$(complete -p "$1" | sed -n 's/^complete -F \\([a-z_]*\\) .*/\\1/p')
+"$function"
+printf '%s\\n' "${COMPREPLY[@]}"
+"""
+# Words, and what is offered for the last of them. The folder of the row has the files 'volumes.db' and 'config.toml'.
+ROWS = [
+    ("csid ", "pipe serve --help --version"),
+    ("csid s", "serve"),
+    ("csid --v", "--version"),
+    ("csid pipe --", "--config --tables --existing --help"),
+    ("csid serve --t", "--tables"),
+    ("csid serve --existing --i", "--idle"),
+    ("csid serve --tables v", "volumes.db"),
+    ("csid serve --config c", "config.toml"),
+    ("csid serve --socket c", "config.toml"),
+    ("csid serve --group roo", "root"),
+    ("csid serve --idle ", ""),
+    ("csid serve --connections ", ""),
+    ("csid unknown --", ""),
+    ("csictl ", "show frame call vectors --help --version"),
+    ("csictl call --ti", "--timeout"),
+    ("csictl frame --t", "--topology --token"),
+    ("csictl show --", "--method --help"),
+    ("csictl vectors v", "volumes.db"),
+    ("csictl call --socket v", "volumes.db"),
+    ("csictl call --method Del", "DeleteVolume"),
+    ("csictl frame --mode ", ""),
+    ("csictl unknown --", ""),
+    ("csid-front --w", "--waiting"),
+    ("csid-front --csid v", "volumes.db"),
+    ("csid-front --listen c", "config.toml"),
+    ("csid-front --grace ", ""),
+]
+
+
+def offered(words, folder):
+    path = os.path.join(TOP, "packaging", "completions", words[0])
+    done = subprocess.run(["bash", "-c", COMPLETE, "bash", path, *words], capture_output=True, text=True, cwd=folder)
+    return done.stdout.split(), done.stderr
+
+
+def word_rows():
+    with tempfile.TemporaryDirectory() as folder:
+        for name in ("volumes.db", "config.toml"):
+            open(os.path.join(folder, name), "x").close()
+        for line, wanted in ROWS:
+            yield "behind %r" % line, offered(line.split(" "), folder), (wanted.split(), "")
+
+
+def option_rows(programs):
+    for name, program in programs.items():
+        for command, options in options_of(name, program).items():
+            words = [name, *([command] if command else []), "--"]
+            yield "the options of %s %s" % (name, command), sorted(set(offered(words, TOP)[0]) - COMMON), sorted(options)
+
+
+def method_rows():
+    lists = re.findall(r"^\| `/csi\.v1\.\w+/M` \| (.*) \|$", read("docs", "PROTOCOL.md"), re.M)
+    yield "the methods", sorted(offered(["csictl", "call", "--method", ""], TOP)[0]), sorted(", ".join(lists).split(", "))
+
+
+def parts(programs):
+    return [word_rows(), option_rows(programs), method_rows()]

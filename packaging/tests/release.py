@@ -1,0 +1,138 @@
+"""A release: what stands in its folder, in its tar.gz and in its list of parts, and what ./release refuses to begin with."""
+import hashlib
+import json
+import os
+import shutil
+import subprocess
+import sys
+import tarfile
+import tempfile
+
+from sources import TOP, version
+
+BUILD = "release: %s is not there, or older than a source: call %s first\n"
+CSID, CSICTL, FRONT = "crates/csid/out/csid", "crates/csictl/out/csictl", "front/out/front"
+USAGE = "release: usage: ./release [--out FOLDER | --check]\n"
+NO_KIT = "%s: 'rt' is not on the PATH: the Rattle toolchain is needed (README.md, 'Build, run, test')\n"
+# Programs that are there, what is newer than they are, and what ./release says.
+REFUSED = [
+    ([], None, BUILD % (CSID, "./build")),
+    ([CSID, FRONT], None, BUILD % (CSICTL, "./build")),
+    ([CSID, CSICTL], None, BUILD % (FRONT, "front/build")),
+    ([CSID, CSICTL, FRONT], "crates/csid/src/main.rt", BUILD % (CSID, "./build")),
+    ([CSID, CSICTL, FRONT], "crates.txt", BUILD % (CSID, "./build")),
+    ([CSID, CSICTL, FRONT], "front/main.go", BUILD % (FRONT, "front/build")),
+    ([CSID, CSICTL, FRONT], "VERSION", BUILD % (FRONT, "front/build")),
+]
+
+
+def run(*words, **more):
+    done = subprocess.run(words, capture_output=True, text=True, **more)
+    return done.returncode, done.stdout, done.stderr
+
+
+def output(*words):
+    return subprocess.run(words, capture_output=True, text=True, check=True).stdout.strip()
+
+
+def checksum(path):
+    with open(path, "rb") as file:
+        return hashlib.sha256(file.read()).hexdigest()
+
+
+def folder_rows(folder, name, package):
+    yield "the files", sorted(os.listdir(folder)), sorted(["SHA256SUMS", name + ".tar.gz", name + ".spdx.json", package])
+    yield "their checksums", run("sha256sum", "--check", "--quiet", "SHA256SUMS", cwd=folder), (0, "", "")
+
+
+def archive_rows(path, name, programs):
+    """The files of the tar.gz, whose owner, date and order tell nothing of who made it."""
+    date = int(output("git", "-C", TOP, "log", "-1", "--format=%ct"))
+    with tarfile.open(path) as archive:
+        members = archive.getmembers()
+        names = [it.name for it in members]
+        yield "owners and dates", {(it.uid, it.gid, it.uname, it.gname, it.mtime) for it in members}, {(0, 0, "", "", date)}
+        yield "modes", {it.mode for it in members}, {0o644, 0o755}
+        yield "the order", names, sorted(names, key=lambda it: it.split("/"))
+        for program, built in programs.items():
+            held = archive.extractfile("%s/%s" % (name, program.replace("csid-", ""))).read()
+            yield program, hashlib.sha256(held).hexdigest(), checksum(built)
+        wanted = ["README.md", "docs/DEPLOY.md", "deploy/csid.service", "man/csid.1", "completions/csid", "licences/clap/LICENSE-MIT", "csid.spdx.json"]
+        yield "what else is there", [it for it in wanted if "%s/%s" % (name, it) not in names], []
+
+
+def list_rows(path, programs):
+    """The list of parts: its programs, some parts whose versions are known otherwise, and that each relation is of what it lists."""
+    with open(path, encoding="utf-8") as file:
+        made = json.load(file)
+    packages = {it["name"]: it for it in made["packages"]}
+    yield "the form", (made["spdxVersion"], made["name"]), ("SPDX-2.3", "csid-" + version())
+    for name, program in programs.items():
+        said = packages[name]
+        yield "the program " + name, (said["versionInfo"], said["checksums"][0]["checksumValue"]), (version(), checksum(program))
+    kit = output("rt", "version").split()[0]
+    for name, licence in [("clap", "Apache-2.0 OR MIT"), ("mio", "MIT"), ("sqlite_disk", "NOASSERTION")]:
+        said = packages[name]
+        yield "the crate " + name, ("rattle-kit-" + said["versionInfo"], said["licenseDeclared"]), (kit, licence)
+    for name, licence in [("golang-google-grpc-dev", "Apache-2.0"), ("golang-golang-x-net-dev", "BSD-3-Clause")]:
+        said = packages[name]
+        yield "the package " + name, (said["versionInfo"], said["licenseDeclared"]), (output("dpkg-query", "-Wf", "${Version}", name), licence)
+    named = {it[key] for it in made["relationships"] for key in ("spdxElementId", "relatedSpdxElement")}
+    yield "what relations name", named, {it["SPDXID"] for it in made["packages"]} | {"SPDXRef-DOCUMENT"}
+    found = {(it["spdxElementId"], it["relatedSpdxElement"]) for it in made["relationships"] if it["relationshipType"] == "DEPENDS_ON"}
+    for one, other, stands in [("csid", "sqlite", True), ("csid", "hex", False), ("csictl", "hex", True), ("csictl", "sqlite", False), ("clap", "strsim", True)]:
+        yield "%s stands on %s" % (one, other), ("SPDXRef-" + one, "SPDXRef-" + other) in found, stands
+
+
+def clone(folder):
+    """The repository as it is committed, with this ./release."""
+    subprocess.run(["git", "clone", "--quiet", "--shared", TOP, folder], check=True)
+    shutil.copy(os.path.join(TOP, "release"), folder)
+
+
+def touch(path, seconds):
+    """Makes a file where there is none, and gives it a date so many seconds behind that of the clone."""
+    os.makedirs(os.path.dirname(path), exist_ok=True)
+    with open(path, "a"):
+        pass
+    os.chmod(path, 0o755)
+    date = os.stat(os.path.join(os.path.dirname(__file__), "release.py")).st_mtime
+    os.utime(path, (date, date + seconds))
+
+
+def refusal_rows():
+    with tempfile.TemporaryDirectory() as folder:
+        top = os.path.join(folder, "csid")
+        clone(top)
+        for words in (["x"], ["--out"], ["--check", "x"], ["--out", "a", "b"]):
+            yield "./release " + " ".join(words), run("./release", *words, cwd=top), (2, "", USAGE)
+        for programs, newer, wanted in REFUSED:
+            for path in (CSID, CSICTL, FRONT):
+                shutil.rmtree(os.path.join(top, os.path.dirname(path)), ignore_errors=True)
+            yield "with %s, and %s newer" % (programs, newer), refused(top, programs, newer), (1, "", wanted)
+    for name in ("licences", "spdx"):
+        words = [sys.executable, os.path.join(TOP, "packaging", name), *["/nowhere"] * (3 if name == "spdx" else 1)]
+        yield name + " without the kit", run(*words, env={"PATH": "/nowhere", "SOURCE_DATE_EPOCH": "0"}), (1, "", NO_KIT % name)
+
+
+def refused(top, programs, newer):
+    """What ./release ends with where these programs were built, and one source was changed behind that."""
+    for path in programs:
+        touch(os.path.join(top, path), 1 << 30)
+    if newer:
+        touch(os.path.join(top, newer), (1 << 30) + 1)
+    done = run("./release", cwd=top)
+    if newer:
+        touch(os.path.join(top, newer), 0)
+    return done
+
+
+def parts(programs, folder):
+    architecture = output("dpkg", "--print-architecture")
+    name = "csid-%s-%s" % (version(), architecture)
+    return [
+        folder_rows(folder, name, "csid_%s_%s.deb" % (version(), architecture)),
+        archive_rows(os.path.join(folder, name + ".tar.gz"), name, programs),
+        list_rows(os.path.join(folder, name + ".spdx.json"), programs),
+        refusal_rows(),
+    ]
