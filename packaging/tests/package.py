@@ -3,6 +3,8 @@
 It is installed into a temporary folder with a system that is no more than the maintainer scripts need; the programs of systemd there write down
 how they were called.
 """
+import contextlib
+import hashlib
 import os
 import re
 import shlex
@@ -16,11 +18,13 @@ from tests.rows import LeftOut
 
 # How long a program may take to make its socket, or to answer.
 SECONDS = 20
-# What the maintainer scripts call in the system, and what they call of systemd.
-TOOLS = ["sh", "rmdir", "systemd-sysusers"]
+# What the maintainer scripts call in the system (rm, so that one which removes too much can), and what they call of systemd.
+TOOLS = ["sh", "rm", "rmdir", "systemd-sysusers"]
 CALLED = ["deb-systemd-helper", "deb-systemd-invoke", "systemctl"]
 TABLES = "var/lib/csid/volumes.db"
 CONFIG = "etc/csid/config.toml"
+CSID_SOCKET = "run/csid/csid.sock"
+FRONT_SOCKET = "run/csid-front/csi.sock"
 UPDATED = ["deb-systemd-helper update-state csid.service", "deb-systemd-helper update-state csid-front.service", "systemctl --system daemon-reload"]
 RESTARTED = ["deb-systemd-invoke try-restart csid.service csid-front.service"]
 STOPPED = ["deb-systemd-invoke stop csid-front.service csid.service", "systemctl --system daemon-reload"]
@@ -29,9 +33,9 @@ LEFT = "csid: /var/lib/csid has the record of volumes and is left; remove it by 
 VOLUME = "volume vol-1 1048576"
 
 
-def content(path):
+def checksum(path):
     with open(path, "rb") as file:
-        return file.read()
+        return hashlib.sha256(file.read()).hexdigest()
 
 
 def run(*words, **more):
@@ -92,18 +96,25 @@ class System:
         text = re.sub(r"\\\n\s*", "", read(self.path("lib/systemd/system/" + unit)))
         return shlex.split(re.search(r"^ExecStart=(.*)$", text, re.M).group(1)), dict(re.findall(r"^Environment=(\w+)=(.*)$", text, re.M))
 
-    def start(self, unit, socket):
-        """Starts what a unit starts, and waits for its socket."""
+    @contextlib.contextmanager
+    def started(self, unit, socket):
+        """Runs what a unit starts, from when its socket is there. As systemd does, it takes an old socket away."""
+        if os.path.exists(self.path(socket)):
+            os.unlink(self.path(socket))
         words, variables = self.command(unit)
         process = subprocess.Popen(["chroot", self.root, *words], env={**os.environ, **variables}, stdin=subprocess.DEVNULL, stderr=subprocess.PIPE, text=True)
-        end = time.monotonic() + SECONDS
-        while not os.path.exists(self.path(socket)) and process.poll() is None and time.monotonic() < end:
-            time.sleep(0.02)
-        return process
+        try:
+            end = time.monotonic() + SECONDS
+            while not os.path.exists(self.path(socket)) and process.poll() is None and time.monotonic() < end:
+                time.sleep(0.02)
+            yield process
+        finally:
+            process.kill()
+            process.wait()
 
     def tables(self):
-        """The record of volumes and the log beside it."""
-        return {name: content(self.path(name)) for name in (TABLES, TABLES + "-wal") if os.path.exists(self.path(name))}
+        """The record of volumes and the log beside it, by their checksums."""
+        return {name: checksum(self.path(name)) for name in (TABLES, TABLES + "-wal") if os.path.exists(self.path(name))}
 
 
 def ended(process):
@@ -126,7 +137,7 @@ def lintian_rows(package):
 
 def called(system, *words):
     """What csictl shows of a call behind its first line."""
-    status, out, error = system.inside("/usr/bin/csictl", "call", "--socket", "/run/csid/csid.sock", "--method", *words)
+    status, out, error = system.inside("/usr/bin/csictl", "call", "--socket", "/" + CSID_SOCKET, "--method", *words)
     return status, out.partition("\n")[2].strip(), error
 
 
@@ -138,11 +149,10 @@ def use_rows(system):
     yield "the configuration", system.inside("/usr/bin/csid", "pipe", "--config", "/" + CONFIG), (0, "", "")
     os.makedirs(system.path("var/lib/csid"))
     yield "csid-new makes the file of volumes", system.inside(*system.command("csid-new.service")[0]), (0, "", "")
-    csid = system.start("csid.service", "run/csid/csid.sock")
-    front = system.start("csid-front.service", "run/csid-front/csi.sock")
-    yield "csid answers", called(system, "CreateVolume", "--name", "a", "--mode", "1"), (0, VOLUME, "")
-    yield "the front is there", (os.path.exists(system.path("run/csid-front/csi.sock")), ended(front)), (True, "")
-    yield "what csid said", ended(csid), "csid: /%s: volumes 0, attachments 0, next number 1, format 2\n" % TABLES
+    with system.started("csid.service", CSID_SOCKET) as csid, system.started("csid-front.service", FRONT_SOCKET) as front:
+        yield "csid answers", called(system, "CreateVolume", "--name", "a", "--mode", "1"), (0, VOLUME, "")
+        yield "the front is there", (os.path.exists(system.path(FRONT_SOCKET)), ended(front)), (True, "")
+        yield "what csid said", ended(csid), "csid: /%s: volumes 0, attachments 0, next number 1, format 2\n" % TABLES
 
 
 def later(package, folder):
@@ -164,10 +174,8 @@ def upgrade_rows(system, package, folder):
     yield "an upgrade", system.dpkg("--install", later(package, folder)), (0, "", UPDATED + RESTARTED)
     yield "the tables behind it", system.tables(), before
     yield "the configuration behind it", read(system.path(CONFIG)), config
-    os.unlink(system.path("run/csid/csid.sock"))
-    csid = system.start("csid.service", "run/csid/csid.sock")
-    yield "the volumes behind it", called(system, "ListVolumes"), (0, VOLUME + " -", "")
-    ended(csid)
+    with system.started("csid.service", CSID_SOCKET):
+        yield "the volumes behind it", called(system, "ListVolumes"), (0, VOLUME + " -", "")
 
 
 def remove_rows(system, package):

@@ -18,5 +18,8 @@ def count(parts):
                     print("failed: %s: %r, wanted %r" % (name, got, want))
         except LeftOut as why:
             print("left out: %s: %s" % (part.__name__, why))
+        except Exception as why:
+            failed += 1
+            print("failed: %s: what it looks for is not there: %r" % (part.__name__, why))
     print("%d rows passed, %d failed" % (passed, failed))
     return 1 if failed else 0
