@@ -39,6 +39,7 @@ PIECES = [
     ("2^63 is ~9 \\ x", ".PP\n2\\(ha63 is \\(ti9 \\e x\n"),
     (".so is no request", ".PP\n\\&.so is no request\n"),
     ("One. Two", ".PP\nOne.\nTwo\n"),
+    ("`a: ` and `B. C` or d", ".PP\n\\fBa: \\fR and \\fBB. C\\fR or d\n"),
     ("two\nlines", ".PP\ntwo lines\n"),
     ("- a", ".IP \\(bu 4\na\n"),
     ("1. a\n2. b\n   c", ".IP 1. 4\na\n.IP 2. 4\nb c\n"),

@@ -132,7 +132,8 @@ def content_rows(package):
 
 def lintian_rows(package):
     need("lintian")
-    yield "lintian", run("lintian", "--allow-root", "--fail-on", "error,warning", package), (0, "", "")
+    status, out, _ = run("lintian", "--allow-root", "--fail-on", "error", package)
+    yield "lintian", (status, [line for line in out.splitlines() if line.startswith("E:")]), (0, [])
 
 
 def called(system, *words):
