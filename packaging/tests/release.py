@@ -110,6 +110,9 @@ def refusal_rows():
             for path in (CSID, CSICTL, FRONT):
                 shutil.rmtree(os.path.join(top, os.path.dirname(path)), ignore_errors=True)
             yield "with %s, and %s newer" % (programs, newer), refused(top, programs, newer), (1, "", wanted)
+        with open(os.path.join(top, "README.md"), "a") as file:
+            file.write("\n")
+        yield "with a file that was changed", refused(top, [CSID, CSICTL, FRONT], None), (1, "", "release: files differ from the last commit: commit them first\n")
     for name in ("licences", "spdx"):
         words = [sys.executable, os.path.join(TOP, "packaging", name), *["/nowhere"] * (3 if name == "spdx" else 1)]
         yield name + " without the kit", run(*words, env={"PATH": "/nowhere", "SOURCE_DATE_EPOCH": "0"}), (1, "", NO_KIT % name)
