@@ -27,6 +27,7 @@ TEXTS = [
     ("csid.1", ".TP\n\\fB/var/lib/csid/volumes.db\\fR\n"),
     ("csictl.1", "\\fBcsictl\\fR vectors FILE\n"),
     ("csid-front.1", "\\fBcsid\\-front\\fR \\-\\-version\n"),
+    ("csid-front.1", ".SH DESCRIPTION\n.PP\nFor operators: how \\fBcsid\\fR stands behind an orchestrator"),
     ("csid-front.1", ".TP\n\\fB/run/csid\\-front/csi.sock\\fR\n"),
     ("csid-config.5", "[[pool]]\nname = \"p1\"\n"),
     ("csid-protocol.7", ".TP\npath length\nbytes: 2, big-endian\n.br\nvalue: 1 to 128\n"),
@@ -100,6 +101,16 @@ def piece_rows():
         yield "the piece %r" % piece, re.search(r'\.SH "CALLS ANSWERED"\n(.*?)\.SH FILES', str(text), re.S).group(1), wanted
 
 
+def synopsis_rows():
+    """A form of the command line that goes on in a line that is set in, and the name of the program in a package."""
+    with tempfile.TemporaryDirectory() as folder:
+        manual = copied(folder, "DEPLOY.md", "    front --version\n", "    front --version\n          [--a B] c\n    front d\n")
+        yield "a synopsis", run(manual, os.path.join(folder, "man")), (0, "")
+        text = read(os.path.join(folder, "man", "csid-front.1"))
+    wanted = "\\fBcsid\\-front\\fR \\-\\-version [\\-\\-a\\ B] c\n.PP\n\\fBcsid\\-front\\fR d\n.ad\n"
+    yield "its forms", re.search(r"(\\fBcsid\\-front\\fR \\-\\-version.*?\.ad\n)", text, re.S).group(1), wanted
+
+
 def refusal_rows():
     usage = "manual: usage: packaging/manual FOLDER\n"
     yield "no folder", run(MANUAL), (2, usage)
@@ -130,4 +141,4 @@ def made_rows(programs, folder):
 def parts(programs, folder):
     """The rows, of which the later ones read the pages that the first ones make in a folder."""
     warnings = [warning_rows(folder, "groff", "-man", "-ww", "-z"), warning_rows(folder, "man", "--warnings", "-l", "-Tutf8")]
-    return [made_rows(programs, folder), piece_rows(), refusal_rows(), *warnings]
+    return [made_rows(programs, folder), piece_rows(), synopsis_rows(), refusal_rows(), *warnings]

@@ -23,6 +23,7 @@ TOOLS = ["sh", "rm", "rmdir", "systemd-sysusers"]
 CALLED = ["deb-systemd-helper", "deb-systemd-invoke", "systemctl"]
 TABLES = "var/lib/csid/volumes.db"
 CONFIG = "etc/csid/config.toml"
+LICENCES = "./usr/share/doc/csid/licences/"
 CSID_SOCKET = "run/csid/csid.sock"
 FRONT_SOCKET = "run/csid-front/csi.sock"
 UPDATED = ["deb-systemd-helper update-state csid.service", "deb-systemd-helper update-state csid-front.service", "systemctl --system daemon-reload"]
@@ -123,9 +124,11 @@ def ended(process):
 
 
 def content_rows(package):
-    """The paths and modes, and that no file of volumes is among them."""
-    listed = [re.sub(r" +\d+ \d{4}-\d\d-\d\d \d\d:\d\d ", " ", it) for it in run("dpkg-deb", "--contents", package)[1].splitlines()]
+    """The paths and modes. Whose licences there are depends on what the programs stand on, so of these the modes alone."""
+    held = [re.sub(r" +\d+ \d{4}-\d\d-\d\d \d\d:\d\d ", " ", it) for it in run("dpkg-deb", "--contents", package)[1].splitlines()]
+    listed = [it for it in held if LICENCES not in it]
     wanted = read("packaging", "debian", "contents").splitlines()
+    yield "the modes of licences", {it.partition(LICENCES)[0] for it in held if LICENCES in it}, {"drwxr-xr-x root/root ", "-rw-r--r-- root/root "}
     yield "what is there and is not listed", sorted(set(listed) - set(wanted)), []
     yield "what is listed and is not there", sorted(set(wanted) - set(listed)), []
 
