@@ -155,7 +155,9 @@ def use_rows(system):
     yield "csid-new makes the file of volumes", system.inside(*system.command("csid-new.service")[0]), (0, "", "")
     with system.started("csid.service", CSID_SOCKET) as csid, system.started("csid-front.service", FRONT_SOCKET) as front:
         yield "csid answers", called(system, "CreateVolume", "--name", "a", "--mode", "1"), (0, VOLUME, "")
-        yield "the front is there", (os.path.exists(system.path(FRONT_SOCKET)), ended(front)), (True, "")
+        yield "the front is there", os.path.exists(system.path(FRONT_SOCKET)), True
+        ended(front)
+        yield "it ends when it is asked to", front.returncode, 0
         yield "what csid said", ended(csid), "csid: /%s: volumes 0, attachments 0, next number 1, format 2\n" % TABLES
 
 
