@@ -28,6 +28,8 @@ pub struct CommandOption {
     pub is_required: bool,
     /// The option that has to stand beside it.
     pub beside: Option<&'static str>,
+    /// Nothing else may stand beside it.
+    pub is_alone: bool,
     /// What it is without it.
     pub standard: Option<&'static str>,
     pub help: &'static str,
@@ -49,6 +51,7 @@ pub const OPTION: CommandOption = CommandOption {
     takes: Takes::Nothing,
     is_required: false,
     beside: None,
+    is_alone: false,
     standard: None,
     help: "",
 };
@@ -86,7 +89,9 @@ fn with_standard<'a>(arg: Arg<'a>, standard: Option<&'static str>) -> Arg<'a> {
 }
 
 fn arg<'a>(alloc: Global, option: &CommandOption) -> Result<Arg<'a>, AllocError> {
-    let arg = taking(named(alloc, option), option.takes).required(option.is_required);
+    let arg = taking(named(alloc, option), option.takes)
+        .required(option.is_required)
+        .exclusive(option.is_alone);
     let arg = with_standard(arg, option.standard);
     match option.beside {
         Some(other) => arg.requires_arg(other),

@@ -1,5 +1,6 @@
 -- Rows, index and totals stand for the State after a change.
-use Rattle.std.proofs.Common.{◌≡◌, ◌∙◌, inl, inr, ap, sym, subst, cond, arith, refl, ℕ, ◌+◌, ◌-◌, ◌<◌, ◌≤◌, ◌^◌, List, Bool, true, false, Some, None}
+use Rattle.std.proofs.Common.{◌≡◌, ◌∙◌, inl, inr, ap, sym, subst, cond, arith, refl, ℕ, ◌+◌, ◌-◌, ◌<◌, ◌≤◌, ◌^◌, max, List, Bool, true, false, Some, None}
+use Rattle.std.proofs.Math.Nat.{le-max_left, sub-add-eq-max}
 use Rattle.std.specs.BTreeMap.{is_at}
 use Rattle.std.specs.Cmp.{nat_cmp_total}
 use Rattle.std.specs.FinMap as fin
@@ -14,11 +15,19 @@ use Rattle.csi_keeper.specs.declared.totals.Totals.{Totals}
 use Rattle.csi_keeper.specs.Memory.{Spot, spot_cmp, AreSpotted, IsKept, volumes_of, places_of}
 use Rattle.csi_keeper.specs.Totals.{total_of, more, less}
 use Rattle.csi_keeper.specs.State.{State, Place, place_cmp, changed, Allows}
+use Rattle.csi_keeper.specs.Restoring.{CanRestore, from_number}
 use Rattle.csi_keeper.specs.Texts.{Text, text_cmp}
 use Rattle.csi_keeper.specs.facts.Names.{nobody}
 use Rattle.csi_keeper.specs.facts.Finite.{inserted, removed}
 use Rattle.csi_keeper.proofs.SpotLemmas.{spotted_more}
 use Rattle.csi_keeper.specs.facts.Totals.{totals_added, totals_removed}
+
+-- such a volume can be added once its number is the next one
+pub restorable : (s : State) (v : Volume) → CanRestore s v → Allows (from_number s v.number) (AddVolume v)
+restorable s v can =
+    let least : s.next ≤ v.number = can.0 in
+    let whole : s.next - v.number + v.number ≡ v.number = omega (arith, least) in
+    (sym whole ∙ sub-add-eq-max s.next v.number, can.1, can.2)
 
 module _ (next : ℕ) (volumes rows : List (ℕ × Volume)) (names : List (Text × ℕ)) (pools kept : Totals) (attachments : List (Place × Attachment)) (spots : List (Spot × Unit {0})) (s : State) where
   -- a volume more
@@ -56,6 +65,19 @@ module _ (next : ℕ) (volumes rows : List (ℕ × Volume)) (names : List (Text 
       other : (n : ℕ) (w : Volume) → fin.get s.volumes n ≡ Some w → (b : Bool) → same_text v.name w.name ≡ b → cond b (Some v.number) (lookup (is_at (text_cmp w.name)) names) ≡ Some n
       other n w e true t = absurd (nobody s v.name n w allows.2 e (sym ((bytes_decides v.name w.name).0 t)))
       other n w e false t = k.named n w e
+
+  -- no number below n is given any more
+  pub kept_next : (n : ℕ) → IsKept next volumes names pools attachments spots s → IsKept (max next n) volumes names pools attachments spots (from_number s n)
+  kept_next n k = record {
+    next_is = ap (λ m. max m n) k.next_is;
+    volumes_are = k.volumes_are;
+    attachments_are = k.attachments_are;
+    named = k.named;
+    totals = k.totals;
+    few = let few = k.few in let up = le-max_left s.next n in omega (arith, few, up);
+    small = k.small;
+    spotted = k.spotted;
+  }
 
   -- a volume less; the index may keep its name
   pub kept_remove : (n : ℕ) (v : Volume) → IsKept next volumes names pools attachments spots s → fin.get s.volumes n ≡ Some v

@@ -8,6 +8,7 @@ pub mod Lookup
 pub mod Memory
 pub mod Model
 pub mod Order
+pub mod Restoring
 pub mod State
 pub mod Texts
 pub mod Totals

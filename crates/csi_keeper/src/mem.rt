@@ -11,6 +11,7 @@ ghost use Rattle.csi_keeper.specs.State.{State, Allows, changed};
 ghost use Rattle.csi_keeper.specs.declared.change.Change.TheVariants.{AddVolume, RemoveVolume, Attach, Detach, DetachAll, SetMutable};
 ghost use Rattle.csi_keeper.specs.Holding.{Holds};
 ghost use Rattle.csi_keeper.specs.Memory.{first_state};
+ghost use Rattle.csi_keeper.specs.Restoring.{CanRestore, from_number, restored};
 ghost use Rattle.csi_keeper.specs.Totals.{total_of, more, HasRoom};
 
 use crate::change::{Change, StoreFault, Usage};
@@ -64,6 +65,31 @@ impl MemKeeper {
             attachments: BTreeMap::new(alloc),
             nodes: BTreeMap::new(alloc),
         })
+    }
+
+    /// Gives no number below this one, 1 to 2^62, from now on.
+    #[tactic(auto, using(crate::proofs::KeptLemmas::kept_next))]
+    pub fn skip_to(&mut self, number: u64)
+        requires { number ≤ 2 ^ 62 }
+        ensures { (s : State) → Holds self.old s → Holds self.new (from_number s number) }
+    {
+        self.next = self.next.max(number);
+    }
+
+    /// Adds a volume that has its number already, which is the next one or a greater one, while none has its name.
+    /// The next number is the one behind it.
+    ///
+    /// # Errors
+    ///
+    /// Where memory is refused. The volumes stay.
+    pub fn restore(&mut self, alloc: Global, volume: &Volume) -> Result<(), AllocError>
+        requires number { volume.now.number < 2 ^ 62 }
+        requires bytes { volume.now.bytes ≤ 2 ^ 62 }
+        ensures made { OnOk result ((s : State) → Holds self.old s → CanRestore s volume.now → Holds self.new (restored s volume.now)) }
+        ensures same { OnErr result ((s : State) → Holds self.old s → CanRestore s volume.now → Holds self.new (from_number s volume.now.number)) }
+    {
+        self.skip_to(volume.number);
+        self.add(alloc, volume)
     }
 
     fn add(&mut self, alloc: Global, volume: &Volume) -> Result<(), AllocError>

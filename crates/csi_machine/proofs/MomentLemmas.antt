@@ -1,12 +1,14 @@
 -- Pages that are asked for one after the other, at moments that have States of their own.
-use Rattle.std.proofs.Common.{◌≡◌, ◌∙◌, sym, subst, arith, cond, ℕ, ◌<◌, ◌≤◌, nat_lt, List, [], ◌∷◌, ◌++◌, map, filter, take, suc, zero, ◌==◌, inl, inr, ◌⊎◌, refl, Some, Bool, true, false, Ordering, Less, Equal, Greater, T, ◌&&◌}
+use Rattle.std.proofs.Common.{◌≡◌, ◌∙◌, sym, subst, arith, cond, ℕ, ◌<◌, ◌≤◌, nat_lt, List, [], ◌∷◌, ◌++◌, map, filter, take, suc, zero, inl, inr, ◌⊎◌, refl, Some, Bool, true, false, Ordering, Less, Equal, Greater, T}
 use Rattle.std.specs.List.{AllByRecursion}
-use Rattle.std.specs.Ordering.{nat_cmp, is_lt, is_eq, eq_by_cmp}
+use Rattle.std.specs.Ordering.{nat_cmp, is_eq, eq_by_cmp}
 use Rattle.std.proofs.lemmas.Bool.Decides.{leb_tells}
 use Rattle.std.specs.FinMap as fin
 use Rattle.std.specs.FinMap.Entries.{below_all}
 use Rattle.csi_keeper.specs.declared.volume.Volume.{Volume}
 use Rattle.csi_keeper.specs.State.{State, beyond}
+use Rattle.csi_keeper.specs.facts.Finite.{both}
+use Rattle.csi_keeper.specs.facts.Orders.{less_is}
 use Rattle.csi_machine.specs.calls.Listing.{entries_for, listed, last_of}
 
 -- a moment at which a page is asked for: the State, and how many entries are asked for
@@ -60,20 +62,6 @@ IsNumbered es = AllByRecursion (λ e. e.1.number ≡ e.0) es
 
 abbrev AreAbove : ℕ → List (ℕ × Volume) → Type 0
 AreAbove n es = AllByRecursion (λ e. n < e.0) es
-
-both : (a b : Bool) → T (a && b) → T a × T b
-both true b h = (tt, h)
-both false b h = absurd h
-
-less_is : (x y : ℕ) → T (is_lt (nat_cmp x y)) → x < y
-less_is x y h = elim (leb_tells (suc x) y) as (λ _. x < y) [ inl a ↦ omega (arith, a.1) | inr b ↦ absurd (no_less x y b.0 h) ]
-  where
-    no_less : (x y : ℕ) → nat_lt x y ≡ false → T (is_lt (nat_cmp x y)) → ⊥
-    no_less x y e h = go (x == y) (subst (λ b. T (is_lt (cond b Less (cond (x == y) Equal Greater)))) e h)
-      where
-        go : (d : Bool) → T (is_lt (cond d Equal Greater)) → ⊥
-        go true h = h
-        go false h = h
 
 above_all : (x : ℕ) (es : List (ℕ × Volume)) → T (below_all nat_cmp x es) → AreAbove x es
 above_all x [] h = tt

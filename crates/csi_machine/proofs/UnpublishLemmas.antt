@@ -15,8 +15,8 @@ use Rattle.csi_keeper.specs.State.{State, Place, place_cmp, attached, changed, A
 use Rattle.csi_keeper.specs.Texts.{Text}
 use Rattle.csi_machine.specs.calls.Publish.{is_at}
 use Rattle.csi_machine.specs.calls.Unpublish.{unpublish, unpublish_number, detach_all, detach_one}
-use Rattle.csi_machine.proofs.EntriesLemmas.{entries_retained, entries_left, length_both}
-use Rattle.csi_keeper.specs.facts.Finite.{none_some, same_some, removed}
+use Rattle.csi_machine.proofs.EntriesLemmas.{length_both}
+use Rattle.csi_keeper.specs.facts.Finite.{entries_left, entries_retained, none_some, same_some, removed}
 use Rattle.csi_keeper.specs.facts.Orders.{place_total, place_exact}
 use Rattle.csi_machine.proofs.PublishLemmas.{moved_on}
 

@@ -3,10 +3,10 @@ use Rattle.std.proofs.Common.{◌≡◌, ◌∙◌, inl, inr, refl, sym, ap, sub
 use Rattle.std.specs.List.{AllByRecursion}
 use Rattle.std.specs.Ordering.{eq_by_cmp, ordering_reverse}
 use Rattle.std.specs.Cmp.{IsTotalOrder, eq_by_cmp_equiv}
-use Rattle.std.specs.FinMap.{FinMap, entries, find, put, get, insert, remove, retain_keys, is_sorted, entries_sorted, entries-insert, get-entries, get-remove, get-retain_keys, get-from_sorted, from_sorted, entries-from_sorted, same_map, same_entries_map, IsAntisymmetric}
-use Rattle.std.specs.FinMap.Entries.{by_order, below_all, find-where_key, is_sorted-where_key}
+use Rattle.std.specs.FinMap.{FinMap, entries, find, put, get, insert, remove, is_sorted, entries_sorted, entries-insert, get-entries, get-remove, same_entries_map, IsAntisymmetric}
+use Rattle.std.specs.FinMap.Entries.{by_order, below_all}
 use Rattle.std.proofs.lemmas.Cmp.{on_total}
-use Rattle.csi_keeper.specs.facts.Finite.{gone, none_some, same_some, set_anew, tied}
+use Rattle.csi_keeper.specs.facts.Finite.{entries_kept, gone, none_some, same_some, set_anew, tied}
 use Rattle.sqlite_rules.specs.Lists.{Has}
 use Rattle.sqlite_trees.proofs.ListLemmas.{all-permutation, all-filter}
 use Rattle.sqlite_trees.specs.Tree.{IsAscending}
@@ -83,25 +83,12 @@ map_back_on P encode decode back (x ∷ xs) all = ap (λ y. y ∷ map decode (ma
 
 -- ---- entries of a map that lost some
 
-alike_key : {K : Type 0} (R : K → K → Ordering) → IsAntisymmetric R → (p : K → Bool) (q x : K) → R q x ≡ Equal → p x ≡ p q
-alike_key R exact p q x e = ap p (sym (exact q x e))
-
 module _ {K X : Type 0} {R : K → K → Ordering} (o : IsTotalOrder R) (exact : IsAntisymmetric R) where
-  entries_where : (m n : FinMap R X) (p : K → Bool) → ((q x : K) → R q x ≡ Equal → p x ≡ p q) → ((q : K) → get n q ≡ cond (p q) (get m q) None) → entries n ≡ filter (λ e. p e.0) (entries m)
-  entries_where m n p alike is =
-      let fs : List (K × X) = filter (λ e. p e.0) (entries m) in
-      let up = is_sorted-where_key R p (entries m) (entries_sorted m) in
-      let same : n ≡ from_sorted fs = same_map o exact _ _ (λ q. is q ∙ ap (λ x. cond (p q) x None) (get-entries m q) ∙ sym (get-from_sorted R fs q up ∙ find-where_key R p q (alike q) (entries m))) in
-      ap entries same ∙ entries-from_sorted R fs up
-
   pub entries-remove : (m : FinMap R X) (k : K) → entries (remove m k) ≡ filter (λ e. not (eq_by_cmp R k e.0)) (entries m)
-  entries-remove m k = entries_where m (remove m k) (λ x. not (eq_by_cmp R k x)) (alike_key R exact _) (λ q. get-remove o m k q ∙ turned (eq_by_cmp R q k) (eq_by_cmp R k q) ((eq_by_cmp_equiv o).symm q k) (get m q))
+  entries-remove m k = entries_kept o exact m (remove m k) (λ x. not (eq_by_cmp R k x)) (λ q. get-remove o m k q ∙ turned (eq_by_cmp R q k) (eq_by_cmp R k q) ((eq_by_cmp_equiv o).symm q k) (get m q))
     where
       turned : (a b : Bool) → a ≡ b → (v : Option X) → cond a None v ≡ cond (not b) v None
       turned a b e v = ap (λ c. cond c None v) e ∙ elim b as (λ c. cond c None v ≡ cond (not c) v None) [ true ↦ refl | false ↦ refl ]
-
-  pub entries-retain_keys : (m : FinMap R X) (p : K → Bool) → entries (retain_keys m p) ≡ filter (λ e. p e.0) (entries m)
-  entries-retain_keys m p = entries_where m (retain_keys m p) p (alike_key R exact p) (λ q. get-retain_keys m p q (alike_key R exact p q))
 
 -- ---- entries of a map in which a key has a new value
 

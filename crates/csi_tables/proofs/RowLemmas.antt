@@ -24,7 +24,7 @@ use Rattle.csi_keeper.specs.Texts.{text_cmp}
 use Rattle.csi_keeper.specs.declared.change.Change.TheVariants.{AddVolume, RemoveVolume, Attach, Detach, DetachAll, SetMutable}
 use Rattle.csi_keeper.specs.declared.volume.Attachment.{Attachment}
 use Rattle.csi_keeper.specs.declared.volume.Volume.{Volume}
-use Rattle.csi_keeper.specs.facts.Finite.{not_there}
+use Rattle.csi_keeper.specs.facts.Finite.{entries_retained, not_there}
 use Rattle.csi_keeper.specs.facts.Orders.{place_total, place_exact}
 use Rattle.csi_schema.specs.Tables.{schema}
 use Rattle.csi_schema.specs.declared.formats.TheConstants.{LATEST_FORMAT}
@@ -34,7 +34,7 @@ use Rattle.csi_transactions.specs.Updates.{SetsParams}
 use Rattle.csi_tables.specs.Encoding.{caps_bytes, params_bytes, FitCaps, FitParams}
 use Rattle.csi_tables.specs.Holding.{IsRows, IsRowsOf, IsStorable, IsStored, IsPlaced, volume_entry, attachment_entry}
 use Rattle.csi_tables.specs.facts.Entries.{has_permuted}
-use Rattle.csi_tables.proofs.EntryLemmas.{inserted, all_inserted, all_left, all_overwritten, entries-remove, entries-retain_keys, found_has, overwritten, rises}
+use Rattle.csi_tables.proofs.EntryLemmas.{inserted, all_inserted, all_left, all_overwritten, entries-remove, found_has, overwritten, rises}
 use Rattle.csi_tables.proofs.TestLemmas.{same_numbers, same_texts, both_eq}
 
 -- ---- a State that rows can say, after a change
@@ -60,7 +60,7 @@ storable_detached s n node h = record { volumes = h.volumes; attachments = all_l
 pub storable_detached_all : (s : State) (n : ℕ) → IsStorable s → IsStorable (changed s (DetachAll n))
 storable_detached_all s n h = record {
   volumes = h.volumes;
-  attachments = all_left _ _ (entries s.attachments) _ (entries-retain_keys place_total place_exact s.attachments (λ q. not (q.0 == n))) h.attachments;
+  attachments = all_left _ _ (entries s.attachments) _ (entries_retained place_total place_exact s.attachments (λ q. not (q.0 == n))) h.attachments;
 }
 
 pub storable_mutable : (s : State) (n : ℕ) (m : TextMap) (v : Volume) → get s.volumes n ≡ Some v → FitParams v.params m → IsStorable s → IsStorable (changed s (SetMutable n m))
@@ -108,7 +108,7 @@ nothing_detached n node far s h =
 pub nothing_detached_all : (n : ℕ) → 2 ^ 63 ≤ n → (s : State) → IsStorable s → changed s (DetachAll n) ≡ s
 nothing_detached_all n far s h =
     ap (λ (m : FinMap place_cmp Attachment). record s { attachments = m })
-    (same_entries_map _ _ (entries-retain_keys place_total place_exact s.attachments (λ q. not (q.0 == n)) ∙ all_stay (entries s.attachments) h.attachments))
+    (same_entries_map _ _ (entries_retained place_total place_exact s.attachments (λ q. not (q.0 == n)) ∙ all_stay (entries s.attachments) h.attachments))
   where
     all_stay : (es : List (Place × Attachment)) → AllByRecursion IsPlaced es → filter (λ e. not (e.0.0 == n)) es ≡ es
     all_stay [] all = refl
@@ -178,7 +178,7 @@ rows_detached s n node old new has p h =
 pub rows_detached_all : (s : State) (n : ℕ) (old new : Database) → old.schema ≡ schema → IsRows s old.trees → Drops 3 seen_attachment (is_of n) old new → IsRows (changed s (DetachAll n)) new.trees
 rows_detached_all s n old new has p h =
     let left = h.rows p.keyed in
-    let kept = entries-retain_keys place_total place_exact s.attachments (λ q. not (q.0 == n)) in
+    let kept = entries_retained place_total place_exact s.attachments (λ q. not (q.0 == n)) in
     record {
       meta = ap (map seen_meta) (h.others.0 (λ e. absurd (omega arith))) ∙ p.meta;
       volumes = subst (λ rows. IsPermutation (map volume_entry (entries s.volumes)) (map seen_volume rows)) (sym (h.others.1.0 (λ e. absurd (omega arith)))) p.volumes;

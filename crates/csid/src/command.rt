@@ -1,7 +1,9 @@
 //! The command line.
 
 use clap::{ArgMatches, Command, Error};
-use command_line::{CommandOption, OPTION, Takes, command_of, is_decimal, with_subcommand};
+use command_line::{
+    CommandOption, OPTION, Takes, command_of, is_decimal, with_options, with_subcommand,
+};
 use std::alloc::Global;
 
 /// What the command line asks for.
@@ -18,6 +20,15 @@ pub(crate) enum Task<'a> {
     },
     /// Connections to a socket, one after the other.
     Serve(Serving<'a>),
+    /// A configuration is judged: its file.
+    CheckConfig(&'a str),
+    /// Tables are judged.
+    CheckTables {
+        /// Their file.
+        tables: &'a str,
+        /// The file of the configuration; without it the sample configuration.
+        config: Option<&'a str>,
+    },
 }
 
 /// How connections are served.
@@ -59,6 +70,27 @@ const EXISTING: CommandOption = CommandOption {
     help: "Refuses a file of volumes that is missing or has no tables, and makes none",
     ..OPTION
 };
+
+static CHECKS: [CommandOption; 3] = [
+    CommandOption {
+        name: "check-config",
+        takes: Takes::Text("FILE"),
+        is_alone: true,
+        help: "Says what a configuration has, or why it is refused, and ends",
+        ..OPTION
+    },
+    CommandOption {
+        name: "check-tables",
+        takes: Takes::Text("FILE"),
+        help: "Says what tables have, or why they are refused, and ends; nothing is changed, also of tables that are served",
+        ..OPTION
+    },
+    CommandOption {
+        beside: Some("check-tables"),
+        help: "The configuration by which tables are judged; without it the sample configuration",
+        ..CONFIG
+    },
+];
 
 static PIPE: [CommandOption; 3] = [CONFIG, TABLES, EXISTING];
 
@@ -120,7 +152,8 @@ fn plain<'a>(alloc: Global) -> Command<'a> {
 ///
 /// Where memory is refused.
 pub(crate) fn command<'a>(alloc: Global) -> Result<Command<'a>, Error> {
-    with_subcommand(with_subcommand(plain(alloc), pipe(alloc))?, serve(alloc))
+    let command = with_options(alloc, plain(alloc), &CHECKS)?.args_conflicts_with_subcommands(true);
+    with_subcommand(with_subcommand(command, pipe(alloc))?, serve(alloc))
 }
 
 /// The options that are numbers, each as it is shown.
@@ -155,6 +188,24 @@ fn asked_of_serve<'a>(arguments: &ArgMatches<'a>) -> Serving<'a> {
     }
 }
 
+// What the arguments without a subcommand ask for.
+fn asked_plainly<'a>(arguments: &ArgMatches<'a>) -> Task<'a> {
+    if let Some(path) = arguments.get_str("check-config") {
+        return Task::CheckConfig(path);
+    }
+    match arguments.get_str("check-tables") {
+        Some(tables) => Task::CheckTables {
+            tables,
+            config: arguments.get_str("config"),
+        },
+        None => Task::Pipe {
+            config: None,
+            tables: None,
+            is_existing: false,
+        },
+    }
+}
+
 /// What the arguments that [`command`] takes ask for.
 pub(crate) fn asked<'a>(matches: &ArgMatches<'a>) -> Task<'a> {
     match matches.subcommand() {
@@ -164,10 +215,6 @@ pub(crate) fn asked<'a>(matches: &ArgMatches<'a>) -> Task<'a> {
             tables: arguments.get_str("tables"),
             is_existing: arguments.get_flag("existing"),
         },
-        None => Task::Pipe {
-            config: None,
-            tables: None,
-            is_existing: false,
-        },
+        None => asked_plainly(matches),
     }
 }

@@ -1,5 +1,7 @@
 //! What tables have.
 
+ghost use Rattle.std.specs.Prelude.{◌≡◌, false};
+
 use sqlite::{Alter, Connection, Error};
 use std::fmt;
 
@@ -28,7 +30,10 @@ impl fmt::Display for Content {
 }
 
 // The number that a query shows.
-fn number<S: Alter>(conn: &mut Connection<S>, sql: &str) -> Result<i64, Error> {
+fn number<S: Alter>(conn: &mut Connection<S>, sql: &str) -> Result<i64, Error>
+    requires { conn.old.in_transaction ≡ false }
+    ensures { conn.new.in_transaction ≡ false }
+{
     conn.query_row(sql, &[])?.get(0)
 }
 
@@ -37,7 +42,10 @@ fn number<S: Alter>(conn: &mut Connection<S>, sql: &str) -> Result<i64, Error> {
 /// # Errors
 ///
 /// Where the database fails, or memory is refused.
-pub(crate) fn read_content<S: Alter>(conn: &mut Connection<S>) -> Result<Content, Error> {
+pub(crate) fn read_content<S: Alter>(conn: &mut Connection<S>) -> Result<Content, Error>
+    requires { conn.old.in_transaction ≡ false }
+    ensures { conn.new.in_transaction ≡ false }
+{
     Ok(Content {
         volumes: number(conn, "SELECT count(*) FROM volumes")?,
         attachments: number(conn, "SELECT count(*) FROM attachments")?,

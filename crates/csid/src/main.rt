@@ -1,9 +1,11 @@
 //! The server: calls on standard input, replies on standard output, or both on a socket.
 #![tactic(auto)]
 
+mod check;
 mod command;
 mod config;
 mod content;
+mod copy;
 mod failure;
 mod group;
 pub mod laws;

@@ -3,18 +3,20 @@
 ghost use Rattle.std.specs.Prelude.{IfErr};
 ghost use Rattle.csid.specs.Statuses.{IsOrNoMemory};
 
+use crate::check::{check_config, check_tables};
 use crate::command::{Serving, Task, asked, command, odd_number};
 use crate::config::configuration;
 use crate::failure::{Failure, Peer, outcome};
 use crate::say::say;
 use crate::socket::{listen, serve_all};
-use crate::tables::{Blank, OverTables, check_standing, over_tables, survey};
+use crate::tables::{Blank, OverTables, check_standing, of_reading, over_tables, survey};
 use clap::ArgMatches;
 use command_line::{ArgumentsFault, arguments, matches};
 use csi_config::Config;
 use csi_keeper::{Keeper, MemKeeper};
 use csi_server::serve;
 use csi_tables::Tables;
+use csi_through::{NotCopied, Through};
 use sqlite::{Alter, Connection};
 use std::alloc::Global;
 
@@ -55,13 +57,22 @@ fn ended(
 struct Piping<'a> {
     rt: &'a HostRuntime,
     config: &'a Config,
+    path: &'a str,
     served: Result<(), Failure>,
 }
 
 impl OverTables for Piping<'_> {
-    fn run<S: Alter + Drop>(&mut self, mut tables: Tables<S>) -> Connection<S> {
-        self.served = serve_pipe(self.rt, self.config, &mut tables);
-        tables.into_connection()
+    fn run<S: Alter + Drop>(&mut self, tables: Tables<S>) -> Connection<S> {
+        match Through::over(self.rt.alloc(), tables) {
+            Ok(mut keeper) => {
+                self.served = serve_pipe(self.rt, self.config, &mut keeper);
+                keeper.into_log().into_keeper().into_connection()
+            }
+            Err(NotCopied { fault, keeper }) => {
+                self.served = Err(of_reading(self.rt.alloc(), self.path, fault));
+                keeper.into_connection()
+            }
+        }
     }
 }
 
@@ -75,6 +86,7 @@ fn pipe_over_tables(
     let mut piping = Piping {
         rt,
         config,
+        path,
         served: Ok(()),
     };
     let closed = over_tables(rt, path, config, blank, &mut piping);
@@ -110,7 +122,7 @@ fn pipe(
 }
 
 // Looks whether the tables have a path, and whether they stand, if they have to.
-fn check_tables(rt: &HostRuntime, serving: &Serving<'_>) -> Result<(), Failure>
+fn check_serving(rt: &HostRuntime, serving: &Serving<'_>) -> Result<(), Failure>
     ensures { IfErr result (λ failure. IsOrNoMemory 4 failure) }
 {
     if serving.tables.is_empty() {
@@ -135,7 +147,7 @@ fn listen_over(rt: &HostRuntime, config: &Config, serving: &Serving<'_>) -> Resu
 // Answers the calls of connections, and keeps the volumes in a file.
 fn listening(rt: &HostRuntime, serving: &Serving<'_>) -> Result<(), Failure> {
     let config = configuration(rt, serving.config, true)?;
-    check_tables(rt, serving)?;
+    check_serving(rt, serving)?;
     listen_over(rt, &config, serving)
 }
 
@@ -161,6 +173,8 @@ fn obey(rt: &HostRuntime, arguments: &ArgMatches<'_>) -> Result<(), Failure> {
             is_existing,
         } => pipe(rt, config, tables, is_existing),
         Task::Serve(serving) => listening(rt, &serving),
+        Task::CheckConfig(path) => check_config(rt, path),
+        Task::CheckTables { tables, config } => check_tables(rt, tables, config),
     }
 }
 

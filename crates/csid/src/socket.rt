@@ -10,12 +10,13 @@ use crate::peer::{Patient, has_gone, settle};
 use crate::pending::{Pending, Start};
 use crate::run::FIRST_NUMBER;
 use crate::say::{say, say_of};
-use crate::tables::{Blank, OverTables, over_tables};
+use crate::tables::{Blank, OverTables, of_reading, over_tables};
 use crate::waiting::Waiting;
 use csi_config::Config;
 use csi_keeper::{Keeper, MemKeeper};
 use csi_server::{RunEnd, serve};
 use csi_tables::Tables;
+use csi_through::{Log, NotCopied, Through};
 use sqlite::{Alter, Connection};
 use std::alloc::Global;
 use std::fs::{self, Permissions};
@@ -115,14 +116,16 @@ fn refuse_peer(rt: &HostRuntime, config: &Config, peer: &Pending) {
     }
 }
 
-// Says what the database refused.
-fn tell_refusals<S: Alter>(rt: &HostRuntime, path: &str, tables: &Tables<S>) {
-    if tables.is_down() {
+// Says what was refused of a keeper's calls.
+fn tell_refusals<M: Keeper, D: Log>(rt: &HostRuntime, path: &str, keeper: &Through<M, D>) {
+    if keeper.is_down() {
         let what =
             "a change was refused, by the database or for memory; from then on the connection was told that the store is down";
         say_of(rt, path, &what);
-    } else if tables.refusals() > 0 {
-        say_of(rt, path, &"the database refused a read");
+    } else if !keeper.is_current() {
+        let what =
+            "there was no memory for a change that was made; from then on the connection was told that the store refused its calls";
+        say_of(rt, path, &what);
     }
 }
 
@@ -136,10 +139,18 @@ struct Answering<'a> {
 }
 
 impl OverTables for Answering<'_> {
-    fn run<S: Alter + Drop>(&mut self, mut tables: Tables<S>) -> Connection<S> {
-        serve_one(self.rt, self.config, &mut tables, self.peer);
-        tell_refusals(self.rt, self.path, &tables);
-        tables.into_connection()
+    fn run<S: Alter + Drop>(&mut self, tables: Tables<S>) -> Connection<S> {
+        match Through::over(self.rt.alloc(), tables) {
+            Ok(mut keeper) => {
+                serve_one(self.rt, self.config, &mut keeper, self.peer);
+                tell_refusals(self.rt, self.path, &keeper);
+                keeper.into_log().into_keeper().into_connection()
+            }
+            Err(NotCopied { fault, keeper }) => {
+                say(self.rt, &of_reading(self.rt.alloc(), self.path, fault));
+                keeper.into_connection()
+            }
+        }
     }
 }
 

@@ -9,6 +9,7 @@ use crate::say::{say, say_of};
 use crate::standing::{Fault, fault_of_standing, make_private};
 use csi_adoption::{AdoptError, AdoptFault, adopt};
 use csi_config::Config;
+use csi_keeper::StoreFault;
 use csi_tables::Tables;
 use sqlite::{Alter, Connection, Error, ErrorCode, File, FileStore};
 use std::alloc::Global;
@@ -40,8 +41,8 @@ impl Blank {
     }
 }
 
-// Why a file cannot be opened, read or closed.
-fn of_database(alloc: Global, path: &str, error: &Error) -> Failure
+/// Why a file cannot be opened, read or closed.
+pub(crate) fn of_database(alloc: Global, path: &str, error: &Error) -> Failure
     ensures { IsOrNoMemory 4 result }
 {
     match error {
@@ -114,8 +115,12 @@ fn keep<S: Alter + Drop>(
     }
 }
 
-// A keeper over the tables on a connection; what is done where it has none is decided by the caller.
-fn take<S: Alter + Drop>(
+/// A keeper over the tables on a connection; what is done where it has none is decided by the caller.
+///
+/// # Errors
+///
+/// Where the tables are refused, or memory is.
+pub(crate) fn take<S: Alter + Drop>(
     rt: &HostRuntime,
     path: &str,
     conn: Connection<S>,
@@ -143,6 +148,16 @@ fn disconnect(alloc: Global, path: &str, conn: Connection<Store>) -> Result<(), 
     match conn.close() {
         Ok(()) => Ok(()),
         Err(error) => Err(of_database(alloc, path, &error)),
+    }
+}
+
+/// Why what tables have was not read into memory.
+pub(crate) fn of_reading(alloc: Global, path: &str, fault: StoreFault) -> Failure
+    ensures { IsOrNoMemory 4 result }
+{
+    match fault {
+        StoreFault::NoMemory => Failure::NoMemory,
+        _ => Failure::of_tables(alloc, path, &"the database refused a read"),
     }
 }
 

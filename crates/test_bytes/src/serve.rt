@@ -8,6 +8,7 @@ mod kept;
 mod server;
 mod store;
 mod stream;
+mod through;
 mod trials;
 
 use csi_config::Config;

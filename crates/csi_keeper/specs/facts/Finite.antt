@@ -1,10 +1,10 @@
 -- Finite maps and the lists of their entries.
-use Rattle.std.proofs.Common.{◌≡◌, ◌∙◌, ◌⊎◌, inl, inr, ap, sym, subst, cond, arith, refl, length, List, [], ◌∷◌, filter, Bool, true, false, ◌&&◌, T, Option, Some, None, Ordering, Less, Equal, Greater}
+use Rattle.std.proofs.Common.{◌≡◌, ◌∙◌, ◌⊎◌, inl, inr, ap, sym, subst, cond, arith, refl, length, List, [], ◌∷◌, filter, Bool, true, false, not, ◌&&◌, T, Option, Some, None, Ordering, Less, Equal, Greater}
 use Rattle.std.specs.Cmp.{IsTotalOrder}
 use Rattle.std.specs.List.{AllByRecursion}
 use Rattle.std.specs.Ordering.{eq_by_cmp, is_eq, is_lt, ordering_reverse}
 use Rattle.std.specs.FinMap as fin
-use Rattle.std.specs.FinMap.Entries.{below_all}
+use Rattle.std.specs.FinMap.Entries.{below_all, is_sorted-where_key}
 use Rattle.std.proofs.lemmas.Cmp.{tied_itself}
 
 pub none_some : {A : Type 0} (x : A) → None ≡ Some x → ⊥
@@ -18,7 +18,7 @@ tied Less e = absurd (cc)
 tied Equal e = refl
 tied Greater e = absurd (cc)
 
-both : (a b : Bool) → T (a && b) → T a × T b
+pub both : (a b : Bool) → T (a && b) → T a × T b
 both true b h = (tt, h)
 both false b h = absurd h
 
@@ -85,14 +85,33 @@ module _ {K X : Type 0} {R : K → K → Ordering} (o : IsTotalOrder R) (exact :
       go false t true u more = more ∙ ap (λ d. cond d (fin.find R q es) None) (ap p (exact q e.0 (tied _ u)) ∙ t) ∙ sym (ap (λ d. cond d (Some e.1) None) (ap p (exact q e.0 (tied _ u)) ∙ t))
       go false t false u more = more
 
-less_apart : (a b : Ordering) → a ≡ ordering_reverse b → T (is_lt b) → is_eq a ≡ false
+-- the entries of maps that keep some
+module _ {K X : Type 0} {R : K → K → Ordering} (o : IsTotalOrder R) (exact : fin.IsAntisymmetric R) where
+  -- a map that keeps the entries whose keys pass
+  pub entries_kept : (m n : fin.FinMap R X) (p : K → Bool) → ((q : K) → fin.get n q ≡ cond (p q) (fin.get m q) None) → fin.entries n ≡ filter (λ e. p e.0) (fin.entries m)
+  entries_kept m n p h =
+      let es = filter (λ (e : K × X). p e.0) (fin.entries m) in
+      let rises : T (fin.is_sorted R es) = is_sorted-where_key R p (fin.entries m) (fin.entries_sorted m) in
+      let listed : fin.entries (fin.from_sorted {R = R} es) ≡ es = fin.entries-from_sorted R es rises in
+      ap fin.entries (fin.same_map o exact n (fin.from_sorted es) (λ q.
+      h q ∙ ap (λ x. cond (p q) x None) (fin.get-entries m q) ∙ sym (find_filter o exact p q (fin.entries m))
+      ∙ sym (fin.get-entries (fin.from_sorted es) q ∙ ap (fin.find R q) listed)))
+      ∙ listed
+
+  pub entries_retained : (m : fin.FinMap R X) (p : K → Bool) → fin.entries (fin.retain_keys m p) ≡ filter (λ e. p e.0) (fin.entries m)
+  entries_retained m p = entries_kept m (fin.retain_keys m p) p (λ q. fin.get-retain_keys m p q (λ x t. sym (ap p (exact q x t))))
+
+  pub entries_left : (m : fin.FinMap R X) (k : K) → fin.entries (fin.remove m k) ≡ filter (λ e. not (eq_by_cmp R e.0 k)) (fin.entries m)
+  entries_left m k = entries_kept m (fin.remove m k) (λ q. not (eq_by_cmp R q k)) (λ q. fin.get-remove o m k q ∙ elim (eq_by_cmp R q k) as (λ b. cond b None (fin.get m q) ≡ cond (not b) (fin.get m q) None) [ true ↦ refl | false ↦ refl ])
+
+pub less_apart : (a b : Ordering) → a ≡ ordering_reverse b → T (is_lt b) → is_eq a ≡ false
 less_apart a Less e l = ap is_eq e
 less_apart a Equal e l = absurd l
 less_apart a Greater e l = absurd l
 
 -- what is so of each key and its value is so of each entry
 module _ {K X : Type 0} {R : K → K → Ordering} (o : IsTotalOrder R) (exact : fin.IsAntisymmetric R) where
-  found_below : (x k : K) (v : X) (es : List (K × X)) → T (below_all R x es) → fin.find R k es ≡ Some v → T (is_lt (R x k))
+  pub found_below : (x k : K) (v : X) (es : List (K × X)) → T (below_all R x es) → fin.find R k es ≡ Some v → T (is_lt (R x k))
   found_below x k v [] b f = absurd (none_some v f)
   found_below x k v (e ∷ es) b f =
       let two = both (is_lt (R x e.0)) (below_all R x es) b in

@@ -10,19 +10,19 @@ use std::alloc::AllocError;
 use test_kit::RowFault;
 
 // 13, and a text of 13 bytes.
-const STORE_REFUSED: &[u8] = b"\x0d\x00\x0dstore refused\x00\x00\x00\x00\x00";
+pub(super) const STORE_REFUSED: &[u8] = b"\x0d\x00\x0dstore refused\x00\x00\x00\x00\x00";
 
 const STORE_DOWN: &[u8] = b"\x0d\x00\x0dstore is down\x00\x00\x00\x00\x00";
 
-// More calls of the store than any row makes.
-const MOST_CALLS: u64 = 1_000_000;
+/// More calls of the store than any row makes.
+pub(super) const MOST_CALLS: u64 = 1_000_000;
 
-// What came of a run over a store that refuses a call.
+/// What came of a run over a store that refuses a call.
 #[derive(Drop)]
-struct Refused {
-    served: Served,
-    refusals: u64,
-    is_down: bool,
+pub(super) struct Refused {
+    pub(super) served: Served,
+    pub(super) refusals: u64,
+    pub(super) is_down: bool,
 }
 
 // What is wanted of it: the replies to all calls, what is kept, and how many refusals are counted.
@@ -70,11 +70,19 @@ impl Trials<'_> {
 
     // A call of the store is refused: the call in which it was, or none if there are fewer.
     fn refuse(&self, at: u64) -> Result<Option<usize>, RowFault> {
-        let came = self.serve_refusing(at)?;
         let trial = Trial {
             name: "refused call of the store",
             number: at,
         };
+        self.judge(trial, &self.serve_refusing(at)?)
+    }
+
+    /// The call in which a read or a change was refused, or none where none was: all came then as it should.
+    ///
+    /// # Errors
+    ///
+    /// What differs from what is wanted.
+    pub(super) fn judge(&self, trial: Trial, came: &Refused) -> Result<Option<usize>, RowFault> {
         if came.refusals == 0 {
             compare(self.alloc, trial, &came.served, &self.whole())?;
             return Ok(None);
@@ -114,8 +122,8 @@ impl Trials<'_> {
         })
     }
 
-    // How many calls were answered as ever, before one that was not.
-    fn answered(&self, written: &[u8]) -> usize {
+    /// How many calls were answered as ever, before one that was not.
+    pub(super) fn answered(&self, written: &[u8]) -> usize {
         let mut answered = 0;
         for call in 0..self.stream.calls.len() {
             if written.starts_with(self.stream.replies(call.saturating_add(1))) {
@@ -129,7 +137,7 @@ impl Trials<'_> {
     // it that ask it.
     fn after_change(&self, call: usize) -> Result<Replies, AllocError> {
         let mut bytes = self.refused_behind(call)?;
-        let refused = self.put_down_behind(call.saturating_add(1), &mut bytes)?;
+        let refused = self.put_refused(call.saturating_add(1), STORE_DOWN, &mut bytes)?;
         Ok(Replies {
             bytes,
             kept: String::from_str(self.alloc, self.kept_after(call))?,
@@ -137,12 +145,17 @@ impl Trials<'_> {
         })
     }
 
-    // The replies to the calls behind so many, where the store is down. How many of them are refused for it.
-    fn put_down_behind(&self, behind: usize, bytes: &mut Vec<u8>) -> Result<u64, AllocError> {
+    /// The replies to the calls behind so many, where each that asks the store is refused like this. How many are.
+    pub(super) fn put_refused(
+        &self,
+        behind: usize,
+        refusal: &[u8],
+        bytes: &mut Vec<u8>,
+    ) -> Result<u64, AllocError> {
         let mut refused: u64 = 0;
         for (later, next) in self.stream.calls.iter().enumerate().skip(behind) {
             if next.asks {
-                bytes.extend_from_slice(STORE_DOWN)?;
+                bytes.extend_from_slice(refusal)?;
                 refused = refused.saturating_add(1);
             } else {
                 bytes.extend_from_slice(self.stream.reply(later))?;

@@ -55,8 +55,10 @@ impl Trials<'_> {
             Server::Volumes(_) => {
                 self.again()?;
                 self.store()?;
+                self.log()?;
+                self.memory()?;
                 Ok(
-                    "ok in pieces, cut, ended, reads failed, writes failed, sent again, store refused",
+                    "ok in pieces, cut, ended, reads failed, writes failed, sent again, store refused, log refused, memory refused",
                 )
             }
             Server::Identity { .. } => Ok("ok in pieces, cut, ended, reads failed, writes failed"),

@@ -2,8 +2,8 @@ use Rattle.csid.proofs.ServedLemmas.{ends_served, stops_served}
 use Rattle.csid.proofs.laws.served_again.Goals as goal
 
 pub returns-clause-ended : goal.returns-clause-ended
-returns-clause-ended g c = ends_served g.S.Store c.args.config.now c.adopted_again.ensures.ended
+returns-clause-ended g c = ends_served g.M.Keeper.model g.S.Store c.args.config.now c.adopted_again.ensures.ended
 
 pub returns-clause-stopped : goal.returns-clause-stopped
 returns-clause-stopped g c =
-    stops_served g.S.Store c.args.config.now c.adopted_again.ensures.stopped c.kept.ensures.run c.kept.ensures.pending c.pending.ensures
+    stops_served g.M.Keeper.model g.S.Store c.args.config.now c.adopted_again.ensures.stopped c.kept.ensures.run c.kept.ensures.pending c.pending.ensures

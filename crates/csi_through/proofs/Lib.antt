@@ -1,0 +1,2 @@
+mod CopyLemmas
+mod OpeningLemmas

@@ -1,0 +1,15 @@
+use Rattle.std.proofs.Common.{◌≡◌, ◌<◌}
+use Rattle.csi_config.specs.declared.config.Config.{Config}
+use Rattle.csi_keeper.specs.Holding.{Holds}
+use Rattle.csi_keeper.specs.Invariant.{IsInvariant}
+use Rattle.csi_keeper.specs.Keeper.{IsQuiet}
+use Rattle.csi_keeper.specs.State.{State}
+use Rattle.csi_through.specs.Copying.{up_to}
+use Rattle.csi_through.proofs.copying.restore_all.Given as goal
+
+abbrev pub invariant-loop : goal.invariant-loop
+invariant-loop g l = record {
+  quiet : IsQuiet (g.K.Keeper.model l.fn.keeper) (g.K.Keeper.model l.keeper);
+  copies : (g.K.Keeper.model l.keeper).doubt ≡ 0 → (config : Config) (s : State) → (g.K.Keeper.model l.fn.keeper).holds s → IsInvariant config s
+      → Holds l.fn.memory (up_to s 0) → (l.after < s.next) × Holds l.memory (up_to s l.after);
+}

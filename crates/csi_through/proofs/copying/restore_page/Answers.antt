@@ -1,0 +1,33 @@
+use Rattle.std.proofs.Common.{◌≡◌, ◌∙◌, ◌+◌, ◌++◌, ap, arith, subst, sym, take, get_or, false, [], ◌∷◌}
+use Rattle.std.proofs.lemmas.List.{take_more}
+use Rattle.csi_keeper.specs.Holding.{Holds}
+use Rattle.csi_keeper.specs.State.{attached}
+use Rattle.csi_keeper.specs.facts.Reads.{quiet_then}
+use Rattle.csi_through.specs.Copying.{AreNext, last_number, up_to}
+use Rattle.csi_through.proofs.CopyLemmas.{last_more, next_more, none_attached}
+use Rattle.csi_through.proofs.copying.restore_page.Goals as goal
+
+pub loop-volume-preserved : goal.loop-volume-preserved
+loop-volume-preserved g c =
+    let old = c.loop-volume.invariant in
+    let after = c.args.after in
+    let volume = c.volume-item.result in
+    let done = take c.loop-volume.volume-index c.args.volumes.now in
+    let more : take (c.loop-volume.volume-index + 1) c.args.volumes.now ≡ done ++ volume ∷ [] =
+    take_more c.args.volumes.now c.loop-volume.volume-index volume (omega arith) ∙ ap (λ v. done ++ v ∷ []) (sym c.volume-item.is) in
+    let last : last_number after (take (c.loop-volume.volume-index + 1) c.args.volumes.now) ≡ volume.number = ap (last_number after) more ∙ last_more after done volume in
+    record {
+      quiet = quiet_then old.quiet c.attachments_of.ensures.quiet;
+      index = ap (λ i. i + 1) old.index;
+      last = sym last;
+      copies = λ clean config s held inv next are had.
+          let before : (g.K.Keeper.model c.loop-volume.keeper).doubt ≡ 0 = omega (arith, clean, c.attachments_of.ensures.quiet.clean) in
+          let two = next_more s after done volume (subst (AreNext s after) more next) in
+          let none : c.is_published-published.result ≡ false → attached s volume.number ≡ [] = λ out.
+          let at = c.is_published-published.ensures out in
+          none_attached s c.args.volumes.now c.args.nodes.now c.loop-volume.volume-index volume are (omega arith) c.volume-item.is
+          (ap (λ i. get_or c.args.nodes.now i []) (sym old.index) ∙ at.1) in
+          let theirs = c.in_ok-attachments.ensures.value clean s (old.quiet.state before s held) none in
+          subst (λ n. Holds c.restore.new.memory (up_to s n)) (sym last)
+          (c.in_ok-restore.ensures config s _ inv two.1 theirs (old.copies before config s held inv two.0 are had));
+    }

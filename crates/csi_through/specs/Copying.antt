@@ -1,0 +1,66 @@
+-- What a copy of a keeper has, so far.
+use Rattle.std.specs.Prelude.{◌≡◌, ℕ, ◌+◌, ◌<◌, ◌≤◌, not, nat_lt, List, [], ◌∷◌, map, Some, ⊤}
+use Rattle.std.specs.FinMap.{get, retain_keys}
+use Rattle.csi_config.specs.declared.config.Config.{Config}
+use Rattle.csi_keeper.specs.Holding.{Holds}
+use Rattle.csi_keeper.specs.Invariant.{IsInvariant}
+use Rattle.csi_keeper.specs.Model.{Model}
+use Rattle.csi_keeper.specs.State.{State, Allows, changed, published}
+use Rattle.csi_keeper.specs.Texts.{Text}
+use Rattle.csi_keeper.specs.declared.change.Change.TheVariants.{Attach}
+use Rattle.csi_keeper.specs.declared.mem.MemKeeper.{MemKeeper}
+use Rattle.csi_keeper.specs.declared.volume.Attachment.{Attachment}
+use Rattle.csi_keeper.specs.declared.volume.Volume.{Volume}
+
+-- the volumes up to a number, and what is attached of them; the next number is the one behind it
+abbrev pub up_to : State → ℕ → State
+up_to s n = record {
+  next = n + 1;
+  volumes = retain_keys s.volumes (λ k. not (nat_lt n k));
+  attachments = retain_keys s.attachments (λ p. not (nat_lt n p.0));
+}
+
+-- the State in which a volume is attached so, one attachment after the other
+abbrev pub attached_each : State → ℕ → List Attachment → State
+attached_each s n [] = s
+attached_each s n (a ∷ rest) = attached_each (changed s (Attach n a)) n rest
+
+abbrev pub AllowsEach : State → ℕ → List Attachment → Type 0
+AllowsEach s n [] = ⊤
+AllowsEach s n (a ∷ rest) = Allows s (Attach n a) × AllowsEach (changed s (Attach n a)) n rest
+
+-- the first volume with a greater number
+pub record IsNext (s : State) (n : ℕ) (v : Volume) : Type 0 where
+  pub stands : get s.volumes v.number ≡ Some v
+  pub greater : n < v.number
+  pub first : (k : ℕ) (w : Volume) → get s.volumes k ≡ Some w → n < k → v.number ≤ k
+
+-- the volumes with a greater number, from the first on
+abbrev pub AreNext : State → ℕ → List Volume → Type 0
+AreNext s n [] = ⊤
+AreNext s n (v ∷ vs) = IsNext s n v × AreNext s v.number vs
+
+-- the number of the last one
+abbrev pub last_number : ℕ → List Volume → ℕ
+last_number n [] = n
+last_number n (v ∷ vs) = last_number v.number vs
+
+-- the nodes of each
+abbrev pub AreNodes : State → List Volume → List (List Text) → Type 0
+AreNodes s volumes nodes = nodes ≡ map (λ v. published s v.number) volumes
+
+-- Of each State of the invariant that the keeper may have had, the memory had all up to a number, and has all up to the last of the volumes that come next.
+abbrev pub CopiesTo : Model State → Model State → MemKeeper → MemKeeper → ℕ → List Volume → List (List Text) → ℕ → Type 0
+CopiesTo old new memory copy after volumes nodes last =
+    new.doubt ≡ 0 → (config : Config) (s : State) → old.holds s → IsInvariant config s → AreNext s after volumes → AreNodes s volumes nodes → Holds memory (up_to s after)
+    → (last ≡ last_number after volumes) × Holds copy (up_to s last)
+
+-- it had nothing, and has all; the next number is the one behind the last
+abbrev pub CopiesAll : Model State → Model State → MemKeeper → MemKeeper → Type 0
+CopiesAll old new memory copy =
+    new.doubt ≡ 0 → (config : Config) (s : State) → old.holds s → IsInvariant config s → Holds memory (up_to s 0)
+    → (last : ℕ) × (last < s.next) × Holds copy (record s { next = last + 1 })
+
+-- it is a copy
+abbrev pub IsCopy : Model State → Model State → MemKeeper → Type 0
+IsCopy old new copy = new.doubt ≡ 0 → (config : Config) (s : State) → old.holds s → IsInvariant config s → Holds copy s

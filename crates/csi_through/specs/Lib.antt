@@ -1,0 +1,3 @@
+pub mod Copying
+pub mod Through
+pub mod Told

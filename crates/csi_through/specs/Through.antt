@@ -1,0 +1,27 @@
+-- What contracts see of a keeper over a memory and a log.
+use Rattle.std.specs.Prelude.{◌≡◌, ◌+◌, ◌≤◌, true, false}
+use Rattle.csi_config.specs.declared.config.Config.{Config}
+use Rattle.csi_keeper.specs.Invariant.{IsInvariant}
+use Rattle.csi_keeper.specs.Model.{Model}
+use Rattle.csi_keeper.specs.State.{State}
+use Rattle.csi_through.specs.declared.through.Through.{Through}
+
+-- The log has the State, and so has the memory, unless it is behind. A stop leaves what it leaves of the log.
+abbrev pub through_model : {M D : Type 0} → (M → Model State) → (D → Model State) → Through M D → Model State
+through_model memory log t = record {
+  holds = λ s. (log t.log).holds s × (t.health.is_current ≡ true → (memory t.memory).holds s);
+  doubt = (log t.log).doubt + (memory t.memory).doubt;
+  refusals = t.health.refusals;
+  survivors = (log t.log).survivors;
+  tied = (log t.log).tied;
+  is_down = t.health.is_down;
+}
+
+-- opened over a keeper: it has the keeper's States of the invariant, nothing more is left by a stop, and it is not down
+pub record Opens (old new : Model State) : Type 0 where
+  pub clean : old.doubt ≤ new.doubt
+  pub state : new.doubt ≡ 0 → (config : Config) (s : State) → old.holds s → IsInvariant config s → new.holds s
+  pub crash : new.doubt ≡ 0 → (t : State) → new.survivors t → old.survivors t
+  pub ties : new.doubt ≡ 0 → old.tied → new.tied
+  pub fresh : new.refusals ≡ 0
+  pub up : new.is_down ≡ false

@@ -1,0 +1,151 @@
+//! A copy in memory of what a keeper has.
+
+ghost use Rattle.std.specs.Prelude.{◌≡◌, ◌<◌, ◌+◌, ℕ, [], false, length, get_or, IfOk, OnOk};
+ghost use Rattle.csi_config.specs.declared.config.Config.{Config};
+ghost use Rattle.csi_keeper.specs.Holding.{Holds};
+ghost use Rattle.csi_keeper.specs.Invariant.{IsInvariant};
+ghost use Rattle.csi_keeper.specs.Keeper.{IsQuiet};
+ghost use Rattle.csi_keeper.specs.State.{State, attached};
+ghost use Rattle.csi_through.specs.Copying.{AllowsEach, AreNext, CopiesAll, CopiesTo, IsCopy, IsNext, attached_each, last_number, up_to};
+
+use csi_keeper::{Attachment, Change, Keeper, MemKeeper, StoreFault, Volume};
+use csi_types::{Items, MAX_NUMBER, MAX_POOL_BYTES, Text};
+use std::alloc::Global;
+
+// So many volumes are read at once.
+const PAGE: u32 = 1000;
+
+// The attachments of a volume, none of which stands.
+#[tactic(auto, using(crate::proofs::CopyLemmas::allows_more, crate::proofs::CopyLemmas::attached_more))]
+fn attach_each(
+    alloc: Global,
+    memory: &mut MemKeeper,
+    number: u64,
+    attachments: Items<Attachment>,
+) -> Result<(), StoreFault>
+    ensures { OnOk result ((s : State) → Holds memory.old s → AllowsEach s number attachments → Holds memory.new (attached_each s number attachments)) }
+{
+    for attachment in attachments.into_vec() {
+        memory.apply(alloc, &Change::Attach(number, attachment))?;
+    }
+    Ok(())
+}
+
+// A volume with its attachments, behind those that the memory has. No store that tells the truth has one that is out of bounds.
+fn restore(
+    alloc: Global,
+    memory: &mut MemKeeper,
+    volume: &Volume,
+    attachments: Items<Attachment>,
+) -> Result<(), StoreFault>
+    ensures { OnOk result ((config : Config) (s : State) (n : ℕ) → IsInvariant config s → IsNext s n volume.now → attachments ≡ attached s volume.now.number
+        → Holds memory.old (up_to s n) → Holds memory.new (up_to s volume.now.number)) }
+{
+    if (volume.number >= MAX_NUMBER) | (volume.bytes > MAX_POOL_BYTES) {
+        return Err(StoreFault::Refused);
+    }
+    memory.restore(alloc, volume)?;
+    attach_each(alloc, memory, volume.number, attachments)
+}
+
+// Whether a volume of a page is published at a node; also where that is not told.
+fn is_published(nodes: &[Items<Text>], index: usize) -> bool
+    ensures { result ≡ false → (index < length nodes.now) × (get_or nodes.now index [] ≡ []) }
+{
+    match nodes.get(index) {
+        Some(nodes) => !nodes.is_empty(),
+        None => true,
+    }
+}
+
+// The attachments of a volume. One that is published nowhere has none, and is not asked for.
+fn attachments_of<K: Keeper>(
+    alloc: Global,
+    keeper: &mut K,
+    number: u64,
+    is_published: bool,
+) -> Result<Items<Attachment>, StoreFault>
+    ensures quiet { IsQuiet (K.model keeper.old) (K.model keeper.new) }
+    ensures value { IfOk result (λ rows. (K.model keeper.new).doubt ≡ 0 → (s : State) → (K.model keeper.old).holds s
+        → (is_published ≡ false → attached s number ≡ []) → rows ≡ attached s number) }
+{
+    if !is_published {
+        return Ok(Items::new(alloc));
+    }
+    keeper.attachments(alloc, number)
+}
+
+// The volumes of a page with their attachments, behind the number of the volume before them. The number of the last one.
+fn restore_page<K: Keeper>(
+    alloc: Global,
+    keeper: &mut K,
+    memory: &mut MemKeeper,
+    after: u64,
+    volumes: &[Volume],
+    nodes: &[Items<Text>],
+) -> Result<u64, StoreFault>
+    ensures quiet { IsQuiet (K.model keeper.old) (K.model keeper.new) }
+    ensures copies { IfOk result (λ last. CopiesTo (K.model keeper.old) (K.model keeper.new) memory.old memory.new after volumes.now nodes.now last) }
+{
+    let mut last = after;
+    let mut index = 0;
+    for volume in volumes {
+        let published = is_published(nodes, index);
+        let attachments = attachments_of(alloc, keeper, volume.number, published)?;
+        restore(alloc, memory, volume, attachments)?;
+        last = volume.number;
+        index += 1;
+    }
+    Ok(last)
+}
+
+// All volumes with their attachments, page by page.
+fn restore_all<K: Keeper>(
+    alloc: Global,
+    keeper: &mut K,
+    memory: &mut MemKeeper,
+) -> Result<(), StoreFault>
+    ensures quiet { IsQuiet (K.model keeper.old) (K.model keeper.new) }
+    ensures copied { OnOk result (CopiesAll (K.model keeper.old) (K.model keeper.new) memory.old memory.new) }
+{
+    let mut after = 0;
+    for _ in 0..u64::MAX {
+        let volumes = keeper.page(alloc, after, PAGE)?;
+        if volumes.is_empty() {
+            return Ok(());
+        }
+        let nodes = keeper.published_nodes(alloc, after, PAGE)?;
+        after = restore_page(
+            alloc,
+            keeper,
+            memory,
+            after,
+            volumes.as_slice(),
+            nodes.as_slice(),
+        )?;
+    }
+    Err(StoreFault::Refused)
+}
+
+/// A copy in memory of what a keeper has, by reads alone. It takes two reads for 1,000 volumes, and one for each that
+/// is published.
+///
+/// Of each State of the invariant that the keeper may have, the copy has the same, while the keeper's doubt is 0.
+///
+/// # Errors
+///
+/// What the keeper answers, or want of memory; `Refused` also where a number or a size is none that a volume has,
+/// as only a store gives that does not tell the truth.
+pub(crate) fn copy_of<K: Keeper>(alloc: Global, keeper: &mut K) -> Result<MemKeeper, StoreFault>
+    ensures quiet { IsQuiet (K.model keeper.old) (K.model keeper.new) }
+    ensures copy { IfOk result (λ memory. IsCopy (K.model keeper.old) (K.model keeper.new) memory) }
+{
+    let next = keeper.next_number()?;
+    if next > MAX_NUMBER {
+        return Err(StoreFault::Refused);
+    }
+    let mut memory = MemKeeper::new(alloc, 1)?;
+    restore_all(alloc, keeper, &mut memory)?;
+    memory.skip_to(next);
+    Ok(memory)
+}

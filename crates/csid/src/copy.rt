@@ -1,0 +1,131 @@
+//! A copy of a file of tables in memory, by reads alone.
+
+ghost use Rattle.std.specs.Prelude.{◌≡◌, false, IfErr, IfOk, IsTrue};
+ghost use Rattle.sqlite_disk.specs.Memory.{memory_is_usable};
+ghost use Rattle.csid.specs.Statuses.{IsOrNoMemory};
+
+use crate::failure::Failure;
+use crate::tables::of_database;
+use sqlite::{Connection, Error, ErrorCode, FileStore, Files, Options};
+use sqlite_disk::{Disk, Memory};
+use std::alloc::Global;
+use std::fs;
+use std::io::{self, ErrorKind};
+
+// How often a file is copied that is written meanwhile.
+const TRIES: usize = 10;
+
+// What a new log would be told by: the copy's log is never written.
+const SEED: u64 = 1;
+
+const IS_WRITTEN: &str = "it is written all the time";
+
+// Why a file cannot be read.
+fn of_read(alloc: Global, path: &str, error: &io::Error) -> Failure
+    ensures { IsOrNoMemory 4 result }
+{
+    match error.kind() {
+        ErrorKind::OutOfMemory => Failure::NoMemory,
+        _ => Failure::of_tables(alloc, path, error),
+    }
+}
+
+// The bytes of a file, of which there are none where there is no file.
+fn bytes_of(rt: &HostRuntime, path: &str) -> Result<Vec<u8>, Failure>
+    ensures { IfErr result (λ failure. IsOrNoMemory 4 failure) }
+{
+    match fs::read(rt, path) {
+        Ok(bytes) => Ok(bytes),
+        Err(error) if error.kind() == ErrorKind::NotFound => Ok(Vec::new(rt.alloc())),
+        Err(error) => Err(of_read(rt.alloc(), path, &error)),
+    }
+}
+
+// The file that links lead to: SQLite keeps its log and its journal beside that one.
+fn real_path(rt: &HostRuntime, path: &str) -> Result<String, Failure>
+    ensures { IfErr result (λ failure. IsOrNoMemory 4 failure) }
+{
+    match fs::canonicalize(rt, path) {
+        Ok(real) => Ok(String::from_str(rt.alloc(), real.as_str())?),
+        Err(error) => Err(of_read(rt.alloc(), path, &error)),
+    }
+}
+
+// The path of what SQLite keeps beside a file.
+fn beside(alloc: Global, real: &str, end: &str) -> Result<String, Failure>
+    ensures { IfErr result (λ failure. IsOrNoMemory 4 failure) }
+{
+    Ok(format!(in alloc; "{real}{end}")?)
+}
+
+// A file in memory.
+fn in_memory(alloc: Global, bytes: &[u8]) -> Result<Memory, Failure>
+    ensures usable { IfOk result (λ file. IsTrue (memory_is_usable file)) }
+    ensures failure { IfErr result (λ failure. IsOrNoMemory 4 failure) }
+{
+    let mut file = Memory::new(alloc);
+    match file.write_at(0, bytes) {
+        Ok(()) => Ok(file),
+        Err(_) => Err(Failure::NoMemory),
+    }
+}
+
+// A file in memory with its log, as they are opened.
+fn files_of(alloc: Global, log: &[u8], db: &[u8]) -> Result<Files<Memory>, Failure>
+    ensures usable { IfOk result (λ files. IsTrue (memory_is_usable files.log) × IsTrue (memory_is_usable files.db)) }
+    ensures failure { IfErr result (λ failure. IsOrNoMemory 4 failure) }
+{
+    let log = in_memory(alloc, log)?;
+    Ok(Files {
+        log,
+        db: in_memory(alloc, db)?,
+    })
+}
+
+// What a file and its log have at one moment. The file is read once more behind its log: where it was written meanwhile, both are read again.
+fn copied(rt: &HostRuntime, path: &str, log_path: &str) -> Result<Files<Memory>, Failure>
+    ensures usable { IfOk result (λ files. IsTrue (memory_is_usable files.log) × IsTrue (memory_is_usable files.db)) }
+    ensures failure { IfErr result (λ failure. IsOrNoMemory 4 failure) }
+{
+    let mut db = bytes_of(rt, path)?;
+    for _ in 0..TRIES {
+        let log = bytes_of(rt, log_path)?;
+        let again = bytes_of(rt, path)?;
+        if again == db {
+            return files_of(rt.alloc(), log.as_slice(), db.as_slice());
+        }
+        db = again;
+    }
+    Err(Failure::of_tables(rt.alloc(), path, &IS_WRITTEN))
+}
+
+// Whether a journal has something to play back, which SQLite alone can do. The opening of the file itself refuses it too.
+fn is_hot(journal: &[u8]) -> bool {
+    journal.first().is_some_and(|first| *first != 0)
+}
+
+/// A connection to a copy of a file and its log, by reads alone: no lock is taken, and nothing is made or changed on the disk.
+///
+/// # Errors
+///
+/// Where the file cannot be read, is written all the time, or is no database; where a journal stands beside it; or where memory is refused.
+pub(crate) fn open_copy(
+    rt: &HostRuntime,
+    path: &str,
+) -> Result<Connection<FileStore<Memory>>, Failure>
+    ensures idle { IfOk result (λ conn. conn.in_transaction ≡ false) }
+    ensures failure { IfErr result (λ failure. IsOrNoMemory 4 failure) }
+{
+    let real = real_path(rt, path)?;
+    let journal = beside(rt.alloc(), real.as_str(), "-journal")?;
+    if is_hot(bytes_of(rt, journal.as_str())?.as_slice()) {
+        let error = Error::SqliteFailure(ErrorCode::CannotOpen);
+        return Err(of_database(rt.alloc(), path, &error));
+    }
+    let log = beside(rt.alloc(), real.as_str(), "-wal")?;
+    let files = copied(rt, real.as_str(), log.as_str())?;
+    match Connection::open_files(rt.alloc(), files, Options::new(SEED)) {
+        Ok(conn) => Ok(conn),
+        Err((error, _)) => Err(of_database(rt.alloc(), path, &error)),
+    }
+}
