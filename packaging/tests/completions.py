@@ -19,7 +19,11 @@ printf '%s\\n' "${COMPREPLY[@]}"
 """
 # Words, and what is offered for the last of them. The folder of the row has the files 'volumes.db' and 'config.toml'.
 ROWS = [
-    ("csid ", "pipe serve --help --version"),
+    ("csid ", "pipe serve --check-config --check-tables --config --help --version"),
+    ("csid --check-t", "--check-tables"),
+    ("csid --check-config c", "config.toml"),
+    ("csid --check-tables v", "volumes.db"),
+    ("csid --check-tables volumes.db -", "--config"),
     ("csid s", "serve"),
     ("csid --v", "--version"),
     ("csid pipe --", "--config --tables --existing --help"),
@@ -34,6 +38,8 @@ ROWS = [
     ("csid unknown --", ""),
     ("csictl ", "show frame call vectors --help --version"),
     ("csictl call --ti", "--timeout"),
+    ("csictl call --j", "--json"),
+    ("csictl call --al", "--all"),
     ("csictl frame --t", "--topology --token"),
     ("csictl show --", "--method --help"),
     ("csictl vectors v", "volumes.db"),
@@ -45,6 +51,8 @@ ROWS = [
     ("csid-front --csid v", "volumes.db"),
     ("csid-front --listen c", "config.toml"),
     ("csid-front --grace ", ""),
+    ("csid-front --log-format j", "json"),
+    ("csid-front --metrics ", ""),
 ]
 
 

@@ -6,30 +6,29 @@ use crate::command::{MOST_TRIES, TIMEOUT, TRIES};
 use crate::failure::{Ended, Failure};
 use crate::frame::called;
 use crate::line::SocketLine;
+use crate::message::{check_paged, first_page, page};
+use crate::reply::{Listing, show_json, show_lines};
 use clap::ArgMatches;
 use command_line::is_decimal;
-use csi_client::{Received, call_again, put_body_lines, put_reply_line};
-use csi_codec::DecodeFault;
+use csi_client::{Received, ReceivedReply, call_again};
 use csi_types::Method;
 use frames_core::Reply;
-use std::io::Write;
 use std::time::Duration;
 
-// Shows the reply.
-fn show(rt: &HostRuntime, method: Method, reply: &Reply<'_>) -> Result<Ended, Failure> {
-    let mut lines = Vec::new(rt.alloc());
-    put_reply_line(rt.alloc(), &mut lines, reply)?;
-    let read = put_body_lines(rt.alloc(), &mut lines, Some(method), reply);
-    if let Err(DecodeFault::NoMemory) = read {
-        return Err(Failure::NoMemory);
+// More pages than there are volumes: a server that has more goes round in a ring.
+const MOST_PAGES: u32 = 1_000_000;
+
+// How a reply is shown.
+fn show(
+    rt: &HostRuntime,
+    method: Method,
+    reply: &Reply<'_>,
+    is_json: bool,
+) -> Result<Ended, Failure> {
+    if is_json {
+        return show_json(rt, method, reply);
     }
-    if let Err(error) = rt.stdout().write_all(&lines) {
-        return Err(Failure::of_system(rt.alloc(), "standard output", &error));
-    }
-    match read {
-        Ok(()) => Ok(Ended::with(reply.status != 0)),
-        Err(_) => Err(Failure::BadBody),
-    }
+    show_lines(rt, method, reply)
 }
 
 // The number that an option gives.
@@ -51,27 +50,67 @@ fn patience(arguments: &ArgMatches<'_>) -> Result<(u32, Option<Duration>), Failu
     Ok((tries, timeout))
 }
 
-// Makes a call on a socket, so many times at most, and shows its reply.
-fn call(
+// The reply to a call on a socket, which is sent so many times at most.
+fn received(
     rt: &HostRuntime,
     path: &str,
-    method: Method,
     frame: &[u8],
     patience: (u32, Option<Duration>),
-) -> Result<Ended, Failure>
+) -> Result<ReceivedReply, Failure>
     requires { (1 ≤ patience.0) × (patience.0 ≤ 10) }
 {
     let (tries, timeout) = patience;
     let mut line = SocketLine::new(rt, path, tries, timeout);
     match call_again(&mut line, frame, tries) {
-        Received::Reply(reply) => show(rt, method, &reply.as_reply()),
+        Received::Reply(reply) => Ok(reply),
         Received::Malformed(fault) => Err(Failure::Malformed(fault)),
         Received::NoMemory => Err(Failure::NoMemory),
         Received::Nothing | Received::Failed => Err(line.failure()),
     }
 }
 
-/// Makes a call on a socket, again while it is not answered, and shows its reply.
+// Takes the reply that has a page. A refusal is the end, and shown; as JSON a page is shown with all others.
+fn take_page(
+    rt: &HostRuntime,
+    listing: &mut Listing,
+    reply: &Reply<'_>,
+    is_json: bool,
+) -> Result<Option<Ended>, Failure> {
+    if !is_json || reply.status != 0 {
+        let ended = show(rt, Method::ListVolumes, reply, is_json)?;
+        if reply.status != 0 {
+            return Ok(Some(ended));
+        }
+    }
+    listing.take_body(rt.alloc(), reply.body, is_json)?;
+    Ok(None)
+}
+
+// Asks for one page after the other, each on a connection of its own, and shows them.
+fn walk(
+    rt: &HostRuntime,
+    arguments: &ArgMatches<'_>,
+    path: &str,
+    patience: (u32, Option<Duration>),
+    is_json: bool,
+) -> Result<Ended, Failure>
+    requires { (1 ≤ patience.0) × (patience.0 ≤ 10) }
+{
+    let mut listing = first_page(rt.alloc(), arguments)?;
+    for _ in 0..MOST_PAGES {
+        let frame = page(rt.alloc(), arguments, &listing.token)?;
+        let reply = received(rt, path, &frame, patience)?;
+        if let Some(ended) = take_page(rt, &mut listing, &reply.as_reply(), is_json)? {
+            return Ok(ended);
+        }
+        if listing.token.is_empty() {
+            return listing.end(rt, is_json);
+        }
+    }
+    Err(Failure::NoEnd)
+}
+
+/// Makes a call on a socket, again while it is not answered, and shows its reply; of a listing all pages, if that is asked for.
 ///
 /// # Errors
 ///
@@ -80,5 +119,11 @@ pub(crate) fn run(rt: &HostRuntime, arguments: &ArgMatches<'_>) -> Result<Ended,
     let path = arguments.get_str("socket").unwrap_or("");
     let (method, frame) = called(rt.alloc(), arguments)?;
     let patience = patience(arguments)?;
-    call(rt, path, method, &frame, patience)
+    let is_json = arguments.get_flag("json");
+    if arguments.get_flag("all") {
+        check_paged(method, arguments)?;
+        return walk(rt, arguments, path, patience, is_json);
+    }
+    let reply = received(rt, path, &frame, patience)?;
+    show(rt, method, &reply.as_reply(), is_json)
 }

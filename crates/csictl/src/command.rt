@@ -119,7 +119,7 @@ pub(crate) const TIMEOUT: &str = "timeout";
 
 static SHOW: [CommandOption; 1] = [METHOD];
 
-static CALL: [CommandOption; 3] = [
+static CALL: [CommandOption; 5] = [
     CommandOption {
         name: "socket",
         takes: Takes::Text("PATH"),
@@ -137,6 +137,16 @@ static CALL: [CommandOption; 3] = [
         name: TIMEOUT,
         takes: Takes::Count("SECONDS", 86_400),
         help: "How long each try may take up to its reply, as 10; without it, as long as it takes",
+        ..OPTION
+    },
+    CommandOption {
+        name: "json",
+        help: "Shows the reply as one line of JSON, by the mapping of proto3 with all fields",
+        ..OPTION
+    },
+    CommandOption {
+        name: "all",
+        help: "Asks for all pages of ListVolumes, one after the other",
         ..OPTION
     },
 ];

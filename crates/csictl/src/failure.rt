@@ -62,6 +62,9 @@ pub(crate) enum Failure {
     /// The message is given beside this option.
     #[error("--{0} beside --message")]
     BesideMessage(&'static str),
+    /// A method without pages is asked for all of them.
+    #[error("--all: ListVolumes alone has pages")]
+    NotPaged,
     /// The message is not an even number of hexadecimal digits.
     #[error("--message: not an even number of hexadecimal digits")]
     NotHex,
@@ -86,6 +89,9 @@ pub(crate) enum Failure {
     /// A body is no response of its method.
     #[error("the body is no response of the method")]
     BadBody,
+    /// A listing goes on and on.
+    #[error("the pages have no end")]
+    NoEnd,
     /// A file, standard output or the socket failed: its name, and why.
     #[error("{0}")]
     System(Cause),
@@ -132,12 +138,13 @@ impl Failure {
             Failure::NoMethod(_)
             | Failure::NoField { .. }
             | Failure::BesideMessage(_)
+            | Failure::NotPaged
             | Failure::NotHex
             | Failure::NotDecimal(_)
             | Failure::NotPair
             | Failure::TooLong
             | Failure::NotVector { .. } => 2,
-            Failure::Malformed(_) | Failure::BadBody => 3,
+            Failure::Malformed(_) | Failure::BadBody | Failure::NoEnd => 3,
             Failure::System(_) | Failure::ReadFailed | Failure::WriteFailed => 5,
             Failure::NoMemory => 6,
         }

@@ -2,12 +2,13 @@
 
 use crate::failure::Failure;
 use crate::fields::{FieldFault, Fields, give_none};
+use crate::reply::Listing;
 use clap::ArgMatches;
 use csi_client::put_call;
 use csi_codec::encode_request;
 use csi_types::{
     Boxed, CreateVolume, DeleteVolume, GetCapacity, ListVolumes, Method, Modify, Publish, Request,
-    Text, Unpublish, Validate, method_named,
+    Text, Unpublish, Validate, copy_text, method_named,
 };
 use frames_core::MAX_MESSAGE_BYTES;
 use hex::FromHexError;
@@ -168,6 +169,16 @@ pub(crate) fn method(alloc: Global, name: &str) -> Result<Method, Failure> {
     }
 }
 
+// The frame of the call of a method with a message.
+fn framed(alloc: Global, method: Method, message: &[u8]) -> Result<Vec<u8>, Failure> {
+    if message.len() > MAX_MESSAGE_BYTES {
+        return Err(Failure::TooLong);
+    }
+    let mut frame = Vec::new(alloc);
+    put_call(&mut frame, method, message)?;
+    Ok(frame)
+}
+
 /// The frame of the call of a method that the arguments ask for.
 ///
 /// # Errors
@@ -179,10 +190,58 @@ pub(crate) fn frame(
     arguments: &ArgMatches<'_>,
 ) -> Result<Vec<u8>, Failure> {
     let message = message(alloc, method, arguments)?;
-    if message.len() > MAX_MESSAGE_BYTES {
-        return Err(Failure::TooLong);
+    framed(alloc, method, &message)
+}
+
+/// Looks whether the call is of a method that has pages, and its message is made of options.
+///
+/// # Errors
+///
+/// Where it is not.
+pub(crate) fn check_paged(method: Method, arguments: &ArgMatches<'_>) -> Result<(), Failure> {
+    if method != Method::ListVolumes {
+        return Err(Failure::NotPaged);
     }
-    let mut frame = Vec::new(alloc);
-    put_call(&mut frame, method, &message)?;
-    Ok(frame)
+    if arguments.get_str("message").is_some() {
+        return Err(Failure::BesideMessage("all"));
+    }
+    Ok(())
+}
+
+/// A listing that begins where the arguments say.
+///
+/// # Errors
+///
+/// Where memory was refused.
+pub(crate) fn first_page(alloc: Global, arguments: &ArgMatches<'_>) -> Result<Listing, AllocError> {
+    let token = arguments.get_str("token").unwrap_or("");
+    Ok(Listing::new(alloc, copy_text(alloc, token)?))
+}
+
+// The request for a page that begins at a token, with as many entries as the arguments say.
+fn page_request(
+    alloc: Global,
+    arguments: &ArgMatches<'_>,
+    token: &Text,
+) -> Result<Request, AllocError> {
+    let request = ListVolumes {
+        max_entries: arguments.get_one::<i32>("max").unwrap_or(0),
+        token: copy_text(alloc, token.as_str())?,
+    };
+    Ok(Request::List(Boxed::new(alloc, request)?))
+}
+
+/// The frame of the call for a page that begins at a token.
+///
+/// # Errors
+///
+/// Where the token is longer than a message, or memory was refused.
+pub(crate) fn page(
+    alloc: Global,
+    arguments: &ArgMatches<'_>,
+    token: &Text,
+) -> Result<Vec<u8>, Failure> {
+    let request = page_request(alloc, arguments, token)?;
+    let message = encoded(alloc, &request)?;
+    framed(alloc, Method::ListVolumes, &message)
 }

@@ -1,0 +1,164 @@
+//! Replies, as they are shown.
+
+use crate::failure::{Ended, Failure};
+use crate::json;
+use csi_client::{put_body_lines, put_reply_line};
+use csi_codec::{DecodeFault, decode_response};
+use csi_types::{Entry, Items, Method, Response, Text};
+use frames_core::Reply;
+use serde_json::Value;
+use std::alloc::{AllocError, Global};
+use std::io::Write;
+
+impl From<DecodeFault> for Failure {
+    fn from(fault: DecodeFault) -> Failure {
+        match fault {
+            DecodeFault::NoMemory => Failure::NoMemory,
+            DecodeFault::Malformed { .. } => Failure::BadBody,
+        }
+    }
+}
+
+/// Writes all that is shown.
+///
+/// # Errors
+///
+/// Where it cannot be written.
+pub(crate) fn write(rt: &HostRuntime, shown: &[u8]) -> Result<(), Failure> {
+    match rt.stdout().write_all(shown) {
+        Ok(()) => Ok(()),
+        Err(error) => Err(Failure::of_system(rt.alloc(), "standard output", &error)),
+    }
+}
+
+// A line of JSON.
+fn line(alloc: Global, value: &Value) -> Result<String, AllocError> {
+    let mut line = value.to_string(alloc)?;
+    line.push('\n')?;
+    Ok(line)
+}
+
+/// Shows a reply as lines.
+///
+/// # Errors
+///
+/// Where its body is no response of the method, and then its first line is shown; where it cannot be written, or memory is refused.
+pub(crate) fn show_lines(
+    rt: &HostRuntime,
+    method: Method,
+    reply: &Reply<'_>,
+) -> Result<Ended, Failure> {
+    let mut lines = Vec::new(rt.alloc());
+    put_reply_line(rt.alloc(), &mut lines, reply)?;
+    let read = put_body_lines(rt.alloc(), &mut lines, Some(method), reply);
+    if let Err(DecodeFault::NoMemory) = read {
+        return Err(Failure::NoMemory);
+    }
+    write(rt, &lines)?;
+    read?;
+    Ok(Ended::with(reply.status != 0))
+}
+
+// What a body says, as a line of JSON. The response is lent, so that what owns one does nothing else that may fail.
+fn body_line(alloc: Global, method: Method, body: &[u8]) -> Result<String, Failure> {
+    match decode_response(alloc, method, body) {
+        Ok(response) => response_line(alloc, &response),
+        Err(fault) => Err(Failure::from(fault)),
+    }
+}
+
+fn response_line(alloc: Global, response: &Response) -> Result<String, Failure> {
+    let value = json::response(alloc, response)?;
+    Ok(line(alloc, &value)?)
+}
+
+fn refusal_line(alloc: Global, reply: &Reply<'_>) -> Result<String, Failure> {
+    let value = json::refusal(alloc, reply)?;
+    Ok(line(alloc, &value)?)
+}
+
+/// Shows a reply as one line of JSON.
+///
+/// # Errors
+///
+/// Where its body is no response of the method, it cannot be written, or memory is refused.
+pub(crate) fn show_json(
+    rt: &HostRuntime,
+    method: Method,
+    reply: &Reply<'_>,
+) -> Result<Ended, Failure> {
+    let is_refused = reply.status != 0;
+    let line = if is_refused {
+        refusal_line(rt.alloc(), reply)?
+    } else {
+        body_line(rt.alloc(), method, reply.body)?
+    };
+    write(rt, line.as_bytes())?;
+    Ok(Ended::with(is_refused))
+}
+
+/// The entries of a listing, page by page.
+#[derive(Drop)]
+pub(crate) struct Listing {
+    entries: Vec<Value>,
+    /// Where the next page begins; empty where there is none.
+    pub(crate) token: Text,
+}
+
+impl Listing {
+    /// A listing of nothing so far, which begins at a token.
+    pub(crate) fn new(alloc: Global, token: Text) -> Listing {
+        Listing {
+            entries: Vec::new(alloc),
+            token,
+        }
+    }
+
+    fn take(&mut self, alloc: Global, entries: &Items<Entry>) -> Result<(), AllocError> {
+        for entry in entries {
+            self.entries.push(json::entry(alloc, entry)?)?;
+        }
+        Ok(())
+    }
+
+    /// Takes the body of a page: its entries, if they are kept, and the token of the next.
+    ///
+    /// # Errors
+    ///
+    /// Where it is none, or goes on where it began itself, or memory is refused.
+    pub(crate) fn take_body(
+        &mut self,
+        alloc: Global,
+        body: &[u8],
+        are_kept: bool,
+    ) -> Result<(), Failure> {
+        match decode_response(alloc, Method::ListVolumes, body) {
+            Ok(Response::List { entries, token }) => {
+                if token == self.token && !token.is_empty() {
+                    return Err(Failure::NoEnd);
+                }
+                self.token = token;
+                if are_kept {
+                    self.take(alloc, &entries)?;
+                }
+                Ok(())
+            }
+            Ok(_) => Err(Failure::BadBody),
+            Err(fault) => Err(Failure::from(fault)),
+        }
+    }
+
+    /// Shows all entries as one line of JSON, if they were kept for it.
+    ///
+    /// # Errors
+    ///
+    /// Where it cannot be written, or memory is refused.
+    pub(crate) fn end(self, rt: &HostRuntime, is_json: bool) -> Result<Ended, Failure> {
+        if !is_json {
+            return Ok(Ended::Done);
+        }
+        let value = json::listing(rt.alloc(), self.entries, "")?;
+        write(rt, line(rt.alloc(), &value)?.as_bytes())?;
+        Ok(Ended::Done)
+    }
+}
