@@ -9,29 +9,31 @@ import (
 
 	"google.golang.org/grpc"
 	"google.golang.org/grpc/codes"
+
+	"./processes"
 )
 
 // behindSlow is a front before a fake csid that answers its first call once it is let.
-func behindSlow(t *testing.T) (*fake, *process, chan struct{}) {
+func behindSlow(t *testing.T) (*fake, *processes.Process, chan struct{}) {
 	t.Helper()
 	let := make(chan struct{})
 	csid := startFake(t, step{wait: let, write: okFrame("01")})
-	return csid, startFront(t, csid.socket), let
+	return csid, processes.StartFront(t, csid.socket), let
 }
 
 // A deadline ends a call that csid does not answer; the next one goes over the same connection, and does not get the late reply.
 func TestDeadline(t *testing.T) {
 	t.Parallel()
 	csid, process, let := behindSlow(t)
-	front := newClient(t, process.socket)
+	front := newClient(t, process.Socket)
 	begin := time.Now()
 	if got := front.send(soon(t, 200*time.Millisecond), "/a/b", nil); got.code != codes.DeadlineExceeded {
 		t.Errorf("%v, wanted DEADLINE_EXCEEDED", got)
 	}
-	if spent := time.Since(begin); spent > patience/2 {
+	if spent := time.Since(begin); spent > processes.Patience/2 {
 		t.Errorf("it took %v", spent)
 	}
-	eventually(t, "the call in the log", func() bool { return gaveUp(process, "/a/b") })
+	processes.Eventually(t, "the call in the log", func() bool { return gaveUp(process, "/a/b") })
 	csid.dropsLate(t, front, let)
 }
 
@@ -49,8 +51,8 @@ func (f *fake) dropsLate(t *testing.T, front *client, let chan struct{}) {
 
 // gaveUp tells whether the front logged that a call ended by its deadline or its caller: a client whose deadline is over cancels its
 // call, which the front may learn before its own clock says so.
-func gaveUp(front *process, path string) bool {
-	log := front.log.String()
+func gaveUp(front *processes.Process, path string) bool {
+	log := front.Log.String()
 	return strings.Contains(log, "front: "+path+" 4 ") || strings.Contains(log, "front: "+path+" 1 ")
 }
 
@@ -74,13 +76,13 @@ func TestCancelledCall(t *testing.T) {
 func TestClientThatGoesAway(t *testing.T) {
 	t.Parallel()
 	csid, process, let := behindSlow(t)
-	leaving := newClient(t, process.socket)
+	leaving := newClient(t, process.Socket)
 	go func() {
 		csid.called(t, 1)
 		leaving.Close()
 	}()
 	leaving.send(context.Background(), "/a/b", nil)
-	csid.dropsLate(t, newClient(t, process.socket), let)
+	csid.dropsLate(t, newClient(t, process.Socket), let)
 }
 
 // A late reply that is none, breaks off, or has something behind it ends the connection, as ever.
@@ -116,7 +118,7 @@ func TestLateReplyThatIsWrong(t *testing.T) {
 func TestLateReplyThatNeverComes(t *testing.T) {
 	t.Parallel()
 	csid := startFake(t, step{write: okFrame("")}, step{mute: true})
-	front := newClient(t, startFront(t, csid.socket, "--late", "500ms").socket)
+	front := newClient(t, processes.StartFront(t, csid.socket, "--late", "500ms").Socket)
 	front.wants(t, "/a/b", "", ok(""))
 	for call := 0; call < 3; call++ {
 		if got := front.send(soon(t, 100*time.Millisecond), "/a/c", nil); got.code != codes.DeadlineExceeded {
@@ -133,7 +135,7 @@ func TestCallersThatAllGiveUp(t *testing.T) {
 	t.Parallel()
 	let := make(chan struct{})
 	csid, front := behindFront(t, step{wait: let, write: okFrame("01")})
-	together(50, func(int) {
+	processes.Together(50, func(int) {
 		for round := 0; round < 3; round++ {
 			if got := front.send(soon(t, 200*time.Millisecond), "/a/b", nil); got.code != codes.DeadlineExceeded {
 				t.Errorf("%v, wanted DEADLINE_EXCEEDED", got)
@@ -148,16 +150,16 @@ func TestCallersThatAllGiveUp(t *testing.T) {
 func TestClientThatSpeaksNothing(t *testing.T) {
 	t.Parallel()
 	csid := startFake(t)
-	process := startFront(t, csid.socket)
+	process := processes.StartFront(t, csid.socket)
 	for _, said := range []string{"", "PRI * HT", "GET / HTTP/1.1\r\n\r\n", "PRI * HTTP/2.0\r\n\r\nSM\r\n\r\n", strings.Repeat("\xff", 100)} {
-		conn, err := net.Dial("unix", process.socket)
+		conn, err := net.Dial("unix", process.Socket)
 		if err != nil {
 			t.Fatal(err)
 		}
 		defer conn.Close()
 		conn.Write([]byte(said))
 	}
-	newClient(t, process.socket).wants(t, probe, "", ok(ready))
+	newClient(t, process.Socket).wants(t, probe, "", ok(ready))
 }
 
 // A call that was given up while half of its frame was written is written to its end, and leaves no half frame before the next one.
@@ -165,12 +167,12 @@ func TestHalfFrame(t *testing.T) {
 	t.Parallel()
 	listening := make(chan struct{})
 	csid := (&fake{deaf: listening}).start(t)
-	process := startFront(t, csid.socket)
-	front := newClient(t, process.socket)
+	process := processes.StartFront(t, csid.socket)
+	front := newClient(t, process.Socket)
 	if got := front.send(soon(t, 300*time.Millisecond), "/a/b", make([]byte, 1048576)); got.code != codes.DeadlineExceeded {
 		t.Errorf("%v, wanted DEADLINE_EXCEEDED", got)
 	}
-	eventually(t, "the call in the log", func() bool { return gaveUp(process, "/a/b") })
+	processes.Eventually(t, "the call in the log", func() bool { return gaveUp(process, "/a/b") })
 	close(listening)
 	front.wants(t, probe, "", ok(ready))
 	csid.sees(t, "/a/b "+strings.Repeat("00", 1048576), probe+" ")
@@ -192,7 +194,7 @@ func TestWaitingForTheTurn(t *testing.T) {
 	if got := front.send(ctx, "/a/cancel", nil); got.code != codes.Canceled {
 		t.Errorf("%v, wanted CANCELLED", got)
 	}
-	eventually(t, "both in the log", func() bool { return gaveUp(process, "/a/deadline") && gaveUp(process, "/a/cancel") })
+	processes.Eventually(t, "both in the log", func() bool { return gaveUp(process, "/a/deadline") && gaveUp(process, "/a/cancel") })
 	first.ends(t)
 	front.wants(t, probe, "", ok(ready))
 	csid.sees(t, "/a/first ", probe+" ")
@@ -217,7 +219,7 @@ func TestWhatNoFrameCanHave(t *testing.T) {
 		}
 	}
 	for _, size := range []int{1048577, 1048578, 4194304, 5000000} {
-		if got := front.send(soon(t, patience), "/a/b", make([]byte, size)); got.code != codes.ResourceExhausted {
+		if got := front.send(soon(t, processes.Patience), "/a/b", make([]byte, size)); got.code != codes.ResourceExhausted {
 			t.Errorf("a message of %d bytes: %v", size, got)
 		}
 	}
@@ -231,7 +233,7 @@ func TestOneMessageACall(t *testing.T) {
 	t.Parallel()
 	csid, front := behindFront(t)
 	for count := 0; count <= 2; count++ {
-		stream, err := front.NewStream(soon(t, patience), &grpc.StreamDesc{ClientStreams: true}, "/a/b")
+		stream, err := front.NewStream(soon(t, processes.Patience), &grpc.StreamDesc{ClientStreams: true}, "/a/b")
 		if err != nil {
 			t.Fatal(err)
 		}
@@ -252,15 +254,15 @@ func TestOneMessageACall(t *testing.T) {
 func TestLog(t *testing.T) {
 	t.Parallel()
 	csid := startFake(t, step{write: okFrame("")}, step{write: refusalFrame(9, "volume is in use")}, step{close: true})
-	process := startFront(t, csid.socket)
-	front := newClient(t, process.socket)
+	process := processes.StartFront(t, csid.socket)
+	front := newClient(t, process.Socket)
 	secret := "2a070a0168120270772a" // any bytes: the front reads none
 	front.call(t, "/a/done", secret)
 	front.call(t, "/a/refused", secret)
 	front.call(t, "/a/lost", secret)
 	front.call(t, "/a/no path", secret)
-	eventually(t, "three lines", func() bool { return strings.Count(process.log.String(), "\n") >= 3 })
-	lines := strings.SplitAfter(process.log.String(), "\n")
+	processes.Eventually(t, "three lines", func() bool { return strings.Count(process.Log.String(), "\n") >= 3 })
+	lines := strings.SplitAfter(process.Log.String(), "\n")
 	want := []string{`front: /a/refused 9 "volume is in use" `, `front: /a/lost 14 "csid: the connection was closed unanswered: see the log of csid" `, `front: "/a/no path" 12 "unknown method" `, ""}
 	if len(lines) != len(want) {
 		t.Fatalf("logged: %q", lines)

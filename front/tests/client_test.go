@@ -1,3 +1,4 @@
+// Package tests runs the built front as a process: before the built csid, and before a csid of its own that breaks the rules.
 package tests
 
 import (
@@ -11,6 +12,8 @@ import (
 	"google.golang.org/grpc"
 	"google.golang.org/grpc/codes"
 	"google.golang.org/grpc/status"
+
+	"./processes"
 )
 
 const (
@@ -43,7 +46,7 @@ type client struct{ *grpc.ClientConn }
 
 func newClient(t *testing.T, socket string) *client {
 	t.Helper()
-	ctx, cancel := context.WithTimeout(context.Background(), patience)
+	ctx, cancel := context.WithTimeout(context.Background(), processes.Patience)
 	defer cancel()
 	dial := func(ctx context.Context, _ string) (net.Conn, error) {
 		return (&net.Dialer{}).DialContext(ctx, "unix", socket)
@@ -70,7 +73,7 @@ func (c *client) send(ctx context.Context, path string, message []byte) answer {
 // call makes a call with a message in hexadecimal, and no deadline that matters.
 func (c *client) call(t *testing.T, path, message string) answer {
 	t.Helper()
-	ctx, cancel := context.WithTimeout(context.Background(), patience)
+	ctx, cancel := context.WithTimeout(context.Background(), processes.Patience)
 	defer cancel()
 	return c.send(ctx, path, fromHex(t, message))
 }

@@ -13,6 +13,8 @@ import (
 	"time"
 
 	"google.golang.org/grpc/codes"
+
+	"./processes"
 )
 
 // Parts of messages, worked out by hand from docs/PROTOCOL.md, "Messages".
@@ -79,12 +81,12 @@ func TestCallsOfVolumes(t *testing.T) {
 		{probe, "7a fdff3f" + strings.Repeat("78", 1048573), refused(codes.ResourceExhausted, "grpc: received message larger than max (1048577 vs. 1048576)")},
 		{probe, "", ok(ready)},
 	}
-	csid := startCsid(t)
-	front := newClient(t, startFront(t, csid.socket()).socket)
+	csid := processes.StartCsid(t)
+	front := newClient(t, processes.StartFront(t, csid.Socket()).Socket)
 	for _, row := range rows {
 		front.wants(t, row.path, row.message, row.want)
 	}
-	csid.wantsStartAlone(t)
+	csid.WantsStartAlone(t)
 }
 
 // One pool in which many volumes have room.
@@ -168,32 +170,19 @@ func (b *book) isListed(t *testing.T, front *client) {
 	}
 }
 
-// together runs so many callers at once, and waits for them.
-func together(callers int, call func(caller int)) {
-	var all sync.WaitGroup
-	for caller := 0; caller < callers; caller++ {
-		all.Add(1)
-		go func(caller int) {
-			defer all.Done()
-			call(caller)
-		}(caller)
-	}
-	all.Wait()
-}
-
 // Callers who share names are told the same volume, and each name has one.
 func TestConcurrentCallers(t *testing.T) {
 	t.Parallel()
 	const callers, names = 8, 40
-	csid := newServer(t, roomy).start(t)
-	socket := startFront(t, csid.socket()).socket
+	csid := processes.NewServer(t, roomy).Start(t)
+	socket := processes.StartFront(t, csid.Socket()).Socket
 	told := &book{}
-	together(callers, func(caller int) {
+	processes.Together(callers, func(caller int) {
 		front := newClient(t, socket)
 		for i := 0; i < names; i++ {
 			for _, owner := range []int{caller, (caller + 1) % callers} {
 				name := fmt.Sprintf("pvc-%d-%d", owner, i)
-				id, got := create(soon(t, patience), front, name)
+				id, got := create(soon(t, processes.Patience), front, name)
 				if got.code != codes.OK {
 					t.Errorf("%s: %v", name, got)
 				}
@@ -209,17 +198,17 @@ func TestConcurrentCallers(t *testing.T) {
 
 // createThrough makes volumes while csid is killed and started again several times. A caller is told of an open outcome at
 // worst, and repeats.
-func createThrough(t *testing.T, csid *server, socket string) *book {
+func createThrough(t *testing.T, csid *processes.Server, socket string) *book {
 	const callers, names, kills = 4, 150, 3
 	told, lost, made := &book{}, int32(0), int32(0)
 	over := make(chan struct{})
 	go func() {
 		defer close(over)
-		together(callers, func(caller int) {
+		processes.Together(callers, func(caller int) {
 			front := newClient(t, socket)
 			for i := 0; i < names; {
 				name := fmt.Sprintf("pvc-%d-%d", caller, i)
-				id, got := create(soon(t, patience), front, name)
+				id, got := create(soon(t, processes.Patience), front, name)
 				switch got.code {
 				case codes.OK:
 					told.note(t, name, id)
@@ -236,11 +225,11 @@ func createThrough(t *testing.T, csid *server, socket string) *book {
 		})
 	}()
 	for kill := int32(1); kill <= kills; kill++ {
-		eventually(t, "volumes before a kill", func() bool { return atomic.LoadInt32(&made) >= kill*callers*names/(kills+1) })
+		processes.Eventually(t, "volumes before a kill", func() bool { return atomic.LoadInt32(&made) >= kill*callers*names/(kills+1) })
 		before := atomic.LoadInt32(&lost)
-		csid.kill(t)
-		eventually(t, "a call that is lost", func() bool { return atomic.LoadInt32(&lost) > before })
-		csid.start(t)
+		csid.Kill(t)
+		processes.Eventually(t, "a call that is lost", func() bool { return atomic.LoadInt32(&lost) > before })
+		csid.Start(t)
 	}
 	<-over
 	return told
@@ -249,11 +238,11 @@ func createThrough(t *testing.T, csid *server, socket string) *book {
 // A csid that is killed costs the calls of that time; the front finds the next one by itself.
 func TestCsidThatIsKilled(t *testing.T) {
 	t.Parallel()
-	csid := newServer(t, roomy).start(t)
-	socket := startFront(t, csid.socket()).socket
+	csid := processes.NewServer(t, roomy).Start(t)
+	socket := processes.StartFront(t, csid.Socket()).Socket
 	told := createThrough(t, csid, socket)
 	t.Run("its volumes outlive it", func(t *testing.T) {
-		if !hasTables(t) {
+		if !processes.HasTables(t) {
 			t.Skip("left out: this csid keeps its volumes in memory alone (csid serve --help has no --tables)")
 		}
 		told.isListed(t, newClient(t, socket))
@@ -264,10 +253,10 @@ func TestCsidThatIsKilled(t *testing.T) {
 func TestImpatientCallers(t *testing.T) {
 	t.Parallel()
 	const callers, names = 4, 20
-	csid := newServer(t, roomy).start(t)
-	socket := startFront(t, csid.socket()).socket
+	csid := processes.NewServer(t, roomy).Start(t)
+	socket := processes.StartFront(t, csid.Socket()).Socket
 	told, gaveUp := &book{}, int32(0)
-	together(callers, func(caller int) {
+	processes.Together(callers, func(caller int) {
 		front := newClient(t, socket)
 		for i := 0; i < names; i++ {
 			name := fmt.Sprintf("pvc-%d-%d", caller, i)
@@ -296,25 +285,25 @@ func TestImpatientCallers(t *testing.T) {
 func TestCsidThatStandsStill(t *testing.T) {
 	t.Parallel()
 	const callers, still = 20, 1500 * time.Millisecond
-	csid := startCsid(t)
-	socket := startFront(t, csid.socket()).socket
+	csid := processes.StartCsid(t)
+	socket := processes.StartFront(t, csid.Socket()).Socket
 	newClient(t, socket).wants(t, probe, "", ok(ready))
 	signal := func(which syscall.Signal) {
-		if err := csid.current.Process.Signal(which); err != nil {
+		if err := csid.Current.Process.Signal(which); err != nil {
 			t.Fatal(err)
 		}
 	}
 	signal(syscall.SIGSTOP)
 	begin := time.Now()
 	time.AfterFunc(still, func() { signal(syscall.SIGCONT) })
-	together(callers, func(int) {
+	processes.Together(callers, func(int) {
 		front := newClient(t, socket)
 		for {
 			got := front.send(soon(t, 300*time.Millisecond), probe, nil)
 			if got == ok(ready) {
 				break
 			}
-			if got.code != codes.DeadlineExceeded || time.Since(begin) > patience {
+			if got.code != codes.DeadlineExceeded || time.Since(begin) > processes.Patience {
 				t.Errorf("%v after %v, wanted DEADLINE_EXCEEDED", got, time.Since(begin))
 				break
 			}
@@ -323,18 +312,18 @@ func TestCsidThatStandsStill(t *testing.T) {
 	if spent := time.Since(begin); spent < still || spent > still+soonBack {
 		t.Errorf("all callers were served after %v", spent)
 	}
-	csid.wantsStartAlone(t)
+	csid.WantsStartAlone(t)
 }
 
 // A csid that was killed and started again between two calls costs none.
 func TestCsidThatIsStartedAgain(t *testing.T) {
 	t.Parallel()
-	csid := startCsid(t)
-	front := newClient(t, startFront(t, csid.socket()).socket)
+	csid := processes.StartCsid(t)
+	front := newClient(t, processes.StartFront(t, csid.Socket()).Socket)
 	for round := 0; round < 5; round++ {
 		front.wants(t, probe, "", ok(ready))
-		csid.kill(t)
-		csid.start(t)
+		csid.Kill(t)
+		csid.Start(t)
 	}
 	front.wants(t, probe, "", ok(ready))
 }
@@ -342,12 +331,12 @@ func TestCsidThatIsStartedAgain(t *testing.T) {
 // While there is no csid, calls are told so at once, and it may come later than the front.
 func TestCsidThatIsAway(t *testing.T) {
 	t.Parallel()
-	csid := newServer(t, "")
-	front := newClient(t, startFront(t, csid.socket()).socket)
+	csid := processes.NewServer(t, "")
+	front := newClient(t, processes.StartFront(t, csid.Socket()).Socket)
 	front.isLost(t, probe, "")
-	csid.start(t)
+	csid.Start(t)
 	front.wants(t, probe, "", ok(ready))
-	csid.current.kill()
+	csid.Current.Kill()
 	front.isLost(t, probe, "")
 	front.isLost(t, probe, "")
 }
@@ -355,11 +344,11 @@ func TestCsidThatIsAway(t *testing.T) {
 // Ten thousand calls leave no more memory taken and no more files open than two thousand did.
 func TestTenThousandCalls(t *testing.T) {
 	t.Parallel()
-	csid := startCsid(t)
-	running := startFront(t, csid.socket())
-	front := newClient(t, running.socket)
+	csid := processes.StartCsid(t)
+	running := processes.StartFront(t, csid.Socket())
+	front := newClient(t, running.Socket)
 	calls := func(count int) {
-		together(8, func(caller int) {
+		processes.Together(8, func(caller int) {
 			for i := 0; i < count/8; i++ {
 				front.wants(t, probe, "", ok(ready))
 			}
@@ -368,12 +357,12 @@ func TestTenThousandCalls(t *testing.T) {
 	calls(2000)
 	for _, each := range []struct {
 		name    string
-		process *process
-	}{{"front", running}, {"csid", csid.current}} {
+		process *processes.Process
+	}{{"front", running}, {"csid", csid.Current}} {
 		each := each
-		files, memory := each.process.openFiles(t), each.process.residentBytes(t)
+		files, memory := each.process.OpenFiles(t), each.process.ResidentBytes(t)
 		defer func() {
-			filesAfter, memoryAfter := each.process.openFiles(t), each.process.residentBytes(t)
+			filesAfter, memoryAfter := each.process.OpenFiles(t), each.process.ResidentBytes(t)
 			t.Logf("%s: %d files, %d KiB; before %d files, %d KiB", each.name, filesAfter, memoryAfter>>10, files, memory>>10)
 			if filesAfter > files || memoryAfter > memory+(4<<20) {
 				t.Errorf("%s grew: %d files, %d KiB; before %d files, %d KiB", each.name, filesAfter, memoryAfter>>10, files, memory>>10)

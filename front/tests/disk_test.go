@@ -12,6 +12,8 @@ import (
 	"time"
 
 	"google.golang.org/grpc/codes"
+
+	"./processes"
 )
 
 // How soon service has to be back once a fault has passed.
@@ -23,7 +25,7 @@ func smallDisk(t *testing.T, bytes int) string {
 	if os.Geteuid() != 0 {
 		t.Skip("left out: only root mounts a file system")
 	}
-	path := folder(t)
+	path := processes.Folder(t)
 	if err := syscall.Mount("tmpfs", path, "tmpfs", 0, fmt.Sprintf("size=%d", bytes)); err != nil {
 		t.Skipf("left out: no file system can be mounted: %v", err)
 	}
@@ -50,11 +52,11 @@ func fill(t *testing.T, path string) {
 func back(t *testing.T, front *client, name string) (string, time.Duration) {
 	t.Helper()
 	for begin := time.Now(); ; time.Sleep(10 * time.Millisecond) {
-		id, got := create(soon(t, patience), front, name)
+		id, got := create(soon(t, processes.Patience), front, name)
 		if got.code == codes.OK {
 			return id, time.Since(begin)
 		}
-		if got.code != codes.Unavailable || time.Since(begin) > patience {
+		if got.code != codes.Unavailable || time.Since(begin) > processes.Patience {
 			t.Fatalf("%s: %v after %v", name, got, time.Since(begin))
 		}
 	}
@@ -65,9 +67,9 @@ func back(t *testing.T, front *client, name string) (string, time.Duration) {
 func TestFullDisk(t *testing.T) {
 	t.Parallel()
 	disk := smallDisk(t, 1<<20)
-	csid := newServer(t, roomy)
-	csid.tables = filepath.Join(disk, "volumes.db")
-	front := newClient(t, startFront(t, csid.start(t).socket()).socket)
+	csid := processes.NewServer(t, roomy)
+	csid.Tables = filepath.Join(disk, "volumes.db")
+	front := newClient(t, processes.StartFront(t, csid.Start(t).Socket()).Socket)
 	told := &book{}
 	for round := 0; round < 3; round++ {
 		name := fmt.Sprintf("before-%d", round)
@@ -99,7 +101,7 @@ func refusedCreates(t *testing.T, front *client, round int, told *book) (names [
 	t.Helper()
 	for i := 0; i < 50 && len(names) < 3; i++ {
 		name := fmt.Sprintf("full-%d-%d", round, i)
-		id, got := create(soon(t, patience), front, name)
+		id, got := create(soon(t, processes.Patience), front, name)
 		switch got.code {
 		case codes.OK:
 			told.note(t, name, id)
@@ -113,14 +115,14 @@ func refusedCreates(t *testing.T, front *client, round int, told *book) (names [
 }
 
 // inject has the next system calls of these names, from the next one on, fail once in a process.
-func (p *process) inject(t *testing.T, calls, fault string) {
+func inject(t *testing.T, p *processes.Process, calls, fault string) {
 	t.Helper()
 	program, err := exec.LookPath("strace")
 	if err != nil {
 		t.Skip("left out: strace is not here")
 	}
 	command := exec.Command(program, "-f", "-qq", "-o", "/dev/null", "-p", strconv.Itoa(p.Process.Pid), "-e", "trace="+calls, "-e", "inject="+calls+":error="+fault+":when=1")
-	said := &errorLog{}
+	said := &processes.ErrorLog{}
 	command.Stderr = said
 	if err := command.Start(); err != nil {
 		t.Fatal(err)
@@ -134,7 +136,7 @@ func (p *process) inject(t *testing.T, calls, fault string) {
 		command.Process.Signal(syscall.SIGTERM)
 		<-ended
 	})
-	eventually(t, "strace to attach", func() bool {
+	processes.Eventually(t, "strace to attach", func() bool {
 		select {
 		case <-ended:
 			t.Skipf("left out: strace cannot attach: %s", said)
@@ -160,13 +162,13 @@ func TestFaultOfTheDisk(t *testing.T) {
 		calls, fault := calls, fault
 		t.Run(calls, func(t *testing.T) {
 			t.Parallel()
-			csid := newServer(t, roomy).start(t)
-			front := newClient(t, startFront(t, csid.socket()).socket)
+			csid := processes.NewServer(t, roomy).Start(t)
+			front := newClient(t, processes.StartFront(t, csid.Socket()).Socket)
 			told := &book{}
 			id, _ := back(t, front, "before")
 			told.note(t, "before", id)
-			csid.current.inject(t, calls, fault)
-			if id, got := create(soon(t, patience), front, "open"); got.code != codes.Unavailable {
+			inject(t, csid.Current, calls, fault)
+			if id, got := create(soon(t, processes.Patience), front, "open"); got.code != codes.Unavailable {
 				t.Errorf("%s, %v, wanted UNAVAILABLE", id, got)
 			}
 			front.wants(t, probe, "", ok(ready))

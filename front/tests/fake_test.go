@@ -10,6 +10,8 @@ import (
 	"strings"
 	"sync"
 	"testing"
+
+	"./processes"
 )
 
 // step is what a fake csid does with one frame that it read.
@@ -49,13 +51,13 @@ func startFake(t *testing.T, steps ...step) *fake {
 func behindFront(t *testing.T, steps ...step) (*fake, *client) {
 	t.Helper()
 	csid := startFake(t, steps...)
-	return csid, newClient(t, startFront(t, csid.socket).socket)
+	return csid, newClient(t, processes.StartFront(t, csid.socket).Socket)
 }
 
 // running is a call that csid got and answers once it is let.
 type running struct {
 	csid    *fake
-	process *process
+	process *processes.Process
 	front   *client
 	let     chan struct{}
 	came    chan answer
@@ -65,8 +67,8 @@ func runCall(t *testing.T, path string) *running {
 	t.Helper()
 	call := &running{let: make(chan struct{}), came: make(chan answer)}
 	call.csid = startFake(t, step{wait: call.let, write: okFrame("01")})
-	call.process = startFront(t, call.csid.socket)
-	call.front = newClient(t, call.process.socket)
+	call.process = processes.StartFront(t, call.csid.socket)
+	call.front = newClient(t, call.process.Socket)
 	go func() { call.came <- call.front.send(context.Background(), path, nil) }()
 	call.csid.called(t, 1)
 	return call
@@ -83,7 +85,7 @@ func (r *running) ends(t *testing.T) {
 
 func (f *fake) start(t *testing.T) *fake {
 	t.Helper()
-	f.socket = filepath.Join(folder(t), "csid.sock")
+	f.socket = filepath.Join(processes.Folder(t), "csid.sock")
 	listener, err := net.Listen("unix", f.socket)
 	if err != nil {
 		t.Fatal(err)
@@ -176,7 +178,7 @@ func (f *fake) sees(t *testing.T, want ...string) {
 // ended waits until so many connections came to an end.
 func (f *fake) ended(t *testing.T, count int) {
 	t.Helper()
-	eventually(t, "the end of a connection to csid", func() bool {
+	processes.Eventually(t, "the end of a connection to csid", func() bool {
 		_, ends := f.seen()
 		return ends >= count
 	})
@@ -185,7 +187,7 @@ func (f *fake) ended(t *testing.T, count int) {
 // called waits until so many calls were read.
 func (f *fake) called(t *testing.T, count int) {
 	t.Helper()
-	eventually(t, "a call at csid", func() bool {
+	processes.Eventually(t, "a call at csid", func() bool {
 		calls, _ := f.seen()
 		return len(calls) >= count
 	})

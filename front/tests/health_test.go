@@ -8,6 +8,8 @@ import (
 	"google.golang.org/grpc"
 	"google.golang.org/grpc/codes"
 	"google.golang.org/grpc/health/grpc_health_v1"
+
+	"./processes"
 )
 
 // health asks the health service by its own client.
@@ -17,7 +19,7 @@ type health struct {
 
 func newHealth(t *testing.T, socket string) health {
 	t.Helper()
-	conn, err := grpc.Dial("unix:"+socket, grpc.WithInsecure(), grpc.WithBlock(), grpc.WithTimeout(patience))
+	conn, err := grpc.Dial("unix:"+socket, grpc.WithInsecure(), grpc.WithBlock(), grpc.WithTimeout(processes.Patience))
 	if err != nil {
 		t.Fatal(err)
 	}
@@ -27,7 +29,7 @@ func newHealth(t *testing.T, socket string) health {
 
 func (h health) wants(t *testing.T, service string, want grpc_health_v1.HealthCheckResponse_ServingStatus, code codes.Code) {
 	t.Helper()
-	got, err := h.Check(soon(t, patience), &grpc_health_v1.HealthCheckRequest{Service: service})
+	got, err := h.Check(soon(t, processes.Patience), &grpc_health_v1.HealthCheckRequest{Service: service})
 	if grpc.Code(err) != code || got.GetStatus() != want {
 		t.Errorf("%q: %v, %v", service, got, err)
 	}
@@ -37,13 +39,13 @@ func (h health) wants(t *testing.T, service string, want grpc_health_v1.HealthCh
 func TestHealth(t *testing.T) {
 	t.Parallel()
 	const serving, notServing = grpc_health_v1.HealthCheckResponse_SERVING, grpc_health_v1.HealthCheckResponse_NOT_SERVING
-	csid := newServer(t, "")
-	health := newHealth(t, startFront(t, csid.socket(), "--health").socket)
+	csid := processes.NewServer(t, "")
+	health := newHealth(t, processes.StartFront(t, csid.Socket(), "--health").Socket)
 	for round := 0; round < 2; round++ {
 		health.wants(t, "", notServing, codes.OK)
-		csid.start(t)
-		eventually(t, "a csid that serves", func() bool {
-			got, err := health.Check(soon(t, patience), &grpc_health_v1.HealthCheckRequest{})
+		csid.Start(t)
+		processes.Eventually(t, "a csid that serves", func() bool {
+			got, err := health.Check(soon(t, processes.Patience), &grpc_health_v1.HealthCheckRequest{})
 			return err == nil && got.Status == serving
 		})
 		for _, service := range []string{"csi.v1.Identity", "csi.v1.Controller"} {
@@ -52,7 +54,7 @@ func TestHealth(t *testing.T) {
 		for _, service := range []string{"csi.v1.Node", "csi.v1", "grpc.health.v1.Health"} {
 			health.wants(t, service, grpc_health_v1.HealthCheckResponse_UNKNOWN, codes.NotFound)
 		}
-		csid.kill(t)
+		csid.Kill(t)
 	}
 }
 
@@ -60,10 +62,10 @@ func TestHealth(t *testing.T) {
 func TestHealthWhileCsidStandsStill(t *testing.T) {
 	t.Parallel()
 	csid := startFake(t, step{mute: true})
-	health := newHealth(t, startFront(t, csid.socket, "--health").socket)
+	health := newHealth(t, processes.StartFront(t, csid.socket, "--health").Socket)
 	begin := time.Now()
 	health.wants(t, "", grpc_health_v1.HealthCheckResponse_NOT_SERVING, codes.OK)
-	if spent := time.Since(begin); spent > patience/2 {
+	if spent := time.Since(begin); spent > processes.Patience/2 {
 		t.Errorf("it took %v", spent)
 	}
 }
@@ -71,8 +73,8 @@ func TestHealthWhileCsidStandsStill(t *testing.T) {
 // Watch is answered as csid answers any method that it does not know. So is Check without --health (TestCallsOfVolumes).
 func TestHealthThatIsNotAnswered(t *testing.T) {
 	t.Parallel()
-	csid := startCsid(t)
-	watching, err := newHealth(t, startFront(t, csid.socket(), "--health").socket).Watch(soon(t, patience), &grpc_health_v1.HealthCheckRequest{})
+	csid := processes.StartCsid(t)
+	watching, err := newHealth(t, processes.StartFront(t, csid.Socket(), "--health").Socket).Watch(soon(t, processes.Patience), &grpc_health_v1.HealthCheckRequest{})
 	if err != nil {
 		t.Fatal(err)
 	}
@@ -86,8 +88,8 @@ func TestMalformedHealthCheck(t *testing.T) {
 	t.Parallel()
 	process, monitor := watched(t, startFake(t).socket, "--health")
 	const check = "/grpc.health.v1.Health/Check"
-	newClient(t, process.socket).wants(t, check, "0a", refused(codes.InvalidArgument, "malformed message"))
-	newHealth(t, process.socket).Check(context.Background(), &grpc_health_v1.HealthCheckRequest{})
+	newClient(t, process.Socket).wants(t, check, "0a", refused(codes.InvalidArgument, "malformed message"))
+	newHealth(t, process.Socket).Check(context.Background(), &grpc_health_v1.HealthCheckRequest{})
 	wantsSeries(t, counted(series(t, monitor)), "csid_front_calls_total", map[string]string{
 		`csid_front_calls_total{code="InvalidArgument",method="` + check + `"}`: "1",
 		`csid_front_calls_total{code="OK",method="` + check + `"}`:              "1",

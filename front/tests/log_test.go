@@ -9,17 +9,19 @@ import (
 	"strings"
 	"testing"
 	"time"
+
+	"./processes"
 )
 
 // objects is each line of a log in JSON, without its time.
-func (p *process) objects(t *testing.T) (all []map[string]interface{}) {
+func objects(t *testing.T, p *processes.Process) (all []map[string]interface{}) {
 	t.Helper()
-	for in := json.NewDecoder(strings.NewReader(p.log.String())); ; {
+	for in := json.NewDecoder(strings.NewReader(p.Log.String())); ; {
 		var line map[string]interface{}
 		if err := in.Decode(&line); err == io.EOF {
 			return all
 		} else if err != nil {
-			t.Fatalf("%v: %s", err, p.log)
+			t.Fatalf("%v: %s", err, p.Log)
 		}
 		said, _ := line["time"].(string)
 		if _, err := time.Parse(time.RFC3339, said); err != nil {
@@ -34,17 +36,17 @@ func (p *process) objects(t *testing.T) (all []map[string]interface{}) {
 func TestLogInJSON(t *testing.T) {
 	t.Parallel()
 	csid := startFake(t, step{write: refusalFrame(9, "volume is in use")}, step{mute: true})
-	process := startFront(t, csid.socket, "--log-format", "json", "--metrics", "127.0.0.1:0", "--grace", "100ms")
-	front := newClient(t, process.socket)
+	process := processes.StartFront(t, csid.socket, "--log-format", "json", "--metrics", "127.0.0.1:0", "--grace", "100ms")
+	front := newClient(t, process.Socket)
 	front.call(t, "/a/refused", "")
 	front.call(t, "/a/no path", "")
-	go front.send(soon(t, patience), "/a/mute", nil)
+	go front.send(soon(t, processes.Patience), "/a/mute", nil)
 	csid.called(t, 2)
-	process.terminate(t)
-	if status := process.status(t); status != 1 {
+	process.Terminate(t)
+	if status := process.Status(t); status != 1 {
 		t.Errorf("status %d", status)
 	}
-	got := process.objects(t)
+	got := objects(t, process)
 	refused := func(path string, code float64, text string) map[string]interface{} {
 		return map[string]interface{}{"level": "warn", "message": "call refused", "path": path, "code": code, "text": text}
 	}
@@ -75,17 +77,17 @@ func TestLogInJSON(t *testing.T) {
 // Why a front does not start is a line in JSON once its arguments are read; what is wrong with these is text.
 func TestStartsThatFailInJSON(t *testing.T) {
 	t.Parallel()
-	socket := filepath.Join(folder(t), "absent", "csi.sock")
-	refused := start(t, "", exec.Command(frontProgram(t), "--csid", "csid.sock", "--listen", socket, "--log-format", "json"))
-	if status := refused.status(t); status != 7 {
+	socket := filepath.Join(processes.Folder(t), "absent", "csi.sock")
+	refused := processes.Start(t, "", exec.Command(processes.FrontProgram(t), "--csid", "csid.sock", "--listen", socket, "--log-format", "json"))
+	if status := refused.Status(t); status != 7 {
 		t.Errorf("status %d", status)
 	}
 	want := []map[string]interface{}{{"level": "error", "message": "the front ends", "error": "open " + filepath.Dir(socket) + ": no such file or directory"}}
-	if got := refused.objects(t); !reflect.DeepEqual(got, want) {
+	if got := objects(t, refused); !reflect.DeepEqual(got, want) {
 		t.Errorf("logged %v", got)
 	}
 	for _, words := range []string{"--log-format xml", "--log-format json --late -1s"} {
-		command := exec.Command(frontProgram(t), append([]string{"--csid", "csid.sock", "--listen", socket}, strings.Fields(words)...)...)
-		start(t, "", command).refuses(t, 2, "front: --l")
+		command := exec.Command(processes.FrontProgram(t), append([]string{"--csid", "csid.sock", "--listen", socket}, strings.Fields(words)...)...)
+		refuses(t, processes.Start(t, "", command), 2, "front: --l")
 	}
 }

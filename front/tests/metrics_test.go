@@ -14,17 +14,19 @@ import (
 	"time"
 
 	"google.golang.org/grpc/codes"
+
+	"./processes"
 )
 
 const getCapacity = controller + "GetCapacity"
 
 // watched is a front that tells metrics, and where it does.
-func watched(t *testing.T, csid string, words ...string) (*process, string) {
+func watched(t *testing.T, csid string, words ...string) (*processes.Process, string) {
 	t.Helper()
-	front := startFront(t, csid, append([]string{"--metrics", "127.0.0.1:0"}, words...)...)
+	front := processes.StartFront(t, csid, append([]string{"--metrics", "127.0.0.1:0"}, words...)...)
 	var told []string
-	eventually(t, "the address of metrics", func() bool {
-		told = regexp.MustCompile(`(?m)^front: metrics at (127\.0\.0\.1:[1-9][0-9]*)$`).FindStringSubmatch(front.log.String())
+	processes.Eventually(t, "the address of metrics", func() bool {
+		told = regexp.MustCompile(`(?m)^front: metrics at (127\.0\.0\.1:[1-9][0-9]*)$`).FindStringSubmatch(front.Log.String())
 		return told != nil
 	})
 	return front, "http://" + told[1]
@@ -33,7 +35,7 @@ func watched(t *testing.T, csid string, words ...string) (*process, string) {
 // get is the status and the text that are answered at a place.
 func get(t *testing.T, url string) (int, string) {
 	t.Helper()
-	client := http.Client{Timeout: patience}
+	client := http.Client{Timeout: processes.Patience}
 	answer, err := client.Get(url)
 	if err != nil {
 		t.Fatal(err)
@@ -103,7 +105,7 @@ func TestMetrics(t *testing.T) {
 		step{write: refusalFrame(3, "topology keys are alike")},
 	)
 	process, monitor := watched(t, csid.socket, "--metrics-topology", "zone=a", "--metrics-topology", "zone=b,Zone=b")
-	front := newClient(t, process.socket)
+	front := newClient(t, process.Socket)
 	for _, path := range []string{create, create, create, remove, remove, "/a/b", "/a/ b"} {
 		front.call(t, path, "")
 	}
@@ -140,8 +142,8 @@ func TestMetrics(t *testing.T) {
 	}
 	csid.sees(t, create+" ", create+" ", create+" ", remove+" ", remove+" ", "/a/b ",
 		probe+" ", getCapacity+" ", getCapacity+" 1a0b0a090a047a6f6e65120161", getCapacity+" 1a160a090a047a6f6e651201620a090a045a6f6e65120162")
-	eventually(t, "what was refused in the log", func() bool {
-		return strings.Contains(process.log.String(), "front: "+getCapacity+` 3 "topology keys are alike" `)
+	processes.Eventually(t, "what was refused in the log", func() bool {
+		return strings.Contains(process.Log.String(), "front: "+getCapacity+` 3 "topology keys are alike" `)
 	})
 }
 
@@ -183,7 +185,7 @@ func TestMetricsOfTheProcess(t *testing.T) {
 func TestMetricsOfInventedMethods(t *testing.T) {
 	t.Parallel()
 	process, monitor := watched(t, startFake(t).socket)
-	front := newClient(t, process.socket)
+	front := newClient(t, process.Socket)
 	for i := 0; i < 50; i++ {
 		front.wants(t, fmt.Sprintf("/csi.v1.Controller/Invented%d", i), "", ok(ready))
 	}
@@ -202,10 +204,10 @@ func TestMetricsWhileCsidStandsStill(t *testing.T) {
 	let := make(chan struct{})
 	csid := startFake(t, step{wait: let, write: okFrame("01")})
 	process, monitor := watched(t, csid.socket)
-	front := newClient(t, process.socket)
+	front := newClient(t, process.Socket)
 	came := make(chan answer)
 	for call := 0; call < 3; call++ {
-		go func() { came <- front.send(soon(t, 3*patience), probe, nil) }()
+		go func() { came <- front.send(soon(t, 3*processes.Patience), probe, nil) }()
 	}
 	csid.called(t, 1)
 	begin := time.Now()
@@ -215,14 +217,14 @@ func TestMetricsWhileCsidStandsStill(t *testing.T) {
 		health <- fmt.Sprint(status, " ", text)
 	}()
 	var got map[string]string
-	eventually(t, "three calls that wait", func() bool {
+	processes.Eventually(t, "three calls that wait", func() bool {
 		got = series(t, monitor)
 		return got["csid_front_waiting_calls"] == "3"
 	})
 	if told := <-health; told != "503 context deadline exceeded\n" {
 		t.Errorf("told %q", told)
 	}
-	if spent := time.Since(begin); spent > patience {
+	if spent := time.Since(begin); spent > processes.Patience {
 		t.Errorf("it took %v", spent)
 	}
 	wantsSeries(t, got, "csid_front_csid_up", map[string]string{"csid_front_csid_up": "0"})
@@ -244,7 +246,7 @@ func TestScrapesAtOnce(t *testing.T) {
 	t.Parallel()
 	_, monitor := watched(t, startFake(t, step{mute: true}).socket)
 	statuses := make(chan int, 7)
-	together(cap(statuses), func(int) {
+	processes.Together(cap(statuses), func(int) {
 		status, _ := get(t, monitor+"/metrics")
 		statuses <- status
 	})
@@ -267,7 +269,7 @@ func TestSilentScrape(t *testing.T) {
 		t.Fatal(err)
 	}
 	defer conn.Close()
-	conn.SetDeadline(time.Now().Add(patience))
+	conn.SetDeadline(time.Now().Add(processes.Patience))
 	io.WriteString(conn, "GET /metr")
 	if _, err := io.ReadAll(conn); err != nil {
 		t.Errorf("it was not closed: %v", err)
@@ -277,8 +279,8 @@ func TestSilentScrape(t *testing.T) {
 // The sample configuration has 10 MiB in zone a and 4 MiB in zone b. 1 MiB is taken there, and 3 MiB here.
 func TestMetricsOfPools(t *testing.T) {
 	t.Parallel()
-	process, monitor := watched(t, startCsid(t).socket(), "--metrics-topology", "zone=a", "--metrics-topology", "zone=b", "--metrics-topology", "zone=c")
-	front := newClient(t, process.socket)
+	process, monitor := watched(t, processes.StartCsid(t).Socket(), "--metrics-topology", "zone=a", "--metrics-topology", "zone=b", "--metrics-topology", "zone=c")
+	front := newClient(t, process.Socket)
 	front.wants(t, controller+"CreateVolume", createA, ok(volume1))
 	front.wants(t, controller+"CreateVolume", "0a0162"+threeB+block+zoneB, ok(volume2))
 	wantsSeries(t, series(t, monitor), "csid_front_available_capacity_bytes", map[string]string{
@@ -291,18 +293,18 @@ func TestMetricsOfPools(t *testing.T) {
 
 func TestHealthOverHTTP(t *testing.T) {
 	t.Parallel()
-	csid := newServer(t, "")
-	_, monitor := watched(t, csid.socket())
+	csid := processes.NewServer(t, "")
+	_, monitor := watched(t, csid.Socket())
 	for round := 0; round < 2; round++ {
 		if status, text := get(t, monitor+"/healthz"); status != 503 || !regexp.MustCompile("^csid: dial unix .*\n$").MatchString(text) {
 			t.Errorf("without csid: %d %q", status, text)
 		}
-		csid.start(t)
-		eventually(t, "a healthy front", func() bool {
+		csid.Start(t)
+		processes.Eventually(t, "a healthy front", func() bool {
 			status, text := get(t, monitor+"/healthz")
 			return status == 200 && text == "ok\n"
 		})
-		csid.kill(t)
+		csid.Kill(t)
 	}
 	if status, _ := get(t, monitor+"/else"); status != 404 {
 		t.Errorf("status %d", status)
@@ -323,8 +325,9 @@ func TestMetricsThatCannotBeTold(t *testing.T) {
 		{"9809", "front: --metrics: \"9809\" is no HOST:PORT\n", 2},
 	}
 	for _, row := range rows {
-		socket := filepath.Join(folder(t), "csi.sock")
-		start(t, socket, exec.Command(frontProgram(t), "--csid", csid.socket, "--listen", socket, "--metrics", row.metrics)).refuses(t, row.status, row.part)
+		socket := filepath.Join(processes.Folder(t), "csi.sock")
+		command := exec.Command(processes.FrontProgram(t), "--csid", csid.socket, "--listen", socket, "--metrics", row.metrics)
+		refuses(t, processes.Start(t, socket, command), row.status, row.part)
 		if _, err := os.Lstat(socket); !os.IsNotExist(err) {
 			t.Errorf("%s: the socket: %v", row.metrics, err)
 		}
@@ -335,7 +338,7 @@ func TestMetricsThatCannotBeTold(t *testing.T) {
 func TestMetricsOfGreatMessages(t *testing.T) {
 	t.Parallel()
 	process, monitor := watched(t, startFake(t).socket)
-	if got := newClient(t, process.socket).send(soon(t, patience), probe, make([]byte, 1048577)); got.code != codes.ResourceExhausted {
+	if got := newClient(t, process.Socket).send(soon(t, processes.Patience), probe, make([]byte, 1048577)); got.code != codes.ResourceExhausted {
 		t.Errorf("%v", got)
 	}
 	wantsSeries(t, counted(series(t, monitor)), "csid_front_calls_total", map[string]string{`csid_front_calls_total{code="ResourceExhausted",method="` + probe + `"}`: "1"})

@@ -5,6 +5,8 @@ import (
 	"testing"
 
 	"google.golang.org/grpc/codes"
+
+	"./processes"
 )
 
 // text is the longest text of a reply.
@@ -137,9 +139,9 @@ func TestUnansweredCall(t *testing.T) {
 	csid.ended(t, 1)
 	front.wants(t, probe, "", ok(ready))
 	closing := (&fake{closes: true}).start(t)
-	front = newClient(t, startFront(t, closing.socket).socket)
+	front = newClient(t, processes.StartFront(t, closing.socket).Socket)
 	for _, size := range []int{0, 1048576} {
-		if got := front.send(soon(t, patience), "/a/b", make([]byte, size)); got != unanswered {
+		if got := front.send(soon(t, processes.Patience), "/a/b", make([]byte, size)); got != unanswered {
 			t.Errorf("%v, wanted %v", got, unanswered)
 		}
 	}

@@ -8,6 +8,8 @@ import (
 	"time"
 
 	"google.golang.org/grpc/codes"
+
+	"./processes"
 )
 
 const withNode = roomy + `
@@ -45,14 +47,14 @@ func TestRepeatedCallsOverKills(t *testing.T) {
 	t.Parallel()
 	const volumes, kills = 80, 8
 	calls := lives(volumes)
-	calm := newClient(t, startFront(t, newServer(t, withNode).start(t).socket()).socket)
+	calm := newClient(t, processes.StartFront(t, processes.NewServer(t, withNode).Start(t).Socket()).Socket)
 	var wanted []answer
 	for _, call := range calls {
 		wanted = append(wanted, calm.call(t, call.path, call.message))
 	}
 
-	csid := newServer(t, withNode).start(t)
-	front := newClient(t, startFront(t, csid.socket()).socket)
+	csid := processes.NewServer(t, withNode).Start(t)
+	front := newClient(t, processes.StartFront(t, csid.Socket()).Socket)
 	lost, answered, over := int32(0), int32(0), make(chan struct{})
 	go func() {
 		defer close(over)
@@ -71,10 +73,10 @@ func TestRepeatedCallsOverKills(t *testing.T) {
 		}
 	}()
 	for kill := 1; kill <= kills; kill++ {
-		eventually(t, "calls before a kill", func() bool { return int(atomic.LoadInt32(&answered)) >= kill*len(calls)/(kills+1) })
+		processes.Eventually(t, "calls before a kill", func() bool { return int(atomic.LoadInt32(&answered)) >= kill*len(calls)/(kills+1) })
 		time.Sleep(time.Duration(rand.Intn(4000)) * time.Microsecond)
-		csid.kill(t)
-		csid.start(t)
+		csid.Kill(t)
+		csid.Start(t)
 	}
 	<-over
 	t.Logf("%d calls, %d kills, %d calls were UNAVAILABLE", len(calls), kills, lost)

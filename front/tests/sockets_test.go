@@ -10,12 +10,14 @@ import (
 	"time"
 
 	"google.golang.org/grpc/codes"
+
+	"./processes"
 )
 
 // deadSocket makes a socket that nobody answers on, as a program leaves that was killed.
 func deadSocket(t *testing.T) string {
 	t.Helper()
-	path := filepath.Join(folder(t), "csi.sock")
+	path := filepath.Join(processes.Folder(t), "csi.sock")
 	listener, err := net.ListenUnix("unix", &net.UnixAddr{Name: path, Net: "unix"})
 	if err != nil {
 		t.Fatal(err)
@@ -26,18 +28,18 @@ func deadSocket(t *testing.T) string {
 }
 
 // frontAt is a front that is to listen there.
-func frontAt(t *testing.T, csid, socket string) *process {
+func frontAt(t *testing.T, csid, socket string) *processes.Process {
 	t.Helper()
-	return start(t, socket, exec.Command(frontProgram(t), "--csid", csid, "--listen", socket))
+	return processes.Start(t, socket, exec.Command(processes.FrontProgram(t), "--csid", csid, "--listen", socket))
 }
 
 // refuses waits until a front ends with the status of a socket that cannot be made, and one line about it.
-func (p *process) refuses(t *testing.T, status int, part string) {
+func refuses(t *testing.T, p *processes.Process, status int, part string) {
 	t.Helper()
-	if got := p.status(t); got != status {
+	if got := p.Status(t); got != status {
 		t.Errorf("status %d, wanted %d", got, status)
 	}
-	if log := p.log.String(); !strings.HasPrefix(log, "front: ") || strings.Count(log, "\n") != 1 || !strings.Contains(log, part) {
+	if log := p.Log.String(); !strings.HasPrefix(log, "front: ") || strings.Count(log, "\n") != 1 || !strings.Contains(log, part) {
 		t.Errorf("logged %q, wanted a line with %q", log, part)
 	}
 }
@@ -45,21 +47,21 @@ func (p *process) refuses(t *testing.T, status int, part string) {
 func TestDeadSocketGivesWay(t *testing.T) {
 	t.Parallel()
 	csid := startFake(t)
-	front := frontAt(t, csid.socket, deadSocket(t)).answers(t)
-	newClient(t, front.socket).wants(t, probe, "", ok(ready))
+	front := frontAt(t, csid.socket, deadSocket(t)).Answers(t)
+	newClient(t, front.Socket).wants(t, probe, "", ok(ready))
 }
 
 func TestLiveSocketStays(t *testing.T) {
 	t.Parallel()
 	csid := startFake(t)
-	front := startFront(t, csid.socket)
-	frontAt(t, csid.socket, front.socket).refuses(t, 7, "somebody answers")
-	newClient(t, front.socket).wants(t, probe, "", ok(ready))
+	front := processes.StartFront(t, csid.socket)
+	refuses(t, frontAt(t, csid.socket, front.Socket), 7, "somebody answers")
+	newClient(t, front.Socket).wants(t, probe, "", ok(ready))
 }
 
 func TestOtherFilesStay(t *testing.T) {
 	t.Parallel()
-	place := folder(t)
+	place := processes.Folder(t)
 	plain, link := filepath.Join(place, "plain"), filepath.Join(place, "link")
 	if err := os.WriteFile(plain, []byte("text"), 0o600); err != nil {
 		t.Fatal(err)
@@ -68,7 +70,7 @@ func TestOtherFilesStay(t *testing.T) {
 		t.Fatal(err)
 	}
 	for _, path := range []string{plain, link, place} {
-		frontAt(t, "csid.sock", path).refuses(t, 7, "no socket")
+		refuses(t, frontAt(t, "csid.sock", path), 7, "no socket")
 	}
 	if text, err := os.ReadFile(plain); err != nil || string(text) != "text" {
 		t.Errorf("the plain file: %q, %v", text, err)
@@ -80,46 +82,46 @@ func TestOtherFilesStay(t *testing.T) {
 
 func TestSocketThatCannotBeMade(t *testing.T) {
 	t.Parallel()
-	frontAt(t, "csid.sock", filepath.Join(folder(t), "absent", "csi.sock")).refuses(t, 7, "absent")
-	frontAt(t, "csid.sock", filepath.Join(folder(t), strings.Repeat("a", 120))).refuses(t, 7, "aaa")
+	refuses(t, frontAt(t, "csid.sock", filepath.Join(processes.Folder(t), "absent", "csi.sock")), 7, "absent")
+	refuses(t, frontAt(t, "csid.sock", filepath.Join(processes.Folder(t), strings.Repeat("a", 120))), 7, "aaa")
 }
 
 // Of fronts that start together over a dead socket exactly one gets it, and keeps it.
 func TestFrontsThatStartTogether(t *testing.T) {
 	t.Parallel()
 	csid, socket := startFake(t), deadSocket(t)
-	var fronts []*process
+	var fronts []*processes.Process
 	for len(fronts) < 6 {
 		fronts = append(fronts, frontAt(t, csid.socket, socket))
 	}
-	left := func() (living []*process) {
+	left := func() (living []*processes.Process) {
 		for _, front := range fronts {
 			select {
-			case <-front.ended:
+			case <-front.Ended:
 			default:
 				living = append(living, front)
 			}
 		}
 		return living
 	}
-	eventually(t, "one front", func() bool { return len(left()) <= 1 })
+	processes.Eventually(t, "one front", func() bool { return len(left()) <= 1 })
 	if len(left()) != 1 {
 		t.Fatal("no front lives")
 	}
-	newClient(t, left()[0].answers(t).socket).wants(t, probe, "", ok(ready))
+	newClient(t, left()[0].Answers(t).Socket).wants(t, probe, "", ok(ready))
 }
 
 func TestEndpoint(t *testing.T) {
 	t.Parallel()
 	for _, scheme := range []string{"", "unix:", "unix://"} {
-		csid, socket := startFake(t), filepath.Join(folder(t), "csi.sock")
-		command := exec.Command(frontProgram(t), "--csid", csid.socket)
+		csid, socket := startFake(t), filepath.Join(processes.Folder(t), "csi.sock")
+		command := exec.Command(processes.FrontProgram(t), "--csid", csid.socket)
 		command.Env = append(os.Environ(), "CSI_ENDPOINT="+scheme+socket)
-		newClient(t, start(t, socket, command).answers(t).socket).wants(t, probe, "", ok(ready))
+		newClient(t, processes.Start(t, socket, command).Answers(t).Socket).wants(t, probe, "", ok(ready))
 	}
-	command := exec.Command(frontProgram(t), "--csid", "csid.sock")
+	command := exec.Command(processes.FrontProgram(t), "--csid", "csid.sock")
 	command.Env = append(os.Environ(), "CSI_ENDPOINT=tcp://127.0.0.1:10000")
-	start(t, "", command).refuses(t, 2, "no Unix socket")
+	refuses(t, processes.Start(t, "", command), 2, "no Unix socket")
 }
 
 // After SIGTERM the call that runs is answered, no further one is taken, and the socket is gone.
@@ -127,13 +129,13 @@ func TestTermDuringACall(t *testing.T) {
 	t.Parallel()
 	running := runCall(t, "/a/b")
 	process := running.process
-	process.terminate(t)
-	eventually(t, "the end of the socket", func() bool { return !isAnswered(process.socket) })
+	process.Terminate(t)
+	processes.Eventually(t, "the end of the socket", func() bool { return !processes.IsAnswered(process.Socket) })
 	running.ends(t)
-	if status := process.status(t); status != 0 || process.log.String() != "" {
-		t.Errorf("status %d, logged %q", status, process.log)
+	if status := process.Status(t); status != 0 || process.Log.String() != "" {
+		t.Errorf("status %d, logged %q", status, process.Log)
 	}
-	if _, err := os.Lstat(process.socket); !os.IsNotExist(err) {
+	if _, err := os.Lstat(process.Socket); !os.IsNotExist(err) {
 		t.Errorf("the socket: %v", err)
 	}
 	running.csid.sees(t, "/a/b ")
@@ -143,26 +145,26 @@ func TestTermDuringACall(t *testing.T) {
 func TestTermBehindAnotherFront(t *testing.T) {
 	t.Parallel()
 	csid := startFake(t)
-	first := startFront(t, csid.socket)
-	if err := os.Remove(first.socket); err != nil {
+	first := processes.StartFront(t, csid.socket)
+	if err := os.Remove(first.Socket); err != nil {
 		t.Fatal(err)
 	}
-	second := frontAt(t, csid.socket, first.socket).answers(t)
-	first.terminate(t)
-	if status := first.status(t); status != 0 {
+	second := frontAt(t, csid.socket, first.Socket).Answers(t)
+	first.Terminate(t)
+	if status := first.Status(t); status != 0 {
 		t.Errorf("status %d", status)
 	}
-	newClient(t, second.socket).wants(t, probe, "", ok(ready))
+	newClient(t, second.Socket).wants(t, probe, "", ok(ready))
 }
 
 func TestTermWithoutACall(t *testing.T) {
 	t.Parallel()
 	csid := startFake(t)
-	process := startFront(t, csid.socket)
-	newClient(t, process.socket).wants(t, probe, "", ok(ready))
-	process.terminate(t)
-	if status := process.status(t); status != 0 || process.log.String() != "" {
-		t.Errorf("status %d, logged %q", status, process.log)
+	process := processes.StartFront(t, csid.socket)
+	newClient(t, process.Socket).wants(t, probe, "", ok(ready))
+	process.Terminate(t)
+	if status := process.Status(t); status != 0 || process.Log.String() != "" {
+		t.Errorf("status %d, logged %q", status, process.Log)
 	}
 }
 
@@ -174,20 +176,20 @@ func TestTermWithACallThatNeverEnds(t *testing.T) {
 		t.Run(name, func(t *testing.T) {
 			t.Parallel()
 			csid := startFake(t, step{mute: true})
-			process := startFront(t, csid.socket, "--grace", grace)
-			front := newClient(t, process.socket)
+			process := processes.StartFront(t, csid.socket, "--grace", grace)
+			front := newClient(t, process.Socket)
 			lost := make(chan answer)
-			go func() { lost <- front.send(soon(t, 3*patience), "/a/b", nil) }()
+			go func() { lost <- front.send(soon(t, 3*processes.Patience), "/a/b", nil) }()
 			csid.called(t, 1)
-			process.terminate(t)
+			process.Terminate(t)
 			if grace == "1h" {
 				time.Sleep(100 * time.Millisecond)
-				process.terminate(t)
+				process.Terminate(t)
 			}
 			if got := <-lost; got.code != codes.Unavailable {
 				t.Errorf("%v, wanted UNAVAILABLE", got)
 			}
-			if status := process.status(t); status != 1 {
+			if status := process.Status(t); status != 1 {
 				t.Errorf("status %d", status)
 			}
 		})
@@ -198,15 +200,15 @@ func TestTermWithACallThatNeverEnds(t *testing.T) {
 func TestTermWhileAReplyIsLate(t *testing.T) {
 	t.Parallel()
 	csid := startFake(t, step{mute: true})
-	process := startFront(t, csid.socket)
-	front := newClient(t, process.socket)
+	process := processes.StartFront(t, csid.socket)
+	front := newClient(t, process.Socket)
 	if got := front.send(soon(t, 100*time.Millisecond), "/a/b", nil); got.code != codes.DeadlineExceeded {
 		t.Errorf("%v, wanted DEADLINE_EXCEEDED", got)
 	}
-	eventually(t, "the call in the log", func() bool { return gaveUp(process, "/a/b") })
+	processes.Eventually(t, "the call in the log", func() bool { return gaveUp(process, "/a/b") })
 	begin := time.Now()
-	process.terminate(t)
-	if status := process.status(t); status != 0 || time.Since(begin) > patience/4 {
+	process.Terminate(t)
+	if status := process.Status(t); status != 0 || time.Since(begin) > processes.Patience/4 {
 		t.Errorf("status %d after %v", status, time.Since(begin))
 	}
 }
@@ -218,7 +220,7 @@ func TestVersion(t *testing.T) {
 	if err != nil {
 		t.Fatal(err)
 	}
-	for name, program := range map[string]string{"front": frontProgram(t), "csid": csidProgram(t)} {
+	for name, program := range map[string]string{"front": processes.FrontProgram(t), "csid": processes.CsidProgram(t)} {
 		said, err := exec.Command(program, "--version").Output()
 		if err != nil || string(said) != name+" "+string(number) {
 			t.Errorf("%s said %q, %v", name, said, err)
