@@ -1,0 +1,198 @@
+// Package sidecars makes the calls of Kubernetes' csi-provisioner and csi-attacher to the built front before the built csid: in their order,
+// with their deadlines and repeats, and reading codes as they do. The pauses between repeats are shorter, so that the tests end.
+package sidecars
+
+import (
+	"context"
+	"errors"
+	"fmt"
+	"os"
+	"strconv"
+	"testing"
+	"time"
+
+	"google.golang.org/grpc"
+	"google.golang.org/grpc/codes"
+	"google.golang.org/grpc/status"
+
+	"../processes"
+)
+
+const (
+	identity   = "/csi.v1.Identity/"
+	controller = "/csi.v1.Controller/"
+)
+
+var (
+	// How many times slower csid is than a proved one: one that checks contracts while it runs takes seconds for a connection. All times grow by it.
+	slowness = factor("CSID_SLOWNESS")
+
+	// The deadlines of deploy/kubernetes.yaml (--timeout), and of csi-lib-utils for Probe.
+	callTimeout  = 30 * time.Second * slowness
+	probeTimeout = time.Second * slowness
+
+	// A sidecar repeats after 1 s, then twice as long, up to 5 minutes; kubelet starts a container again after 10 s.
+	firstPause   = 10 * time.Millisecond * slowness
+	longestPause = 320 * time.Millisecond * slowness
+	restartPause = 100 * time.Millisecond * slowness
+
+	// How long a sidecar may take for one thing, with all repeats, before a test gives it up.
+	patience = processes.Patience * slowness
+)
+
+// factor is a whole number of the environment, else 1.
+func factor(variable string) time.Duration {
+	text := os.Getenv(variable)
+	if text == "" {
+		return 1
+	}
+	number, err := strconv.Atoi(text)
+	if err != nil || number < 1 {
+		panic(fmt.Sprintf("%s=%s is no whole number from 1 on", variable, text))
+	}
+	return time.Duration(number)
+}
+
+// Capabilities of a plugin and of its controller service, and access modes, as the specification numbers them.
+const (
+	controllerService        = 1
+	accessibilityConstraints = 2
+
+	createDeleteVolume        = 1
+	publishUnpublishVolume    = 2
+	listVolumes               = 3
+	getCapacity               = 4
+	publishReadonly           = 8
+	listVolumesPublishedNodes = 10
+	singleNodeMultiWriter     = 13
+	modifyVolume              = 14
+
+	modeSingleNodeWriter      = 1
+	modeSingleNodeMultiWriter = 7
+)
+
+// sidecar is a process of a sidecar that has come up: its connection, and what it asked at the start.
+type sidecar struct {
+	*grpc.ClientConn
+	driver     string
+	plugin     map[int32]bool
+	controller map[int32]bool
+}
+
+// startSidecar starts a sidecar as kubelet does: where its start fails, again and again.
+func startSidecar(t *testing.T, socket string) *sidecar {
+	t.Helper()
+	for end := time.Now().Add(patience); ; time.Sleep(restartPause) {
+		started, err := comeUp(t, socket)
+		if err == nil {
+			return started
+		}
+		if time.Now().After(end) {
+			t.Fatalf("the sidecar did not come up: %v", err)
+		}
+	}
+}
+
+// comeUp is the start of a sidecar, up to the error with which it ends.
+func comeUp(t *testing.T, socket string) (*sidecar, error) {
+	t.Helper()
+	conn, err := grpc.Dial("unix:"+socket, grpc.WithInsecure(), grpc.WithBlock(), grpc.WithTimeout(patience))
+	if err != nil {
+		t.Fatal(err)
+	}
+	t.Cleanup(func() { conn.Close() })
+	s := &sidecar{ClientConn: conn}
+	for _, step := range []func() error{s.probeForever, s.askDriverName, s.askCapabilities} {
+		if err := step(); err != nil {
+			return nil, err
+		}
+	}
+	return s, nil
+}
+
+// ask makes one call with a deadline.
+func (s *sidecar) ask(length time.Duration, path string, request, response interface{}) error {
+	ctx, cancel := context.WithTimeout(context.Background(), length)
+	defer cancel()
+	return s.Invoke(ctx, path, request, response)
+}
+
+// probeForever waits until the driver is ready. A deadline that is over is waited out, any other error ends the sidecar.
+func (s *sidecar) probeForever() error {
+	for {
+		got := &probeResponse{}
+		err := s.ask(probeTimeout, identity+"Probe", &empty{}, got)
+		if err != nil && grpc.Code(err) != codes.DeadlineExceeded {
+			return err
+		}
+		if err == nil && (got.Ready == nil || got.Ready.Value) {
+			return nil
+		}
+		time.Sleep(firstPause)
+	}
+}
+
+func (s *sidecar) askDriverName() error {
+	got := &getPluginInfoResponse{}
+	if err := s.ask(probeTimeout, identity+"GetPluginInfo", &empty{}, got); err != nil {
+		return err
+	}
+	if got.Name == "" {
+		return errors.New("the driver has no name")
+	}
+	s.driver = got.Name
+	return nil
+}
+
+func (s *sidecar) askCapabilities() (err error) {
+	if s.plugin, err = s.capabilities(identity + "GetPluginCapabilities"); err != nil {
+		return err
+	}
+	s.controller, err = s.capabilities(controller + "ControllerGetCapabilities")
+	return err
+}
+
+func (s *sidecar) capabilities(path string) (map[int32]bool, error) {
+	got := &capabilitiesResponse{}
+	if err := s.ask(probeTimeout, path, &empty{}, got); err != nil {
+		return nil, err
+	}
+	set := map[int32]bool{}
+	for _, one := range got.Capabilities {
+		if one.Kind != nil {
+			set[one.Kind.Type] = true
+		}
+	}
+	return set, nil
+}
+
+// isFinal tells whether a call that ended so is over: behind other errors it may still go on in the driver.
+func isFinal(err error) bool {
+	state, is := status.FromError(err)
+	if !is {
+		return false
+	}
+	switch state.Code() {
+	case codes.Canceled, codes.DeadlineExceeded, codes.Unavailable, codes.ResourceExhausted, codes.Aborted:
+		return false
+	}
+	return true
+}
+
+// repeat makes a call until it is done or over, with pauses that grow.
+func (s *sidecar) repeat(path string, request, response interface{}) error {
+	end, pause := time.Now().Add(patience), firstPause
+	for {
+		err := s.ask(callTimeout, path, request, response)
+		if err == nil || isFinal(err) {
+			return err
+		}
+		if time.Now().After(end) {
+			return fmt.Errorf("not over in time: %w", err)
+		}
+		time.Sleep(pause)
+		if pause *= 2; pause > longestPause {
+			pause = longestPause
+		}
+	}
+}
