@@ -8,6 +8,7 @@ import (
 	"fmt"
 	"os"
 	"strconv"
+	"sync/atomic"
 	"testing"
 	"time"
 
@@ -77,6 +78,8 @@ type sidecar struct {
 	driver     string
 	plugin     map[int32]bool
 	controller map[int32]bool
+	// How many calls were made once more, since they might not have been over.
+	repeats int32
 }
 
 // startSidecar starts a sidecar as kubelet does: where its start fails, again and again.
@@ -190,6 +193,7 @@ func (s *sidecar) repeat(path string, request, response interface{}) error {
 		if time.Now().After(end) {
 			return fmt.Errorf("not over in time: %w", err)
 		}
+		atomic.AddInt32(&s.repeats, 1)
 		time.Sleep(pause)
 		if pause *= 2; pause > longestPause {
 			pause = longestPause

@@ -1,0 +1,225 @@
+package sidecars
+
+import (
+	"context"
+	"fmt"
+	"math/rand"
+	"sync"
+	"sync/atomic"
+	"testing"
+	"time"
+
+	"google.golang.org/grpc"
+	"google.golang.org/grpc/codes"
+
+	"../processes"
+)
+
+// How far the life of a claim's volume goes.
+const (
+	provisioned = iota
+	attached
+	detached
+	deleted
+	stages
+)
+
+// ledger is what stands by what the sidecars were answered: the node of each volume by its id, "" for none.
+type ledger struct {
+	mutex sync.Mutex
+	nodes map[string]string
+}
+
+func (l *ledger) note(id, node string) {
+	l.mutex.Lock()
+	defer l.mutex.Unlock()
+	l.nodes[id] = node
+}
+
+func (l *ledger) strike(id string) {
+	l.mutex.Lock()
+	defer l.mutex.Unlock()
+	delete(l.nodes, id)
+}
+
+// cluster is the sidecars of one cluster, and what stands in it.
+type cluster struct {
+	*provisioner
+	*attacher
+	ledger
+}
+
+func startCluster(t *testing.T, socket string) *cluster {
+	t.Helper()
+	return &cluster{provisioner: startProvisioner(t, socket), attacher: startAttacher(t, socket), ledger: ledger{nodes: map[string]string{}}}
+}
+
+// lead leads the volume of a claim so far, and writes down what was answered.
+func (k *cluster) lead(c claim, stage int) error {
+	v, err := k.provision(c)
+	if err != nil {
+		return err
+	}
+	k.note(v.VolumeID, "")
+	// csi-provisioner asks again where it could not write the persistent volume down.
+	if again, err := k.provision(c); err != nil || again.VolumeID != v.VolumeID {
+		return fmt.Errorf("%s was %s, and is then %v, %v", c.uid, v.VolumeID, again, err)
+	}
+	node := "worker-" + c.zone
+	if stage >= attached {
+		if _, err := k.attach(v.VolumeID, node, k.persistentContext(v)); err != nil {
+			return err
+		}
+		k.note(v.VolumeID, node)
+	}
+	if stage >= detached {
+		if err := k.detach(v.VolumeID, node); err != nil {
+			return err
+		}
+		k.note(v.VolumeID, "")
+	}
+	if stage >= deleted {
+		if err := k.remove(v.VolumeID); err != nil {
+			return err
+		}
+		k.strike(v.VolumeID)
+	}
+	return nil
+}
+
+// workers has several workers of a sidecar take the claims, each those of its turn, and waits for them.
+func workers(count int, claims []claim, take func(i int, c claim)) {
+	processes.Together(count, func(worker int) {
+		for i := worker; i < len(claims); i += count {
+			take(i, claims[i])
+		}
+	})
+}
+
+// killUntil kills csid and starts it again, each 100 to 300 ms, until something is over, and tells how often.
+func killUntil(t *testing.T, csid *processes.Server, random *rand.Rand, over <-chan struct{}) (kills int) {
+	t.Helper()
+	for ; ; kills++ {
+		select {
+		case <-over:
+			return kills
+		case <-time.After(time.Duration(100+random.Intn(200)) * time.Millisecond * slowness):
+			csid.Kill(t)
+			csid.Start(t)
+		}
+	}
+}
+
+// While csid is killed again and again, claims get, attach, detach and delete their volumes: each that was answered stands once as it was
+// answered, and nothing else does.
+func TestKills(t *testing.T) {
+	t.Parallel()
+	const count, wantedKills = 100, 5
+	random := rand.New(rand.NewSource(1))
+	csid, socket := startDriver(t, twoZones)
+	k, claims := startCluster(t, socket), newClaims(random, count)
+	arrivals := make([]time.Duration, count)
+	for i := range arrivals {
+		arrivals[i] = time.Duration(random.Intn(200)) * time.Millisecond * slowness
+	}
+	over := make(chan struct{})
+	go func() {
+		defer close(over)
+		workers(8, claims, func(i int, c claim) {
+			time.Sleep(arrivals[i])
+			if err := k.lead(c, i%stages); err != nil {
+				t.Errorf("claim %d: %v", i, err)
+			}
+		})
+	}()
+	kills := killUntil(t, csid, random, over)
+	repeats := atomic.LoadInt32(&k.provisioner.repeats) + atomic.LoadInt32(&k.attacher.repeats)
+	t.Logf("%d kills, %d calls were repeated", kills, repeats)
+	if kills < wantedKills || repeats == 0 {
+		t.Errorf("%d kills, %d repeats: this shows nothing", kills, repeats)
+	}
+	if want := count * 3 / 4; len(k.nodes) != want {
+		t.Errorf("%d volumes were answered and not deleted, wanted %d", len(k.nodes), want)
+	}
+	wantsListed(t, k.attacher, k.nodes)
+}
+
+// Two provisioners that both take themselves for the leader make one volume a claim, and delete it together.
+func TestTwoProvisioners(t *testing.T) {
+	t.Parallel()
+	const count = 100
+	random := rand.New(rand.NewSource(2))
+	_, socket := startDriver(t, twoZones)
+	claims := newClaims(random, count)
+	var leaders [2]*cluster
+	for i := range leaders {
+		leaders[i] = startCluster(t, socket)
+	}
+	ids := [2][count]string{}
+	processes.Together(len(leaders), func(leader int) {
+		workers(4, claims, func(i int, c claim) {
+			v, err := leaders[leader].provision(c)
+			if err != nil {
+				t.Errorf("provisioner %d, claim %d: %v", leader, i, err)
+				return
+			}
+			ids[leader][i] = v.VolumeID
+		})
+	})
+	if ids[0] != ids[1] {
+		t.Errorf("one provisioner was answered %v, the other %v", ids[0], ids[1])
+	}
+	stand := map[string]string{}
+	for _, id := range ids[0] {
+		stand[id] = ""
+	}
+	if len(stand) != count {
+		t.Errorf("%d volumes for %d claims", len(stand), count)
+	}
+	wantsListed(t, leaders[0].attacher, stand)
+	processes.Together(len(leaders), func(leader int) {
+		workers(4, claims, func(i int, _ claim) {
+			if err := leaders[leader].remove(ids[0][i]); err != nil {
+				t.Errorf("provisioner %d, claim %d: %v", leader, i, err)
+			}
+		})
+	})
+	wantsListed(t, leaders[1].attacher, map[string]string{})
+}
+
+// A claim that is deleted while its volume is made: the call is cancelled, which ends nothing in csid, so csi-provisioner repeats it until it
+// is over, and deletes what came. Nothing is left.
+func TestClaimsThatAreDeletedEarly(t *testing.T) {
+	t.Parallel()
+	const count = 80
+	random := rand.New(rand.NewSource(3))
+	_, socket := startDriver(t, twoZones)
+	k, claims := startCluster(t, socket), newClaims(random, count)
+	lengths := make([]time.Duration, count)
+	for i := range lengths {
+		lengths[i] = time.Duration(random.Intn(4000)) * time.Microsecond * slowness
+	}
+	var cancelled int32
+	workers(8, claims, func(i int, c claim) {
+		ctx, cancel := context.WithCancel(context.Background())
+		time.AfterFunc(lengths[i], cancel)
+		err := k.provisioner.Invoke(ctx, controller+"CreateVolume", k.createRequest(c), &createVolumeResponse{})
+		cancel()
+		if grpc.Code(err) == codes.Canceled {
+			atomic.AddInt32(&cancelled, 1)
+		} else if err != nil {
+			t.Errorf("claim %d: %v", i, err)
+		}
+		if err := k.lead(c, deleted); err != nil {
+			t.Errorf("claim %d: %v", i, err)
+		}
+	})
+	t.Logf("%d of %d calls were cancelled", cancelled, count)
+	if cancelled == 0 {
+		t.Error("no call was cancelled: this shows nothing")
+	}
+	wantsListed(t, k.attacher, map[string]string{})
+	for _, zone := range zones {
+		k.wantsCapacity(t, zone, 1024*mebibyte)
+	}
+}
