@@ -43,10 +43,19 @@ type capacityRange struct {
 	LimitBytes    int64 `protobuf:"varint,2,opt,name=limit_bytes,proto3"`
 }
 
+// volumeCapability has the mount in a oneof, as generated code has it: golang/protobuf writes a oneof behind all other fields.
 type volumeCapability struct {
-	Mount      *mountVolume `protobuf:"bytes,2,opt,name=mount,proto3"`
-	AccessMode *accessMode  `protobuf:"bytes,3,opt,name=access_mode,proto3"`
+	AccessType interface{ isAccessType() } `protobuf_oneof:"access_type"`
+	AccessMode *accessMode                 `protobuf:"bytes,3,opt,name=access_mode,proto3"`
 }
+
+type accessMount struct {
+	Mount *mountVolume `protobuf:"bytes,2,opt,name=mount,proto3,oneof"`
+}
+
+func (*accessMount) isAccessType() {}
+
+func (*volumeCapability) XXX_OneofWrappers() []interface{} { return []interface{}{(*accessMount)(nil)} }
 
 type mountVolume struct {
 	FsType string `protobuf:"bytes,1,opt,name=fs_type,proto3"`

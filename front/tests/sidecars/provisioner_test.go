@@ -51,7 +51,7 @@ func (s *sidecar) volumeCapability() *volumeCapability {
 	if s.controller[singleNodeMultiWriter] {
 		mode = modeSingleNodeMultiWriter
 	}
-	return &volumeCapability{Mount: &mountVolume{FsType: "ext4"}, AccessMode: &accessMode{Mode: mode}}
+	return &volumeCapability{AccessType: &accessMount{&mountVolume{FsType: "ext4"}}, AccessMode: &accessMode{Mode: mode}}
 }
 
 // requirements are the zones of the cluster, the preferred ones from the selected one on; of a strict claim the selected one alone.
