@@ -28,9 +28,9 @@ var (
 	// How many times slower csid is than a proved one: one that checks contracts while it runs takes seconds for a connection. All times grow by it.
 	slowness = factor("CSID_SLOWNESS")
 
-	// The deadlines of deploy/kubernetes.yaml (--timeout), and of csi-lib-utils for Probe.
+	// The deadlines of deploy/kubernetes.yaml (--timeout), and of csi-attacher for what it asks at its start.
 	callTimeout  = 30 * time.Second * slowness
-	probeTimeout = time.Second * slowness
+	shortTimeout = time.Second * slowness
 
 	// A sidecar repeats after 1 s, then twice as long, up to 5 minutes; kubelet starts a container again after 10 s.
 	firstPause   = 10 * time.Millisecond * slowness
@@ -124,7 +124,7 @@ func (s *sidecar) ask(length time.Duration, path string, request, response inter
 func (s *sidecar) probeForever() error {
 	for {
 		got := &probeResponse{}
-		err := s.ask(probeTimeout, identity+"Probe", &empty{}, got)
+		err := s.ask(callTimeout, identity+"Probe", &empty{}, got)
 		if err != nil && grpc.Code(err) != codes.DeadlineExceeded {
 			return err
 		}
@@ -137,7 +137,7 @@ func (s *sidecar) probeForever() error {
 
 func (s *sidecar) askDriverName() error {
 	got := &getPluginInfoResponse{}
-	if err := s.ask(probeTimeout, identity+"GetPluginInfo", &empty{}, got); err != nil {
+	if err := s.ask(shortTimeout, identity+"GetPluginInfo", &empty{}, got); err != nil {
 		return err
 	}
 	if got.Name == "" {
@@ -157,7 +157,7 @@ func (s *sidecar) askCapabilities() (err error) {
 
 func (s *sidecar) capabilities(path string) (map[int32]bool, error) {
 	got := &capabilitiesResponse{}
-	if err := s.ask(probeTimeout, path, &empty{}, got); err != nil {
+	if err := s.ask(shortTimeout, path, &empty{}, got); err != nil {
 		return nil, err
 	}
 	set := map[int32]bool{}
