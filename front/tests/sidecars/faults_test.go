@@ -62,8 +62,12 @@ func (k *cluster) lead(c claim, stage int) error {
 	}
 	k.note(v.VolumeID, "")
 	// csi-provisioner asks again where it could not write the persistent volume down.
-	if again, err := k.provision(c); err != nil || again.VolumeID != v.VolumeID {
-		return fmt.Errorf("%s was %s, and is then %v, %v", c.uid, v.VolumeID, again, err)
+	again, err := k.provision(c)
+	if err != nil {
+		return err
+	}
+	if again.VolumeID != v.VolumeID {
+		return fmt.Errorf("%s was %s, and is then %s", c.uid, v.VolumeID, again.VolumeID)
 	}
 	node := "worker-" + c.zone
 	if stage >= attached {
@@ -96,8 +100,8 @@ func workers(count int, claims []claim, take func(i int, c claim)) {
 	})
 }
 
-// killUntil kills csid and starts it again, each 100 to 300 ms, until something is over, and tells how often.
-func killUntil(t *testing.T, csid *processes.Server, random *rand.Rand, over <-chan struct{}) (kills int) {
+// killUntil kills csid and starts it again, each time 100 to 300 ms after it answers, until something is over, and tells how often.
+func killUntil(t *testing.T, csid *processes.Server, front string, random *rand.Rand, over <-chan struct{}) (kills int) {
 	t.Helper()
 	for ; ; kills++ {
 		select {
@@ -106,6 +110,7 @@ func killUntil(t *testing.T, csid *processes.Server, random *rand.Rand, over <-c
 		case <-time.After(time.Duration(100+random.Intn(200)) * time.Millisecond * slowness):
 			csid.Kill(t)
 			csid.Start(t)
+			startSidecar(t, front)
 		}
 	}
 }
@@ -120,7 +125,7 @@ func TestKills(t *testing.T) {
 	k, claims := startCluster(t, socket), newClaims(random, count)
 	arrivals := make([]time.Duration, count)
 	for i := range arrivals {
-		arrivals[i] = time.Duration(random.Intn(200)) * time.Millisecond * slowness
+		arrivals[i] = time.Duration(random.Intn(400)) * time.Millisecond * slowness
 	}
 	over := make(chan struct{})
 	go func() {
@@ -132,7 +137,7 @@ func TestKills(t *testing.T) {
 			}
 		})
 	}()
-	kills := killUntil(t, csid, random, over)
+	kills := killUntil(t, csid, socket, random, over)
 	repeats := atomic.LoadInt32(&k.provisioner.repeats) + atomic.LoadInt32(&k.attacher.repeats)
 	t.Logf("%d kills, %d calls were repeated", kills, repeats)
 	if kills < wantedKills || repeats == 0 {

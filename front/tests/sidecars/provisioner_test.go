@@ -42,7 +42,7 @@ func newClaims(random *rand.Rand, count int) (claims []claim) {
 func newUID(random *rand.Rand) string {
 	b := make([]byte, 16)
 	random.Read(b)
-	return fmt.Sprintf("%x-%x-4%x-a%x-%x", b[:4], b[4:6], b[6:8], b[8:10], b[10:])
+	return fmt.Sprintf("%x-%x-%x-%x-%x", b[:4], b[4:6], b[6:8], b[8:10], b[10:])
 }
 
 // volumeCapability is what ReadWriteOnce and a file system come to for a driver that knows, or does not know, SINGLE_NODE_MULTI_WRITER.
