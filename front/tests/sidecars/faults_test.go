@@ -192,37 +192,47 @@ func TestTwoProvisioners(t *testing.T) {
 	wantsListed(t, leaders[1].attacher, map[string]string{})
 }
 
-// A claim that is deleted while its volume is made: the call is cancelled, which ends nothing in csid, so csi-provisioner repeats it until it
-// is over, and deletes what came. Nothing is left.
+// cancelEach begins a create for each claim, and cancels it within some milliseconds. It tells how many calls were answered nevertheless.
+func (k *cluster) cancelEach(t *testing.T, claims []claim, random *rand.Rand) (answered int) {
+	t.Helper()
+	for i, c := range claims {
+		ctx, cancel := context.WithCancel(context.Background())
+		time.AfterFunc(time.Duration(random.Intn(4000))*time.Microsecond*slowness, cancel)
+		err := k.provisioner.Invoke(ctx, controller+"CreateVolume", k.createRequest(c), &createVolumeResponse{})
+		cancel()
+		switch grpc.Code(err) {
+		case codes.OK:
+			answered++
+		case codes.Canceled:
+		default:
+			t.Errorf("claim %d: %v", i, err)
+		}
+	}
+	return answered
+}
+
+// A claim that is deleted while its volume is made: the call is cancelled, and the volume may be made nevertheless. So csi-provisioner repeats
+// the call until it is over, and deletes what came. Nothing is left.
 func TestClaimsThatAreDeletedEarly(t *testing.T) {
 	t.Parallel()
 	const count = 80
 	random := rand.New(rand.NewSource(3))
 	_, socket := startDriver(t, twoZones)
 	k, claims := startCluster(t, socket), newClaims(random, count)
-	lengths := make([]time.Duration, count)
-	for i := range lengths {
-		lengths[i] = time.Duration(random.Intn(4000)) * time.Microsecond * slowness
+	answered := k.cancelEach(t, claims, random)
+	made, err := k.list(0)
+	if err != nil {
+		t.Fatal(err)
 	}
-	var cancelled int32
+	t.Logf("%d of %d creates were answered, %d volumes were made", answered, count, len(made))
+	if len(made) <= answered {
+		t.Error("no volume was made by a call that was cancelled: this shows nothing")
+	}
 	workers(8, claims, func(i int, c claim) {
-		ctx, cancel := context.WithCancel(context.Background())
-		time.AfterFunc(lengths[i], cancel)
-		err := k.provisioner.Invoke(ctx, controller+"CreateVolume", k.createRequest(c), &createVolumeResponse{})
-		cancel()
-		if grpc.Code(err) == codes.Canceled {
-			atomic.AddInt32(&cancelled, 1)
-		} else if err != nil {
-			t.Errorf("claim %d: %v", i, err)
-		}
 		if err := k.lead(c, deleted); err != nil {
 			t.Errorf("claim %d: %v", i, err)
 		}
 	})
-	t.Logf("%d of %d calls were cancelled", cancelled, count)
-	if cancelled == 0 {
-		t.Error("no call was cancelled: this shows nothing")
-	}
 	wantsListed(t, k.attacher, map[string]string{})
 	for _, zone := range zones {
 		k.wantsCapacity(t, zone, 1024*mebibyte)
