@@ -1,0 +1,214 @@
+package main
+
+import (
+	"bytes"
+	"errors"
+	"io"
+	"os"
+	"os/exec"
+	"path/filepath"
+	"strings"
+	"syscall"
+	"testing"
+)
+
+// What statfs says of ext4, and of a mount with noatime.
+const (
+	ext4Magic = 0xef53
+	noATime   = 1024
+)
+
+// newDeviceSession is a session that mounts, where that can be.
+func newDeviceSession(t *testing.T) *session {
+	t.Helper()
+	needsDevices(t)
+	s := newSession(t)
+	t.Cleanup(func() { s.release(t) })
+	return s
+}
+
+// needsDevices leaves a test out where no file can be attached and mounted.
+func needsDevices(t *testing.T) {
+	t.Helper()
+	data, at := filepath.Join(folder(t), "trial.img"), folder(t)
+	if err := (devices{}).create(data, 1<<20); err != nil {
+		t.Fatal(err)
+	}
+	err := devices{}.stage(data, at, &capability{Mount: &mountAccess{}}, false)
+	if undone := (devices{}).unstage(data, at); err == nil {
+		err = undone
+	}
+	if err != nil {
+		t.Skipf("left out: %v", err)
+	}
+}
+
+// release takes away what a test that failed left mounted or attached.
+func (s *session) release(t *testing.T) {
+	data := s.at("p1/vol-1.img")
+	for _, name := range []string{"targets/a", "targets/b", "staging"} {
+		if at, err := place(data, s.at(name)); err == nil && at != nowhere {
+			t.Errorf("%s was left", name)
+			command("umount", s.at(name))
+		}
+	}
+	if device, err := attached(data); err != nil || device != "" {
+		t.Errorf("%q was left, %v", device, err)
+		command("losetup", "--detach", device)
+	}
+}
+
+func statistics(t *testing.T, path string) (of syscall.Statfs_t) {
+	t.Helper()
+	if err := syscall.Statfs(path, &of); err != nil {
+		t.Fatal(err)
+	}
+	return of
+}
+
+func TestLifeInDevices(t *testing.T) {
+	t.Parallel()
+	testLife(t, newDeviceSession(t))
+}
+
+// A mounted volume has the size that the controller says, ext4 and the flags of its mount.
+func TestMountedVolume(t *testing.T) {
+	t.Parallel()
+	s := newDeviceSession(t)
+	s.run(t, attachedRows(asMount)...)
+	s.run(t, stageRow(ofMount), publishRow(ofMount, ""))
+	if file, err := os.Stat(s.at("p1/vol-1.img")); err != nil || file.Size() != 4194304 {
+		t.Errorf("%v, %v", file, err)
+	}
+	of := statistics(t, s.at("targets/a"))
+	total := int64(of.Blocks) * of.Frsize
+	if of.Type != ext4Magic || of.Flags&noATime == 0 || total < 2<<20 || total > 4<<20 {
+		t.Errorf("%+v", of)
+	}
+	used, err := devices{}.usage(s.at("p1/vol-1.img"), s.at("targets/a"))
+	if err != nil || used == nil || used.Total != total || used.Available != int64(of.Bavail)*of.Frsize || used.Used != int64(of.Blocks-of.Bfree)*of.Frsize {
+		t.Errorf("%v, %v", used, err)
+	}
+	s.run(t, unpublishRow, unstageRow,
+		row{nodeSocket, "NodeGetVolumeStats", `{` + vol1 + `,"volume_path":"AT/targets/a"}`, "node: NotFound: the volume is not at AT/targets/a"},
+		stageRow(strings.Replace(ofMount, "ext4", "xfs", 1)).answers(`node: InvalidArgument: volume_capability: the file system "xfs" is not ext4`))
+}
+
+// A volume is published read-only beside being written, and is that way again only if it is asked so again.
+func TestReadOnlyMount(t *testing.T) {
+	t.Parallel()
+	s := newDeviceSession(t)
+	const readOnly = `,"readonly":true`
+	at := func(name string, r row) row {
+		r.message = strings.Replace(r.message, "targets/a", "targets/"+name, 1)
+		return r
+	}
+	s.run(t, attachedRows(asMount)...)
+	s.run(t, stageRow(ofMount), publishRow(ofMount, ""), at("b", publishRow(ofMount, readOnly)), at("b", publishRow(ofMount, readOnly)))
+	s.writes(t, "targets/a/file")
+	s.finds(t, "targets/b/file")
+	if err := os.WriteFile(s.at("targets/b/file"), nil, 0o600); !errors.Is(err, syscall.EROFS) {
+		t.Errorf("a write: %v", err)
+	}
+	s.run(t,
+		publishRow(ofMount, readOnly).answers("node: AlreadyExists: the volume is published otherwise at AT/targets/a"),
+		at("b", publishRow(ofMount, "")).answers("node: AlreadyExists: the volume is published otherwise at AT/targets/b"),
+		at("b", unpublishRow), unpublishRow, unstageRow)
+	s.isEmpty(t)
+}
+
+// What the controller attached read-only cannot be written, however it is published.
+func TestReadOnlyAttachment(t *testing.T) {
+	t.Parallel()
+	s := newDeviceSession(t)
+	stage := stageRow(ofMount + `,"publish_context":{"readonly":"true"}`)
+	s.run(t, attachedRows(asMount)...)
+	s.run(t, stageRow(ofMount), unstageRow, stage, stage)
+	for _, more := range []string{"", `,"readonly":true`} {
+		s.run(t, publishRow(ofMount, more), publishRow(ofMount, more))
+		if err := os.WriteFile(s.at("targets/a/file"), nil, 0o600); !errors.Is(err, syscall.EROFS) {
+			t.Errorf("a write: %v", err)
+		}
+		s.run(t, unpublishRow)
+	}
+	s.run(t, unstageRow)
+}
+
+// A block volume is a device of its size, and keeps what was written.
+func TestBlockVolume(t *testing.T) {
+	t.Parallel()
+	s := newDeviceSession(t)
+	s.run(t, attachedRows(asBlock)...)
+	s.run(t, publishRow(ofBlock, "").answers(notStaged))
+	s.run(t, stageRow(ofBlock), stageRow(ofBlock), publishRow(ofBlock, ""), publishRow(ofBlock, ""),
+		publishRow(ofBlock, `,"readonly":true`).answers("node: FailedPrecondition: a block volume is read-only only where the controller attached it so"),
+		row{nodeSocket, "NodeGetVolumeStats", `{` + vol1 + `,"volume_path":"AT/targets/a"}`, `{"usage":[{"total":4194304,"unit":1}]}`})
+	writeDevice(t, s.at("targets/a"))
+	s.run(t, unpublishRow, unpublishRow, unstageRow, unstageRow)
+	s.isEmpty(t)
+	if data, err := os.ReadFile(s.at("p1/vol-1.img")); err != nil || string(data[:4]) != "kept" {
+		t.Errorf("%v", err)
+	}
+	s.run(t, stageRow(ofBlock+`,"publish_context":{"readonly":"true"}`), publishRow(ofBlock, `,"readonly":true`))
+	if err := os.WriteFile(s.at("targets/a"), []byte("lost"), 0o600); !errors.Is(err, syscall.EPERM) {
+		t.Errorf("a write: %v", err)
+	}
+	s.run(t, unpublishRow, unstageRow)
+}
+
+// writeDevice writes to the beginning of a device of 4 MiB.
+func writeDevice(t *testing.T, path string) {
+	t.Helper()
+	file, err := os.OpenFile(path, os.O_RDWR|os.O_SYNC, 0)
+	if err != nil {
+		t.Fatal(err)
+	}
+	defer file.Close()
+	if size, err := file.Seek(0, io.SeekEnd); err != nil || size != 4194304 {
+		t.Errorf("%d bytes, %v", size, err)
+	}
+	if _, err := file.WriteAt([]byte("kept"), 0); err != nil {
+		t.Error(err)
+	}
+}
+
+// A file with other contents than a file system gets none, and stays as it is.
+func TestOtherContents(t *testing.T) {
+	t.Parallel()
+	s := newDeviceSession(t)
+	data := s.at("p1/vol-1.img")
+	s.run(t, attachedRows(asMount)...)
+	if err := os.WriteFile(data, make([]byte, 4194304), 0o600); err != nil {
+		t.Fatal(err)
+	}
+	if said, err := exec.Command("mkswap", data).CombinedOutput(); err != nil {
+		t.Skipf("left out: mkswap: %v: %s", err, said)
+	}
+	before, err := os.ReadFile(data)
+	if err != nil {
+		t.Fatal(err)
+	}
+	stage := stageRow(ofMount)
+	if got := s.call(stage.socket, stage.method, stage.message); !strings.HasPrefix(got, "node: Internal: mount: exit status ") {
+		t.Error(got)
+	}
+	s.run(t, publishRow(ofMount, "").answers(notStaged), unstageRow)
+	if after, err := os.ReadFile(data); err != nil || !bytes.Equal(after, before) {
+		t.Errorf("the file was changed, %v", err)
+	}
+}
+
+// Files that stand at a target where nothing is mounted are not removed.
+func TestFilesInTarget(t *testing.T) {
+	t.Parallel()
+	s := newDeviceSession(t)
+	s.run(t, attachedRows(asMount)...)
+	s.run(t, stageRow(ofMount))
+	if err := os.Mkdir(s.at("targets/a"), 0o700); err != nil {
+		t.Fatal(err)
+	}
+	s.writes(t, "targets/a/file")
+	s.run(t, unpublishRow.answers("node: Internal: remove AT/targets/a: directory not empty"))
+	s.finds(t, "targets/a/file")
+	s.run(t, unstageRow)
+}
