@@ -23,38 +23,48 @@ func newDeviceSession(t *testing.T) *session {
 	t.Helper()
 	needsDevices(t)
 	s := newSession(t)
-	t.Cleanup(func() { s.release(t) })
+	t.Cleanup(func() { release(t, s.folder) })
 	return s
 }
 
-// needsDevices leaves a test out where no file can be attached and mounted.
+// needsDevices leaves a test out where no file can be attached.
 func needsDevices(t *testing.T) {
 	t.Helper()
-	data, at := filepath.Join(folder(t), "trial.img"), folder(t)
+	data := filepath.Join(folder(t), "trial.img")
 	if err := (devices{}).create(data, 1<<20); err != nil {
 		t.Fatal(err)
 	}
-	err := devices{}.stage(data, at, &capability{Mount: &mountAccess{}}, false)
-	if undone := (devices{}).unstage(data, at); err == nil {
-		err = undone
-	}
+	device, err := attach(data, false)
 	if err != nil {
-		t.Skipf("left out: %v", err)
+		t.Log(err)
+		t.Skip("left out: nothing is mounted, since no loop device can be attached (it takes root)")
+	}
+	if err := command("losetup", "--detach", device); err != nil {
+		t.Fatal(err)
 	}
 }
 
-// release takes away what a test that failed left mounted or attached.
-func (s *session) release(t *testing.T) {
-	data := s.at("p1/vol-1.img")
-	for _, name := range []string{"targets/a", "targets/b", "staging"} {
-		if at, err := place(data, s.at(name)); err == nil && at != nowhere {
-			t.Errorf("%s was left", name)
-			command("umount", s.at(name))
+// release takes away what a test left mounted or attached in a folder, and says so.
+func release(t *testing.T, folder string) {
+	t.Helper()
+	for _, each := range []struct{ list, words, undo string }{
+		{"findmnt", "--list --noheadings --output TARGET", "umount"},
+		{"losetup", "--list --noheadings --output NAME,BACK-FILE", "losetup --detach"},
+	} {
+		listed, err := output(each.list, strings.Fields(each.words)...)
+		if err != nil {
+			t.Error(err)
 		}
-	}
-	if device, err := attached(data); err != nil || device != "" {
-		t.Errorf("%q was left, %v", device, err)
-		command("losetup", "--detach", device)
+		for _, line := range strings.Split(listed, "\n") {
+			if !strings.Contains(line, folder+"/") {
+				continue
+			}
+			t.Errorf("left: %s", line)
+			undo := append(strings.Fields(each.undo), strings.Fields(line)[0])
+			if err := command(undo[0], undo[1:]...); err != nil {
+				t.Error(err)
+			}
+		}
 	}
 }
 
@@ -90,8 +100,8 @@ func TestMountedVolume(t *testing.T) {
 		t.Errorf("%v, %v", used, err)
 	}
 	s.run(t, unpublishRow, unstageRow,
-		row{nodeSocket, "NodeGetVolumeStats", `{` + vol1 + `,"volume_path":"AT/targets/a"}`, "node: NotFound: the volume is not at AT/targets/a"},
-		stageRow(strings.Replace(ofMount, "ext4", "xfs", 1)).answers(`node: InvalidArgument: volume_capability: the file system "xfs" is not ext4`))
+		row{nodeSocket, "NodeGetVolumeStats", `{` + vol1 + `,"volume_path":"AT/targets/a"}`, "node-plugin: NotFound: the volume is not at AT/targets/a"},
+		stageRow(strings.Replace(ofMount, "ext4", "xfs", 1)).answers(`node-plugin: InvalidArgument: volume_capability: the file system "xfs" is not ext4`))
 }
 
 // A volume is published read-only beside being written, and is that way again only if it is asked so again.
@@ -111,8 +121,8 @@ func TestReadOnlyMount(t *testing.T) {
 		t.Errorf("a write: %v", err)
 	}
 	s.run(t,
-		publishRow(ofMount, readOnly).answers("node: AlreadyExists: the volume is published otherwise at AT/targets/a"),
-		at("b", publishRow(ofMount, "")).answers("node: AlreadyExists: the volume is published otherwise at AT/targets/b"),
+		publishRow(ofMount, readOnly).answers("node-plugin: AlreadyExists: the volume is published otherwise at AT/targets/a"),
+		at("b", publishRow(ofMount, "")).answers("node-plugin: AlreadyExists: the volume is published otherwise at AT/targets/b"),
 		at("b", unpublishRow), unpublishRow, unstageRow)
 	s.isEmpty(t)
 }
@@ -141,7 +151,7 @@ func TestBlockVolume(t *testing.T) {
 	s.run(t, attachedRows(asBlock)...)
 	s.run(t, publishRow(ofBlock, "").answers(notStaged))
 	s.run(t, stageRow(ofBlock), stageRow(ofBlock), publishRow(ofBlock, ""), publishRow(ofBlock, ""),
-		publishRow(ofBlock, `,"readonly":true`).answers("node: FailedPrecondition: a block volume is read-only only where the controller attached it so"),
+		publishRow(ofBlock, `,"readonly":true`).answers("node-plugin: FailedPrecondition: a block volume is read-only only where the controller attached it so"),
 		row{nodeSocket, "NodeGetVolumeStats", `{` + vol1 + `,"volume_path":"AT/targets/a"}`, `{"usage":[{"total":4194304,"unit":1}]}`})
 	writeDevice(t, s.at("targets/a"))
 	s.run(t, unpublishRow, unpublishRow, unstageRow, unstageRow)
@@ -189,7 +199,7 @@ func TestOtherContents(t *testing.T) {
 		t.Fatal(err)
 	}
 	stage := stageRow(ofMount)
-	if got := s.call(stage.socket, stage.method, stage.message); !strings.HasPrefix(got, "node: Internal: mount: exit status ") {
+	if got := s.call(stage.socket, stage.method, stage.message); !strings.HasPrefix(got, "node-plugin: Internal: mount: exit status ") {
 		t.Error(got)
 	}
 	s.run(t, publishRow(ofMount, "").answers(notStaged), unstageRow)
@@ -208,7 +218,7 @@ func TestFilesInTarget(t *testing.T) {
 		t.Fatal(err)
 	}
 	s.writes(t, "targets/a/file")
-	s.run(t, unpublishRow.answers("node: Internal: remove AT/targets/a: directory not empty"))
+	s.run(t, unpublishRow.answers("node-plugin: Internal: remove AT/targets/a: directory not empty"))
 	s.finds(t, "targets/a/file")
 	s.run(t, unstageRow)
 }

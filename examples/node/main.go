@@ -1,4 +1,4 @@
-// node is an example of a node plugin, for one machine: it puts the volumes that csid keeps count of at paths, as loop devices with ext4 over
+// node-plugin is an example of a node plugin, for one machine: it puts the volumes that csid keeps count of at paths, as loop devices with ext4 over
 // files. It is no part of what is proved.
 package main
 
@@ -28,11 +28,11 @@ var version = "unknown"
 
 const usageText = `Puts volumes of csid at paths of one machine: an example of a node plugin (examples/node/README.md).
 
-usage: node serve --listen PATH --controller PATH --node ID --pool NAME=FOLDER.. [--name NAME] [--topology KEY=VALUE,..]
-                  [--max-volumes N] [--without-devices]
-       node call --socket PATH METHOD [JSON]
-       node sweep --controller PATH --pool NAME=FOLDER.. [--remove]
-       node --version
+usage: node-plugin serve --listen PATH --controller PATH --node ID --pool NAME=FOLDER.. [--name NAME] [--topology KEY=VALUE,..]
+                         [--max-volumes N] [--without-devices]
+       node-plugin call --socket PATH METHOD [JSON]
+       node-plugin sweep --controller PATH --pool NAME=FOLDER.. [--remove]
+       node-plugin --version
 `
 
 func main() {
@@ -46,7 +46,7 @@ func run(words []string, shown, log io.Writer) int {
 		command = words[0]
 	}
 	if command == "--version" {
-		fmt.Fprintln(shown, "node", version)
+		fmt.Fprintln(shown, "node-plugin", version)
 		return done
 	}
 	if command == "--help" {
@@ -66,10 +66,10 @@ func ended(err error, log io.Writer) int {
 		return done
 	}
 	if why, isRefusal := status.FromError(err); isRefusal {
-		fmt.Fprintf(log, "node: %v: %s\n", why.Code(), why.Message())
+		fmt.Fprintf(log, "node-plugin: %v: %s\n", why.Code(), why.Message())
 		return failed
 	}
-	fmt.Fprintf(log, "node: %v\n", err)
+	fmt.Fprintf(log, "node-plugin: %v\n", err)
 	if errors.As(err, new(wordsError)) {
 		return badWords
 	}

@@ -88,7 +88,7 @@ func newSession(t *testing.T, words ...string) *session {
 // startNode starts the node plugin, which takes over the socket of one that was killed.
 func (s *session) startNode(t *testing.T) {
 	t.Helper()
-	s.node = start(t, "NODE", "out/node", s.at("node.sock"), s.words...)
+	s.node = start(t, "NODE_PLUGIN", "out/node-plugin", s.at("node.sock"), s.words...)
 }
 
 func (s *session) at(name string) string { return filepath.Join(s.folder, name) }
@@ -124,8 +124,8 @@ const (
 	staging          = `,"staging_target_path":"AT/staging"`
 	target           = `,"target_path":"AT/targets/a"`
 	vol1             = `"volume_id":"vol-1"`
-	notStaged        = "node: FailedPrecondition: the volume is not staged"
-	noVolume         = "node: NotFound: volume not found"
+	notStaged        = "node-plugin: FailedPrecondition: the volume is not staged"
+	noVolume         = "node-plugin: NotFound: volume not found"
 )
 
 // attached is how an orchestrator comes to a volume of 4 MiB at this node.
@@ -217,13 +217,13 @@ func TestWhatThePluginIs(t *testing.T) {
 		row{nodeSocket, "Probe", "", `{"ready":{"value":true}}`},
 		row{nodeSocket, "NodeGetInfo", "", `{"node_id":"n1","max_volumes_per_node":2,"accessible_topology":{"segments":{"zone":"a"}}}`},
 		row{nodeSocket, "NodeGetCapabilities", "", `{"capabilities":[{"rpc":{"type":1}},{"rpc":{"type":2}}]}`},
-		row{nodeSocket, "CreateVolume", "", "node: Unimplemented: unknown service csi.v1.Controller"})
+		row{nodeSocket, "CreateVolume", "", "node-plugin: Unimplemented: unknown service csi.v1.Controller"})
 }
 
 func TestRefusals(t *testing.T) {
 	t.Parallel()
 	const stage, unstage, publish, unpublish, stats = "NodeStageVolume", "NodeUnstageVolume", "NodePublishVolume", "NodeUnpublishVolume", "NodeGetVolumeStats"
-	invalid := func(text string) string { return "node: InvalidArgument: " + text }
+	invalid := func(text string) string { return "node-plugin: InvalidArgument: " + text }
 	rows := []struct{ method, message, want string }{
 		{stage, ``, invalid("volume_id is missing")},
 		{stage, `"volume_id":"../vol-1"` + staging + ofMount + inPool1, noVolume},
@@ -239,13 +239,13 @@ func TestRefusals(t *testing.T) {
 		{stage, vol1 + staging + inPool1 + ofBlock, invalid("there are no block devices with --without-devices")},
 		{stage, vol1 + staging + inPool1 + ofMount + `,"publish_context":{"readonly":"true"}`, invalid("nothing is read-only with --without-devices")},
 		{stage, vol1 + staging + ofMount, invalid("volume_context: the key pool is missing")},
-		{stage, vol1 + staging + ofMount + `,"volume_context":{"pool":"p9"}`, `node: FailedPrecondition: the node has no folder for the pool "p9"`},
+		{stage, vol1 + staging + ofMount + `,"volume_context":{"pool":"p9"}`, `node-plugin: FailedPrecondition: the node has no folder for the pool "p9"`},
 		{publish, ``, invalid("volume_id is missing")},
 		{publish, `"volume_id":"../vol-1"` + staging + target + ofMount, noVolume},
 		{publish, `"volume_id":"vol-2"` + staging + target + ofMount, noVolume},
 		{publish, vol1 + staging + ofMount, invalid("target_path is missing")},
 		{publish, vol1 + staging + ofMount + `,"target_path":"a"`, invalid("target_path is not absolute")},
-		{publish, vol1 + target + ofMount, "node: FailedPrecondition: staging_target_path is missing"},
+		{publish, vol1 + target + ofMount, "node-plugin: FailedPrecondition: staging_target_path is missing"},
 		{publish, vol1 + target + ofMount + `,"staging_target_path":"a"`, invalid("staging_target_path is not absolute")},
 		{publish, vol1 + staging + target, invalid("volume_capability is missing")},
 		{publish, vol1 + staging + target + ofBlock, invalid("there are no block devices with --without-devices")},
@@ -286,9 +286,9 @@ func TestOtherFilesAtPaths(t *testing.T) {
 	s.run(t, stageRow(ofMount))
 	s.writes(t, "targets/a")
 	s.run(t,
-		publishRow(ofMount, "").answers("node: AlreadyExists: something else is at AT/targets/a"),
+		publishRow(ofMount, "").answers("node-plugin: AlreadyExists: something else is at AT/targets/a"),
 		unpublishRow,
-		row{nodeSocket, "NodeGetVolumeStats", `{` + vol1 + `,"volume_path":"AT/targets/a"}`, "node: NotFound: the volume is not at AT/targets/a"})
+		row{nodeSocket, "NodeGetVolumeStats", `{` + vol1 + `,"volume_path":"AT/targets/a"}`, "node-plugin: NotFound: the volume is not at AT/targets/a"})
 	s.finds(t, "targets/a")
 }
 
@@ -301,7 +301,7 @@ func TestControllerThatIsAway(t *testing.T) {
 	s.front.kill()
 	s.run(t, stageRow(ofMount), publishRow(ofMount, ""), unpublishRow, unstageRow)
 	other := s.call(nodeSocket, "NodeStageVolume", `{"volume_id":"vol-2"`+staging+ofMount+inPool1+`}`)
-	if !strings.HasPrefix(other, "node: Unavailable: ") {
+	if !strings.HasPrefix(other, "node-plugin: Unavailable: ") {
 		t.Error(other)
 	}
 }
@@ -311,7 +311,7 @@ func TestSocket(t *testing.T) {
 	t.Parallel()
 	s := newSession(t, "--without-devices")
 	var shown, log strings.Builder
-	if status := run(s.words, &shown, &log); status != failed || log.String() != "node: "+s.at("node.sock")+": somebody answers on it already\n" {
+	if status := run(s.words, &shown, &log); status != failed || log.String() != "node-plugin: "+s.at("node.sock")+": somebody answers on it already\n" {
 		t.Errorf("%d, %q", status, log.String())
 	}
 	if err := s.node.Process.Signal(syscall.SIGTERM); err != nil {

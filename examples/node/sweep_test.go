@@ -74,7 +74,7 @@ func TestSweepWithoutController(t *testing.T) {
 	}
 	var shown, log strings.Builder
 	status := run([]string{"sweep", "--controller", pool + "/csi.sock", "--pool", "p1=" + pool, "--remove"}, &shown, &log)
-	if status != failed || !strings.HasPrefix(log.String(), "node: Unavailable: ") || shown.String() != "" {
+	if status != failed || !strings.HasPrefix(log.String(), "node-plugin: Unavailable: ") || shown.String() != "" {
 		t.Errorf("%d, %q, %q", status, shown.String(), log.String())
 	}
 	if left := names(t, pool); !reflect.DeepEqual(left, []string{"vol-1.img"}) {

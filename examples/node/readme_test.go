@@ -1,0 +1,118 @@
+package main
+
+import (
+	"os"
+	"os/exec"
+	"path/filepath"
+	"regexp"
+	"strings"
+	"testing"
+)
+
+// step is a command of a page, and what is shown behind it.
+type step struct{ command, shown string }
+
+// sessionOf is the commands of a page, in their order.
+func sessionOf(t *testing.T, page string) (steps []step) {
+	t.Helper()
+	text, err := os.ReadFile(page)
+	if err != nil {
+		t.Fatal(err)
+	}
+	within := false
+	for _, line := range strings.Split(string(text), "\n") {
+		command := strings.TrimPrefix(line, "    $ ")
+		switch {
+		case command != line:
+			steps = append(steps, step{command: command})
+			within = true
+		case within && strings.HasPrefix(line, "    "):
+			steps[len(steps)-1].shown += strings.TrimPrefix(line, "    ") + "\n"
+		default:
+			within = false
+		}
+	}
+	return steps
+}
+
+// pattern is what is shown as an expression, in which two points stand for anything.
+func pattern(shown string) *regexp.Regexp {
+	return regexp.MustCompile(`(?s)^` + strings.ReplaceAll(regexp.QuoteMeta(shown), `\.\.`, `.*`) + `$`)
+}
+
+const readme = "README.md"
+
+// The session of the page runs as it is written.
+func TestReadme(t *testing.T) {
+	t.Parallel()
+	needsDevices(t)
+	run := folder(t)
+	t.Cleanup(func() { release(t, run) })
+	runSession(t, run, sessionOf(t, readme))
+}
+
+// It runs likewise without devices, but for what is of the device.
+func TestReadmeWithoutDevices(t *testing.T) {
+	t.Parallel()
+	var steps []step
+	for _, each := range sessionOf(t, readme) {
+		if strings.HasPrefix(each.command, "mount ") || strings.HasPrefix(each.command, "stat ") {
+			continue
+		}
+		if strings.HasPrefix(each.command, "node-plugin serve ") {
+			each.command = strings.TrimSuffix(each.command, "&") + "--without-devices &"
+		}
+		each.shown = strings.ReplaceAll(each.shown, ".img", ".d")
+		steps = append(steps, each)
+	}
+	runSession(t, folder(t), steps)
+}
+
+// runSession runs commands, with a folder for temporary files, and compares what they show.
+func runSession(t *testing.T, temporary string, steps []step) {
+	t.Helper()
+	const mark = "-- next --\n"
+	var script strings.Builder
+	for _, each := range steps {
+		script.WriteString(each.command + "\nprintf %s '" + mark + "'\n")
+	}
+	bash := exec.Command("bash", "-c", script.String())
+	bash.Dir = "../.."
+	bash.Env = append(os.Environ(), "TMPDIR="+temporary, "PATH="+programFolders()+":"+os.Getenv("PATH"))
+	shown, err := bash.Output()
+	if err != nil {
+		t.Error(err)
+	}
+	parts := strings.Split(string(shown), mark)
+	if len(steps) < 18 || len(parts) != len(steps)+1 {
+		t.Fatalf("%d commands, %d answers", len(steps), len(parts)-1)
+	}
+	for i, each := range steps {
+		if !pattern(each.shown).MatchString(parts[i]) {
+			t.Errorf("%s: %q, wanted %q", each.command, parts[i], each.shown)
+		}
+	}
+}
+
+// programFolders is where the programs are that the environment names; the page itself names where they are built.
+func programFolders() string {
+	var folders []string
+	for _, variable := range []string{"CSID", "FRONT", "NODE_PLUGIN"} {
+		folders = append(folders, filepath.Dir(os.Getenv(variable)))
+	}
+	return strings.Join(folders, ":")
+}
+
+// The page has the commands with their options as the program shows them.
+func TestReadmeUsage(t *testing.T) {
+	t.Parallel()
+	page, err := os.ReadFile(readme)
+	if err != nil {
+		t.Fatal(err)
+	}
+	_, commands, _ := strings.Cut(usageText, "usage: ")
+	inOneLine := func(text string) string { return strings.Join(strings.Fields(text), " ") }
+	if !strings.Contains(inOneLine(string(page)), inOneLine(commands)) {
+		t.Errorf("it has other commands than %s", commands)
+	}
+}
