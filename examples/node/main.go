@@ -76,7 +76,7 @@ func ended(err error, log io.Writer) int {
 	return failed
 }
 
-// serve answers calls until SIGTERM or SIGINT.
+// serve answers calls until SIGTERM or SIGINT; a second signal ends it at once.
 func serve(words []string, shown io.Writer) error {
 	asked, err := readServe(words, shown)
 	if err != nil {
@@ -96,6 +96,7 @@ func serve(words []string, shown io.Writer) error {
 	defer cancel()
 	go func() {
 		<-ctx.Done()
+		cancel()
 		server.GracefulStop()
 	}()
 	return server.Serve(listener)
