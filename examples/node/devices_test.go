@@ -27,9 +27,14 @@ func newDeviceSession(t *testing.T) *session {
 	return s
 }
 
-// needsDevices leaves a test out where no file can be attached.
+// needsDevices leaves a test out where no file can be attached, or a command is missing.
 func needsDevices(t *testing.T) {
 	t.Helper()
+	for _, name := range []string{"losetup", "blkid", "mkfs.ext4", "mkswap", "mount", "umount", "findmnt"} {
+		if _, err := exec.LookPath(name); err != nil {
+			t.Skipf("left out: nothing is mounted, since there is no %s", name)
+		}
+	}
 	data := filepath.Join(folder(t), "trial.img")
 	if err := (devices{}).create(data, 1<<20); err != nil {
 		t.Fatal(err)
@@ -191,8 +196,8 @@ func TestOtherContents(t *testing.T) {
 	if err := os.WriteFile(data, make([]byte, 4194304), 0o600); err != nil {
 		t.Fatal(err)
 	}
-	if said, err := exec.Command("mkswap", data).CombinedOutput(); err != nil {
-		t.Skipf("left out: mkswap: %v: %s", err, said)
+	if err := command("mkswap", data); err != nil {
+		t.Fatal(err)
 	}
 	before, err := os.ReadFile(data)
 	if err != nil {
