@@ -26,7 +26,7 @@ ROWS = [
     ("csid --check-tables volumes.db -", "--config"),
     ("csid s", "serve"),
     ("csid --v", "--version"),
-    ("csid pipe --", "--config --tables --existing --help"),
+    ("csid pipe --", "--config --tables --existing --low-memory --help"),
     ("csid serve --t", "--tables"),
     ("csid serve --existing --i", "--idle"),
     ("csid serve --tables v", "volumes.db"),

@@ -22,7 +22,7 @@ SECTIONS = {
 TEXTS = [
     ("csid.1", ".TH CSID 1 2001-09-09 \"csid VERSION\" \"User Commands\"\n"),
     ("csid.1", ".SH NAME\ncsid \\- storage-plugin controller for the Container Storage Interface\n"),
-    ("csid.1", "\\fBcsid\\fR [pipe [\\-\\-config\\ FILE] [\\-\\-tables FILE [\\-\\-existing]]]\n"),
+    ("csid.1", "\\fBcsid\\fR [pipe [\\-\\-config\\ FILE] [\\-\\-tables FILE [\\-\\-existing] [\\-\\-low\\-memory]]]\n"),
     ("csid.1", ".TP\n\\fB\\-\\-socket PATH\\fR\n"),
     ("csid.1", ".TP\n\\fB/var/lib/csid/volumes.db\\fR\n"),
     ("csictl.1", "\\fBcsictl\\fR vectors FILE\n"),

@@ -38,7 +38,7 @@ module _ {M S : Type 0} (memory : M → Model State) (g : Ghosts S) where
   tables_of t = t.log.keeper
 
 module _ {M S : Type 0} (memory : M → Model State) (g : Ghosts S) (config : Config) where
-  -- a run of `serve` over tables: of these calls, from the State s to what it left
+  -- a run of `serve` over both: of these calls, from the State s to what it left
   abbrev pub Serves : Over M S g → Over M S g → State → List Event → Type 0
   Serves old new s events = Runs (volumes config) (seen config (over_model memory g old)) (seen config (over_model memory g new)) s events
 
@@ -56,3 +56,22 @@ module _ {M S : Type 0} (memory : M → Model State) (g : Ghosts S) (config : Co
       → ((t : State) → (over_model memory g old).survivors t → t ≡ s) → (over_model memory g old).tied
       → (over_model memory g new).doubt ≡ 0
       → (db : Trees) → (state g (connection_of g (tables_of memory g new))).may_leave db → IsTakenBehind g config s events db
+
+-- ---- over tables alone
+
+module _ {S : Type 0} (g : Ghosts S) (config : Config) where
+  abbrev pub ServesAlone : Tables S g → Tables S g → State → List Event → Type 0
+  ServesAlone old new s events = Runs (volumes config) (seen config (tables_model g old)) (seen config (tables_model g new)) s events
+
+  -- the run came to its end
+  abbrev pub EndsServedAlone : Type 0
+  EndsServedAlone = (old new : Tables S g) (s : State) (events : List Event) → ServesAlone old new s events
+      → IsTakenAs g config (connection_of g new) (state_after (volumes config) s events)
+
+  -- a stop came behind the last call of the run, from tables of which a stop would have left s
+  abbrev pub StopsServedAlone : Type 0
+  StopsServedAlone =
+      (old new : Tables S g) (s : State) (events : List Event) → ServesAlone old new s events → IsInvariant config s
+      → ((t : State) → (tables_model g old).survivors t → t ≡ s) → (tables_model g old).tied
+      → (tables_model g new).doubt ≡ 0
+      → (db : Trees) → (state g (connection_of g new)).may_leave db → IsTakenBehind g config s events db

@@ -10,14 +10,7 @@ use std::alloc::Global;
 #[derive(Clone, Copy)]
 pub(crate) enum Task<'a> {
     /// Calls on standard input, replies on standard output.
-    Pipe {
-        /// The file of the configuration; without it the sample configuration.
-        config: Option<&'a str>,
-        /// The file of the tables; without it the volumes are in memory.
-        tables: Option<&'a str>,
-        /// The tables have to stand.
-        is_existing: bool,
-    },
+    Pipe(Piped<'a>),
     /// Connections to a socket, one after the other.
     Serve(Serving<'a>),
     /// A configuration is judged: its file.
@@ -31,6 +24,19 @@ pub(crate) enum Task<'a> {
     },
 }
 
+/// How calls of standard input are answered.
+#[derive(Clone, Copy)]
+pub(crate) struct Piped<'a> {
+    /// The file of the configuration; without it the sample configuration.
+    pub(crate) config: Option<&'a str>,
+    /// The file of the tables; without it the volumes are in memory.
+    pub(crate) tables: Option<&'a str>,
+    /// The tables have to stand.
+    pub(crate) is_existing: bool,
+    /// Reads are those of the file.
+    pub(crate) is_low_memory: bool,
+}
+
 /// How connections are served.
 #[derive(Clone, Copy)]
 pub(crate) struct Serving<'a> {
@@ -40,6 +46,8 @@ pub(crate) struct Serving<'a> {
     pub(crate) tables: &'a str,
     /// The tables have to stand.
     pub(crate) is_existing: bool,
+    /// Reads are those of the file.
+    pub(crate) is_low_memory: bool,
     /// The file of the configuration; without it the sample configuration.
     pub(crate) config: Option<&'a str>,
     /// The group that may connect too; without it the owner alone.
@@ -71,6 +79,13 @@ const EXISTING: CommandOption = CommandOption {
     ..OPTION
 };
 
+const LOW_MEMORY: CommandOption = CommandOption {
+    name: "low-memory",
+    beside: Some("tables"),
+    help: "Reads from the file of volumes for each call, and keeps none of them in memory",
+    ..OPTION
+};
+
 static CHECKS: [CommandOption; 3] = [
     CommandOption {
         name: "check-config",
@@ -92,9 +107,9 @@ static CHECKS: [CommandOption; 3] = [
     },
 ];
 
-static PIPE: [CommandOption; 3] = [CONFIG, TABLES, EXISTING];
+static PIPE: [CommandOption; 4] = [CONFIG, TABLES, EXISTING, LOW_MEMORY];
 
-static SERVE: [CommandOption; 7] = [
+static SERVE: [CommandOption; 8] = [
     CommandOption {
         name: "socket",
         takes: Takes::Text("PATH"),
@@ -107,6 +122,7 @@ static SERVE: [CommandOption; 7] = [
         ..TABLES
     },
     EXISTING,
+    LOW_MEMORY,
     CONFIG,
     CommandOption {
         name: "group",
@@ -181,6 +197,7 @@ fn asked_of_serve<'a>(arguments: &ArgMatches<'a>) -> Serving<'a> {
         socket: arguments.get_str("socket").unwrap_or(""),
         tables: arguments.get_str("tables").unwrap_or(""),
         is_existing: arguments.get_flag("existing"),
+        is_low_memory: arguments.get_flag("low-memory"),
         config: arguments.get_str("config"),
         group: arguments.get_str("group"),
         idle: arguments.get_one::<u32>("idle"),
@@ -198,11 +215,12 @@ fn asked_plainly<'a>(arguments: &ArgMatches<'a>) -> Task<'a> {
             tables,
             config: arguments.get_str("config"),
         },
-        None => Task::Pipe {
+        None => Task::Pipe(Piped {
             config: None,
             tables: None,
             is_existing: false,
-        },
+            is_low_memory: false,
+        }),
     }
 }
 
@@ -210,11 +228,12 @@ fn asked_plainly<'a>(arguments: &ArgMatches<'a>) -> Task<'a> {
 pub(crate) fn asked<'a>(matches: &ArgMatches<'a>) -> Task<'a> {
     match matches.subcommand() {
         Some(("serve", arguments)) => Task::Serve(asked_of_serve(arguments)),
-        Some((_, arguments)) => Task::Pipe {
+        Some((_, arguments)) => Task::Pipe(Piped {
             config: arguments.get_str("config"),
             tables: arguments.get_str("tables"),
             is_existing: arguments.get_flag("existing"),
-        },
+            is_low_memory: arguments.get_flag("low-memory"),
+        }),
         None => asked_plainly(matches),
     }
 }

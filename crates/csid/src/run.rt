@@ -4,7 +4,7 @@ ghost use Rattle.std.specs.Prelude.{IfErr};
 ghost use Rattle.csid.specs.Statuses.{IsOrNoMemory};
 
 use crate::check::{check_config, check_tables};
-use crate::command::{Serving, Task, asked, command, odd_number};
+use crate::command::{Piped, Serving, Task, asked, command, odd_number};
 use crate::config::configuration;
 use crate::failure::{Failure, Peer, outcome};
 use crate::say::say;
@@ -58,11 +58,19 @@ struct Piping<'a> {
     rt: &'a HostRuntime,
     config: &'a Config,
     path: &'a str,
+    is_low_memory: bool,
     served: Result<(), Failure>,
 }
 
-impl OverTables for Piping<'_> {
-    fn run<S: Alter + Drop>(&mut self, tables: Tables<S>) -> Connection<S> {
+impl Piping<'_> {
+    // Reads are those of the file.
+    fn run_over_file<S: Alter + Drop>(&mut self, mut tables: Tables<S>) -> Connection<S> {
+        self.served = serve_pipe(self.rt, self.config, &mut tables);
+        tables.into_connection()
+    }
+
+    // Reads are those of memory.
+    fn run_over_memory<S: Alter + Drop>(&mut self, tables: Tables<S>) -> Connection<S> {
         match Through::over(self.rt.alloc(), tables) {
             Ok(mut keeper) => {
                 self.served = serve_pipe(self.rt, self.config, &mut keeper);
@@ -76,49 +84,41 @@ impl OverTables for Piping<'_> {
     }
 }
 
+impl OverTables for Piping<'_> {
+    fn run<S: Alter + Drop>(&mut self, tables: Tables<S>) -> Connection<S> {
+        if self.is_low_memory {
+            return self.run_over_file(tables);
+        }
+        self.run_over_memory(tables)
+    }
+}
+
 // Answers the calls of standard input, and keeps the volumes in a file.
 fn pipe_over_tables(
     rt: &HostRuntime,
     config: &Config,
     path: &str,
-    blank: Blank,
+    pipe: &Piped<'_>,
 ) -> Result<(), Failure> {
     let mut piping = Piping {
         rt,
         config,
         path,
+        is_low_memory: pipe.is_low_memory,
         served: Ok(()),
     };
+    let blank = Blank::refused_if(pipe.is_existing, Blank::Make);
     let closed = over_tables(rt, path, config, blank, &mut piping);
     ended(rt, piping.served, closed)
 }
 
 // Answers the calls of standard input, and keeps the volumes in a file if there is to be one.
-fn pipe_over(
-    rt: &HostRuntime,
-    config: &Config,
-    tables: Option<&str>,
-    is_existing: bool,
-) -> Result<(), Failure> {
-    match tables {
-        Some(path) => pipe_over_tables(
-            rt,
-            config,
-            path,
-            Blank::refused_if(is_existing, Blank::Make),
-        ),
-        None => pipe_over_memory(rt, config),
+fn answer_pipe(rt: &HostRuntime, pipe: &Piped<'_>) -> Result<(), Failure> {
+    let config = configuration(rt, pipe.config, false)?;
+    match pipe.tables {
+        Some(path) => pipe_over_tables(rt, &config, path, pipe),
+        None => pipe_over_memory(rt, &config),
     }
-}
-
-fn pipe(
-    rt: &HostRuntime,
-    config: Option<&str>,
-    tables: Option<&str>,
-    is_existing: bool,
-) -> Result<(), Failure> {
-    let config = configuration(rt, config, false)?;
-    pipe_over(rt, &config, tables, is_existing)
 }
 
 // Looks whether the tables have a path, and whether they stand, if they have to.
@@ -167,11 +167,7 @@ fn obey(rt: &HostRuntime, arguments: &ArgMatches<'_>) -> Result<(), Failure> {
         return Err(refused_number(rt.alloc(), option, number));
     }
     match asked(arguments) {
-        Task::Pipe {
-            config,
-            tables,
-            is_existing,
-        } => pipe(rt, config, tables, is_existing),
+        Task::Pipe(pipe) => answer_pipe(rt, &pipe),
         Task::Serve(serving) => listening(rt, &serving),
         Task::CheckConfig(path) => check_config(rt, path),
         Task::CheckTables { tables, config } => check_tables(rt, tables, config),

@@ -16,7 +16,7 @@ use csi_config::Config;
 use csi_keeper::{Keeper, MemKeeper};
 use csi_server::{RunEnd, serve};
 use csi_tables::Tables;
-use csi_through::{Log, NotCopied, Through};
+use csi_through::{NotCopied, Through};
 use sqlite::{Alter, Connection};
 use std::alloc::Global;
 use std::fs::{self, Permissions};
@@ -116,15 +116,13 @@ fn refuse_peer(rt: &HostRuntime, config: &Config, peer: &Pending) {
     }
 }
 
-// Says what was refused of a keeper's calls.
-fn tell_refusals<M: Keeper, D: Log>(rt: &HostRuntime, path: &str, keeper: &Through<M, D>) {
-    if keeper.is_down() {
+// Says what a keeper refused: a change, or this.
+fn tell_refusals(rt: &HostRuntime, path: &str, is_down: bool, refusals: u64, what: &str) {
+    if is_down {
         let what =
             "a change was refused, by the database or for memory; from then on the connection was told that the store is down";
         say_of(rt, path, &what);
-    } else if !keeper.is_current() {
-        let what =
-            "there was no memory for a change that was made; from then on the connection was told that the store refused its calls";
+    } else if refusals > 0 {
         say_of(rt, path, &what);
     }
 }
@@ -135,15 +133,36 @@ struct Answering<'a> {
     rt: &'a HostRuntime,
     config: &'a Config,
     path: &'a str,
+    is_low_memory: bool,
     peer: &'a Pending,
 }
 
-impl OverTables for Answering<'_> {
-    fn run<S: Alter + Drop>(&mut self, tables: Tables<S>) -> Connection<S> {
+impl Answering<'_> {
+    // Reads are those of the file.
+    fn run_over_file<S: Alter + Drop>(&self, mut tables: Tables<S>) -> Connection<S> {
+        serve_one(self.rt, self.config, &mut tables, self.peer);
+        tell_refusals(
+            self.rt,
+            self.path,
+            tables.is_down(),
+            tables.refusals(),
+            "the database refused a read",
+        );
+        tables.into_connection()
+    }
+
+    // Reads are those of memory.
+    fn run_over_memory<S: Alter + Drop>(&self, tables: Tables<S>) -> Connection<S> {
         match Through::over(self.rt.alloc(), tables) {
             Ok(mut keeper) => {
                 serve_one(self.rt, self.config, &mut keeper, self.peer);
-                tell_refusals(self.rt, self.path, &keeper);
+                tell_refusals(
+                    self.rt,
+                    self.path,
+                    keeper.is_down(),
+                    keeper.refusals(),
+                    "there was no memory for a change that was made; from then on the connection was told that the store refused its calls",
+                );
                 keeper.into_log().into_keeper().into_connection()
             }
             Err(NotCopied { fault, keeper }) => {
@@ -151,6 +170,15 @@ impl OverTables for Answering<'_> {
                 keeper.into_connection()
             }
         }
+    }
+}
+
+impl OverTables for Answering<'_> {
+    fn run<S: Alter + Drop>(&mut self, tables: Tables<S>) -> Connection<S> {
+        if self.is_low_memory {
+            return self.run_over_file(tables);
+        }
+        self.run_over_memory(tables)
     }
 }
 
@@ -166,6 +194,7 @@ fn answer_over_tables(
         rt,
         config,
         path: serving.tables,
+        is_low_memory: serving.is_low_memory,
         peer,
     };
     over_tables(rt, serving.tables, config, blank, &mut answering)
