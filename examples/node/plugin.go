@@ -120,10 +120,7 @@ func (p *plugin) getCapabilities(context.Context, *empty) (*nodeCapabilities, er
 
 // stage makes the data of a volume where there are none yet, of the size that the controller has for it, and stages them.
 func (p *plugin) stage(ctx context.Context, asked *stageRequest) (*empty, error) {
-	if err := checkVolume(asked.VolumeID); err != nil {
-		return nil, err
-	}
-	if err := checkPath("staging_target_path", asked.StagingPath); err != nil {
+	if err := checkPlace(asked.VolumeID, "staging_target_path", asked.StagingPath); err != nil {
 		return nil, err
 	}
 	readOnly := asked.PublishContext["readonly"] == "true"
@@ -160,17 +157,24 @@ func (p *plugin) dataOf(asked *stageRequest) (string, error) {
 	if folder == "" {
 		return "", status.Errorf(codes.FailedPrecondition, "the node has no folder for the pool %q", pool)
 	}
-	return filepath.Join(folder, asked.VolumeID+p.storage.suffix()), nil
+	return filepath.Join(folder, p.file(asked.VolumeID)), nil
+}
+
+// find is where the data of a volume are, in whichever pool; nothing where there are none.
+func (p *plugin) find(id string) (string, error) {
+	return p.pools.find(p.file(id))
+}
+
+// file is the name of a volume's data in the folder of its pool.
+func (p *plugin) file(id string) string {
+	return id + p.storage.suffix()
 }
 
 func (p *plugin) unstage(_ context.Context, asked *unstageRequest) (*empty, error) {
-	if err := checkVolume(asked.VolumeID); err != nil {
+	if err := checkPlace(asked.VolumeID, "staging_target_path", asked.StagingPath); err != nil {
 		return nil, err
 	}
-	if err := checkPath("staging_target_path", asked.StagingPath); err != nil {
-		return nil, err
-	}
-	data, err := p.pools.find(asked.VolumeID + p.storage.suffix())
+	data, err := p.find(asked.VolumeID)
 	if err != nil || data == "" {
 		return new(empty), err
 	}
@@ -178,10 +182,7 @@ func (p *plugin) unstage(_ context.Context, asked *unstageRequest) (*empty, erro
 }
 
 func (p *plugin) publish(ctx context.Context, asked *publishRequest) (*empty, error) {
-	if err := checkVolume(asked.VolumeID); err != nil {
-		return nil, err
-	}
-	if err := checkPath("target_path", asked.TargetPath); err != nil {
+	if err := checkPlace(asked.VolumeID, "target_path", asked.TargetPath); err != nil {
 		return nil, err
 	}
 	if err := p.checkCapability(asked.Capability, asked.ReadOnly); err != nil {
@@ -193,7 +194,7 @@ func (p *plugin) publish(ctx context.Context, asked *publishRequest) (*empty, er
 	if err := checkPath("staging_target_path", asked.StagingPath); err != nil {
 		return nil, err
 	}
-	data, err := p.pools.find(asked.VolumeID + p.storage.suffix())
+	data, err := p.find(asked.VolumeID)
 	if err != nil {
 		return nil, err
 	}
@@ -207,13 +208,10 @@ func (p *plugin) publish(ctx context.Context, asked *publishRequest) (*empty, er
 }
 
 func (p *plugin) unpublish(_ context.Context, asked *unpublishRequest) (*empty, error) {
-	if err := checkVolume(asked.VolumeID); err != nil {
+	if err := checkPlace(asked.VolumeID, "target_path", asked.TargetPath); err != nil {
 		return nil, err
 	}
-	if err := checkPath("target_path", asked.TargetPath); err != nil {
-		return nil, err
-	}
-	data, err := p.pools.find(asked.VolumeID + p.storage.suffix())
+	data, err := p.find(asked.VolumeID)
 	if err != nil || data == "" {
 		return new(empty), err
 	}
@@ -221,13 +219,10 @@ func (p *plugin) unpublish(_ context.Context, asked *unpublishRequest) (*empty, 
 }
 
 func (p *plugin) getStats(_ context.Context, asked *statsRequest) (*stats, error) {
-	if err := checkVolume(asked.VolumeID); err != nil {
+	if err := checkPlace(asked.VolumeID, "volume_path", asked.VolumePath); err != nil {
 		return nil, err
 	}
-	if err := checkPath("volume_path", asked.VolumePath); err != nil {
-		return nil, err
-	}
-	data, err := p.pools.find(asked.VolumeID + p.storage.suffix())
+	data, err := p.find(asked.VolumeID)
 	if err != nil {
 		return nil, err
 	}
@@ -258,6 +253,14 @@ func fileSystemUsage(path string) (*usage, error) {
 }
 
 var errNotStaged = status.Error(codes.FailedPrecondition, "the volume is not staged")
+
+// checkPlace checks what each call has that is about a volume at a path; field is the path's name.
+func checkPlace(id, field, path string) error {
+	if err := checkVolume(id); err != nil {
+		return err
+	}
+	return checkPath(field, path)
+}
 
 // checkVolume lets only the ids pass that the controller gives, so that none leads out of the folder of a pool.
 func checkVolume(id string) error {
