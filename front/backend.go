@@ -9,6 +9,8 @@ import (
 
 	"github.com/prometheus/client_golang/prometheus"
 	"google.golang.org/grpc/codes"
+
+	"fomaheti/frames"
 )
 
 // backend hands calls to csid, one after the other over one connection, since csid serves one connection at a time.
@@ -26,6 +28,8 @@ type backend struct {
 	// The last connection that gave no reply, or could not be made: why, and when that was seen. A reply wipes it out.
 	failure   error
 	failureAt time.Time
+	// When the last reply came. It belongs to no call.
+	life life
 	// Connections that were made, and attempts that failed.
 	connections prometheus.Counter
 	failures    prometheus.Counter
@@ -44,16 +48,16 @@ func newBackend(path string, late time.Duration) *backend {
 
 // call hands a call to csid when it is its turn, and gives the reply. No call is sent twice: where an error comes csid may have done
 // it, or not, and the caller has to repeat it.
-func (b *backend) call(ctx context.Context, path string, message []byte) (reply, error) {
+func (b *backend) call(ctx context.Context, path string, message []byte) (frames.Reply, error) {
 	came := time.Now()
 	if err := b.takeTurn(ctx); err != nil {
-		return reply{}, err
+		return frames.Reply{}, err
 	}
 	for {
 		isOld, err := b.ready(ctx, came)
 		if err != nil {
 			<-b.turn
-			return reply{}, err
+			return frames.Reply{}, err
 		}
 		sent := b.send(path, message)
 		select {
@@ -68,7 +72,7 @@ func (b *backend) call(ctx context.Context, path string, message []byte) (reply,
 		case <-ctx.Done():
 			b.kept.SetDeadline(time.Now().Add(b.late))
 			go b.awaitLate(sent)
-			return reply{}, ctx.Err()
+			return frames.Reply{}, ctx.Err()
 		}
 	}
 }
@@ -137,11 +141,12 @@ func (b *backend) awaitLate(sent <-chan outcome) {
 // settle draws from an outcome what the next call has to know. After status 13 csid refuses each further change over the connection.
 func (b *backend) settle(got outcome) {
 	if got.err == nil {
+		b.life.shows()
 		b.usual += (got.took - b.usual) / 8
 		b.kept.hasServed = true
 		b.failure = nil
 		b.pace.served()
-		if got.answer.code == codes.Internal {
+		if got.answer.Code == codes.Internal {
 			b.drop()
 		}
 		return

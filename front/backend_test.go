@@ -46,7 +46,7 @@ func wants(t *testing.T, b *backend, code codes.Code) {
 	t.Helper()
 	ctx, cancel := context.WithTimeout(context.Background(), 10*time.Second)
 	defer cancel()
-	if got, err := b.call(ctx, "/a/b", nil); err != nil || got.code != code {
+	if got, err := b.call(ctx, "/a/b", nil); err != nil || got.Code != code {
 		t.Fatalf("%v, %v", got, err)
 	}
 }

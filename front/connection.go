@@ -4,10 +4,11 @@ import (
 	"bufio"
 	"errors"
 	"fmt"
-	"io"
 	"net"
 	"syscall"
 	"time"
+
+	"fomaheti/frames"
 )
 
 // errUnanswered is the end of a connection where a reply should begin. csid tells on its own standard error why it closes one.
@@ -54,7 +55,7 @@ func (c *connection) isQuiet() bool {
 // outcome is what a call came to. Where there is an error its connection has to be closed, and isSent tells whether csid may have seen
 // anything of the call.
 type outcome struct {
-	answer reply
+	answer frames.Reply
 	isSent bool
 	took   time.Duration
 	err    error
@@ -62,25 +63,20 @@ type outcome struct {
 
 // exchange sends one call and reads its reply, however long that takes: a deadline of the connection bounds it.
 func (c *connection) exchange(path string, message []byte) outcome {
-	frame := net.Buffers{requestHead(path, len(message)), message}
+	frame := net.Buffers{frames.RequestHead(path, len(message)), message}
 	sent, err := frame.WriteTo(c.UnixConn)
-	if isClosing(err) {
+	if frames.IsClosing(err) {
 		return outcome{isSent: sent > 0, err: errUnanswered}
 	}
 	if err != nil {
 		return outcome{isSent: sent > 0, err: fmt.Errorf("sending the call: %w", err)}
 	}
-	answer, err := readReply(c.in)
-	if isClosing(err) {
+	answer, err := frames.ReadReply(c.in)
+	if frames.IsClosing(err) {
 		return outcome{isSent: true, err: errUnanswered}
 	}
 	if err != nil {
 		return outcome{isSent: true, err: fmt.Errorf("reading the reply: %w", err)}
 	}
 	return outcome{answer: answer, isSent: true}
-}
-
-// isClosing tells whether csid closed the connection: an end where it read all that was sent, else a reset or a broken pipe.
-func isClosing(err error) bool {
-	return err == io.EOF || errors.Is(err, syscall.ECONNRESET) || errors.Is(err, syscall.EPIPE)
 }

@@ -1,13 +1,26 @@
 package main
 
 import (
+	"encoding/hex"
 	"errors"
 	"io"
 	"net"
 	"path/filepath"
+	"strings"
 	"testing"
 	"time"
+
+	"fomaheti/frames"
 )
+
+func fromHex(t *testing.T, text string) []byte {
+	t.Helper()
+	all, err := hex.DecodeString(strings.ReplaceAll(text, " ", ""))
+	if err != nil {
+		t.Fatal(err)
+	}
+	return all
+}
 
 // listening is a socket of a csid, and its path.
 func listening(t *testing.T) (net.Listener, string) {
@@ -74,7 +87,7 @@ func TestUnsentCall(t *testing.T) {
 		other.Read(make([]byte, 1))
 		other.Close()
 	}()
-	if got := conn.exchange("/a/b", make([]byte, maxMessageBytes)); got.err != errUnanswered || !got.isSent {
+	if got := conn.exchange("/a/b", make([]byte, frames.MaxMessageBytes)); got.err != errUnanswered || !got.isSent {
 		t.Errorf("to a csid that took a part: %v", got)
 	}
 }

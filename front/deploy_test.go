@@ -14,6 +14,7 @@ import (
 func told(t *testing.T) map[string]map[string]bool {
 	t.Helper()
 	h := replying(t, "00 0000 00 00000005 0880808007")
+	h.standsBy = true
 	h.metrics.ended(probe, codes.OK, time.Second)
 	families, err := newRegistry(h, nil).Gather()
 	if err != nil {

@@ -3,11 +3,14 @@ package main
 import (
 	"context"
 	"strconv"
+	"sync/atomic"
 	"time"
 
 	"google.golang.org/grpc"
 	"google.golang.org/grpc/codes"
 	"google.golang.org/grpc/status"
+
+	"fomaheti/frames"
 )
 
 // How long a client may take until its connection speaks HTTP/2; it holds up a graceful end for no longer.
@@ -38,17 +41,23 @@ type handler struct {
 	log      *logger
 	// Whether the health service of gRPC is answered.
 	hasHealth bool
+	// Whether the front has --standby, and whether it waits for csid. Why it does is told then, so what is asked meanwhile has no lines.
+	standsBy  bool
+	isWaiting atomic.Bool
 }
 
 func newHandler(asked options, log *logger) *handler {
-	return &handler{newBackend(asked.csid, asked.late), newMessages(asked.waiting << 20), newMetrics(), log, asked.health}
+	return &handler{
+		backend: newBackend(asked.csid, asked.late), messages: newMessages(asked.waiting << 20), metrics: newMetrics(), log: log,
+		hasHealth: asked.health, standsBy: asked.standby > 0,
+	}
 }
 
 func newServer(h *handler) *grpc.Server {
 	return grpc.NewServer(
 		grpc.CustomCodec(bytesCodec{}),
 		grpc.UnknownServiceHandler(h.handle),
-		grpc.MaxRecvMsgSize(maxMessageBytes),
+		grpc.MaxRecvMsgSize(frames.MaxMessageBytes),
 		grpc.MaxConcurrentStreams(maxWaitingCalls),
 		grpc.InitialWindowSize(callWindow),
 		grpc.InitialConnWindowSize(clientWindow),
@@ -70,7 +79,7 @@ func (h *handler) handle(_ interface{}, stream grpc.ServerStream) error {
 }
 
 func (h *handler) answer(path string, stream grpc.ServerStream) error {
-	if !isPath(path) {
+	if !frames.IsPath(path) {
 		return status.Error(codes.Unimplemented, "unknown method")
 	}
 	message, err := h.messages.receive(stream)
@@ -100,14 +109,14 @@ func (h *handler) ask(ctx context.Context, path string, message []byte) ([]byte,
 	if err != nil {
 		return nil, refusal(ctx, err)
 	}
-	if answer.code == codes.Internal && openReasons[answer.text] {
-		h.metrics.refusals.WithLabelValues(answer.text).Inc()
-		return nil, status.Error(codes.Unavailable, answer.text)
+	if answer.Code == codes.Internal && openReasons[answer.Text] {
+		h.metrics.refusals.WithLabelValues(answer.Text).Inc()
+		return nil, status.Error(codes.Unavailable, answer.Text)
 	}
-	if answer.code != codes.OK {
-		return nil, status.Error(answer.code, answer.text)
+	if answer.Code != codes.OK {
+		return nil, status.Error(answer.Code, answer.Text)
 	}
-	return answer.body, nil
+	return answer.Body, nil
 }
 
 // openReasons are the texts of status 13 behind which it is open whether a change was made. An orchestrator is then told UNAVAILABLE:
@@ -125,11 +134,11 @@ func refusal(ctx context.Context, err error) error {
 
 // shownPath is a path as one word of a log line, cut where no frame could have it.
 func shownPath(path string) string {
-	if isPath(path) {
+	if frames.IsPath(path) {
 		return path
 	}
-	if len(path) > maxPathBytes {
-		path = path[:maxPathBytes]
+	if len(path) > frames.MaxPathBytes {
+		path = path[:frames.MaxPathBytes]
 	}
 	return strconv.QuoteToASCII(path)
 }

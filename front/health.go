@@ -20,10 +20,8 @@ func (h *handler) checkHealth(ctx context.Context, message []byte) ([]byte, erro
 	default:
 		return nil, status.Error(codes.NotFound, "unknown service")
 	}
-	ctx, cancel := context.WithTimeout(ctx, questionTime)
-	defer cancel()
 	answer := &grpc_health_v1.HealthCheckResponse{Status: grpc_health_v1.HealthCheckResponse_SERVING}
-	if h.isReady(ctx) != nil {
+	if h.isReadySoon(ctx, questionTime) != nil {
 		answer.Status = grpc_health_v1.HealthCheckResponse_NOT_SERVING
 	}
 	return proto.Marshal(answer)

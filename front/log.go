@@ -38,6 +38,7 @@ type entry struct {
 	Message string    `json:"message"`
 	Error   string    `json:"error,omitempty"`
 	Address string    `json:"address,omitempty"`
+	Reason  string    `json:"reason,omitempty"`
 	*refusedCall
 }
 
@@ -78,6 +79,16 @@ func (l *logger) cutOff() {
 // listens tells where metrics are told.
 func (l *logger) listens(address string) {
 	l.tell("metrics at "+address, entry{Level: levelInfo, Message: "metrics", Address: address})
+}
+
+// waits tells why there is no socket yet, and isReady that it is made now.
+func (l *logger) waits(why string) {
+	l.tell("waits for csid: "+why, entry{Level: levelInfo, Message: "waits for csid", Reason: why})
+}
+
+func (l *logger) isReady() {
+	const text = "csid is ready"
+	l.tell(text, entry{Level: levelInfo, Message: text})
 }
 
 // refuses tells of a call that was refused. Its message goes into no log: it may have secrets.

@@ -36,6 +36,16 @@ func TestLines(t *testing.T) {
 			fields{"level": "info", "message": "metrics", "address": "[::1]:9809"},
 		},
 		{
+			func(l *logger) { l.waits("csid is not ready") },
+			"front: waits for csid: csid is not ready\n",
+			fields{"level": "info", "message": "waits for csid", "reason": "csid is not ready"},
+		},
+		{
+			func(l *logger) { l.isReady() },
+			"front: csid is ready\n",
+			fields{"level": "info", "message": "csid is ready"},
+		},
+		{
 			func(l *logger) {
 				l.refuses("/a/b", status.New(codes.FailedPrecondition, "volume is in use"), 1999*time.Microsecond)
 			},

@@ -1,7 +1,7 @@
 // front answers gRPC over HTTP/2 on a Unix socket by a csid that listens on another one.
 //
 // A call's path and bytes go on as one frame, and the reply's status, text and body come back. Of messages it knows the two that it asks
-// csid for itself: Probe and GetCapacity, for who watches it.
+// csid for itself: Probe and GetCapacity, for who watches it, and Probe where it stands by.
 package main
 
 import (
@@ -15,13 +15,16 @@ import (
 	"time"
 
 	"google.golang.org/grpc"
+
+	"fomaheti/sockets"
 )
 
-// Exit statuses; those that csid has too have the same numbers there.
+// Exit statuses. Those that csid has too have the same numbers there, but for 3.
 const (
 	done     = 0
 	cutOff   = 1
 	badWords = 2
+	noReply  = 3
 	noSocket = 7
 )
 
@@ -46,40 +49,65 @@ func run() int {
 		fmt.Println("front", version)
 		return done
 	}
-	stop := make(chan os.Signal, 2)
-	signal.Notify(stop, syscall.SIGTERM, syscall.SIGINT)
-	listener, err := listen(asked.listen)
+	f := &front{asked, log, newHandler(asked, log), make(chan os.Signal, 2), make(chan error, 2), make(chan error, 1)}
+	signal.Notify(f.stop, syscall.SIGTERM, syscall.SIGINT)
+	if asked.standby > 0 {
+		return f.standBy()
+	}
+	listener, err := sockets.Listen(asked.listen)
 	if err != nil {
-		log.fails(err)
-		return noSocket
+		return f.fails(err, noSocket)
 	}
 	defer listener.Close()
-	h := newHandler(asked, log)
-	failed := make(chan error, 2)
-	if err := startMonitor(h, asked, failed); err != nil {
-		log.fails(err)
-		return noSocket
+	if err := startMonitor(f.handler, asked, f.failed); err != nil {
+		return f.fails(err, noSocket)
 	}
-	server := newServer(h)
-	go func() { failed <- serve(server, listener) }()
+	return f.serve(listener)
+}
+
+// front is what answers calls, and what ends it.
+type front struct {
+	asked   options
+	log     *logger
+	handler *handler
+	stop    chan os.Signal
+	// Failures of what takes connections.
+	failed chan error
+	// That nothing was answered by csid. Without --standby it is never told.
+	silent chan error
+}
+
+// fails says why the front ends, and gives its status.
+func (f *front) fails(why error, status int) int {
+	f.log.fails(why)
+	return status
+}
+
+// serve answers calls until something ends that.
+func (f *front) serve(listener net.Listener) int {
+	server := newServer(f.handler)
+	go func() { f.failed <- take(server, listener) }()
 	select {
-	case err := <-failed:
-		log.fails(err)
-		return noSocket
-	case <-stop:
-		return end(server, stop, asked.grace, log)
+	case err := <-f.failed:
+		return f.fails(err, noSocket)
+	case err := <-f.silent:
+		f.log.fails(err)
+		f.end(server)
+		return noReply
+	case <-f.stop:
+		return f.end(server)
 	}
 }
 
-func serve(server *grpc.Server, listener net.Listener) error {
+func take(server *grpc.Server, listener net.Listener) error {
 	if err := server.Serve(listener); err != nil {
 		return fmt.Errorf("taking connections: %w", err)
 	}
 	return errors.New("taking connections ended")
 }
 
-// end takes no further calls, and waits for those that run: for so long, or until a second signal.
-func end(server *grpc.Server, stop <-chan os.Signal, grace time.Duration, log *logger) int {
+// end takes no further calls, and waits for those that run: for the grace, or until a further signal.
+func (f *front) end(server *grpc.Server) int {
 	ended := make(chan struct{})
 	go func() {
 		server.GracefulStop()
@@ -88,9 +116,9 @@ func end(server *grpc.Server, stop <-chan os.Signal, grace time.Duration, log *l
 	select {
 	case <-ended:
 		return done
-	case <-stop:
-	case <-time.After(grace):
+	case <-f.stop:
+	case <-time.After(f.asked.grace):
 	}
-	log.cutOff()
+	f.log.cutOff()
 	return cutOff
 }

@@ -77,7 +77,21 @@ func newRegistry(h *handler, topologies []topology) *prometheus.Registry {
 		collectors.NewGoCollector(),
 		collectors.NewProcessCollector(collectors.ProcessCollectorOpts{}),
 	)
+	if h.standsBy {
+		registry.MustRegister(standingBy(h))
+	}
 	return registry
+}
+
+func standingBy(h *handler) prometheus.Collector {
+	return prometheus.NewGaugeFunc(prometheus.GaugeOpts{
+		Namespace: namespace, Name: "standing_by", Help: "Whether the front has no socket yet, since csid is not ready.",
+	}, func() float64 {
+		if h.isWaiting.Load() {
+			return 1
+		}
+		return 0
+	})
 }
 
 func buildInfo() prometheus.Collector {

@@ -58,6 +58,7 @@ func TestMethodLabel(t *testing.T) {
 func TestConventions(t *testing.T) {
 	_, path := listening(t)
 	h := inFront(path + ".absent")
+	h.standsBy = true
 	h.metrics.ended(probe, codes.OK, time.Second)
 	faults, err := testutil.GatherAndLint(newRegistry(h, nil))
 	if err != nil || len(faults) > 0 {

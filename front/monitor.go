@@ -1,7 +1,6 @@
 package main
 
 import (
-	"context"
 	"fmt"
 	"log"
 	"net"
@@ -21,11 +20,14 @@ const (
 	answerTime  = 2 * questionTime
 )
 
-// newMonitor answers who watches the front: /metrics for Prometheus, /healthz for a liveness probe.
+// newMonitor answers who watches the front: /metrics for Prometheus, /healthz for a liveness probe, and /livez for that of a front that stands by.
 func newMonitor(h *handler, topologies []topology) http.Handler {
 	mux := http.NewServeMux()
 	mux.Handle("/metrics", promhttp.HandlerFor(newRegistry(h, topologies), promhttp.HandlerOpts{MaxRequestsInFlight: maxScrapes}))
 	mux.HandleFunc("/healthz", h.healthz)
+	if h.standsBy {
+		mux.HandleFunc("/livez", h.livez)
+	}
 	return mux
 }
 
@@ -52,9 +54,7 @@ func startMonitor(h *handler, asked options, failed chan<- error) error {
 
 // healthz tells whether a Probe through csid succeeds, or why not.
 func (h *handler) healthz(answer http.ResponseWriter, request *http.Request) {
-	ctx, cancel := context.WithTimeout(request.Context(), questionTime)
-	defer cancel()
-	if err := h.isReady(ctx); err != nil {
+	if err := h.isReadySoon(request.Context(), questionTime); err != nil {
 		http.Error(answer, status.Convert(err).Message(), http.StatusServiceUnavailable)
 		return
 	}

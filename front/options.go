@@ -14,7 +14,7 @@ import (
 const usage = `Answers gRPC calls on a Unix socket by a csid that serves another one (docs/DEPLOY.md).
 
 usage: front --csid PATH [--listen PATH] [--grace TIME] [--late TIME] [--waiting MIB] [--log-format text|json]
-             [--health] [--metrics HOST:PORT [--metrics-topology KEY=VALUE,..]..]
+             [--standby TIME] [--health] [--metrics HOST:PORT [--metrics-topology KEY=VALUE,..]..]
        front --version
 `
 
@@ -29,7 +29,9 @@ type options struct {
 	late      time.Duration
 	waiting   int
 	logFormat string
-	health    bool
+	// How long csid may answer nothing. Where it is 0 that has no bound, and the socket is made without csid.
+	standby time.Duration
+	health  bool
 	// Where metrics are told; nowhere if it is empty.
 	metrics    string
 	topologies []topology
@@ -47,6 +49,7 @@ func readOptions(words []string, endpoint string, shown io.Writer) (options, err
 	flags.DurationVar(&asked.late, "late", time.Minute, "how long csid may take for the reply to a call that was given up, before its connection is closed: a `TIME`")
 	flags.IntVar(&asked.waiting, "waiting", 64, "how many `MIB` the messages of all calls that wait may have together")
 	flags.StringVar(&asked.logFormat, "log-format", textLines, "the `FORMAT` of lines on standard error: text, or json for one object a line")
+	flags.Func("standby", "make the socket only once csid is ready, and end where csid answered nothing for so long, 1s to 1h: a `TIME`", asked.setStandby)
 	flags.BoolVar(&asked.health, "health", false, "answer gRPC's health service: Check, by a Probe")
 	flags.StringVar(&asked.metrics, "metrics", "", "the `HOST:PORT` on which /metrics and /healthz are answered over HTTP; port 0 is any that is free, and the log says which")
 	flags.Func("metrics-topology", "a topology whose available capacity is one of the metrics, as `KEY=VALUE,..`; may be given again", asked.addTopology)
@@ -108,6 +111,16 @@ func checkMetrics(asked options) error {
 	}
 	if _, err := strconv.ParseUint(port, 10, 16); err != nil {
 		return fmt.Errorf("--metrics: %q is no port from 0 to 65535", port)
+	}
+	return nil
+}
+
+func (asked *options) setStandby(given string) (err error) {
+	if asked.standby, err = time.ParseDuration(given); err != nil {
+		return err
+	}
+	if asked.standby < leastStandby || asked.standby > mostStandby {
+		return fmt.Errorf("%v is not %v to %v", asked.standby, leastStandby, mostStandby)
 	}
 	return nil
 }

@@ -23,6 +23,11 @@ func TestOptions(t *testing.T) {
 		asked.metrics, asked.topologies = metrics, topologies
 		return asked
 	}
+	standing := func(length time.Duration) options {
+		asked := with(20*time.Second, time.Minute, 64)
+		asked.standby = length
+		return asked
+	}
 	rows := []struct {
 		words, endpoint string
 		want            options
@@ -34,6 +39,8 @@ func TestOptions(t *testing.T) {
 		{"--csid unix:c", "unix:l", with(20*time.Second, time.Minute, 64)},
 		{"--csid c --listen unix://l", "unix:///run/csi.sock", with(20*time.Second, time.Minute, 64)},
 		{"--csid c --listen l --log-format json --health", "", inJSON},
+		{"--csid c --listen l --standby 1s", "", standing(time.Second)},
+		{"--csid c --listen l --standby 60m", "", standing(time.Hour)},
 		{"--csid c --listen l --metrics 127.0.0.1:0", "", watched("127.0.0.1:0")},
 		{"--csid c --listen l --metrics [::1]:65535", "", watched("[::1]:65535")},
 		{"--csid c --listen l --metrics :9809", "", watched(":9809")},
@@ -66,6 +73,10 @@ func TestRefusedOptions(t *testing.T) {
 		{"--csid c --listen l --waiting x", "", "waiting"},
 		{"--csid c --listen l --log-format xml", "", `--log-format: "xml" is neither text nor json`},
 		{"--csid c --listen l --log-format=", "", `--log-format: "" is neither text nor json`},
+		{"--csid c --listen l --standby 0", "", "standby: 0s is not 1s to 1h0m0s"},
+		{"--csid c --listen l --standby 999ms", "", "standby: 999ms is not 1s to 1h0m0s"},
+		{"--csid c --listen l --standby 61m", "", "standby: 1h1m0s is not 1s to 1h0m0s"},
+		{"--csid c --listen l --standby x", "", "standby"},
 		{"--csid c --listen l --metrics 9809", "", `--metrics: "9809" is no HOST:PORT`},
 		{"--csid c --listen l --metrics localhost:x", "", `--metrics: "x" is no port from 0 to 65535`},
 		{"--csid c --listen l --metrics localhost:65536", "", `--metrics: "65536" is no port from 0 to 65535`},
@@ -93,7 +104,7 @@ func TestHelp(t *testing.T) {
 	if !errors.Is(err, flag.ErrHelp) {
 		t.Error(err)
 	}
-	for _, word := range []string{"usage: ", "-csid", "-listen", "-grace", "-late", "-waiting", "-log-format", "-health", "-metrics", "-metrics-topology", "-version"} {
+	for _, word := range []string{"usage: ", "-csid", "-listen", "-grace", "-late", "-waiting", "-log-format", "-standby", "-health", "-metrics", "-metrics-topology", "-version"} {
 		if !strings.Contains(shown.String(), word) {
 			t.Errorf("no %s in %s", word, shown.String())
 		}

@@ -57,14 +57,14 @@ func bytesField(number protowire.Number, value []byte) []byte {
 }
 
 // question hands a call of the front's own to csid, and gives field 1 of the reply. Where it is refused that is logged, as it is of a
-// client's call.
+// client's call, unless the front waits for csid and said why.
 func (h *handler) question(ctx context.Context, path string, message []byte, kind protowire.Type) (value []byte, is bool, err error) {
 	begin := time.Now()
 	body, err := h.ask(ctx, path, message)
 	if err == nil {
 		value, is, err = lastField(body, 1, kind)
 	}
-	if err != nil {
+	if err != nil && !h.isWaiting.Load() {
 		h.log.refuses(path, status.Convert(err), time.Since(begin))
 	}
 	return value, is, err

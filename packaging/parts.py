@@ -14,7 +14,7 @@ UNKNOWN = "NOASSERTION"
 # How the texts of licences in the kit are known.
 TEXTS = [("MIT", "Permission is hereby granted, free of charge"), ("Apache-2.0", "Apache License"), ("Unicode-3.0", "UNICODE LICENSE V3")]
 # The short names of Debian's files of copyright that are other ones in SPDX.
-SHORT = {"BSD-3-clause": "BSD-3-Clause", "Go": "BSD-3-Clause", "Expat": "MIT"}
+SHORT = {"BSD-3-clause": "BSD-3-Clause", "BSD-3-clause~Google": "BSD-3-Clause", "Go": "BSD-3-Clause", "Expat": "MIT"}
 
 
 class Failure(Exception):
@@ -121,9 +121,13 @@ def said(*command):
     return done.stdout
 
 
-def go_folders():
-    """The folders of the packages that the front is made of, its own left out."""
-    listed = said(os.path.join(TOP, "front", "go"), "list", "-deps", "-f", "{{.Dir}}", ".")
+# Where the sources of the programs in Go are.
+GO = {"csid-front": "front", "csid-etcd": "etcd"}
+
+
+def go_folders(program):
+    """The folders of the packages that a program in Go is made of, its own left out."""
+    listed = said(os.path.join(TOP, GO[program], "go"), "list", "-deps", "-f", "{{.Dir}}", ".")
     return sorted({os.path.realpath(it) for it in listed.split("\n") if it and not it.startswith(TOP)})
 
 
@@ -141,6 +145,6 @@ def debian_part(name):
     return Part(name, version, licence, "a Debian package", [path] if os.path.isfile(path) else [])
 
 
-def go_parts():
-    """Debian's packages of the sources that the front is made of: Go's own library, and those that it imports."""
-    return [debian_part(it) for it in debian_names(go_folders())]
+def go_parts(program):
+    """Debian's packages of the sources that a program in Go is made of: Go's own library, and those that it imports."""
+    return [debian_part(it) for it in debian_names(go_folders(program))]

@@ -8,10 +8,14 @@ import (
 	"path/filepath"
 	"strings"
 	"syscall"
+	"time"
 
 	"google.golang.org/grpc/codes"
 	"google.golang.org/grpc/status"
 )
+
+// How long a loop device may be held open by others when it is detached.
+const detachTime = 2 * time.Second
 
 // The status of blkid where it finds neither a file system nor anything else that it knows.
 const nothingFound = 2
@@ -76,7 +80,7 @@ func (devices) unstage(data, staging string) error {
 			return err
 		}
 	}
-	return command("losetup", "--detach", device)
+	return detach(data, device)
 }
 
 func (devices) publish(data, staging, target string, use *capability, readOnly bool) error {
@@ -224,6 +228,24 @@ func attach(data string, readOnly bool) (string, error) {
 // attached is the loop device of a file, or empty where there is none.
 func attached(data string) (string, error) {
 	return output("losetup", "--noheadings", "--output", "NAME", "--associated", data)
+}
+
+// detach takes a file off its loop device. While somebody else has the device open, as a blkid or losetup that looks at all of them, the kernel
+// takes it off only at the end of that, so the end is waited for; and where it did so before, losetup says that no file is there.
+func detach(data, device string) error {
+	err := command("losetup", "--detach", device)
+	for end := time.Now().Add(detachTime); ; time.Sleep(detachTime / 100) {
+		is, asking := attached(data)
+		if asking != nil || is != device {
+			return asking
+		}
+		if err != nil {
+			return err
+		}
+		if time.Now().After(end) {
+			return fmt.Errorf("%s is still open somewhere", device)
+		}
+	}
 }
 
 // format makes a file system on a device on which there is nothing that is known.

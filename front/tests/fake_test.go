@@ -28,6 +28,7 @@ type step struct {
 
 // fake stands for a csid: it serves one connection at a time, and takes a step a frame; once there are no more it is ready.
 type fake struct {
+	// Where it listens; where that is empty, in a folder of its own.
 	socket string
 	mutex  sync.Mutex
 	steps  []step
@@ -85,7 +86,9 @@ func (r *running) ends(t *testing.T) {
 
 func (f *fake) start(t *testing.T) *fake {
 	t.Helper()
-	f.socket = filepath.Join(processes.Folder(t), "csid.sock")
+	if f.socket == "" {
+		f.socket = filepath.Join(processes.Folder(t), "csid.sock")
+	}
 	listener, err := net.Listen("unix", f.socket)
 	if err != nil {
 		t.Fatal(err)

@@ -24,12 +24,18 @@ const getCapacity = controller + "GetCapacity"
 func watched(t *testing.T, csid string, words ...string) (*processes.Process, string) {
 	t.Helper()
 	front := processes.StartFront(t, csid, append([]string{"--metrics", "127.0.0.1:0"}, words...)...)
+	return front, monitorOf(t, front)
+}
+
+// monitorOf is where a front tells metrics.
+func monitorOf(t *testing.T, front *processes.Process) string {
+	t.Helper()
 	var told []string
 	processes.Eventually(t, "the address of metrics", func() bool {
 		told = regexp.MustCompile(`(?m)^front: metrics at (127\.0\.0\.1:[1-9][0-9]*)$`).FindStringSubmatch(front.Log.String())
 		return told != nil
 	})
-	return front, "http://" + told[1]
+	return "http://" + told[1]
 }
 
 // get is the status and the text that are answered at a place.

@@ -30,6 +30,8 @@ ROWS = [
     ("csid serve --t", "--tables"),
     ("csid serve --existing --i", "--idle"),
     ("csid serve --tables v", "volumes.db"),
+    ("csid serve --lo", "--log --low-memory"),
+    ("csid serve --log v", "volumes.db"),
     ("csid serve --config c", "config.toml"),
     ("csid serve --socket c", "config.toml"),
     ("csid serve --group roo", "root"),
@@ -51,8 +53,18 @@ ROWS = [
     ("csid-front --csid v", "volumes.db"),
     ("csid-front --listen c", "config.toml"),
     ("csid-front --grace ", ""),
+    ("csid-front --s", "--standby"),
+    ("csid-front --standby ", ""),
     ("csid-front --log-format j", "json"),
     ("csid-front --metrics ", ""),
+    ("csid-etcd --ex", "--export"),
+    ("csid-etcd --le", "--lease"),
+    ("csid-etcd --listen v", "volumes.db"),
+    ("csid-etcd --cacert c", "config.toml"),
+    ("csid-etcd --password-file c", "config.toml"),
+    ("csid-etcd --name ", ""),
+    ("csid-etcd --import --re", ""),
+    ("csid-etcd --name a --export --pass", "--password-file"),
 ]
 
 

@@ -6,7 +6,7 @@ import subprocess
 SECONDS = 20
 # Of every command of clap, and shown by Go without being listed.
 COMMON = {"--help", "--version"}
-SUBCOMMANDS = {"csid": ["pipe", "serve"], "csictl": ["show", "frame", "call", "vectors"], "csid-front": []}
+SUBCOMMANDS = {"csid": ["pipe", "serve"], "csictl": ["show", "frame", "call", "vectors"], "csid-front": [], "csid-etcd": []}
 
 
 def listed(program, words):

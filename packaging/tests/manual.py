@@ -15,6 +15,7 @@ SECTIONS = {
     "csid.1": ["NAME", "SYNOPSIS", "DESCRIPTION", "OPTIONS", "EXIT STATUS", "DIAGNOSTICS", "FILES", "SEE ALSO"],
     "csictl.1": ["NAME", "SYNOPSIS", "DESCRIPTION", "OPTIONS", "EXIT STATUS", "FILES", "EXAMPLES", "SEE ALSO"],
     "csid-front.1": ["NAME", "SYNOPSIS", "DESCRIPTION", "OPTIONS", "EXIT STATUS", "FILES", "SEE ALSO"],
+    "csid-etcd.1": ["NAME", "SYNOPSIS", "DESCRIPTION", "OPTIONS", "THE LOCK", "FROM A FILE TO ETCD, AND BACK", "EXIT STATUS", "FILES", "SEE ALSO"],
     "csid-config.5": ["NAME", "DESCRIPTION", "FILES", "SEE ALSO"],
     "csid-protocol.7": ["NAME", "DESCRIPTION", "ENVELOPE", "STATUS CODES", "FILES", "SEE ALSO"],
 }
@@ -25,10 +26,22 @@ TEXTS = [
     ("csid.1", "\\fBcsid\\fR [pipe [\\-\\-config\\ FILE] [\\-\\-tables FILE [\\-\\-existing] [\\-\\-low\\-memory]]]\n"),
     ("csid.1", ".TP\n\\fB\\-\\-socket PATH\\fR\n"),
     ("csid.1", ".TP\n\\fB/var/lib/csid/volumes.db\\fR\n"),
+    ("csid.1", "short entries (docs/OPERATING.md, \"Time and memory\")\n"),
+    ("csid.1", "docs/DEPLOY.md, \"From the Debian package\".\nWithout it, with the paths of docs/OPERATING.md, \"Copies and restores\", and"),
+    ("csid.1", " (\"Arguments that are refused\")\n"),
     ("csictl.1", "\\fBcsictl\\fR vectors FILE\n"),
+    ("csictl.1", ".SH \"FOR SCRIPTS\"\n"),
     ("csid-front.1", "\\fBcsid\\-front\\fR \\-\\-version\n"),
     ("csid-front.1", ".SH DESCRIPTION\n.PP\nFor operators: how \\fBcsid\\fR stands behind an orchestrator"),
+    ("csid-front.1", " (\"Watching the front\")\n"),
+    ("csid-front.1", ".SH \"WATCHING THE FRONT\"\n"),
+    ("csid-front.1", "one serves at a time (docs/DEPLOY.md, \"Two replicas over etcd\").\n"),
     ("csid-front.1", ".TP\n\\fB/run/csid\\-front/csi.sock\\fR\n"),
+    ("csid-etcd.1", "\\fBcsid\\-etcd\\fR \\-\\-import \\-\\-name NAME [\\-\\-endpoints\\ HOST:PORT,..] [\\-\\-cacert\\ PATH]"),
+    ("csid-etcd.1", ".TP\n\\fB\\-\\-listen PATH\\fR\n"),
+    ("csid-etcd.1", ".SS \"From etcd to a file\"\n"),
+    ("csid-etcd.1", ".TP\n\\fB/run/csid\\-etcd/log.sock\\fR\n"),
+    ("csid-etcd.1", ".TP\n\\fB/var/lib/csid\\-etcd/revision\\fR\n"),
     ("csid-config.5", "[[pool]]\nname = \"p1\"\n"),
     ("csid-protocol.7", ".TP\npath length\nbytes: 2, big-endian\n.br\nvalue: 1 to 128\n"),
     ("csid-protocol.7", ".TP\n0\n\\fBOK\\fR\n"),
@@ -41,6 +54,7 @@ PIECES = [
     (".so is no request", ".PP\n\\&.so is no request\n"),
     ("One. Two", ".PP\nOne.\nTwo\n"),
     ("`a: ` and `B. C` or d", ".PP\n\\fBa: \\fR and \\fBB. C\\fR or d\n"),
+    ("`%s,%s,c`" % ("a" * 40, "b" * 40), ".PP\n.na\n\\fB%s,\\:%s,\\:c\\fR\n.br\n.ad\n" % ("a" * 40, "b" * 40)),
     ("two\nlines", ".PP\ntwo lines\n"),
     ("- a", ".IP \\(bu 4\na\n"),
     ("1. a\n2. b\n   c", ".IP 1. 4\na\n.IP 2. 4\nb c\n"),
@@ -112,14 +126,24 @@ def synopsis_rows():
 
 
 def refusal_rows():
-    usage = "manual: usage: packaging/manual FOLDER\n"
+    usage = "manual: usage: packaging/manual [--without-etcd] FOLDER\n"
     yield "no folder", run(MANUAL), (2, usage)
     yield "an option", run(MANUAL, "--help"), (2, usage)
+    yield "an option alone", run(MANUAL, "--without-etcd"), (2, usage)
     for old, new, count in [("## Limits\n", "## Limit\n", 0), ("## Secrets\n", "## Limits\n\n## Secrets\n", 2)]:
         with tempfile.TemporaryDirectory() as folder:
             out = os.path.join(folder, "man")
             came = run(copied(folder, "OPERATING.md", old, new), out), os.path.exists(out)
         yield "%d headings" % count, came, ((1, "manual: docs/OPERATING.md has %d headings 'Limits'\n" % count), False)
+
+
+def without_rows():
+    """Where csid-etcd is not in a release no page names its page."""
+    with tempfile.TemporaryDirectory() as folder:
+        yield "the pages without that of csid-etcd", run(MANUAL, "--without-etcd", folder), (0, "")
+        yield "what there is", sorted(os.listdir(folder)), sorted(set(SECTIONS) - {"csid-etcd.1"})
+        texts = "".join(read(os.path.join(folder, name)) for name in os.listdir(folder))
+        yield "what names it", re.findall(r"csid-etcd\(1\)|csid\\-etcd\\fR\(1\)", texts), []
 
 
 def warning_rows(folder, *words):
@@ -141,4 +165,4 @@ def made_rows(programs, folder):
 def parts(programs, folder):
     """The rows, of which the later ones read the pages that the first ones make in a folder."""
     warnings = [warning_rows(folder, "groff", "-man", "-ww", "-z"), warning_rows(folder, "man", "--warnings", "-l", "-Tutf8")]
-    return [made_rows(programs, folder), piece_rows(), synopsis_rows(), refusal_rows(), *warnings]
+    return [made_rows(programs, folder), piece_rows(), synopsis_rows(), refusal_rows(), without_rows(), *warnings]

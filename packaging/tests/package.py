@@ -29,6 +29,11 @@ FRONT_SOCKET = "run/csid-front/csi.sock"
 UPDATED = ["deb-systemd-helper update-state csid.service", "deb-systemd-helper update-state csid-front.service", "systemctl --system daemon-reload"]
 RESTARTED = ["deb-systemd-invoke try-restart csid.service csid-front.service"]
 STOPPED = ["deb-systemd-invoke stop csid-front.service csid.service", "systemctl --system daemon-reload"]
+STOPPED_ETCD = ["deb-systemd-invoke stop csid-front.service csid.service", "deb-systemd-invoke stop csid-etcd.service", "systemctl --system daemon-reload"]
+RESTARTED_ETCD = ["deb-systemd-invoke try-restart csid-etcd.service", "deb-systemd-invoke try-restart csid.service csid-front.service"]
+ETCD_UNIT = "etc/systemd/system/csid-etcd.service"
+# What is in the package with csid-etcd alone.
+OF_ETCD = ["./usr/bin/csid-etcd", "./usr/share/bash-completion/completions/csid-etcd", "./usr/share/man/man1/csid-etcd.1.gz"]
 PURGED = ["deb-systemd-helper purge csid.service csid-front.service"]
 LEFT = "csid: /var/lib/csid has the record of volumes and is left; remove it by hand once no volume is in use\n"
 VOLUME = "volume vol-1 1048576"
@@ -123,11 +128,11 @@ def ended(process):
     return process.communicate(timeout=SECONDS)[1]
 
 
-def content_rows(package):
+def content_rows(programs, package):
     """The paths and modes. Whose licences there are depends on what the programs stand on, so of these the modes alone."""
     held = [re.sub(r" +\d+ \d{4}-\d\d-\d\d \d\d:\d\d ", " ", it) for it in run("dpkg-deb", "--contents", package)[1].splitlines()]
     listed = [it for it in held if LICENCES not in it]
-    wanted = read("packaging", "debian", "contents").splitlines()
+    wanted = [it for it in read("packaging", "debian", "contents").splitlines() if "csid-etcd" in programs or it.split()[-1] not in OF_ETCD]
     yield "the modes of licences", {it.partition(LICENCES)[0] for it in held if LICENCES in it}, {"drwxr-xr-x root/root ", "-rw-r--r-- root/root "}
     yield "what is there and is not listed", sorted(set(listed) - set(wanted)), []
     yield "what is listed and is not there", sorted(set(wanted) - set(listed)), []
@@ -145,11 +150,11 @@ def called(system, *words):
     return status, out.partition("\n")[2].strip(), error
 
 
-def use_rows(system):
+def use_rows(programs, system):
     """The programs, and what the units start with the configuration of the package."""
-    for name in ["csid", "csictl", "csid-front"]:
+    for name in programs:
         system.put_libraries(system.path("usr/bin/" + name))
-        yield name + " --version", system.inside("/usr/bin/" + name, "--version"), (0, "%s %s\n" % (name.replace("csid-", ""), version()), "")
+        yield name + " --version", system.inside("/usr/bin/" + name, "--version"), (0, "%s %s\n" % (name.replace("csid-front", "front"), version()), "")
     yield "the configuration", system.inside("/usr/bin/csid", "pipe", "--config", "/" + CONFIG), (0, "", "")
     os.makedirs(system.path("var/lib/csid"))
     yield "csid-new makes the file of volumes", system.inside(*system.command("csid-new.service")[0]), (0, "", "")
@@ -198,7 +203,20 @@ def remove_rows(system, package):
     yield "a folder without volumes", os.path.exists(system.path("var/lib/csid")), False
 
 
-def install_rows(package):
+def etcd_rows(system, package, folder):
+    """The unit of csid-etcd is the operator's copy of the example: it is stopped and started where it is there, and stays."""
+    os.makedirs(os.path.dirname(system.path(ETCD_UNIT)), exist_ok=True)
+    example = read(system.path("usr/share/doc/csid/examples/csid-etcd.service"))
+    yield "the program of the example", re.findall(r"^ExecStart=(\S+)", example, re.M), ["/usr/bin/csid-etcd"]
+    system.write(ETCD_UNIT, example, 0o644)
+    yield "an upgrade over csid-etcd", system.dpkg("--install", later(package, folder)), (0, "", UPDATED + RESTARTED_ETCD)
+    yield "a remove over csid-etcd", system.dpkg("--remove", "csid"), (0, "", STOPPED_ETCD)
+    yield "its unit behind it", read(system.path(ETCD_UNIT)), example
+    os.unlink(system.path(ETCD_UNIT))
+    yield "an install behind it", system.dpkg("--install", package), (0, "", UPDATED + RESTARTED)
+
+
+def install_rows(programs, package):
     if os.geteuid() != 0:
         raise LeftOut("only root can install packages")
     for tool in TOOLS + ["chroot", "ldd"]:
@@ -208,10 +226,12 @@ def install_rows(package):
         yield "an install", system.dpkg("--install", package), (0, "", UPDATED)
         yield "the user", re.findall(r"^(csid):x:\d+:\d+:(.*)$", read(system.path("etc/passwd")), re.M), [("csid", "CSI controller plugin csid:/var/lib/csid:/usr/sbin/nologin")]
         yield "no file of volumes", os.path.exists(system.path("var/lib/csid")), False
-        yield from use_rows(system)
+        yield from use_rows(programs, system)
         yield from upgrade_rows(system, package, folder)
+        if "csid-etcd" in programs:
+            yield from etcd_rows(system, package, folder)
         yield from remove_rows(system, package)
 
 
-def parts(package):
-    return [content_rows(package), lintian_rows(package), install_rows(package)]
+def parts(programs, package):
+    return [content_rows(programs, package), lintian_rows(package), install_rows(programs, package)]

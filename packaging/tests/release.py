@@ -2,6 +2,7 @@
 import hashlib
 import json
 import os
+import re
 import shutil
 import subprocess
 import sys
@@ -11,7 +12,7 @@ import tempfile
 from sources import TOP, version
 
 BUILD = "release: %s is not there, or older than a source: call %s first\n"
-CSID, CSICTL, FRONT = "crates/csid/out/csid", "crates/csictl/out/csictl", "front/out/front"
+CSID, CSICTL, FRONT, ETCD = "crates/csid/out/csid", "crates/csictl/out/csictl", "front/out/front", "etcd/out/csid-etcd"
 USAGE = "release: usage: ./release [--out FOLDER | --check]\n"
 NO_KIT = "%s: 'rt' is not on the PATH: the Rattle toolchain is needed (README.md, 'Build, run, test')\n"
 # Programs that are there, what is newer than they are, and what ./release says.
@@ -22,7 +23,14 @@ REFUSED = [
     ([CSID, CSICTL, FRONT], "crates/csid/src/main.rt", BUILD % (CSID, "./build")),
     ([CSID, CSICTL, FRONT], "crates.txt", BUILD % (CSID, "./build")),
     ([CSID, CSICTL, FRONT], "front/main.go", BUILD % (FRONT, "front/build")),
+    ([CSID, CSICTL, FRONT], "go/src/fomaheti/frames/replies.go", BUILD % (FRONT, "front/build")),
     ([CSID, CSICTL, FRONT], "VERSION", BUILD % (FRONT, "front/build")),
+]
+# The same of csid-etcd, where the sources of etcd's client are here.
+REFUSED_ETCD = [
+    ([CSID, CSICTL, FRONT], None, BUILD % (ETCD, "etcd/build")),
+    ([CSID, CSICTL, FRONT, ETCD], "etcd/import.go", BUILD % (ETCD, "etcd/build")),
+    ([CSID, CSICTL, FRONT, ETCD], "etcd/go", BUILD % (ETCD, "etcd/build")),
 ]
 
 
@@ -55,10 +63,12 @@ def archive_rows(path, name, programs):
         yield "modes", {it.mode for it in members}, {0o644, 0o755}
         yield "the order", names, sorted(names, key=lambda it: it.split("/"))
         for program, built in programs.items():
-            held = archive.extractfile("%s/%s" % (name, program.replace("csid-", ""))).read()
+            held = archive.extractfile("%s/%s" % (name, program.replace("csid-front", "front"))).read()
             yield program, hashlib.sha256(held).hexdigest(), checksum(built)
         wanted = ["README.md", "docs/DEPLOY.md", "deploy/csid.service", "man/csid.1", "completions/csid", "licences/clap/LICENSE-MIT", "csid.spdx.json"]
         yield "what else is there", [it for it in wanted if "%s/%s" % (name, it) not in names], []
+        of_etcd = ["csid-etcd", "man/csid-etcd.1", "completions/csid-etcd", "licences/golang-etcd-server-dev/copyright"]
+        yield "what is there of csid-etcd", [it for it in of_etcd if "%s/%s" % (name, it) in names], of_etcd if "csid-etcd" in programs else []
 
 
 def list_rows(path, programs):
@@ -74,13 +84,17 @@ def list_rows(path, programs):
     for name, licence in [("clap", "Apache-2.0 OR MIT"), ("mio", "MIT"), ("sqlite_disk", "NOASSERTION")]:
         said = packages[name]
         yield "the crate " + name, ("rattle-kit-" + said["versionInfo"], said["licenseDeclared"]), (kit, licence)
-    for name, licence in [("golang-google-grpc-dev", "Apache-2.0"), ("golang-golang-x-net-dev", "BSD-3-Clause")]:
+    sources = [("golang-google-grpc-dev", "Apache-2.0"), ("golang-golang-x-net-dev", "BSD-3-Clause")]
+    for name, licence in sources + ([("golang-etcd-server-dev", "Apache-2.0"), ("golang-go.uber-zap-dev", "MIT")] if "csid-etcd" in programs else []):
         said = packages[name]
         yield "the package " + name, (said["versionInfo"], said["licenseDeclared"]), (output("dpkg-query", "-Wf", "${Version}", name), licence)
+    told = {it["licenseDeclared"] for it in made["packages"]}
+    yield "licences that are no expressions of SPDX", [it for it in told if not re.fullmatch(r"[A-Za-z0-9.-]+( (OR|AND) [A-Za-z0-9.-]+)*", it)], []
     named = {it[key] for it in made["relationships"] for key in ("spdxElementId", "relatedSpdxElement")}
     yield "what relations name", named, {it["SPDXID"] for it in made["packages"]} | {"SPDXRef-DOCUMENT"}
     found = {(it["spdxElementId"], it["relatedSpdxElement"]) for it in made["relationships"] if it["relationshipType"] == "DEPENDS_ON"}
-    for one, other, stands in [("csid", "sqlite", True), ("csid", "hex", False), ("csictl", "hex", True), ("csictl", "sqlite", False), ("clap", "strsim", True)]:
+    for one, other, stands in [("csid", "sqlite", True), ("csid", "serde-json", False), ("csictl", "serde-json", True), ("csictl", "sqlite", False), ("clap", "strsim", True),
+                               ("csid-etcd", "golang-etcd-server-dev", "csid-etcd" in programs), ("csid-front", "golang-etcd-server-dev", False)]:
         yield "%s stands on %s" % (one, other), ("SPDXRef-" + one, "SPDXRef-" + other) in found, stands
 
 
@@ -100,19 +114,20 @@ def touch(path, seconds):
     os.utime(path, (date, date + seconds))
 
 
-def refusal_rows():
+def refusal_rows(is_etcd):
+    all_programs = [CSID, CSICTL, FRONT] + ([ETCD] if is_etcd else [])
     with tempfile.TemporaryDirectory() as folder:
         top = os.path.join(folder, "csid")
         clone(top)
         for words in (["x"], ["--out"], ["--check", "x"], ["--out", "a", "b"]):
             yield "./release " + " ".join(words), run("./release", *words, cwd=top), (2, "", USAGE)
-        for programs, newer, wanted in REFUSED:
-            for path in (CSID, CSICTL, FRONT):
+        for programs, newer, wanted in REFUSED + (REFUSED_ETCD if is_etcd else []):
+            for path in (CSID, CSICTL, FRONT, ETCD):
                 shutil.rmtree(os.path.join(top, os.path.dirname(path)), ignore_errors=True)
             yield "with %s, and %s newer" % (programs, newer), refused(top, programs, newer), (1, "", wanted)
         with open(os.path.join(top, "README.md"), "a") as file:
             file.write("\n")
-        yield "with a file that was changed", refused(top, [CSID, CSICTL, FRONT], None), (1, "", "release: files differ from the last commit: commit them first\n")
+        yield "with a file that was changed", refused(top, all_programs, None), (1, "", "release: files differ from the last commit: commit them first\n")
     for name in ("licences", "spdx"):
         words = [sys.executable, os.path.join(TOP, "packaging", name), *["/nowhere"] * (3 if name == "spdx" else 1)]
         yield name + " without the kit", run(*words, env={"PATH": "/nowhere", "SOURCE_DATE_EPOCH": "0"}), (1, "", NO_KIT % name)
@@ -137,5 +152,5 @@ def parts(programs, folder):
         folder_rows(folder, name, "csid_%s_%s.deb" % (version(), architecture)),
         archive_rows(os.path.join(folder, name + ".tar.gz"), name, programs),
         list_rows(os.path.join(folder, name + ".spdx.json"), programs),
-        refusal_rows(),
+        refusal_rows("csid-etcd" in programs),
     ]

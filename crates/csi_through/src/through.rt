@@ -4,6 +4,7 @@ ghost use Rattle.std.specs.Prelude.{◌≡◌, true, false, IfErr, IfOk, IsTrue,
 ghost use Rattle.csi_keeper.specs.Holding.{mem_model};
 ghost use Rattle.csi_keeper.specs.Keeper.{Applies, IsQuiet};
 ghost use Rattle.csi_keeper.specs.State.{IsBounded};
+ghost use Rattle.csi_through.specs.Copying.{IsCopy};
 ghost use Rattle.csi_through.specs.Through.{Opens, through_model};
 
 use crate::copying::copy_of;
@@ -76,12 +77,13 @@ impl<K: Keeper> Through<MemKeeper, Logged<K>> {
     /// for each that is published.
     ///
     /// Each State of the invariant that the keeper may have is the State, and a stop leaves what it would leave of
-    /// the keeper.
+    /// the keeper. The memory has each change that the log has.
     ///
     /// # Errors
     ///
     /// What the keeper answers, or want of memory; the keeper's State stays.
     pub fn over(alloc: Global, mut keeper: K) -> Result<Through<MemKeeper, Logged<K>>, NotCopied<K>>
+        ensures current { IfOk result (λ through. through.health.is_current ≡ true) }
         ensures opens { IfOk result (λ through. Opens (K.model keeper) (through_model mem_model (λ logged. K.model logged.keeper) through)) }
         ensures stays { IfErr result (λ error. IsQuiet (K.model keeper) (K.model error.keeper)) }
     {
@@ -89,6 +91,28 @@ impl<K: Keeper> Through<MemKeeper, Logged<K>> {
             Ok(memory) => Ok(Through::new(memory, Logged::new(keeper))),
             Err(fault) => Err(NotCopied { fault, keeper }),
         }
+    }
+}
+
+impl<D: Log + Drop> Through<MemKeeper, D> {
+    /// Over a copy in memory of what a keeper has, and a log of the same State. It takes two reads for 1,000
+    /// volumes, and one for each that is published.
+    ///
+    /// # Errors
+    ///
+    /// What the keeper answers, or want of memory.
+    pub fn copied<K: Keeper>(
+        alloc: Global,
+        keeper: &mut K,
+        log: D,
+    ) -> Result<Through<MemKeeper, D>, StoreFault>
+        ensures quiet { IsQuiet (K.model keeper.old) (K.model keeper.new) }
+        ensures copy { IfOk result (λ through. IsCopy (K.model keeper.old) (K.model keeper.new) through.memory) }
+        ensures log { IfOk result (λ through. through.log ≡ log) }
+        ensures fresh { IfOk result (λ through. (through.health.refusals ≡ 0) × (through.health.is_current ≡ true) × (through.health.is_down ≡ false)) }
+    {
+        let memory = copy_of(alloc, keeper)?;
+        Ok(Through::new(memory, log))
     }
 }
 

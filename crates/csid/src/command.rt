@@ -42,8 +42,10 @@ pub(crate) struct Piped<'a> {
 pub(crate) struct Serving<'a> {
     /// Where the socket is made.
     pub(crate) socket: &'a str,
-    /// The file of the tables.
+    /// The file of the tables, where no log has the volumes.
     pub(crate) tables: &'a str,
+    /// The socket of the log that has the volumes.
+    pub(crate) log: Option<&'a str>,
     /// The tables have to stand.
     pub(crate) is_existing: bool,
     /// Reads are those of the file.
@@ -109,7 +111,7 @@ static CHECKS: [CommandOption; 3] = [
 
 static PIPE: [CommandOption; 4] = [CONFIG, TABLES, EXISTING, LOW_MEMORY];
 
-static SERVE: [CommandOption; 8] = [
+static SERVE: [CommandOption; 9] = [
     CommandOption {
         name: "socket",
         takes: Takes::Text("PATH"),
@@ -117,9 +119,12 @@ static SERVE: [CommandOption; 8] = [
         help: "The Unix socket to listen on, as /run/csid.sock; no file may stand there",
         ..OPTION
     },
+    TABLES,
     CommandOption {
-        is_required: true,
-        ..TABLES
+        name: "log",
+        takes: Takes::Text("PATH"),
+        help: "The socket of a program that keeps the volumes, as csid-etcd does, in place of --tables",
+        ..OPTION
     },
     EXISTING,
     LOW_MEMORY,
@@ -191,11 +196,25 @@ pub(crate) fn odd_number<'a>(matches: &ArgMatches<'a>) -> Option<(&'static str, 
     None
 }
 
+/// What is wrong with where a server is to have its volumes: it is one of two places.
+pub(crate) fn odd_store<'a>(matches: &ArgMatches<'a>) -> Option<&'static str> {
+    let Some(("serve", arguments)) = matches.subcommand() else {
+        return None;
+    };
+    let tables = arguments.get_str("tables");
+    match (tables.is_some(), arguments.get_str("log").is_some()) {
+        (true, true) => Some("the argument '--log <PATH>' cannot be used with '--tables <FILE>'"),
+        (false, false) => Some("one of '--tables <FILE>' and '--log <PATH>' is required"),
+        _ => None,
+    }
+}
+
 // What the arguments behind `serve` ask for.
 fn asked_of_serve<'a>(arguments: &ArgMatches<'a>) -> Serving<'a> {
     Serving {
         socket: arguments.get_str("socket").unwrap_or(""),
         tables: arguments.get_str("tables").unwrap_or(""),
+        log: arguments.get_str("log"),
         is_existing: arguments.get_flag("existing"),
         is_low_memory: arguments.get_flag("low-memory"),
         config: arguments.get_str("config"),

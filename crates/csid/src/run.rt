@@ -4,7 +4,7 @@ ghost use Rattle.std.specs.Prelude.{IfErr};
 ghost use Rattle.csid.specs.Statuses.{IsOrNoMemory};
 
 use crate::check::{check_config, check_tables};
-use crate::command::{Piped, Serving, Task, asked, command, odd_number};
+use crate::command::{Piped, Serving, Task, asked, command, odd_number, odd_store};
 use crate::config::configuration;
 use crate::failure::{Failure, Peer, outcome};
 use crate::say::say;
@@ -125,6 +125,9 @@ fn answer_pipe(rt: &HostRuntime, pipe: &Piped<'_>) -> Result<(), Failure> {
 fn check_serving(rt: &HostRuntime, serving: &Serving<'_>) -> Result<(), Failure>
     ensures { IfErr result (λ failure. IsOrNoMemory 4 failure) }
 {
+    if serving.log.is_some() {
+        return Ok(());
+    }
     if serving.tables.is_empty() {
         return Err(Failure::NoTablesPath);
     }
@@ -139,8 +142,10 @@ fn check_serving(rt: &HostRuntime, serving: &Serving<'_>) -> Result<(), Failure>
 // runs is left alone.
 fn listen_over(rt: &HostRuntime, config: &Config, serving: &Serving<'_>) -> Result<(), Failure> {
     let listener = listen(rt, serving.socket, serving.group)?;
-    let blank = Blank::refused_if(serving.is_existing, Blank::MakeAndSay);
-    survey(rt, serving.tables, config, blank);
+    if serving.log.is_none() {
+        let blank = Blank::refused_if(serving.is_existing, Blank::MakeAndSay);
+        survey(rt, serving.tables, config, blank);
+    }
     serve_all(rt, config, serving, &listener)
 }
 
@@ -161,10 +166,20 @@ fn refused_number(alloc: Global, option: &str, number: &str) -> Failure
     Failure::Arguments(ArgumentsFault::refused(line))
 }
 
+// A server that is not told where it has its volumes, or is told two places.
+fn refused_store(alloc: Global, why: &str) -> Failure
+    ensures { IsOrNoMemory 2 result }
+{
+    Failure::Arguments(ArgumentsFault::refused(format!(in alloc; "{why}")))
+}
+
 // Does what the arguments ask.
 fn obey(rt: &HostRuntime, arguments: &ArgMatches<'_>) -> Result<(), Failure> {
     if let Some((option, number)) = odd_number(arguments) {
         return Err(refused_number(rt.alloc(), option, number));
+    }
+    if let Some(why) = odd_store(arguments) {
+        return Err(refused_store(rt.alloc(), why));
     }
     match asked(arguments) {
         Task::Pipe(pipe) => answer_pipe(rt, &pipe),

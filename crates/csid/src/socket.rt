@@ -6,6 +6,7 @@ ghost use Rattle.csid.specs.Statuses.{IsOrNoMemory};
 use crate::command::Serving;
 use crate::failure::{Failure, Peer, outcome};
 use crate::group::group_number;
+use crate::log::{OpenLog, open_log};
 use crate::peer::{Patient, has_gone, settle};
 use crate::pending::{Pending, Start};
 use crate::run::FIRST_NUMBER;
@@ -22,12 +23,15 @@ use std::alloc::Global;
 use std::fs::{self, Permissions};
 use std::io::{self, ErrorKind};
 use std::os::unix::fs::{PermissionsExt, chown};
-use std::os::unix::net::UnixListener;
+use std::os::unix::net::{UnixListener, UnixStream};
 
 // Who may connect: the owner, or the owner and a group.
 const OWNER: u32 = 0o600;
 
 const OWNER_AND_GROUP: u32 = 0o660;
+
+const IS_BEHIND: &str =
+    "there was no memory for a change that was made; from then on the connection was told that the store refused its calls";
 
 // Why the socket failed.
 fn of_socket(alloc: Global, path: &str, error: &io::Error) -> Failure
@@ -89,9 +93,10 @@ pub(crate) fn listen(
 }
 
 // Says how a connection ended.
-fn tell_end(rt: &HostRuntime, is_idle: bool, end: RunEnd) {
+fn tell_end(rt: &HostRuntime, is_idle: bool, is_cut: bool, end: RunEnd) {
     match end {
         RunEnd::ReadFailed if is_idle => say(rt, &"a connection that sent nothing was closed"),
+        RunEnd::ReadFailed if is_cut => say(rt, &"the log does not lead any more"),
         _ => {
             if let Err(failure) = outcome(Peer::Connection, end) {
                 say(rt, &failure);
@@ -100,18 +105,27 @@ fn tell_end(rt: &HostRuntime, is_idle: bool, end: RunEnd) {
     }
 }
 
-// Answers the calls of one connection over a keeper.
-fn serve_one<K: Keeper>(rt: &HostRuntime, config: &Config, keeper: &mut K, peer: &Pending) {
-    let mut reader = Patient::new(&peer.stream, peer.sent.as_slice());
+// Answers the calls of one connection over a keeper, until it ends or a log does not lead any more. Whether that is why it ended.
+fn serve_one<K: Keeper>(
+    rt: &HostRuntime,
+    config: &Config,
+    keeper: &mut K,
+    peer: &Pending,
+    log: Option<&UnixStream>,
+) -> bool {
+    let mut reader = Patient::new(&peer.stream, peer.sent.as_slice(), log, rt.alloc());
     let mut writer = &peer.stream;
     let end = serve(rt.alloc(), config, keeper, &mut reader, &mut writer);
-    tell_end(rt, reader.is_idle, end);
+    tell_end(rt, reader.is_idle, reader.is_cut, end);
+    reader.is_cut
 }
 
 // Refuses what a connection has sent, which begins no call: so no volume is asked for, and the tables are not opened.
 fn refuse_peer(rt: &HostRuntime, config: &Config, peer: &Pending) {
     match MemKeeper::new(rt.alloc(), FIRST_NUMBER) {
-        Ok(mut keeper) => serve_one(rt, config, &mut keeper, peer),
+        Ok(mut keeper) => {
+            serve_one(rt, config, &mut keeper, peer, None);
+        }
         Err(_) => say(rt, &Failure::NoMemory),
     }
 }
@@ -140,7 +154,7 @@ struct Answering<'a> {
 impl Answering<'_> {
     // Reads are those of the file.
     fn run_over_file<S: Alter + Drop>(&self, mut tables: Tables<S>) -> Connection<S> {
-        serve_one(self.rt, self.config, &mut tables, self.peer);
+        serve_one(self.rt, self.config, &mut tables, self.peer, None);
         tell_refusals(
             self.rt,
             self.path,
@@ -155,13 +169,13 @@ impl Answering<'_> {
     fn run_over_memory<S: Alter + Drop>(&self, tables: Tables<S>) -> Connection<S> {
         match Through::over(self.rt.alloc(), tables) {
             Ok(mut keeper) => {
-                serve_one(self.rt, self.config, &mut keeper, self.peer);
+                serve_one(self.rt, self.config, &mut keeper, self.peer, None);
                 tell_refusals(
                     self.rt,
                     self.path,
                     keeper.is_down(),
                     keeper.refusals(),
-                    "there was no memory for a change that was made; from then on the connection was told that the store refused its calls",
+                    IS_BEHIND,
                 );
                 keeper.into_log().into_keeper().into_connection()
             }
@@ -208,16 +222,98 @@ fn serve_over_tables(rt: &HostRuntime, config: &Config, serving: &Serving<'_>, p
     }
 }
 
+// The log as it stands, or read anew where it does not stand.
+fn standing_log(
+    rt: &HostRuntime,
+    config: &Config,
+    path: &str,
+    log: Option<OpenLog>,
+) -> Result<OpenLog, Failure> {
+    if let Some(open) = log {
+        if open.stands(rt.alloc()) {
+            return Ok(open);
+        }
+    }
+    open_log(rt, config, path)
+}
+
+// Answers the calls of a connection over a log, and gives the log back.
+fn serve_open(
+    rt: &HostRuntime,
+    config: &Config,
+    path: &str,
+    mut open: OpenLog,
+    peer: &Pending,
+) -> OpenLog {
+    open.is_cut = serve_one(rt, config, &mut open.keeper, peer, Some(&open.stream));
+    if open.keeper.is_down() {
+        say_of(
+            rt,
+            path,
+            &"a change was refused by the log, or nobody knows of it, or there was no memory; from then on the connection was told that the store is down",
+        );
+    } else if !open.keeper.is_current() {
+        say_of(rt, path, &IS_BEHIND);
+    }
+    open
+}
+
+// Answers the calls of one connection over a log. Where it cannot be had, the connection is closed unanswered, and the next one tries
+// again.
+fn serve_over_log(
+    rt: &HostRuntime,
+    config: &Config,
+    path: &str,
+    log: &mut Option<OpenLog>,
+    peer: &Pending,
+) {
+    match standing_log(rt, config, path, log.take()) {
+        Ok(open) => *log = Some(serve_open(rt, config, path, open, peer)),
+        Err(failure) => say(rt, &failure),
+    }
+}
+
+// Answers the calls of one connection, where the volumes are.
+fn serve_over_store(
+    rt: &HostRuntime,
+    config: &Config,
+    serving: &Serving<'_>,
+    log: &mut Option<OpenLog>,
+    peer: &Pending,
+) {
+    match serving.log {
+        Some(path) => serve_over_log(rt, config, path, log, peer),
+        None => serve_over_tables(rt, config, serving, peer),
+    }
+}
+
 // Answers the calls of one connection, if somebody is there. Who has gone, as after a call that was given up
 // while another was answered, costs no opening of the tables.
-fn serve_peer(rt: &HostRuntime, config: &Config, serving: &Serving<'_>, peer: &Pending) {
+fn serve_peer(
+    rt: &HostRuntime,
+    config: &Config,
+    serving: &Serving<'_>,
+    log: &mut Option<OpenLog>,
+    peer: &Pending,
+) {
     if has_gone(&peer.stream) {
         return;
     }
     match settle(&peer.stream, serving.idle) {
         Ok(()) if matches!(peer.start, Some(Start::NoCall)) => refuse_peer(rt, config, peer),
-        Ok(()) => serve_over_tables(rt, config, serving, peer),
+        Ok(()) => serve_over_store(rt, config, serving, log, peer),
         Err(error) => say_of(rt, "a connection's time cannot be limited", &error),
+    }
+}
+
+// The log as it is at the start, if volumes are to be in one. Where it cannot be had, that is said, and the first connection tries again.
+fn first_log(rt: &HostRuntime, config: &Config, serving: &Serving<'_>) -> Option<OpenLog> {
+    match open_log(rt, config, serving.log?) {
+        Ok(open) => Some(open),
+        Err(failure) => {
+            say(rt, &failure);
+            None
+        }
     }
 }
 
@@ -229,9 +325,10 @@ fn serve_each(
     listener: &UnixListener,
 ) -> io::Result<()> {
     let mut waiting = Waiting::new(rt, listener, serving.connections, serving.idle)?;
+    let mut log = first_log(rt, config, serving);
     for _ in 0..serving.connections {
         match waiting.next(rt)? {
-            Some(peer) => serve_peer(rt, config, serving, &peer),
+            Some(peer) => serve_peer(rt, config, serving, &mut log, &peer),
             None => return Ok(()),
         }
     }

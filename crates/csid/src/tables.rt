@@ -99,8 +99,12 @@ fn of_adoption(alloc: Global, path: &str, fault: &AdoptFault) -> Failure
     }
 }
 
-// A keeper over the tables on a connection, which are made where the file is new.
-fn keep<S: Alter + Drop>(
+/// A keeper over the tables on a connection, which are made where there are none.
+///
+/// # Errors
+///
+/// Where the tables are refused, or memory is.
+pub(crate) fn keep<S: Alter + Drop>(
     rt: &HostRuntime,
     path: &str,
     conn: Connection<S>,
@@ -210,8 +214,8 @@ pub(crate) fn over_tables<T: OverTables>(
     }
 }
 
-// Says what the tables in a file have.
-fn tell_content(rt: &HostRuntime, path: &str, content: Result<Content, Error>) {
+/// Says what tables have.
+pub(crate) fn tell_content(rt: &HostRuntime, path: &str, content: Result<Content, Error>) {
     match content {
         Ok(content) => say_of(rt, path, &content),
         Err(error) => say(rt, &of_database(rt.alloc(), path, &error)),

@@ -1,4 +1,4 @@
-// Package processes starts the built front and the built csid for the tests of this folder, and ends them.
+// Package processes starts the built programs for the tests of this folder and of etcd/tests, and ends them.
 package processes
 
 import (
@@ -33,9 +33,10 @@ func program(t *testing.T, variable, otherwise string) string {
 	return path
 }
 
-// FrontProgram is the path of the built front, CsidProgram that of the built csid.
+// FrontProgram is the path of the built front, CsidProgram that of the built csid, EtcdProgram that of the built csid-etcd.
 func FrontProgram(t *testing.T) string { return program(t, "FRONT", "front/out/front") }
 func CsidProgram(t *testing.T) string  { return program(t, "CSID", "crates/csid/out/csid") }
+func EtcdProgram(t *testing.T) string  { return program(t, "CSID_ETCD", "etcd/out/csid-etcd") }
 
 // ErrorLog is what a process wrote to standard error so far.
 type ErrorLog struct {

@@ -1,4 +1,4 @@
-package main
+package frames
 
 import (
 	"bufio"
@@ -32,7 +32,7 @@ func TestRequestHead(t *testing.T) {
 		{"/a/b", 1048576, "0004 2f612f62 00 00100000"},
 	}
 	for _, row := range rows {
-		if got := requestHead(row.path, row.length); !bytes.Equal(got, fromHex(t, row.want)) {
+		if got := RequestHead(row.path, row.length); !bytes.Equal(got, fromHex(t, row.want)) {
 			t.Errorf("%s, %d bytes: %x", row.path, row.length, got)
 		}
 	}
@@ -47,7 +47,7 @@ func TestPath(t *testing.T) {
 		{strings.Repeat("a", 128), true}, {strings.Repeat("a", 129), false},
 	}
 	for _, row := range rows {
-		if isPath(row.path) != row.want {
+		if IsPath(row.path) != row.want {
 			t.Errorf("%q: not %v", row.path, row.want)
 		}
 	}
@@ -56,16 +56,16 @@ func TestPath(t *testing.T) {
 func TestGoodReply(t *testing.T) {
 	rows := []struct {
 		bytes string
-		want  reply
+		want  Reply
 	}{
-		{"00 0000 00 00000004 0a020801", reply{codes.OK, "", []byte{0x0a, 2, 8, 1}}},
-		{"00 0000 00 00000000", reply{codes.OK, "", []byte{}}},
-		{"05 0004 20217d7e 00 00000000", reply{codes.NotFound, " !}~", []byte{}}},
-		{"0d 0000 00 00000000", reply{codes.Internal, "", []byte{}}},
+		{"00 0000 00 00000004 0a020801", Reply{codes.OK, "", []byte{0x0a, 2, 8, 1}}},
+		{"00 0000 00 00000000", Reply{codes.OK, "", []byte{}}},
+		{"05 0004 20217d7e 00 00000000", Reply{codes.NotFound, " !}~", []byte{}}},
+		{"0d 0000 00 00000000", Reply{codes.Internal, "", []byte{}}},
 	}
 	for _, row := range rows {
-		got, err := readReply(bufio.NewReader(bytes.NewReader(fromHex(t, row.bytes))))
-		if err != nil || got.code != row.want.code || got.text != row.want.text || !bytes.Equal(got.body, row.want.body) {
+		got, err := ReadReply(bufio.NewReader(bytes.NewReader(fromHex(t, row.bytes))))
+		if err != nil || got.Code != row.want.Code || got.Text != row.want.Text || !bytes.Equal(got.Body, row.want.Body) {
 			t.Errorf("%s: %v, %v", row.bytes, got, err)
 		}
 	}
@@ -83,7 +83,7 @@ func TestMalformedReply(t *testing.T) {
 	for _, row := range rows {
 		silent, other := io.Pipe()
 		go other.Write(fromHex(t, row.bytes))
-		if _, err := readReply(bufio.NewReader(silent)); err != malformed(row.want) {
+		if _, err := ReadReply(bufio.NewReader(silent)); err != Malformed(row.want) {
 			t.Errorf("%s: %v", row.bytes, err)
 		}
 	}
@@ -98,7 +98,7 @@ func TestReplyCutShort(t *testing.T) {
 			if length == 0 {
 				want = io.EOF
 			}
-			if _, err := readReply(bufio.NewReader(bytes.NewReader(all[:length]))); err != want {
+			if _, err := ReadReply(bufio.NewReader(bytes.NewReader(all[:length]))); err != want {
 				t.Errorf("%s, %d bytes: %v", whole, length, err)
 			}
 		}

@@ -1,4 +1,5 @@
-package main
+// Package sockets makes the Unix socket that a program answers on, and takes its file away.
+package sockets
 
 import (
 	"errors"
@@ -10,17 +11,17 @@ import (
 	"syscall"
 )
 
-// socket is the socket of the front, whose file goes with it.
-type socket struct {
+// Socket is a Unix socket that is listened on, whose file goes with it.
+type Socket struct {
 	*net.UnixListener
 	path  string
 	file  os.FileInfo
 	close sync.Once
 }
 
-// listen makes the socket of the front. A socket that nobody answers on is what an earlier front left, and gives way; any other file
+// Listen makes a socket. One that nobody answers on is what an earlier process left, and gives way; any other file
 // stays, and is an error.
-func listen(path string) (*socket, error) {
+func Listen(path string) (*Socket, error) {
 	folder, err := lockedFolder(path)
 	if err != nil {
 		return nil, err
@@ -39,11 +40,11 @@ func listen(path string) (*socket, error) {
 		listener.Close()
 		return nil, err
 	}
-	return &socket{UnixListener: listener, path: path, file: file}, nil
+	return &Socket{UnixListener: listener, path: path, file: file}, nil
 }
 
 // Close ends the socket, and removes its file.
-func (s *socket) Close() (err error) {
+func (s *Socket) Close() (err error) {
 	s.close.Do(func() {
 		s.remove()
 		err = s.UnixListener.Close()
@@ -53,7 +54,7 @@ func (s *socket) Close() (err error) {
 
 // remove removes the file of the socket, unless another one stands there now. They are compared by device and inode before the listener
 // is closed, since until then no other file is given that inode.
-func (s *socket) remove() {
+func (s *Socket) remove() {
 	folder, err := lockedFolder(s.path)
 	if err != nil {
 		return
@@ -64,7 +65,7 @@ func (s *socket) remove() {
 	}
 }
 
-// lockedFolder locks the folder of a file until it is closed, so that of two fronts that start together none removes the new socket of
+// lockedFolder locks the folder of a file until it is closed, so that of two processes that start together none removes the new socket of
 // the other.
 func lockedFolder(path string) (*os.File, error) {
 	folder, err := os.Open(filepath.Dir(path))

@@ -1,4 +1,4 @@
-package main
+package sockets
 
 import (
 	"os"
@@ -7,16 +7,16 @@ import (
 	"time"
 )
 
-// Of two fronts that start together the second looks at the socket only when the first has made it.
+// Of two processes that start together the second looks at the socket only when the first has made it.
 func TestListenWaitsForTheFolder(t *testing.T) {
 	path := filepath.Join(t.TempDir(), "csi.sock")
 	folder, err := lockedFolder(path)
 	if err != nil {
 		t.Fatal(err)
 	}
-	made := make(chan *socket, 1)
+	made := make(chan *Socket, 1)
 	go func() {
-		listener, err := listen(path)
+		listener, err := Listen(path)
 		if err != nil {
 			t.Error(err)
 		}
@@ -36,12 +36,12 @@ func TestListenWaitsForTheFolder(t *testing.T) {
 // The end of a socket takes its own file away, once, and no other's that stands there meanwhile.
 func TestFileOfTheSocket(t *testing.T) {
 	path := filepath.Join(t.TempDir(), "csi.sock")
-	rows := map[string]func() *socket{
-		"its own": func() *socket { return nil },
-		"none":    func() *socket { os.Remove(path); return nil },
-		"another's": func() *socket {
+	rows := map[string]func() *Socket{
+		"its own": func() *Socket { return nil },
+		"none":    func() *Socket { os.Remove(path); return nil },
+		"another's": func() *Socket {
 			os.Remove(path)
-			other, err := listen(path)
+			other, err := Listen(path)
 			if err != nil {
 				t.Fatal(err)
 			}
@@ -49,7 +49,7 @@ func TestFileOfTheSocket(t *testing.T) {
 		},
 	}
 	for name, meanwhile := range rows {
-		socket, err := listen(path)
+		socket, err := Listen(path)
 		if err != nil {
 			t.Fatal(err)
 		}

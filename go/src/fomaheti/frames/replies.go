@@ -1,46 +1,49 @@
-package main
+// Package frames has the envelope of docs/PROTOCOL.md: calls and replies as frames, each written and read.
+package frames
 
 import (
 	"bufio"
 	"encoding/binary"
+	"errors"
 	"fmt"
 	"io"
+	"syscall"
 
 	"google.golang.org/grpc/codes"
 )
 
 // The greatest parts of a frame (docs/PROTOCOL.md, "Envelope").
 const (
-	maxPathBytes    = 128
-	maxMessageBytes = 1 << 20
-	maxTextBytes    = 1024
-	maxBodyBytes    = 4 << 20
+	MaxPathBytes    = 128
+	MaxMessageBytes = 1 << 20
+	MaxTextBytes    = 1024
+	MaxBodyBytes    = 4 << 20
 )
 
-// reply is what csid answers to one call. With the code OK there is no text, and with any other no body.
-type reply struct {
-	code codes.Code
-	text string
-	body []byte
+// Reply is the answer to one call. With the code OK there is no text, and with any other no body.
+type Reply struct {
+	Code codes.Code
+	Text string
+	Body []byte
 }
 
-// malformed is a reply that breaks a rule of the envelope.
-type malformed string
+// Malformed is a reply that breaks a rule of the envelope.
+type Malformed string
 
-func (part malformed) Error() string { return "malformed reply: bad " + string(part) }
+func (part Malformed) Error() string { return "malformed reply: bad " + string(part) }
 
-// isPath tells whether a frame can have the path.
-func isPath(path string) bool {
+// IsPath tells whether a frame can have the path.
+func IsPath(path string) bool {
 	for i := 0; i < len(path); i++ {
 		if path[i] < 0x21 || path[i] > 0x7e {
 			return false
 		}
 	}
-	return 0 < len(path) && len(path) <= maxPathBytes
+	return 0 < len(path) && len(path) <= MaxPathBytes
 }
 
-// requestHead is the frame of a call without its message, which follows it.
-func requestHead(path string, messageBytes int) []byte {
+// RequestHead is the frame of a call without its message, which follows it.
+func RequestHead(path string, messageBytes int) []byte {
 	head := make([]byte, 0, 2+len(path)+1+4)
 	head = append(head, byte(len(path)>>8), byte(len(path)))
 	head = append(head, path...)
@@ -58,31 +61,36 @@ func isStatus(code codes.Code) bool {
 	return false
 }
 
-// readReply reads one reply. What breaks a rule is told as soon as it is read, and not waited behind.
-func readReply(in *bufio.Reader) (reply, error) {
+// ReadReply reads one reply. What breaks a rule is told as soon as it is read, and not waited behind.
+func ReadReply(in *bufio.Reader) (Reply, error) {
 	first, err := in.ReadByte()
 	if err != nil {
-		return reply{}, err
+		return Reply{}, err
 	}
-	answer := reply{code: codes.Code(first)}
-	if !isStatus(answer.code) {
-		return reply{}, malformed(fmt.Sprintf("status %d", first))
+	answer := Reply{Code: codes.Code(first)}
+	if !isStatus(answer.Code) {
+		return Reply{}, Malformed(fmt.Sprintf("status %d", first))
 	}
-	if answer.text, err = readText(in, answer.code); err != nil {
-		return reply{}, inside(err)
+	if answer.Text, err = readText(in, answer.Code); err != nil {
+		return Reply{}, inside(err)
 	}
-	if answer.body, err = readBody(in, answer.code); err != nil {
-		return reply{}, inside(err)
+	if answer.Body, err = readBody(in, answer.Code); err != nil {
+		return Reply{}, inside(err)
 	}
 	return answer, nil
 }
 
 // inside is the error of a read behind the first byte of a reply, where an end is never right.
 func inside(err error) error {
-	if isClosing(err) {
+	if IsClosing(err) {
 		return io.ErrUnexpectedEOF
 	}
 	return err
+}
+
+// IsClosing tells whether the peer closed the connection: an end where it read all that was sent, else a reset or a broken pipe.
+func IsClosing(err error) bool {
+	return err == io.EOF || errors.Is(err, syscall.ECONNRESET) || errors.Is(err, syscall.EPIPE)
 }
 
 // readText reads a text behind its length.
@@ -92,8 +100,8 @@ func readText(in *bufio.Reader, code codes.Code) (string, error) {
 		return "", err
 	}
 	size := binary.BigEndian.Uint16(length[:])
-	if size > maxTextBytes || (code == codes.OK && size != 0) {
-		return "", malformed("text length")
+	if size > MaxTextBytes || (code == codes.OK && size != 0) {
+		return "", Malformed("text length")
 	}
 	text := make([]byte, size)
 	if _, err := io.ReadFull(in, text); err != nil {
@@ -101,7 +109,7 @@ func readText(in *bufio.Reader, code codes.Code) (string, error) {
 	}
 	for _, character := range text {
 		if character < 0x20 || character > 0x7e {
-			return "", malformed("text")
+			return "", Malformed("text")
 		}
 	}
 	return string(text), nil
@@ -114,15 +122,15 @@ func readBody(in *bufio.Reader, code codes.Code) ([]byte, error) {
 		return nil, err
 	}
 	if flag != 0 {
-		return nil, malformed("flag")
+		return nil, Malformed("flag")
 	}
 	var length [4]byte
 	if _, err := io.ReadFull(in, length[:]); err != nil {
 		return nil, err
 	}
 	size := binary.BigEndian.Uint32(length[:])
-	if size > maxBodyBytes || (code != codes.OK && size != 0) {
-		return nil, malformed("body length")
+	if size > MaxBodyBytes || (code != codes.OK && size != 0) {
+		return nil, Malformed("body length")
 	}
 	body := make([]byte, size)
 	if _, err := io.ReadFull(in, body); err != nil {

@@ -1,0 +1,94 @@
+//! The calls of a log, as frames.
+
+ghost use Rattle.std.specs.Prelude.{◌≡◌, ◌≢◌, Err, IfOk};
+ghost use Rattle.frames_core.specs.Envelope.{frame};
+ghost use Rattle.csi_keeper.specs.declared.change.StoreFault.TheVariants.{Down};
+ghost use Rattle.csi_log.specs.Asking.{lead_frame, make_frame, path_of, read_frame};
+
+use csi_keeper::StoreFault;
+use frames_core::{MAX_MESSAGE_BYTES, put_request};
+use pbwire::put_bytes;
+use std::alloc::Global;
+
+/// What a log is asked for.
+#[derive(Clone, Copy)]
+pub(crate) enum Call {
+    /// A page of the rows.
+    Read,
+    /// The row of `meta`, where there is no row at all.
+    Make,
+    /// A change.
+    Commit,
+    /// Whether it still leads.
+    Lead,
+}
+
+impl Call {
+    fn path(self) -> &'static str
+        ensures { result.now ≡ path_of self }
+    {
+        match self {
+            Call::Read => "/fomaheti.log.v1.Log/Read",
+            Call::Make => "/fomaheti.log.v1.Log/Make",
+            Call::Commit => "/fomaheti.log.v1.Log/Commit",
+            Call::Lead => "/fomaheti.log.v1.Log/Lead",
+        }
+    }
+}
+
+/// The frame of a call.
+///
+/// # Errors
+///
+/// `NoMemory`; `Refused` where the message has more than 1,048,576 bytes.
+#[tactic(auto, using(crate::proofs::Paths::is_call))]
+pub(crate) fn frame_of(alloc: Global, call: Call, message: &[u8]) -> Result<Vec<u8>, StoreFault>
+    ensures frame { IfOk result (λ out. out.items ≡ frame (record { path = path_of call; message = message.now })) }
+    ensures fault { result ≢ Err Down }
+{
+    if message.len() > MAX_MESSAGE_BYTES {
+        return Err(StoreFault::Refused);
+    }
+    let mut frame = Vec::new(alloc);
+    put_request(&mut frame, call.path().as_bytes(), message)?;
+    Ok(frame)
+}
+
+/// The frame that asks for a page of the rows: the first one where the token is empty, else the one of the token,
+/// which the page before has given.
+///
+/// # Errors
+///
+/// `NoMemory`; `Refused` where the token has so many bytes that no message holds it.
+pub fn read_frame(alloc: Global, token: &[u8]) -> Result<Vec<u8>, StoreFault>
+    ensures frame { IfOk result (λ frame. frame.items ≡ read_frame token.now) }
+    ensures fault { result ≢ Err Down }
+{
+    let mut message = Vec::new(alloc);
+    put_bytes(&mut message, 1, token)?;
+    frame_of(alloc, Call::Read, message.as_slice())
+}
+
+/// The frame that asks for the row of `meta`, where there is no row at all.
+///
+/// # Errors
+///
+/// `NoMemory`.
+pub fn make_frame(alloc: Global) -> Result<Vec<u8>, StoreFault>
+    ensures frame { IfOk result (λ frame. frame.items ≡ make_frame) }
+    ensures fault { result ≢ Err Down }
+{
+    frame_of(alloc, Call::Make, &[])
+}
+
+/// The frame that asks whether the log still leads: status 0 says so.
+///
+/// # Errors
+///
+/// `NoMemory`.
+pub fn lead_frame(alloc: Global) -> Result<Vec<u8>, StoreFault>
+    ensures frame { IfOk result (λ frame. frame.items ≡ lead_frame) }
+    ensures fault { result ≢ Err Down }
+{
+    frame_of(alloc, Call::Lead, &[])
+}

@@ -1,0 +1,22 @@
+//! A log behind a connection: another program keeps the changes of a State, and this one asks it for each.
+//!
+//! [`RemoteLog`] is a `Log` of `csi_through` over the other end of a connection, a [`Peer`]. What a peer is asked for is a frame of the envelope
+//! (docs/PROTOCOL.md, "The log"): `specs/Asking.antt` says which frame asks for which change, and which reply says that it was made. So what is believed
+//! of the other end is one clause, that of [`Peer::exchange`]: it makes the change of a frame as it says in the reply. [`Channel`] is a peer over any reader and
+//! writer. No contract can say that the other end tells the truth: of a channel nothing is promised from its first exchange on (its `doubt`), but what it wrote and read.
+//!
+//! ```rust
+//! let log = RemoteLog::new(Channel::new(reader, writer));
+//! let mut keeper = Through::copied(alloc, &mut tables, log)?;
+//! keeper.apply(alloc, &Change::AddVolume(volume))?;
+//! ```
+#![tactic(auto)]
+
+mod asking;
+mod changes;
+mod peer;
+mod remote;
+
+pub use asking::{lead_frame, make_frame, read_frame};
+pub use peer::{Channel, Peer};
+pub use remote::RemoteLog;

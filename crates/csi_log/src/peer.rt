@@ -1,0 +1,63 @@
+//! The other end of a connection.
+
+ghost use Rattle.std.specs.Prelude.{◌≡◌};
+ghost use Rattle.csi_keeper.specs.Model.{Model};
+ghost use Rattle.csi_keeper.specs.State.{State};
+ghost use Rattle.csi_log.specs.Remote.{Answers, Exchanges, channel_model};
+
+use csi_client::{Received, receive, send};
+use std::alloc::Global;
+use std::io::{Read, Write};
+
+/// The other end of a connection, which keeps the changes of a State.
+///
+/// What is promised of the State is promised while `doubt`, which never falls, is 0.
+pub trait Peer {
+    // What contracts see of it.
+    ghost model: { Self → Model State };
+
+    /// Sends a frame, and waits for the reply.
+    ///
+    /// Where the frame asks for a change, the change is made where the reply has status 0. With another status it is
+    /// not made; where no reply came it may have been, and a stop leaves one or the other.
+    fn exchange(&mut self, alloc: Global, frame: &[u8]) -> Received
+        ensures { Answers (model self.old) (model self.new) frame.now result };
+}
+
+/// The other end of a reader and a writer.
+#[derive(Drop)]
+pub struct Channel<R, W> {
+    reader: R,
+    writer: W,
+    // How many exchanges were begun, up to the greatest `u64`.
+    exchanges: u64,
+}
+
+impl<R: Read, W: Write> Channel<R, W> {
+    /// A channel that has not begun.
+    pub fn new(reader: R, writer: W) -> Channel<R, W>
+        ensures ends { (result.reader ≡ reader) × (result.writer ≡ writer) }
+        ensures begins { result.exchanges ≡ 0 }
+    {
+        Channel {
+            reader,
+            writer,
+            exchanges: 0,
+        }
+    }
+}
+
+impl<R: Read, W: Write> Peer for Channel<R, W> {
+    ghost model = { channel_model };
+
+    fn exchange(&mut self, alloc: Global, frame: &[u8]) -> Received
+        ensures answers { Answers (channel_model self.old) (channel_model self.new) frame.now result }
+        ensures bytes { Exchanges (W.contents self.old.writer) (W.contents self.new.writer) (R.remaining self.old.reader) (R.remaining self.new.reader) frame.now result }
+    {
+        self.exchanges = self.exchanges.saturating_add(1);
+        if send(&mut self.writer, frame).is_err() {
+            return Received::Failed;
+        }
+        receive(alloc, &mut self.reader)
+    }
+}

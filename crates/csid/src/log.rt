@@ -1,0 +1,253 @@
+//! Volumes that a log keeps, which another program is: its socket, what it tells at the start, and calls over both.
+
+ghost use Rattle.std.specs.Prelude.{◌≡◌, false, IfErr, IfOk};
+ghost use Rattle.csid.specs.Statuses.{IsOrNoMemory};
+
+use crate::content::read_content;
+use crate::failure::Failure;
+use crate::rows::{RowsFault, Told, take_no_meta, take_page};
+use crate::tables::{keep, of_database, of_reading, tell_content};
+use csi_client::{Received, ReceivedReply};
+use csi_config::Config;
+use csi_keeper::{MemKeeper, StoreFault};
+use csi_log::{Channel, Peer, RemoteLog, lead_frame, make_frame, read_frame};
+use csi_schema::make_tables;
+use csi_tables::Tables;
+use csi_through::Through;
+use sqlite::{Connection, MemStore};
+use std::alloc::Global;
+use std::os::unix::net::UnixStream;
+use std::time::Duration;
+use std::{io, str};
+
+// How many seconds a log may take for a reply. Behind that nobody knows whether a change was made.
+const LONGEST: u64 = 30;
+
+// At most so many pages are read: more than 100,000 volumes have, whatever a page holds.
+const MOST_PAGES: u64 = 1 << 32;
+
+type Line = Channel<UnixStream, UnixStream>;
+
+/// What is kept in memory of a log's volumes, and the log.
+pub(crate) type Remote = Through<MemKeeper, RemoteLog<Line>>;
+
+/// A log that was read.
+#[derive(Drop)]
+pub(crate) struct OpenLog {
+    /// Its keeper.
+    pub(crate) keeper: Remote,
+    /// Its connection, to ask whether it leads.
+    pub(crate) stream: UnixStream,
+    /// Whether it did not lead once: what it has is read anew.
+    pub(crate) is_cut: bool,
+}
+
+impl OpenLog {
+    /// Whether calls may be answered over it: nothing was refused, and it leads.
+    pub(crate) fn stands(&self, alloc: Global) -> bool {
+        let has_all = self.keeper.is_current() && !self.keeper.is_down();
+        has_all && !self.is_cut && leads(alloc, &self.stream)
+    }
+}
+
+/// Whether a log leads, as it says itself. What was read of it is then what it has.
+pub(crate) fn leads(alloc: Global, stream: &UnixStream) -> bool {
+    let Ok(frame) = lead_frame(alloc) else {
+        return false;
+    };
+    let received = Channel::new(stream, stream).exchange(alloc, frame.as_slice());
+    matches!(received, Received::Reply(reply) if reply.status == 0)
+}
+
+// A log that cannot be had.
+fn of_log(alloc: Global, path: &str, error: &io::Error) -> Failure
+    ensures { IsOrNoMemory 4 result }
+{
+    match error.kind() {
+        io::ErrorKind::OutOfMemory => Failure::NoMemory,
+        _ => Failure::of_tables(alloc, path, error),
+    }
+}
+
+fn of_rows(alloc: Global, path: &str, fault: &RowsFault) -> Failure
+    ensures { IsOrNoMemory 4 result }
+{
+    match fault {
+        RowsFault::NoMemory => Failure::NoMemory,
+        _ => Failure::of_tables(alloc, path, fault),
+    }
+}
+
+// A reply that says no.
+fn of_refusal(alloc: Global, path: &str, reply: &ReceivedReply) -> Failure
+    ensures { IsOrNoMemory 4 result }
+{
+    match str::from_utf8(reply.text.as_slice()) {
+        Ok(text) => Failure::of_tables(alloc, path, &text),
+        Err(_) => Failure::of_tables(alloc, path, &"the log refused to tell its rows"),
+    }
+}
+
+// Asks for something. The body of a reply that says OK.
+fn asked(alloc: Global, path: &str, line: &mut Line, frame: &[u8]) -> Result<Vec<u8>, Failure>
+    ensures { IfErr result (λ failure. IsOrNoMemory 4 failure) }
+{
+    match line.exchange(alloc, frame) {
+        Received::Reply(reply) if reply.status == 0 => Ok(reply.body),
+        Received::Reply(reply) => Err(of_refusal(alloc, path, &reply)),
+        Received::NoMemory => Err(Failure::NoMemory),
+        Received::Nothing => Err(Failure::of_tables(alloc, path, &"closed without a reply")),
+        Received::Malformed(fault) => Err(Failure::of_tables(alloc, path, &fault)),
+        Received::Failed => Err(Failure::of_tables(alloc, path, &"no reply came")),
+    }
+}
+
+// A frame that asks for something.
+fn framed(alloc: Global, path: &str, frame: Result<Vec<u8>, StoreFault>) -> Result<Vec<u8>, Failure>
+    ensures { IfErr result (λ failure. IsOrNoMemory 4 failure) }
+{
+    match frame {
+        Ok(frame) => Ok(frame),
+        Err(fault) => Err(of_reading(alloc, path, fault)),
+    }
+}
+
+// Puts all rows of a log into the tables on a connection, page by page.
+fn read_rows(
+    alloc: Global,
+    path: &str,
+    line: &mut Line,
+    conn: &mut Connection<MemStore>,
+) -> Result<Told, Failure>
+    ensures { IfErr result (λ failure. IsOrNoMemory 4 failure) }
+{
+    let mut told = Told::nothing(alloc);
+    for _ in 0..MOST_PAGES {
+        let frame = framed(alloc, path, read_frame(alloc, told.token.as_slice()))?;
+        let body = asked(alloc, path, line, frame.as_slice())?;
+        if let Err(fault) = take_page(conn, &mut told, body.as_slice()) {
+            return Err(of_rows(alloc, path, &fault));
+        }
+        if told.token.is_empty() {
+            return Ok(told);
+        }
+    }
+    Err(Failure::of_tables(alloc, path, &"its pages never end"))
+}
+
+// Sees to the row of meta: where the log has no row at all, it is made there as it is in the new tables here.
+fn settle_meta(
+    alloc: Global,
+    path: &str,
+    line: &mut Line,
+    conn: &mut Connection<MemStore>,
+    told: &Told,
+) -> Result<(), Failure>
+    ensures { IfErr result (λ failure. IsOrNoMemory 4 failure) }
+{
+    match told.format {
+        Some(1) => Err(Failure::of_tables(
+            alloc,
+            path,
+            &"its rows have format 1, and a log has those of format 2",
+        )),
+        Some(_) => Ok(()),
+        None if told.has_rows => match take_no_meta(conn) {
+            Ok(()) => Ok(()),
+            Err(fault) => Err(of_rows(alloc, path, &fault)),
+        },
+        None => {
+            let frame = framed(alloc, path, make_frame(alloc))?;
+            asked(alloc, path, line, frame.as_slice())?;
+            Ok(())
+        }
+    }
+}
+
+// New tables in memory.
+fn new_tables(alloc: Global, path: &str) -> Result<Connection<MemStore>, Failure>
+    ensures { IfErr result (λ failure. IsOrNoMemory 4 failure) }
+{
+    let mut conn = Connection::open_in_memory(alloc)?;
+    match make_tables(&mut conn) {
+        Ok(()) => Ok(conn),
+        Err(error) => Err(of_database(alloc, path, &error)),
+    }
+}
+
+// Judges the rows of a log as those of a file are judged.
+fn judge(
+    rt: &HostRuntime,
+    config: &Config,
+    path: &str,
+    conn: Connection<MemStore>,
+) -> Result<Tables<MemStore>, Failure>
+    ensures { IfErr result (λ failure. IsOrNoMemory 4 failure) }
+{
+    if !conn.is_autocommit() {
+        return Err(Failure::of_tables(rt.alloc(), path, &"its rows were not taken"));
+    }
+    keep(rt, path, conn, config)
+}
+
+// The rows of a log, as tables in memory that were judged.
+fn read_tables(
+    rt: &HostRuntime,
+    config: &Config,
+    path: &str,
+    line: &mut Line,
+) -> Result<Tables<MemStore>, Failure>
+    ensures { IfErr result (λ failure. IsOrNoMemory 4 failure) }
+{
+    let mut conn = new_tables(rt.alloc(), path)?;
+    let told = read_rows(rt.alloc(), path, line, &mut conn)?;
+    settle_meta(rt.alloc(), path, line, &mut conn, &told)?;
+    judge(rt, config, path, conn)
+}
+
+// A connection to a log. It gives up what takes too long.
+fn connect(rt: &HostRuntime, path: &str) -> io::Result<UnixStream> {
+    let stream = UnixStream::connect(rt, path)?;
+    let longest = Some(Duration::from_secs(LONGEST));
+    stream.set_read_timeout(longest)?;
+    stream.set_write_timeout(longest)?;
+    Ok(stream)
+}
+
+// The line over a connection.
+fn line_over(stream: &UnixStream) -> io::Result<Line> {
+    Ok(Channel::new(stream.try_clone()?, stream.try_clone()?))
+}
+
+// A connection to a log, and the line over it.
+fn reach(rt: &HostRuntime, path: &str) -> io::Result<(UnixStream, Line)> {
+    let stream = connect(rt, path)?;
+    let line = line_over(&stream)?;
+    Ok((stream, line))
+}
+
+/// Reads and judges all that a log has, and says what that is.
+///
+/// # Errors
+///
+/// Where the log cannot be had, its rows are refused, or memory is.
+pub(crate) fn open_log(rt: &HostRuntime, config: &Config, path: &str) -> Result<OpenLog, Failure>
+    ensures { IfErr result (λ failure. IsOrNoMemory 4 failure) }
+{
+    let (stream, mut line) = match reach(rt, path) {
+        Ok(reached) => reached,
+        Err(error) => return Err(of_log(rt.alloc(), path, &error)),
+    };
+    let mut tables = read_tables(rt, config, path, &mut line)?;
+    match Through::copied(rt.alloc(), &mut tables, RemoteLog::new(line)) {
+        Ok(keeper) => {
+            tell_content(rt, path, read_content(&mut tables.into_connection()));
+            Ok(OpenLog {
+                keeper,
+                stream,
+                is_cut: false,
+            })
+        }
+        Err(fault) => Err(of_reading(rt.alloc(), path, fault)),
+    }
+}

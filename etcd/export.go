@@ -1,0 +1,148 @@
+package main
+
+import (
+	"bufio"
+	"context"
+	"errors"
+	"fmt"
+	"io"
+	"log"
+	"strings"
+	"time"
+
+	"go.etcd.io/etcd/clientv3"
+	"go.etcd.io/etcd/etcdserver/api/v3rpc/rpctypes"
+)
+
+// SQL that brings rows into tables which csid has made and that have none yet (docs/TABLES.md). Each statement is one line.
+
+func (m meta) statement() string {
+	return fmt.Sprintf("UPDATE meta SET next_number = %d;", m.next)
+}
+
+func (v volume) statement() string {
+	return fmt.Sprintf("INSERT INTO volumes VALUES (%d,%s,%d,%s,X'%x',X'%x');", v.number, quoted(v.name), v.bytes, quoted(v.pool), v.caps, v.params)
+}
+
+func (a attachment) statement() string {
+	readonly := 0
+	if a.isReadonly {
+		readonly = 1
+	}
+	return fmt.Sprintf("INSERT INTO attachments VALUES (%d,%s,X'%x',%d);", a.number, quoted(a.node), a.cap, readonly)
+}
+
+// quoted is a text as SQL has it. One with control characters is told by its bytes: sqlite3 reads SQL line by line, takes a carriage return from
+// the end of a line, and ends a text at a zero.
+func quoted(text string) string {
+	for i := 0; i < len(text); i++ {
+		if text[i] < 0x20 {
+			return fmt.Sprintf("CAST(X'%x' AS TEXT)", text)
+		}
+	}
+	return "'" + strings.ReplaceAll(text, "'", "''") + "'"
+}
+
+var (
+	errNoMeta    = errors.New("meta is not there: nothing was made there yet, or an import was not ended")
+	errCompacted = errors.New("etcd compacted the revision of this reading: begin anew")
+)
+
+// reading reads rows at one revision, without the lock: that of the first answer.
+type reading struct {
+	client   *clientv3.Client
+	timeout  time.Duration
+	revision int64
+}
+
+func (r *reading) get(key string, more ...clientv3.OpOption) (read *clientv3.GetResponse, err error) {
+	err = tries(context.Background(), r.client, r.timeout, func(ctx context.Context) error {
+		read, err = r.client.Get(ctx, key, append(more, clientv3.WithRev(r.revision))...)
+		return err
+	})
+	if err == rpctypes.ErrCompacted {
+		return nil, errCompacted
+	}
+	if err == nil && r.revision == 0 {
+		r.revision = read.Header.Revision
+	}
+	return read, err
+}
+
+// export prints all rows at one revision as SQL. Until all are judged and printed there is no COMMIT: what ends before changes no tables.
+func export(asked options, to io.Writer, lines *log.Logger) error {
+	client, err := connect(asked)
+	if err != nil {
+		return err
+	}
+	defer client.Close()
+	r := &reading{client: client, timeout: asked.timeout}
+	out := bufio.NewWriter(to)
+	found, err := r.print(keys{asked.name}, out)
+	if err == nil {
+		err = printed(out, "COMMIT;")
+	}
+	if err == nil {
+		err = out.Flush()
+	}
+	if err == nil {
+		lines.Printf("at revision %d: %v", r.revision, found)
+	}
+	return err
+}
+
+// print prints all but the end.
+func (r *reading) print(k keys, out io.Writer) (found counts, err error) {
+	read, err := r.get(k.meta())
+	if err != nil {
+		return found, err
+	}
+	if len(read.Kvs) == 0 {
+		return found, errNoMeta
+	}
+	row, err := readMeta(read.Kvs[0].Value)
+	if err != nil {
+		return found, broken(k, k.meta(), err)
+	}
+	if err := checkFormat(row); err != nil {
+		return found, err
+	}
+	if err := printed(out, "BEGIN;\n"+row.statement()); err != nil {
+		return found, err
+	}
+	found.add(row)
+	return found, r.each(k, func(row tableRow) error {
+		found.add(row)
+		return printed(out, row.statement())
+	})
+}
+
+// each hands on all rows but that of meta, in the order of keys.
+func (r *reading) each(k keys, take func(tableRow) error) error {
+	limit := int64(fewRows)
+	for from := k.all(); from != ""; {
+		read, err := r.get(from, clientv3.WithRange(behind(k.all())), clientv3.WithLimit(limit))
+		if err != nil {
+			return err
+		}
+		var size int64
+		for _, found := range read.Kvs {
+			size += int64(len(found.Value))
+			if key := string(found.Key); key != k.meta() && !strings.HasPrefix(key, k.locks()) {
+				row, _, err := k.rowInPage(key, found.Value)
+				if err != nil {
+					return broken(k, key, err)
+				}
+				if err := take(row); err != nil {
+					return err
+				}
+			}
+		}
+		from = ""
+		if read.More {
+			from = next(string(read.Kvs[len(read.Kvs)-1].Key))
+			limit = paced(int64(len(read.Kvs)), size)
+		}
+	}
+	return nil
+}

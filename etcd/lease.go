@@ -1,0 +1,132 @@
+package main
+
+import (
+	"context"
+	"errors"
+	"sync"
+	"time"
+
+	"go.etcd.io/etcd/clientv3"
+	pb "go.etcd.io/etcd/etcdserver/etcdserverpb"
+	"google.golang.org/grpc"
+)
+
+// lease is a lease of etcd that is kept alive. It is over, by the clock of this process, as long behind the last request to keep it as etcd keeps
+// it: etcd counts from when it got that request, which was later. So an answer that waited while this process was stopped does not count for long.
+type lease struct {
+	client *clientv3.Client
+	id     clientv3.LeaseID
+	length time.Duration
+	mutex  sync.Mutex
+	until  time.Time
+}
+
+var errLeaseOver = errors.New("its lease is over")
+
+// grantLease gets a lease, and tells the revision that etcd has.
+func grantLease(ctx context.Context, client *clientv3.Client, seconds int64) (*lease, int64, error) {
+	asked := time.Now()
+	got, err := client.Grant(ctx, seconds)
+	if err != nil {
+		return nil, 0, err
+	}
+	l := &lease{client: client, id: got.ID, length: time.Duration(got.TTL) * time.Second}
+	l.extend(asked)
+	return l, got.ResponseHeader.Revision, nil
+}
+
+// isAlive tells whether the lease stands, by the clock of this process.
+func (l *lease) isAlive() bool { return l.left() > 0 }
+
+func (l *lease) left() time.Duration {
+	l.mutex.Lock()
+	defer l.mutex.Unlock()
+	return time.Until(l.until)
+}
+
+// extend notes that etcd kept the lease by a request of that time.
+func (l *lease) extend(asked time.Time) {
+	l.mutex.Lock()
+	defer l.mutex.Unlock()
+	l.until = asked.Add(l.length)
+}
+
+// keep keeps the lease alive until it is lost or the context ends, and tells how that was. Two things run side by side, so that the end is seen
+// in time whatever etcd's client does.
+func (l *lease) keep(ctx context.Context) error {
+	ctx, cancel := context.WithCancel(ctx)
+	defer cancel()
+	ended := make(chan error, 2)
+	go func() { ended <- l.watch(ctx) }()
+	go func() { ended <- l.renew(ctx) }()
+	return <-ended
+}
+
+// watch waits until the lease is over.
+func (l *lease) watch(ctx context.Context) error {
+	for {
+		left := l.left()
+		if left <= 0 {
+			return errLeaseOver
+		}
+		select {
+		case <-time.After(left):
+		case <-ctx.Done():
+			return ctx.Err()
+		}
+	}
+}
+
+// renew asks etcd to keep the lease, again over another stream where one fails.
+func (l *lease) renew(ctx context.Context) error {
+	for {
+		if err := l.renewOver(ctx); err == errLeaseOver || ctx.Err() != nil {
+			return err
+		}
+		select {
+		case <-time.After(l.length / 20):
+		case <-ctx.Done():
+			return ctx.Err()
+		}
+	}
+}
+
+// renewOver asks over one stream, four times a lease, and gives it up where an answer takes a quarter of the lease.
+func (l *lease) renewOver(ctx context.Context) error {
+	ctx, cancel := context.WithCancel(clientv3.WithRequireLeader(ctx))
+	defer cancel()
+	late := time.AfterFunc(l.length/4, cancel)
+	defer late.Stop()
+	stream, err := pb.NewLeaseClient(l.client.ActiveConnection()).LeaseKeepAlive(ctx, grpc.WaitForReady(true))
+	if err != nil {
+		return err
+	}
+	for {
+		asked := time.Now()
+		if err := stream.Send(&pb.LeaseKeepAliveRequest{ID: int64(l.id)}); err != nil {
+			return err
+		}
+		answer, err := stream.Recv()
+		if err != nil {
+			return err
+		}
+		if answer.TTL <= 0 {
+			return errLeaseOver
+		}
+		l.extend(asked)
+		late.Stop()
+		select {
+		case <-time.After(l.length / 4):
+		case <-ctx.Done():
+			return ctx.Err()
+		}
+		late.Reset(l.length / 4)
+	}
+}
+
+// giveBack ends the lease, and takes the keys with it that stand by it.
+func (l *lease) giveBack(timeout time.Duration) {
+	ctx, cancel := context.WithTimeout(context.Background(), timeout)
+	defer cancel()
+	l.client.Revoke(ctx, l.id)
+}

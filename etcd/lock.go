@@ -1,0 +1,243 @@
+package main
+
+import (
+	"context"
+	"errors"
+	"fmt"
+	"math/rand"
+	"sync"
+	"time"
+
+	"go.etcd.io/etcd/clientv3"
+
+	"fomaheti/frames"
+)
+
+// How often it is looked who holds the lock: often while this program waits for it, since it leads then.
+const (
+	waitingPause = 250 * time.Millisecond
+	leadingPause = time.Second
+)
+
+// leadership is who leads: this program in a term, or it does not, and each call is refused.
+type leadership struct {
+	mutex   sync.Mutex
+	term    *term
+	refusal refusal
+}
+
+// current is the term of this program, or the refusal of each call.
+func (l *leadership) current() (*term, refusal) {
+	l.mutex.Lock()
+	defer l.mutex.Unlock()
+	return l.term, l.refusal
+}
+
+func (l *leadership) set(term *term, why refusal) {
+	l.mutex.Lock()
+	defer l.mutex.Unlock()
+	l.term, l.refusal = term, why
+}
+
+// candidate waits for the lock again and again, and leads while it has it. The lock is an election by the rule of etcd's own: each candidate puts
+// a key with its lease below one prefix, and the key that was made first leads. Unlike clientv3/concurrency it looks for its own key too, and never
+// waits without a deadline.
+type candidate struct {
+	asked     options
+	keys      keys
+	revisions *revisions
+	state     *leadership
+	say       func(format string, parts ...interface{})
+	// Closes the connection of csid.
+	drop func()
+	// The last line about who holds the lock, or why etcd does not answer.
+	said string
+}
+
+// begin is before the first look at etcd.
+func (c *candidate) begin() { c.state.set(nil, refuse("waiting for the lock: etcd was not asked yet")) }
+
+// run stands for the lock until the context ends.
+func (c *candidate) run(ctx context.Context) {
+	for ctx.Err() == nil {
+		if err := c.stand(ctx); ctx.Err() == nil {
+			c.waits(err)
+		}
+		pause(ctx, waitingPause)
+	}
+}
+
+// tell says a line, unless it is the last one again.
+func (c *candidate) tell(line string) {
+	if line != c.said {
+		c.say("%s", frames.Text(line))
+		c.said = line
+	}
+}
+
+// stand gets a lease, queues up by a key, and leads when it is its turn. It ends when the lease or the key is lost, or with an error where it got
+// no lease. Certificates and the password are read each time.
+func (c *candidate) stand(ending context.Context) error {
+	client, err := connect(c.asked)
+	if err != nil {
+		return err
+	}
+	defer client.Close()
+	least := c.revisions.least()
+	requested, cancelRequest := context.WithTimeout(ending, c.asked.timeout)
+	lease, revision, err := grantLease(clientv3.WithRequireLeader(requested), client, c.asked.lease)
+	cancelRequest()
+	if err != nil {
+		return err
+	}
+	defer lease.giveBack(c.asked.timeout)
+	c.revisions.check(least, revision)
+	ctx, cancel := context.WithCancel(ending)
+	defer cancel()
+	kept := make(chan error, 1)
+	go func() {
+		why := lease.keep(ctx)
+		cancel()
+		// Here too, so that it waits for nothing.
+		c.drop()
+		kept <- why
+	}()
+	t := &term{
+		client: client, keys: c.keys, lease: lease, revisions: c.revisions, timeout: c.asked.timeout, ctx: ctx, end: cancel,
+		key: fmt.Sprintf("%s%x", c.keys.locks(), lease.id), id: c.asked.id,
+	}
+	err = c.hold(t)
+	cancel()
+	if over := <-kept; over == errLeaseOver {
+		err = over
+	} else if ending.Err() != nil {
+		err = errEnding
+	}
+	c.stop(err.Error(), refuse("waiting for the lock: %v", err))
+	return nil
+}
+
+// Why a term is over, beside that its lease is.
+var (
+	errKeyGone = errors.New("its key is gone")
+	errEnding  = errors.New("it was told to end")
+)
+
+// hold puts the key, and looks who holds the lock until the term ends.
+func (c *candidate) hold(t *term) error {
+	isPut, isLeading := false, false
+	for t.ctx.Err() == nil {
+		if !isPut {
+			err := t.putKey()
+			isPut = err == nil
+			c.waits(err)
+		}
+		queue, err := t.queue()
+		switch {
+		case err != nil && !isLeading:
+			c.waits(err)
+		case err != nil:
+			// The lease tells whether this program leads still.
+		case isLeading && (queue.own != t.created || queue.first != t.created), isPut && queue.own == 0:
+			return errKeyGone
+		case queue.own == 0:
+		case queue.own != queue.first:
+			c.tell(fmt.Sprintf("waits for the lock, which %s holds", queue.holder))
+			c.state.set(nil, refuse("waiting for the lock, which %s holds", queue.holder))
+		default:
+			isLeading = c.lead(t, queue, isLeading)
+		}
+		if isLeading {
+			// Calls go to the members in turn: of a steady beat one could always come to a member that does not answer, and this one never.
+			pause(t.ctx, leadingPause/2+time.Duration(rand.Int63n(int64(leadingPause))))
+		} else {
+			pause(t.ctx, waitingPause)
+		}
+	}
+	return t.ctx.Err()
+}
+
+// waits says why there is no lock, where there is an error.
+func (c *candidate) waits(err error) {
+	if err != nil {
+		c.tell(fmt.Sprintf("no lock: %v", err))
+		c.state.set(nil, refuse("waiting for the lock: %v", err))
+	}
+}
+
+// lead begins to lead, unless an older snapshot was seen. The lock is kept then, so that no other program leads either.
+func (c *candidate) lead(t *term, queue queue, isLeading bool) bool {
+	if err := c.revisions.check(queue.least, queue.revision); err != nil {
+		c.stop(err.Error(), err.(refusal))
+		return false
+	}
+	if !isLeading {
+		t.created, t.put, t.seen = queue.own, queue.ownPut, queue.revision
+		c.state.set(t, refusal{})
+		c.tell(fmt.Sprintf("leads, from revision %d on, by the key %s", t.seen, c.keys.shown(t.key)))
+	}
+	return true
+}
+
+// stop ends leading, where this program does, and closes the connection of csid at once.
+func (c *candidate) stop(why string, answer refusal) {
+	before, _ := c.state.current()
+	c.state.set(nil, answer)
+	if before == nil {
+		c.tell("no lock: " + why)
+		return
+	}
+	c.drop()
+	c.tell("leads no more: " + why)
+}
+
+// putKey puts the key of this program, where it is not there yet.
+func (t *term) putKey() error {
+	ctx, cancel := t.request(t.ctx)
+	defer cancel()
+	put := clientv3.OpPut(t.key, t.id, clientv3.WithLease(t.lease.id))
+	_, err := t.client.Txn(ctx).If(isAbsent(t.key)).Then(put).Commit()
+	return err
+}
+
+// queue is who waits for the lock: the revisions of the making of the first key and of this program's own, 0 where it is not there.
+type queue struct {
+	first, own int64
+	// The revision at which the own key was put the last time.
+	ownPut int64
+	// The revision of etcd, and the least that it could be.
+	revision, least int64
+	holder          string
+}
+
+// queue reads who waits for the lock.
+func (t *term) queue() (queue, error) {
+	least := t.revisions.least()
+	order := clientv3.WithSort(clientv3.SortByCreateRevision, clientv3.SortAscend)
+	var read *clientv3.GetResponse
+	err := t.tries(t.ctx, func(ctx context.Context) (err error) {
+		read, err = t.client.Get(ctx, t.keys.locks(), clientv3.WithRange(behind(t.keys.locks())), order)
+		return err
+	})
+	if err != nil {
+		return queue{}, err
+	}
+	q := queue{revision: read.Header.Revision, least: least}
+	for i, found := range read.Kvs {
+		if i == 0 {
+			q.first, q.holder = found.CreateRevision, string(found.Value)
+		}
+		if string(found.Key) == t.key {
+			q.own, q.ownPut = found.CreateRevision, found.ModRevision
+		}
+	}
+	return q, nil
+}
+
+// pause waits, unless the context ends before.
+func pause(ctx context.Context, length time.Duration) {
+	select {
+	case <-time.After(length):
+	case <-ctx.Done():
+	}
+}

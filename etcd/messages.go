@@ -1,0 +1,178 @@
+package main
+
+import (
+	"unicode/utf8"
+
+	"google.golang.org/grpc/codes"
+	"google.golang.org/protobuf/encoding/protowire"
+)
+
+// Paths of the calls that are answered (docs/PROTOCOL.md, "The log").
+const (
+	readPath   = "/fomaheti.log.v1.Log/Read"
+	makePath   = "/fomaheti.log.v1.Log/Make"
+	commitPath = "/fomaheti.log.v1.Log/Commit"
+	leadPath   = "/fomaheti.log.v1.Log/Lead"
+)
+
+var errMessage = refusal{codes.InvalidArgument, "malformed message"}
+
+// field is one field of a message: of the wire type varint its number, of the wire type of lengths its bytes.
+type field struct {
+	number protowire.Number
+	kind   protowire.Type
+	varint uint64
+	bytes  []byte
+}
+
+// readFields hands the fields of a message on, one after the other. Groups are malformed.
+func readFields(message []byte, take func(field) error) error {
+	for len(message) > 0 {
+		number, kind, size := protowire.ConsumeTag(message)
+		if size < 0 || kind == protowire.StartGroupType || kind == protowire.EndGroupType {
+			return errMessage
+		}
+		message = message[size:]
+		size = protowire.ConsumeFieldValue(number, kind, message)
+		if size < 0 {
+			return errMessage
+		}
+		got := field{number: number, kind: kind}
+		switch kind {
+		case protowire.VarintType:
+			got.varint, _ = protowire.ConsumeVarint(message)
+		case protowire.BytesType:
+			got.bytes, _ = protowire.ConsumeBytes(message)
+		}
+		if err := take(got); err != nil {
+			return err
+		}
+		message = message[size:]
+	}
+	return nil
+}
+
+// target is where a field goes: to a *uint64, a *bool, a *string or a *[]byte.
+type target interface{}
+
+// readInto reads a message into the targets of its fields, by their numbers. Of a field that comes again the last counts, and one that is not
+// known, or of another wire type, is skipped.
+func readInto(message []byte, targets map[protowire.Number]target) error {
+	return readFields(message, func(got field) error {
+		switch into := targets[got.number].(type) {
+		case *uint64:
+			if got.kind == protowire.VarintType {
+				*into = got.varint
+			}
+		case *bool:
+			if got.kind == protowire.VarintType {
+				*into = got.varint != 0
+			}
+		case *[]byte:
+			if got.kind == protowire.BytesType {
+				*into = got.bytes
+			}
+		case *string:
+			if got.kind == protowire.BytesType {
+				if !utf8.Valid(got.bytes) {
+					return errMessage
+				}
+				*into = string(got.bytes)
+			}
+		}
+		return nil
+	})
+}
+
+// readToken reads the message of Read.
+func readToken(message []byte) (token []byte, err error) {
+	err = readInto(message, map[protowire.Number]target{1: &token})
+	return token, err
+}
+
+// changeMessages has how each change is read of the message of Commit, by the number of its field. Where a field comes again the messages are
+// merged, so each is read into the change that is there.
+var changeMessages = map[protowire.Number]func() (change, map[protowire.Number]target){
+	1: func() (change, map[protowire.Number]target) {
+		c := &addVolume{}
+		return c, map[protowire.Number]target{1: &c.number, 2: &c.name, 3: &c.bytes, 4: &c.pool, 5: &c.caps, 6: &c.params}
+	},
+	2: func() (change, map[protowire.Number]target) {
+		c := &removeVolume{}
+		return c, map[protowire.Number]target{1: &c.number}
+	},
+	3: func() (change, map[protowire.Number]target) {
+		c := &attach{}
+		return c, map[protowire.Number]target{1: &c.number, 2: &c.node, 3: &c.cap, 4: &c.isReadonly}
+	},
+	4: func() (change, map[protowire.Number]target) {
+		c := &detach{}
+		return c, map[protowire.Number]target{1: &c.number, 2: &c.node}
+	},
+	5: func() (change, map[protowire.Number]target) {
+		c := &detachAll{}
+		return c, map[protowire.Number]target{1: &c.number}
+	},
+	6: func() (change, map[protowire.Number]target) {
+		c := &setMutable{}
+		return c, map[protowire.Number]target{1: &c.number, 2: &c.params}
+	},
+}
+
+// readChange reads the message of Commit, which has exactly one change.
+func readChange(message []byte) (change, error) {
+	var asked change
+	var targets map[protowire.Number]target
+	var which protowire.Number
+	err := readFields(message, func(got field) error {
+		begin := changeMessages[got.number]
+		if begin == nil || got.kind != protowire.BytesType {
+			return nil
+		}
+		if asked == nil {
+			which = got.number
+			asked, targets = begin()
+		}
+		if got.number != which {
+			return refusal{codes.InvalidArgument, "more than one change"}
+		}
+		return readInto(got.bytes, targets)
+	})
+	if err != nil {
+		return nil, err
+	}
+	if asked == nil {
+		return nil, refusal{codes.InvalidArgument, "no change that is known"}
+	}
+	return asked, nil
+}
+
+// Writing. Each field is written, also 0 and empty ones, in rising order.
+
+func appendNumber(message []byte, number protowire.Number, value uint64) []byte {
+	return protowire.AppendVarint(protowire.AppendTag(message, number, protowire.VarintType), value)
+}
+
+func appendBytes(message []byte, number protowire.Number, value []byte) []byte {
+	return protowire.AppendBytes(protowire.AppendTag(message, number, protowire.BytesType), value)
+}
+
+func (m meta) message() []byte {
+	return appendNumber(appendNumber(nil, 1, m.format), 2, m.next)
+}
+
+func (v volume) message() []byte {
+	message := appendNumber(nil, 1, v.number)
+	message = appendBytes(message, 2, []byte(v.name))
+	message = appendNumber(message, 3, v.bytes)
+	message = appendBytes(message, 4, []byte(v.pool))
+	message = appendBytes(message, 5, v.caps)
+	return appendBytes(message, 6, v.params)
+}
+
+func (a attachment) message() []byte {
+	message := appendNumber(nil, 1, a.number)
+	message = appendBytes(message, 2, []byte(a.node))
+	message = appendBytes(message, 3, a.cap)
+	return appendNumber(message, 4, protowire.EncodeBool(a.isReadonly))
+}

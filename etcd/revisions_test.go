@@ -1,0 +1,96 @@
+package main
+
+import (
+	"os"
+	"path/filepath"
+	"testing"
+	"time"
+)
+
+// The greatest revision stands in the file over a stop, and a lower one is refused from then on.
+func TestRevisions(t *testing.T) {
+	path := filepath.Join(t.TempDir(), "revision")
+	first, err := openRevisions(path, false)
+	if err != nil || first.check(first.least(), 1) != nil {
+		t.Fatal(err)
+	}
+	first.answered(110)
+	first.answered(105)
+	if err := first.save(); err != nil {
+		t.Fatal(err)
+	}
+	if text, err := os.ReadFile(path); err != nil || string(text) != "110\n" {
+		t.Errorf("the file has %q, %v", text, err)
+	}
+	second, err := openRevisions(path, false)
+	if err != nil {
+		t.Fatal(err)
+	}
+	if err := second.check(second.least(), 110); err != nil {
+		t.Errorf("the same revision: %v", err)
+	}
+	// What was asked before another answer came may be older than that.
+	before := second.least()
+	second.answered(112)
+	if err := second.check(before, 111); err != nil {
+		t.Errorf("asked before: %v", err)
+	}
+	const want = "etcd is at revision 111, and 112 was answered: it was restored from an older snapshot, and volumes may be missing; --accept-older goes on"
+	for _, revision := range []int64{111, 200} {
+		if err := second.check(second.least(), revision); err == nil || err.Error() != want {
+			t.Errorf("%d: %v", revision, err)
+		}
+	}
+	third, err := openRevisions(path, true)
+	if err != nil || third.check(third.least(), 50) != nil {
+		t.Fatal(err)
+	}
+	third.answered(50)
+	if err := third.save(); err != nil {
+		t.Fatal(err)
+	}
+	if fourth, err := openRevisions(path, false); err != nil || fourth.greatest != 50 || fourth.check(fourth.least(), 49) == nil {
+		t.Errorf("behind --accept-older: %v", err)
+	}
+}
+
+func TestBadRevisionFile(t *testing.T) {
+	path := filepath.Join(t.TempDir(), "revision")
+	for _, text := range []string{"", "\n", "x", "-1\n", "01\n", "1\n\n", "1 \n", "9223372036854775808\n"} {
+		if err := os.WriteFile(path, []byte(text), 0o600); err != nil {
+			t.Fatal(err)
+		}
+		if r, err := openRevisions(path, false); err == nil {
+			t.Errorf("%q: %d", text, r.greatest)
+		}
+	}
+	if r, err := openRevisions(path+".none", false); err != nil || r.greatest != 0 {
+		t.Errorf("no file: %v", err)
+	}
+	if _, err := openRevisions(filepath.Dir(path), false); err == nil {
+		t.Error("a folder was taken")
+	}
+}
+
+// The file is written at the end, and a failure is told once.
+func TestKeepRevisions(t *testing.T) {
+	folder := filepath.Join(t.TempDir(), "none")
+	r := &revisions{path: filepath.Join(folder, "revision")}
+	lines := 0
+	end, ended := make(chan struct{}), make(chan struct{})
+	go func() {
+		defer close(ended)
+		r.keep(end, func(string, ...interface{}) { lines++ })
+	}()
+	r.answered(7)
+	time.Sleep(2*savePause + savePause/2)
+	if err := os.Mkdir(folder, 0o700); err != nil {
+		t.Fatal(err)
+	}
+	r.answered(8)
+	close(end)
+	<-ended
+	if text, err := os.ReadFile(r.path); err != nil || string(text) != "8\n" || lines != 1 {
+		t.Errorf("%q, %v, %d lines", text, err, lines)
+	}
+}

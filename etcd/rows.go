@@ -1,0 +1,220 @@
+package main
+
+import (
+	"bytes"
+	"encoding/hex"
+	"encoding/json"
+	"errors"
+	"fmt"
+	"strconv"
+	"unicode/utf8"
+
+	"google.golang.org/protobuf/encoding/protowire"
+)
+
+// The rows of docs/TABLES.md. A value in etcd is a JSON object of the columns that its key does not have, in their order.
+
+type meta struct{ format, next uint64 }
+
+type volume struct {
+	number       uint64
+	name         string
+	bytes        uint64
+	pool         string
+	caps, params []byte
+}
+
+type attachment struct {
+	number     uint64
+	node       string
+	cap        []byte
+	isReadonly bool
+}
+
+// tableRow is a row of one of the tables.
+type tableRow interface {
+	// spelled is its value in etcd, message its message, and field the number of the fields of a page that have such messages.
+	spelled() []byte
+	message() []byte
+	field() protowire.Number
+	// statement is the SQL that brings it into tables.
+	statement() string
+}
+
+func (meta) field() protowire.Number       { return 1 }
+func (volume) field() protowire.Number     { return 2 }
+func (attachment) field() protowire.Number { return 3 }
+
+func (m meta) spelled() []byte {
+	return []byte(fmt.Sprintf(`{"format_no":%d,"next_number":%d}`, m.format, m.next))
+}
+
+func (v volume) spelled() []byte {
+	value := appendText([]byte(`{"name":`), v.name)
+	value = strconv.AppendUint(append(value, `,"bytes":`...), v.bytes, 10)
+	value = appendText(append(value, `,"pool":`...), v.pool)
+	return append(value, fmt.Sprintf(`,"caps":"%x","params":"%x"}`, v.caps, v.params)...)
+}
+
+func (a attachment) spelled() []byte {
+	readonly := 0
+	if a.isReadonly {
+		readonly = 1
+	}
+	return []byte(fmt.Sprintf(`{"cap":"%x","readonly":%d}`, a.cap, readonly))
+}
+
+// appendText puts a text behind other bytes as JSON has it: as it stands but for the characters that have to be escaped. encoding/json escapes
+// others too.
+func appendText(value []byte, text string) []byte {
+	value = append(value, '"')
+	for i := 0; i < len(text); i++ {
+		switch character := text[i]; {
+		case character == '"' || character == '\\':
+			value = append(value, '\\', character)
+		case character == '\n':
+			value = append(value, `\n`...)
+		case character == '\r':
+			value = append(value, `\r`...)
+		case character == '\t':
+			value = append(value, `\t`...)
+		case character < 0x20:
+			value = append(value, fmt.Sprintf(`\u%04x`, character)...)
+		default:
+			value = append(value, character)
+		}
+	}
+	return append(value, '"')
+}
+
+// Why a value is not one that a row can have.
+var (
+	errNotText        = errors.New("its value is not UTF-8")
+	errRange          = errors.New("a number of its value is above 9223372036854775807")
+	errReadonly       = errors.New("its readonly is not 0 or 1")
+	errMetaForm       = errors.New(`its value is not spelled {"format_no":NUMBER,"next_number":NUMBER}`)
+	errVolumeForm     = errors.New(`its value is not spelled {"name":TEXT,"bytes":NUMBER,"pool":TEXT,"caps":HEX,"params":HEX}`)
+	errAttachmentForm = errors.New(`its value is not spelled {"cap":HEX,"readonly":0 or 1}`)
+)
+
+// readObject reads the members of a value. What encoding/json takes beside the one spelling of a row, as members twice, in other letters or in
+// another order, is found by who spells the row again.
+func readObject(value []byte, into interface{}, form error) error {
+	if !utf8.Valid(value) {
+		return errNotText
+	}
+	if json.Unmarshal(value, into) != nil {
+		return form
+	}
+	return nil
+}
+
+func readMeta(value []byte) (meta, error) {
+	var said struct {
+		Format uint64 `json:"format_no"`
+		Next   uint64 `json:"next_number"`
+	}
+	if err := readObject(value, &said, errMetaForm); err != nil {
+		return meta{}, err
+	}
+	row := meta{said.Format, said.Next}
+	if !bytes.Equal(row.spelled(), value) {
+		return meta{}, errMetaForm
+	}
+	if row.format > maxNumber || row.next > maxNumber {
+		return meta{}, errRange
+	}
+	return row, nil
+}
+
+func readVolume(number uint64, value []byte) (volume, error) {
+	var said struct {
+		Name   string `json:"name"`
+		Bytes  uint64 `json:"bytes"`
+		Pool   string `json:"pool"`
+		Caps   string `json:"caps"`
+		Params string `json:"params"`
+	}
+	if err := readObject(value, &said, errVolumeForm); err != nil {
+		return volume{}, err
+	}
+	caps, capsErr := hex.DecodeString(said.Caps)
+	params, paramsErr := hex.DecodeString(said.Params)
+	row := volume{number, said.Name, said.Bytes, said.Pool, caps, params}
+	if capsErr != nil || paramsErr != nil || !bytes.Equal(row.spelled(), value) {
+		return volume{}, errVolumeForm
+	}
+	if row.bytes > maxNumber {
+		return volume{}, errRange
+	}
+	return row, nil
+}
+
+func readAttachment(number uint64, node string, value []byte) (attachment, error) {
+	var said struct {
+		Cap      string `json:"cap"`
+		Readonly uint64 `json:"readonly"`
+	}
+	if err := readObject(value, &said, errAttachmentForm); err != nil {
+		return attachment{}, err
+	}
+	if said.Readonly > 1 {
+		return attachment{}, errReadonly
+	}
+	cap, err := hex.DecodeString(said.Cap)
+	row := attachment{number, node, cap, said.Readonly == 1}
+	if err != nil || !bytes.Equal(row.spelled(), value) {
+		return attachment{}, errAttachmentForm
+	}
+	return row, nil
+}
+
+// Tags of the fields that params has: parameters and mutable parameters (docs/PROTOCOL.md, "Messages").
+const (
+	parametersTag = 0x22
+	mutableTag    = 0x42
+)
+
+// splitParams is params in its two parts, where it is fields of parameters and then fields of mutable parameters.
+func splitParams(params []byte) (parameters, mutable []byte, is bool) {
+	rest := params
+	for len(rest) > 0 && rest[0] == parametersTag {
+		if rest, is = skipField(rest); !is {
+			return nil, nil, false
+		}
+	}
+	parameters, mutable = params[:len(params)-len(rest)], rest
+	for len(rest) > 0 {
+		if rest[0] != mutableTag {
+			return nil, nil, false
+		}
+		if rest, is = skipField(rest); !is {
+			return nil, nil, false
+		}
+	}
+	return parameters, mutable, true
+}
+
+// skipField is what stands behind a field whose tag is one byte, and whose wire type is that of lengths.
+func skipField(fields []byte) (rest []byte, is bool) {
+	size := protowire.ConsumeFieldValue(1, protowire.BytesType, fields[1:])
+	if size < 0 {
+		return nil, false
+	}
+	return fields[1+size:], true
+}
+
+// layMutable puts mutable parameters in place of those that a row has.
+func layMutable(params, mutable []byte) (laid []byte, is bool) {
+	parameters, _, is := splitParams(params)
+	if !is {
+		return nil, false
+	}
+	return append(append([]byte{}, parameters...), mutable...), true
+}
+
+// isMutable tells whether bytes are fields of mutable parameters, or none.
+func isMutable(params []byte) bool {
+	parameters, _, is := splitParams(params)
+	return is && len(parameters) == 0
+}

@@ -1,0 +1,224 @@
+package main
+
+import (
+	"context"
+	"errors"
+	"fmt"
+	"net"
+	"sync"
+	"time"
+
+	"google.golang.org/grpc/codes"
+
+	"fomaheti/frames"
+)
+
+// How long csid may take for taking a reply: a while, and a moment where another connection waits for the end of this one.
+const (
+	replyTime    = 10 * time.Second
+	replacedTime = time.Second
+)
+
+// server answers the calls of csid: of the newest connection alone, one after the other.
+type server struct {
+	state *leadership
+	say   func(format string, parts ...interface{})
+	mutex sync.Mutex
+	// The newest connection.
+	served *connection
+}
+
+// connection is one connection of csid.
+type connection struct {
+	net.Conn
+	// Closed when a newer one came, and when its last call has ended.
+	replaced chan struct{}
+	ended    chan struct{}
+	once     sync.Once
+	walk     *walk
+}
+
+// take serves a connection in place of the one before.
+func (s *server) take(conn net.Conn) {
+	c := &connection{Conn: conn, replaced: make(chan struct{}), ended: make(chan struct{})}
+	s.mutex.Lock()
+	before := s.served
+	s.served = c
+	s.mutex.Unlock()
+	before.replace()
+	go func() {
+		defer close(c.ended)
+		defer c.Close()
+		s.serve(c, before)
+	}()
+}
+
+// replace ends a connection once the call that is under way has ended.
+func (c *connection) replace() {
+	if c == nil {
+		return
+	}
+	c.once.Do(func() {
+		close(c.replaced)
+		c.SetReadDeadline(time.Now())
+		c.SetWriteDeadline(time.Now().Add(replacedTime))
+	})
+}
+
+func (c *connection) isReplaced() bool {
+	select {
+	case <-c.replaced:
+		return true
+	default:
+		return false
+	}
+}
+
+// wait waits until the last call of a connection has ended.
+func (c *connection) wait() {
+	if c != nil {
+		<-c.ended
+	}
+}
+
+// serve answers calls until the connection ends, the first one not before the last call of the connection before has ended.
+func (s *server) serve(c, before *connection) {
+	requests := frames.NewRequests(c)
+	for {
+		request, err := requests.Next()
+		before.wait()
+		if c.isReplaced() {
+			return
+		}
+		var fault frames.Fault
+		if errors.As(err, &fault) {
+			c.reply(frames.Reply{Code: codes.InvalidArgument, Text: fault.Error()})
+		}
+		if err != nil {
+			return
+		}
+		answer, err := s.answer(c, request)
+		if err != nil {
+			s.say("%s: %s", request.Path, frames.Text(err.Error()))
+			return
+		}
+		if err := c.reply(answer); err != nil {
+			return
+		}
+	}
+}
+
+func (c *connection) reply(answer frames.Reply) error {
+	c.SetWriteDeadline(time.Now().Add(replyTime))
+	if c.isReplaced() {
+		c.SetWriteDeadline(time.Now().Add(replacedTime))
+	}
+	_, err := c.Write(answer.Append(nil))
+	return err
+}
+
+// answer does what a call asks for. Where there is an error, it gets no reply.
+func (s *server) answer(c *connection, request frames.Request) (frames.Reply, error) {
+	if !isPath(request.Path) {
+		return refused(refusal{codes.Unimplemented, "unknown method"}), nil
+	}
+	term, why := s.state.current()
+	if term == nil {
+		return refused(why), nil
+	}
+	body, err := s.do(c, term, request)
+	if term.isOver() {
+		return frames.Reply{}, errOver
+	}
+	if errors.As(err, &why) {
+		s.say("%s %d %q", request.Path, why.code, why.text)
+		return refused(why), nil
+	}
+	return frames.Reply{Body: body}, err
+}
+
+func refused(why refusal) frames.Reply { return frames.Reply{Code: why.code, Text: why.text} }
+
+func isPath(path string) bool {
+	return path == readPath || path == makePath || path == commitPath || path == leadPath
+}
+
+// do does what a call asks for in a term, and gives the body of its reply.
+func (s *server) do(c *connection, t *term, request frames.Request) ([]byte, error) {
+	switch request.Path {
+	case readPath:
+		return c.read(t.ctx, t, request.Message)
+	case leadPath:
+		// That there is a term, and that it is not over, is looked at for each call.
+		return nil, readInto(request.Message, nil)
+	case makePath:
+		if err := readInto(request.Message, nil); err != nil {
+			return nil, err
+		}
+		return nil, t.commit(t.ctx, makeMeta{})
+	default:
+		asked, err := readChange(request.Message)
+		if err != nil {
+			return nil, err
+		}
+		return nil, t.commit(t.ctx, asked)
+	}
+}
+
+// read gives a page of the rows: the first of a walk that it begins, or the next one of the walk of this connection.
+func (c *connection) read(ctx context.Context, t *term, message []byte) (page []byte, err error) {
+	token, err := readToken(message)
+	if err != nil {
+		return nil, err
+	}
+	if len(token) == 0 {
+		c.walk, page, err = newWalk(ctx, t)
+	} else if !c.walk.isNext(token) || c.walk.term != t {
+		err = errToken
+	}
+	if err != nil {
+		return nil, err
+	}
+	if page, err = c.walk.page(ctx, page); err != nil {
+		return nil, err
+	}
+	t.revisions.answered(c.walk.revision)
+	return page, nil
+}
+
+// drop closes the newest connection at once.
+func (s *server) drop() {
+	s.mutex.Lock()
+	defer s.mutex.Unlock()
+	if s.served != nil {
+		s.served.Close()
+	}
+}
+
+// end ends the newest connection once the call that is under way has ended.
+func (s *server) end() {
+	s.mutex.Lock()
+	last := s.served
+	s.mutex.Unlock()
+	last.replace()
+	last.wait()
+}
+
+// accept takes connections until the listener is closed, or fails.
+func (s *server) accept(listener net.Listener) error {
+	for {
+		conn, err := listener.Accept()
+		if errors.Is(err, net.ErrClosed) {
+			return nil
+		}
+		var failure net.Error
+		if errors.As(err, &failure) && failure.Temporary() {
+			time.Sleep(50 * time.Millisecond)
+			continue
+		}
+		if err != nil {
+			return fmt.Errorf("taking connections: %w", err)
+		}
+		s.take(conn)
+	}
+}

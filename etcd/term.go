@@ -1,0 +1,256 @@
+package main
+
+import (
+	"context"
+	"errors"
+	"time"
+
+	"go.etcd.io/etcd/clientv3"
+	"go.etcd.io/etcd/etcdserver/api/v3rpc/rpctypes"
+	pb "go.etcd.io/etcd/etcdserver/etcdserverpb"
+	"google.golang.org/grpc/codes"
+)
+
+// term is a time in which this program leads. Its calls come one after the other.
+type term struct {
+	client    *clientv3.Client
+	keys      keys
+	lease     *lease
+	revisions *revisions
+	timeout   time.Duration
+	// Ends with the term.
+	ctx context.Context
+	end context.CancelFunc
+	// The key of the lock, what stands there, and the revision of its making.
+	key     string
+	id      string
+	created int64
+	// The revision at which the key was put the last time. Each transaction supposes it.
+	put int64
+	// Whether a transaction may still be made whose outcome was not known.
+	isOpen bool
+	// The greatest revision that was seen.
+	seen int64
+}
+
+// isOver tells whether this program may have lost the lock, by its own clock.
+func (t *term) isOver() bool { return t.ctx.Err() != nil || !t.lease.isAlive() }
+
+// errOver is the end of a term in the middle of a call.
+var errOver = errors.New("the lock was lost")
+
+// request is the context of one request to etcd. A member without a leader refuses it at once, so that another one can be asked.
+func (t *term) request(ctx context.Context) (context.Context, context.CancelFunc) {
+	return context.WithTimeout(clientv3.WithRequireLeader(ctx), t.timeout)
+}
+
+// mostTries is how often a request is made at most that may be made again.
+const mostTries = 3
+
+// tries makes a request that may be made twice, and again where a member does not answer it: each time has its share of all, since calls go to the
+// members in turn.
+func (t *term) tries(ctx context.Context, request func(context.Context) error) error {
+	return tries(ctx, t.client, t.timeout, request)
+}
+
+func tries(ctx context.Context, client *clientv3.Client, timeout time.Duration, request func(context.Context) error) (err error) {
+	count := 1
+	if len(client.Endpoints()) > 1 {
+		count = mostTries
+	}
+	for i := 0; i < count; i++ {
+		attempt, cancel := context.WithTimeout(clientv3.WithRequireLeader(ctx), timeout/time.Duration(count))
+		err = request(attempt)
+		cancel()
+		if err != context.DeadlineExceeded {
+			break
+		}
+	}
+	return err
+}
+
+// get reads, at the newest revision where no option says another.
+func (t *term) get(ctx context.Context, key string, more ...clientv3.OpOption) (read *clientv3.GetResponse, err error) {
+	least := t.revisions.least()
+	err = t.tries(ctx, func(ctx context.Context) error {
+		read, err = t.client.Get(ctx, key, more...)
+		return err
+	})
+	if err != nil {
+		return nil, readError(err)
+	}
+	if err := t.sees(least, read.Header.Revision); err != nil {
+		return nil, err
+	}
+	return read, nil
+}
+
+// readError is what an error of reading is answered with. A reading changes nothing, but of an error that is not known nothing is told either.
+func readError(err error) error {
+	if err == rpctypes.ErrCompacted {
+		return refuse("etcd compacted the revision of this walk over the rows: begin anew")
+	}
+	if why, is := certain(err); is {
+		return why
+	}
+	return open{err}
+}
+
+// sees notes the revision of an answer. One that is lower than the least when it was asked for is of an older snapshot.
+func (t *term) sees(least, revision int64) error {
+	if err := t.revisions.check(least, revision); err != nil {
+		t.end()
+		return err
+	}
+	if revision > t.seen {
+		t.seen = revision
+	}
+	return nil
+}
+
+// commit makes one change, whole or not at all.
+func (t *term) commit(ctx context.Context, asked change) error {
+	if err := t.fence(ctx); err != nil {
+		return err
+	}
+	planned, err := asked.plan(ctx, t)
+	if err != nil {
+		return err
+	}
+	_, err = t.transact(ctx, planned)
+	return err
+}
+
+// fence sees to it that no earlier transaction is made any more, where the outcome of one is open: it may still be on its way within etcd, and be
+// made behind what csid reads next. The key of the lock is put again, which makes what that transaction supposes wrong.
+func (t *term) fence(ctx context.Context) error {
+	if !t.isOpen {
+		return nil
+	}
+	isOurs := clientv3.Compare(clientv3.CreateRevision(t.key), "=", t.created)
+	again := clientv3.OpPut(t.key, t.id, clientv3.WithLease(t.lease.id))
+	least := t.revisions.least()
+	var done *clientv3.TxnResponse
+	err := t.tries(ctx, func(ctx context.Context) (err error) {
+		done, err = t.client.Txn(sentOnce(ctx)).If(isOurs).Then(again).Commit()
+		return err
+	})
+	if err == rpctypes.ErrNoSpace {
+		return refusal{codes.ResourceExhausted, err.Error()}
+	}
+	if err != nil {
+		return open{err}
+	}
+	if !done.Succeeded {
+		return t.loses()
+	}
+	t.put, t.isOpen = done.Header.Revision, false
+	return t.sees(least, done.Header.Revision)
+}
+
+// loses ends the term because the key of the lock is not there any more, or is another one.
+func (t *term) loses() error {
+	t.end()
+	return refuse("this program does not lead any more: its key of the lock is gone")
+}
+
+// holds supposes that this program leads, and that no fence came behind the transaction.
+func (t *term) holds() clientv3.Cmp { return clientv3.Compare(clientv3.ModRevision(t.key), "=", t.put) }
+
+// transact makes a transaction while this program holds the lock, and gives what it read.
+func (t *term) transact(ctx context.Context, asked plan) (*clientv3.TxnResponse, error) {
+	least := t.revisions.least()
+	done, err := t.send(ctx, asked)
+	if err == rpctypes.ErrNoSpace {
+		return nil, t.withoutSpace(ctx, asked)
+	}
+	if why, is := certain(err); is {
+		return nil, why
+	}
+	if err != nil {
+		t.isOpen = true
+		return nil, open{err}
+	}
+	if err := t.sees(least, done.Header.Revision); err != nil {
+		return nil, open{err}
+	}
+	if !done.Succeeded {
+		return nil, t.supposedWrongly(done, asked)
+	}
+	t.revisions.answered(done.Header.Revision)
+	return done, nil
+}
+
+// send sends a transaction once. Where a member has no leader it was not made, and the next member is asked.
+func (t *term) send(ctx context.Context, asked plan) (done *clientv3.TxnResponse, err error) {
+	ctx, cancel := t.request(ctx)
+	defer cancel()
+	supposes := append([]clientv3.Cmp{t.holds()}, asked.supposes...)
+	reads := append([]clientv3.Op{clientv3.OpGet(t.key)}, asked.reads...)
+	for range t.client.Endpoints() {
+		done, err = t.client.Txn(sentOnce(ctx)).If(supposes...).Then(asked.does...).Else(reads...).Commit()
+		if err != rpctypes.ErrNoLeader {
+			break
+		}
+	}
+	return done, err
+}
+
+// look reads several things at one revision, the newest, while this program holds the lock.
+func (t *term) look(ctx context.Context, reads ...clientv3.Op) (done *clientv3.TxnResponse, err error) {
+	least := t.revisions.least()
+	err = t.tries(ctx, func(ctx context.Context) error {
+		done, err = t.client.Txn(ctx).If(t.holds()).Then(reads...).Else(clientv3.OpGet(t.key)).Commit()
+		return err
+	})
+	if err != nil {
+		return nil, readError(err)
+	}
+	if err := t.sees(least, done.Header.Revision); err != nil {
+		return nil, err
+	}
+	if !done.Succeeded {
+		return nil, t.supposedWrongly(done, plan{})
+	}
+	return done, nil
+}
+
+// supposedWrongly tells what a transaction that was not made has supposed wrongly.
+func (t *term) supposedWrongly(done *clientv3.TxnResponse, asked plan) error {
+	read := make([]*pb.RangeResponse, len(done.Responses))
+	for i, part := range done.Responses {
+		read[i] = part.GetResponseRange()
+	}
+	if len(read[0].Kvs) == 0 || read[0].Kvs[0].CreateRevision != t.created {
+		return t.loses()
+	}
+	if read[0].Kvs[0].ModRevision != t.put {
+		t.isOpen = true
+		return refuse("the key of the lock was put again")
+	}
+	if asked.why != nil {
+		if why := asked.why(read[1:]); why != "" {
+			return refuse("%s", why)
+		}
+	}
+	return refuse("a comparison failed")
+}
+
+// withoutSpace finds out whether a transaction was made of which etcd says that it has no space for it. Its outcome was decided when etcd said so,
+// so what it puts tells: where that is not newer than what was seen before, it was not made.
+func (t *term) withoutSpace(ctx context.Context, asked plan) error {
+	before := t.seen
+	for _, op := range asked.does {
+		if !op.IsPut() {
+			return open{rpctypes.ErrNoSpace}
+		}
+		read, err := t.get(ctx, string(op.KeyBytes()), clientv3.WithKeysOnly())
+		if err != nil {
+			return open{err}
+		}
+		if len(read.Kvs) > 0 && read.Kvs[0].ModRevision > before {
+			return open{rpctypes.ErrNoSpace}
+		}
+	}
+	return refusal{codes.ResourceExhausted, rpctypes.ErrNoSpace.Error()}
+}

@@ -1,0 +1,154 @@
+package main
+
+import (
+	"context"
+	"errors"
+	"sync"
+	"testing"
+	"time"
+
+	"go.etcd.io/etcd/etcdserver/api/v3rpc/rpctypes"
+	pb "go.etcd.io/etcd/etcdserver/etcdserverpb"
+	"go.etcd.io/etcd/mvcc/mvccpb"
+	"google.golang.org/grpc"
+	"google.golang.org/grpc/codes"
+	"google.golang.org/grpc/status"
+)
+
+// scripted is an etcd that answers transactions one after the other by what a test says, and a reading by one key.
+type scripted struct {
+	pb.KVServer
+	mutex   sync.Mutex
+	answers []answer
+	came    int
+	// The revision at which any key was put that is read.
+	put int64
+}
+
+// answer is an error, or whether a transaction was made, at a revision, and what was read where it was not.
+type answer struct {
+	err      error
+	is       bool
+	revision int64
+	read     []*mvccpb.KeyValue
+}
+
+func (s *scripted) Txn(context.Context, *pb.TxnRequest) (*pb.TxnResponse, error) {
+	s.mutex.Lock()
+	defer s.mutex.Unlock()
+	said := s.answers[s.came]
+	s.came++
+	if said.err != nil {
+		return nil, said.err
+	}
+	done := &pb.TxnResponse{Header: &pb.ResponseHeader{Revision: said.revision}, Succeeded: said.is}
+	for _, found := range said.read {
+		read := &pb.RangeResponse{}
+		if found != nil {
+			read.Kvs = append(read.Kvs, found)
+		}
+		done.Responses = append(done.Responses, &pb.ResponseOp{Response: &pb.ResponseOp_ResponseRange{ResponseRange: read}})
+	}
+	return done, nil
+}
+
+func (s *scripted) Range(context.Context, *pb.RangeRequest) (*pb.RangeResponse, error) {
+	return &pb.RangeResponse{Header: &pb.ResponseHeader{Revision: 200}, Kvs: []*mvccpb.KeyValue{{Key: []byte("a"), ModRevision: s.put}}}, nil
+}
+
+// begin is a term before it, which holds the lock by a key of revision 10.
+func (s *scripted) begin(t *testing.T) *term {
+	t.Helper()
+	client := startServer(t, s, 2, grpc.WithChainUnaryInterceptor(sendOnce))
+	ctx, cancel := context.WithCancel(context.Background())
+	t.Cleanup(cancel)
+	return &term{client: client, keys: sampleKeys, lease: &lease{}, revisions: &revisions{}, timeout: 5 * time.Second, ctx: ctx, end: cancel,
+		key: "k", created: 10, put: 10, seen: 100}
+}
+
+// What a change is answered for each answer of etcd, and whether a fence has to come before the next one.
+func TestOutcomes(t *testing.T) {
+	held := &mvccpb.KeyValue{Key: []byte("k"), CreateRevision: 10, ModRevision: 10}
+	rows := []struct {
+		name    string
+		answers []answer
+		put     int64
+		code    codes.Code
+		text    string
+		isOpen  bool
+		isOver  bool
+	}{
+		{"made", []answer{{is: true, revision: 101}}, 0, codes.OK, "", false, false},
+		{"a comparison that failed", []answer{{revision: 101, read: []*mvccpb.KeyValue{held, nil, nil}}}, 0, 9, "volumes/00000000000000000007 is not there", false, false},
+		{"none that is seen", []answer{{revision: 101, read: []*mvccpb.KeyValue{held, held, nil}}}, 0, 9, "a comparison failed", false, false},
+		{"no key of the lock", []answer{{revision: 101, read: []*mvccpb.KeyValue{nil, nil, nil}}}, 0, 9, "this program does not lead any more: its key of the lock is gone", false, true},
+		{"another key of the lock", []answer{{revision: 101, read: []*mvccpb.KeyValue{{Key: []byte("k"), CreateRevision: 11, ModRevision: 11}, nil, nil}}}, 0, 9,
+			"this program does not lead any more: its key of the lock is gone", false, true},
+		{"a key that was put again", []answer{{revision: 101, read: []*mvccpb.KeyValue{{Key: []byte("k"), CreateRevision: 10, ModRevision: 11}, nil, nil}}}, 0, 9,
+			"the key of the lock was put again", true, false},
+		{"no space, and not made", []answer{{err: rpctypes.ErrGRPCNoSpace}}, 99, codes.ResourceExhausted, "etcdserver: mvcc: database space exceeded", false, false},
+		{"no space, and made", []answer{{err: rpctypes.ErrGRPCNoSpace}}, 101, codes.Unknown, "", false, false},
+		{"denied", []answer{{err: rpctypes.ErrGRPCPermissionDenied}}, 0, codes.Internal, "etcdserver: permission denied", false, false},
+		{"too large", []answer{{err: rpctypes.ErrGRPCRequestTooLarge}}, 0, codes.ResourceExhausted, "etcdserver: request is too large", false, false},
+		{"no leader, and then made", []answer{{err: rpctypes.ErrGRPCNoLeader}, {is: true, revision: 101}}, 0, codes.OK, "", false, false},
+		{"no leader at all", []answer{{err: rpctypes.ErrGRPCNoLeader}, {err: rpctypes.ErrGRPCNoLeader}}, 0, codes.Internal, "etcdserver: no leader", false, false},
+		{"no leader, and then not known", []answer{{err: rpctypes.ErrGRPCNoLeader}, {err: rpctypes.ErrGRPCLeaderChanged}}, 0, codes.Unknown, "", true, false},
+		{"another leader", []answer{{err: rpctypes.ErrGRPCLeaderChanged}}, 0, codes.Unknown, "", true, false},
+		{"late", []answer{{err: rpctypes.ErrGRPCTimeout}}, 0, codes.Unknown, "", true, false},
+		{"canceled", []answer{{err: status.Error(codes.Canceled, "any")}}, 0, codes.Unknown, "", true, false},
+		{"any other", []answer{{err: errors.New("any")}}, 0, codes.Unknown, "", true, false},
+	}
+	for _, row := range rows {
+		server := &scripted{answers: row.answers, put: row.put}
+		held := server.begin(t)
+		err := held.commit(context.Background(), &attach{attachment{7, "n", nil, false}})
+		code, text := codes.OK, ""
+		var why refusal
+		if errors.As(err, &why) {
+			code, text = why.code, why.text
+		} else if err != nil {
+			code = codes.Unknown
+		}
+		if code != row.code || text != row.text || held.isOpen != row.isOpen || (held.ctx.Err() != nil) != row.isOver || server.came != len(row.answers) {
+			t.Errorf("%s: %v %q, %v, open %v, over %v, %d came", row.name, code, text, err, held.isOpen, held.ctx.Err(), server.came)
+		}
+	}
+}
+
+// Behind an outcome that is not known the key of the lock is put again, before anything is read or made; and what comes then supposes that.
+func TestFence(t *testing.T) {
+	server := &scripted{answers: []answer{{err: rpctypes.ErrGRPCTimeout}, {err: rpctypes.ErrGRPCTimeout}, {err: rpctypes.ErrGRPCNoSpace}, {is: true, revision: 150}, {is: true, revision: 151}}}
+	held := server.begin(t)
+	change := &detach{7, "n"}
+	for i, want := range []string{
+		"it is not known whether it was made: etcdserver: request timed out", "it is not known whether it was made: etcdserver: request timed out",
+		"etcdserver: mvcc: database space exceeded",
+	} {
+		if err := held.commit(context.Background(), change); err == nil || err.Error() != want || !held.isOpen {
+			t.Errorf("%d: %v, open %v", i, err, held.isOpen)
+		}
+	}
+	if err := held.commit(context.Background(), change); err != nil || held.isOpen || held.put != 150 || held.revisions.least() != 151 {
+		t.Errorf("%v, open %v, put at %d, answered %d", err, held.isOpen, held.put, held.revisions.least())
+	}
+	lost := &scripted{answers: []answer{{err: rpctypes.ErrGRPCTimeout}, {is: false, revision: 150}}}
+	held = lost.begin(t)
+	held.commit(context.Background(), change)
+	if err := held.commit(context.Background(), change); err == nil || err.Error() != "this program does not lead any more: its key of the lock is gone" || held.ctx.Err() == nil {
+		t.Errorf("without the key: %v", err)
+	}
+}
+
+// A revision that is lower than what was answered ends the term, and a change that was made is not answered OK then.
+func TestOlder(t *testing.T) {
+	server := &scripted{answers: []answer{{is: true, revision: 110}, {is: true, revision: 109}}}
+	held := server.begin(t)
+	change := &detach{7, "n"}
+	if err := held.commit(context.Background(), change); err != nil {
+		t.Fatal(err)
+	}
+	var why refusal
+	if err := held.commit(context.Background(), change); err == nil || errors.As(err, &why) || held.ctx.Err() == nil {
+		t.Errorf("%v, %v", err, held.ctx.Err())
+	}
+}

@@ -1,0 +1,278 @@
+// Package tests runs the built csid-etcd as a process before etcd, with clients of its protocol in place of csid, and with csid and the front.
+package tests
+
+import (
+	"bufio"
+	"encoding/hex"
+	"fmt"
+	"net"
+	"os/exec"
+	"path/filepath"
+	"sort"
+	"strings"
+	"testing"
+	"time"
+
+	"google.golang.org/grpc/codes"
+	"google.golang.org/protobuf/encoding/protowire"
+
+	"../../front/tests/processes"
+	"./clusters"
+	"fomaheti/frames"
+)
+
+const (
+	name       = "example.fomaheti"
+	readPath   = "/fomaheti.log.v1.Log/Read"
+	makePath   = "/fomaheti.log.v1.Log/Make"
+	commitPath = "/fomaheti.log.v1.Log/Commit"
+	leadPath   = "/fomaheti.log.v1.Log/Lead"
+)
+
+// program is a csid-etcd that runs.
+type program struct{ *processes.Process }
+
+// start starts a csid-etcd before a cluster, with further words, and waits until it answers.
+func start(t *testing.T, endpoints string, words ...string) program {
+	t.Helper()
+	socket := filepath.Join(processes.Folder(t), "log.sock")
+	return startAt(t, socket, endpoints, words...)
+}
+
+func startAt(t *testing.T, socket, endpoints string, words ...string) program {
+	t.Helper()
+	words = append([]string{"--name", name, "--listen", socket, "--endpoints", endpoints}, words...)
+	return program{processes.Start(t, socket, exec.Command(processes.EtcdProgram(t), words...)).Answers(t)}
+}
+
+// leads waits until the program leads.
+func (p program) leads(t *testing.T) program {
+	t.Helper()
+	p.says(t, "csid-etcd: leads, from revision")
+	return p
+}
+
+// says waits for a text on standard error.
+func (p program) says(t *testing.T, text string) {
+	t.Helper()
+	processes.Eventually(t, fmt.Sprintf("%q in the log, which has %q", text, p.Log), func() bool { return strings.Contains(p.Log.String(), text) })
+}
+
+// link is a connection to a csid-etcd.
+type link struct {
+	net.Conn
+	in *bufio.Reader
+}
+
+func (p program) dial(t *testing.T) *link {
+	t.Helper()
+	l, err := dial(p.Socket)
+	if err != nil {
+		t.Fatal(err)
+	}
+	t.Cleanup(func() { l.Close() })
+	return l
+}
+
+func dial(socket string) (*link, error) {
+	conn, err := net.Dial("unix", socket)
+	if err != nil {
+		return nil, err
+	}
+	return &link{conn, bufio.NewReader(conn)}, nil
+}
+
+// call makes a call; an error is an end without a reply.
+func (l *link) call(path string, message []byte) (frames.Reply, error) {
+	l.SetDeadline(time.Now().Add(processes.Patience))
+	if _, err := l.Write(append(frames.RequestHead(path, len(message)), message...)); err != nil {
+		return frames.Reply{}, err
+	}
+	return frames.ReadReply(l.in)
+}
+
+// wants makes a call with a message in hexadecimal, and compares its reply: OK and a body, or a status and a text.
+func (l *link) wants(t *testing.T, path, message string, code codes.Code, want string) {
+	t.Helper()
+	got, err := l.call(path, fromHex(t, message))
+	said := got.Text
+	if got.Code == codes.OK {
+		said, want = hex.EncodeToString(got.Body), strings.ReplaceAll(want, " ", "")
+	}
+	if err != nil || got.Code != code || said != want {
+		t.Errorf("%s %.200s: %d %.1000q, %v, wanted %d %.1000q", path, message, got.Code, said, err, code, want)
+	}
+}
+
+func fromHex(t *testing.T, text string) []byte {
+	t.Helper()
+	all, err := hex.DecodeString(strings.ReplaceAll(text, " ", ""))
+	if err != nil {
+		t.Fatal(err)
+	}
+	return all
+}
+
+// rows is what a walk has read: the row of meta, and each other one by its key, all as text.
+type rows map[string]string
+
+func (r rows) String() string {
+	var all []string
+	for key, value := range r {
+		all = append(all, key+" "+value)
+	}
+	sort.Strings(all)
+	return strings.Join(all, "\n")
+}
+
+// walk reads all rows, and counts the pages.
+func (l *link) walk() (read rows, pages int, err error) {
+	read = rows{}
+	var token []byte
+	last := ""
+	for {
+		message := protowire.AppendBytes(protowire.AppendTag(nil, 1, protowire.BytesType), token)
+		reply, err := l.call(readPath, message)
+		if err != nil {
+			return nil, pages, err
+		}
+		if reply.Code != codes.OK {
+			return nil, pages, fmt.Errorf("%d %s", reply.Code, reply.Text)
+		}
+		pages++
+		token = nil
+		for _, part := range fields(reply.Body) {
+			values := map[protowire.Number]field{}
+			if part.number < 4 {
+				for _, inner := range fields(part.bytes) {
+					values[inner.number] = inner
+				}
+			}
+			key := ""
+			switch part.number {
+			case 1:
+				read["meta"] = fmt.Sprintf("%d %d", values[1].varint, values[2].varint)
+				if pages > 1 {
+					return nil, pages, fmt.Errorf("meta in page %d", pages)
+				}
+				continue
+			case 2:
+				key = fmt.Sprintf("1 %020d", values[1].varint)
+				read[key] = fmt.Sprintf("%s %d %s %x %x", values[2].bytes, values[3].varint, values[4].bytes, values[5].bytes, values[6].bytes)
+			case 3:
+				key = fmt.Sprintf("2 %020d %s", values[1].varint, values[2].bytes)
+				read[key] = fmt.Sprintf("%x %d", values[3].bytes, values[4].varint)
+			case 4:
+				token = part.bytes
+				continue
+			}
+			if key <= last {
+				return nil, pages, fmt.Errorf("%q behind %q", key, last)
+			}
+			last = key
+		}
+		if len(token) == 0 {
+			return read, pages, nil
+		}
+	}
+}
+
+type field struct {
+	number protowire.Number
+	varint uint64
+	bytes  []byte
+}
+
+// fields is the fields of a message of varints and bytes.
+func fields(message []byte) (all []field) {
+	for len(message) > 0 {
+		number, kind, size := protowire.ConsumeTag(message)
+		message = message[size:]
+		got := field{number: number}
+		if kind == protowire.VarintType {
+			got.varint, size = protowire.ConsumeVarint(message)
+		} else {
+			got.bytes, size = protowire.ConsumeBytes(message)
+		}
+		all = append(all, got)
+		message = message[size:]
+	}
+	return all
+}
+
+// Messages of changes, as csid writes them: each field, in rising order.
+
+func varint(message []byte, number protowire.Number, value uint64) []byte {
+	return protowire.AppendVarint(protowire.AppendTag(message, number, protowire.VarintType), value)
+}
+
+func text(message []byte, number protowire.Number, value string) []byte {
+	return protowire.AppendString(protowire.AppendTag(message, number, protowire.BytesType), value)
+}
+
+const block = "\x1a\x06\x0a\x00\x1a\x02\x08\x01"
+
+func addVolume(number uint64, called string) []byte {
+	return addVolumeWith(number, called, 1<<20, "ssd", block, "")
+}
+
+func addVolumeWith(number uint64, called string, bytes uint64, pool, caps, params string) []byte {
+	message := varint(text(nil, 2, called)[:0], 1, number)
+	message = text(varint(text(message, 2, called), 3, bytes), 4, pool)
+	return text(nil, 1, string(text(text(message, 5, caps), 6, params)))
+}
+
+func removeVolume(number uint64) []byte { return text(nil, 2, string(varint(nil, 1, number))) }
+
+func attach(number uint64, node string, isReadonly bool) []byte {
+	message := text(text(varint(nil, 1, number), 2, node), 3, block)
+	return text(nil, 3, string(varint(message, 4, protowire.EncodeBool(isReadonly))))
+}
+
+func detach(number uint64, node string) []byte {
+	return text(nil, 4, string(text(varint(nil, 1, number), 2, node)))
+}
+
+func detachAll(number uint64) []byte { return text(nil, 5, string(varint(nil, 1, number))) }
+
+func setMutable(number uint64, params string) []byte {
+	return text(nil, 6, string(text(varint(nil, 1, number), 2, params)))
+}
+
+// commits makes a change that has to be OK.
+func (l *link) commits(t *testing.T, message []byte) {
+	t.Helper()
+	l.wants(t, commitPath, hex.EncodeToString(message), codes.OK, "")
+}
+
+// refuses makes a change that has to be refused.
+func (l *link) refuses(t *testing.T, message []byte, code codes.Code, want string) {
+	t.Helper()
+	l.wants(t, commitPath, hex.EncodeToString(message), code, want)
+}
+
+// begun is a csid-etcd that leads before a new etcd of one member, with the row of meta, and a connection to it.
+func begun(t *testing.T) (*clusters.Cluster, program, *link) {
+	t.Helper()
+	cluster := clusters.Start(t, 1)
+	p := start(t, cluster.Endpoints()).leads(t)
+	l := p.dial(t)
+	l.wants(t, makePath, "", codes.OK, "")
+	return cluster, p, l
+}
+
+// has wants that etcd has exactly these keys and values beside the lock, a line each.
+func has(t *testing.T, cluster *clusters.Cluster, want ...string) {
+	t.Helper()
+	got := ""
+	for _, part := range []string{"/attachments/", "/meta", "/volumes/"} {
+		got += cluster.Ctl(t, "get", "--prefix", name+part)
+	}
+	all := ""
+	for _, line := range want {
+		all += line + "\n"
+	}
+	if got != all {
+		t.Errorf("etcd has\n%swanted\n%s", got, all)
+	}
+}

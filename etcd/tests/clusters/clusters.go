@@ -1,0 +1,231 @@
+// Package clusters starts etcd on loopback for tests, each member in a folder of its own, and ends it.
+package clusters
+
+import (
+	"bytes"
+	"context"
+	"fmt"
+	"net"
+	"os"
+	"os/exec"
+	"path/filepath"
+	"strings"
+	"testing"
+	"time"
+
+	"go.etcd.io/etcd/clientv3"
+	"go.uber.org/zap"
+
+	"../../../front/tests/processes"
+)
+
+// Member is one etcd, which may be killed and started again where it stood.
+type Member struct {
+	Name   string
+	Folder string
+	// HOST:PORT for clients.
+	Address string
+	words   []string
+	Current *processes.Process
+}
+
+// Cluster is some members, with what each client says that speaks to them.
+type Cluster struct {
+	Members []*Member
+	scheme  string
+	// Words for etcdctl before all others.
+	Words []string
+}
+
+// Settings is what a cluster has beside its members.
+type Settings struct {
+	// More words of the command line of each member.
+	Words []string
+	// Whether clients speak TLS.
+	IsSecure bool
+}
+
+// Start starts a cluster of so many members, and waits until it answers.
+func Start(t *testing.T, count int, words ...string) *Cluster {
+	t.Helper()
+	c := New(t, count, Settings{Words: words})
+	c.StartAll(t)
+	c.Answers(t)
+	return c
+}
+
+// New is a cluster whose members were not started yet.
+func New(t *testing.T, count int, settings Settings) *Cluster {
+	t.Helper()
+	c := &Cluster{scheme: "http://"}
+	if settings.IsSecure {
+		c.scheme = "https://"
+	}
+	var all []string
+	ports := FreePorts(t, 2*count)
+	for i := 0; i < count; i++ {
+		m := &Member{Name: fmt.Sprintf("m%d", i), Folder: processes.Folder(t), Address: ports[2*i]}
+		peer := "http://" + ports[2*i+1]
+		client := c.scheme + m.Address
+		m.words = append([]string{"--name", m.Name, "--data-dir", filepath.Join(m.Folder, "data"), "--logger", "zap", "--log-level", "warn",
+			"--listen-client-urls", client, "--advertise-client-urls", client, "--listen-peer-urls", peer, "--initial-advertise-peer-urls", peer}, settings.Words...)
+		all = append(all, m.Name+"="+peer)
+		c.Members = append(c.Members, m)
+	}
+	for _, m := range c.Members {
+		m.words = append(m.words, "--initial-cluster", strings.Join(all, ","), "--initial-cluster-state", "new", "--initial-cluster-token", m.Folder)
+		m.words[len(m.words)-1] = c.Members[0].Folder
+	}
+	return c
+}
+
+// FreePorts is so many addresses of loopback on which nobody listens.
+func FreePorts(t *testing.T, count int) (addresses []string) {
+	t.Helper()
+	for i := 0; i < count; i++ {
+		listener, err := net.Listen("tcp", "127.0.0.1:0")
+		if err != nil {
+			t.Fatal(err)
+		}
+		defer listener.Close()
+		addresses = append(addresses, listener.Addr().String())
+	}
+	return addresses
+}
+
+// StartAll starts all members.
+func (c *Cluster) StartAll(t *testing.T) {
+	t.Helper()
+	for _, m := range c.Members {
+		m.Start(t)
+	}
+}
+
+// Start starts a member where it stood.
+func (m *Member) Start(t *testing.T) {
+	t.Helper()
+	command := exec.Command("etcd", m.words...)
+	command.Dir = m.Folder
+	m.Current = processes.Start(t, "", command)
+}
+
+// Kill ends a member without a warning.
+func (m *Member) Kill() { m.Current.Kill() }
+
+// Restore puts a snapshot in place of what a member of a cluster of one had, which was ended before.
+func (m *Member) Restore(t *testing.T, snapshot string) {
+	t.Helper()
+	if err := os.RemoveAll(filepath.Join(m.Folder, "data")); err != nil {
+		t.Fatal(err)
+	}
+	said := map[string]string{}
+	for i := 0; i+1 < len(m.words); i += 2 {
+		said[m.words[i]] = m.words[i+1]
+	}
+	words := []string{"snapshot", "restore", snapshot}
+	for _, name := range []string{"--name", "--data-dir", "--initial-cluster", "--initial-cluster-token"} {
+		words = append(words, name, said[name])
+	}
+	words = append(words, "--initial-advertise-peer-urls", said["--initial-advertise-peer-urls"])
+	run(t, words)
+}
+
+// Endpoints is all members, as --endpoints of csid-etcd has them.
+func (c *Cluster) Endpoints() string {
+	var all []string
+	for _, m := range c.Members {
+		all = append(all, m.endpoint(c.scheme))
+	}
+	return strings.Join(all, ",")
+}
+
+func (m *Member) endpoint(scheme string) string {
+	if scheme == "http://" {
+		return m.Address
+	}
+	return scheme + m.Address
+}
+
+// Answers waits until etcd answers, and has a leader.
+func (c *Cluster) Answers(t *testing.T) {
+	t.Helper()
+	client := c.Client(t)
+	processes.Eventually(t, "an answer of etcd", func() bool {
+		ctx, cancel := context.WithTimeout(context.Background(), time.Second)
+		defer cancel()
+		_, err := client.Get(ctx, "a")
+		return err == nil
+	})
+}
+
+// Client is a client of etcd's own, without TLS.
+func (c *Cluster) Client(t *testing.T) *clientv3.Client {
+	t.Helper()
+	client, err := clientv3.New(clientv3.Config{Endpoints: strings.Split(c.Endpoints(), ","), DialTimeout: 2 * time.Second, MaxCallSendMsgSize: 16 << 20,
+		LogConfig: &zap.Config{Level: zap.NewAtomicLevelAt(zap.FatalLevel), Encoding: "json"}})
+	if err != nil {
+		t.Fatal(err)
+	}
+	t.Cleanup(func() { client.Close() })
+	return client
+}
+
+// Ctl runs etcdctl, and gives what it says.
+func (c *Cluster) Ctl(t *testing.T, words ...string) string {
+	t.Helper()
+	return run(t, append(append([]string{"--endpoints", c.Endpoints()}, c.Words...), words...))
+}
+
+// Try runs etcdctl, and tells whether it failed.
+func (c *Cluster) Try(words ...string) error {
+	_, err := ctl(append(append([]string{"--endpoints", c.Endpoints()}, c.Words...), words...), "")
+	return err
+}
+
+// Type runs etcdctl with a text on its standard input.
+func (c *Cluster) Type(t *testing.T, text string, words ...string) {
+	t.Helper()
+	if _, err := ctl(append(append([]string{"--endpoints", c.Endpoints()}, c.Words...), words...), text); err != nil {
+		t.Fatal(err)
+	}
+}
+
+func run(t *testing.T, words []string) string {
+	t.Helper()
+	said, err := ctl(words, "")
+	if err != nil {
+		t.Fatal(err)
+	}
+	return said
+}
+
+func ctl(words []string, typed string) (string, error) {
+	command := exec.Command("etcdctl", words...)
+	command.Env = append(os.Environ(), "ETCDCTL_API=3")
+	var said, failed bytes.Buffer
+	command.Stdin, command.Stdout, command.Stderr = strings.NewReader(typed), &said, &failed
+	if err := command.Run(); err != nil {
+		return "", fmt.Errorf("etcdctl %v: %w: %s", words, err, failed.String())
+	}
+	return said.String(), nil
+}
+
+// Leader is the member that leads.
+func (c *Cluster) Leader(t *testing.T) *Member {
+	t.Helper()
+	client := c.Client(t)
+	var leader *Member
+	processes.Eventually(t, "a leader of etcd", func() bool {
+		for _, m := range c.Members {
+			ctx, cancel := context.WithTimeout(context.Background(), time.Second)
+			status, err := client.Status(ctx, m.endpoint(c.scheme))
+			cancel()
+			if err == nil && status.Leader == status.Header.MemberId {
+				leader = m
+				return true
+			}
+		}
+		return false
+	})
+	return leader
+}

@@ -1,0 +1,241 @@
+package tests
+
+import (
+	"context"
+	"fmt"
+	"math/rand"
+	"strings"
+	"testing"
+	"time"
+
+	"google.golang.org/grpc/codes"
+)
+
+// driver stands for csid: it reads all rows over a connection, and makes changes over it until one is not answered by OK. It keeps what it was told
+// as a model, and wants that each reading is the model, or the model with the one change whose outcome was not known.
+type driver struct {
+	t       *testing.T
+	sockets []string
+	random  *rand.Rand
+	// What was told, and what it would be with the open change.
+	told, open rows
+	next       uint64
+	// How each ended that was not OK: refusals by their texts, and ends without a reply.
+	refused map[string]int
+	oks     int
+	opens   int
+	// Of these the change was found to be made.
+	made int
+	// The longest time without an OK, and the last OK.
+	gap  time.Duration
+	last time.Time
+	// Where the last OK came from.
+	from string
+}
+
+func newDriver(t *testing.T, programs ...program) *driver {
+	d := &driver{t: t, random: rand.New(rand.NewSource(1)), refused: map[string]int{}, last: time.Now()}
+	for _, p := range programs {
+		d.sockets = append(d.sockets, p.Socket)
+	}
+	return d
+}
+
+// run drives until the context ends.
+func (d *driver) run(ctx context.Context) {
+	for i := 0; ctx.Err() == nil; i++ {
+		if err := d.session(ctx, d.sockets[i%len(d.sockets)]); err != nil {
+			d.t.Error(err)
+			return
+		}
+		time.Sleep(10 * time.Millisecond)
+	}
+}
+
+// begin drives in the background, and gives what ends that.
+func (d *driver) begin() (end func()) {
+	ctx, cancel := context.WithCancel(context.Background())
+	ended := make(chan struct{})
+	go func() {
+		defer close(ended)
+		d.run(ctx)
+	}()
+	return func() {
+		cancel()
+		<-ended
+	}
+}
+
+// session is what csid does over one connection.
+func (d *driver) session(ctx context.Context, socket string) error {
+	l, err := dial(socket)
+	if err != nil {
+		return nil
+	}
+	defer l.Close()
+	read, _, err := l.walk()
+	if err != nil {
+		return d.notRead(err)
+	}
+	if len(read) == 0 {
+		if reply, err := l.call(makePath, nil); err != nil || reply.Code != codes.OK {
+			return nil
+		}
+		read = rows{"meta": "2 1"}
+	}
+	if err := d.compare(read); err != nil {
+		return err
+	}
+	for ctx.Err() == nil {
+		isOK, err := d.change(l)
+		if err != nil {
+			return err
+		}
+		if !isOK {
+			return nil
+		}
+		d.ok(socket)
+	}
+	return nil
+}
+
+func (d *driver) ok(socket string) {
+	now := time.Now()
+	if gap := now.Sub(d.last); gap > d.gap {
+		d.gap = gap
+	}
+	d.last, d.from = now, socket
+	d.oks++
+}
+
+// notRead takes an end without a reply, and a refusal because the program does not lead.
+func (d *driver) notRead(err error) error {
+	if text := err.Error(); strings.HasPrefix(text, "9 ") {
+		if !strings.HasPrefix(text, "9 waiting for the lock") && !strings.HasPrefix(text, "9 this program does not lead any more") {
+			return fmt.Errorf("Read: %s", text)
+		}
+		d.refused["waiting"]++
+	}
+	return nil
+}
+
+// compare takes what was read for what is told.
+func (d *driver) compare(read rows) error {
+	if d.told != nil {
+		switch got := read.String(); {
+		case d.open != nil && got == d.open.String():
+			d.made++
+		case got != d.told.String():
+			return fmt.Errorf("read\n%s\ntold\n%s\nor\n%s", difference(read, d.told), difference(d.told, read), difference(d.open, read))
+		}
+	}
+	d.told, d.open = read, nil
+	fmt.Sscanf(read["meta"], "2 %d", &d.next)
+	return nil
+}
+
+// difference is the rows that others do not have.
+func difference(one, other rows) rows {
+	found := rows{}
+	for key, value := range one {
+		if other[key] != value {
+			found[key] = value
+		}
+	}
+	return found
+}
+
+// change makes one change, and tells whether it was OK.
+func (d *driver) change(l *link) (isOK bool, err error) {
+	message, behind := d.choose()
+	reply, err := l.call(commitPath, message)
+	if err != nil {
+		d.opens++
+		d.open = behind
+		return false, nil
+	}
+	if reply.Code == codes.OK {
+		d.told = behind
+		fmt.Sscanf(behind["meta"], "2 %d", &d.next)
+		return true, nil
+	}
+	d.refused[fmt.Sprintf("%d %s", reply.Code, reply.Text)]++
+	if !strings.HasPrefix(reply.Text, "waiting for the lock") && !strings.HasPrefix(reply.Text, "this program does not lead any more") &&
+		reply.Text != "the key of the lock was put again" && reply.Text != "etcdserver: no leader" && reply.Text != "etcdserver: too many requests" {
+		return false, fmt.Errorf("a change was refused: %d %s", reply.Code, reply.Text)
+	}
+	return false, nil
+}
+
+func (r rows) with(key, value string) rows {
+	all := rows{}
+	for key, value := range r {
+		all[key] = value
+	}
+	if value == "" {
+		delete(all, key)
+	} else {
+		all[key] = value
+	}
+	return all
+}
+
+// choose chooses a change that can be made, and gives the rows with it.
+func (d *driver) choose() (message []byte, behind rows) {
+	var volumes []uint64
+	nodes := map[uint64][]string{}
+	for key := range d.told {
+		var kind int
+		var number uint64
+		var node string
+		count, _ := fmt.Sscanf(key, "%d %d %s", &kind, &number, &node)
+		if count == 2 {
+			volumes = append(volumes, number)
+		} else if count == 3 {
+			nodes[number] = append(nodes[number], node)
+		}
+	}
+	if len(volumes) < 5 || (len(volumes) < 20 && d.random.Intn(3) == 0) {
+		return d.add()
+	}
+	number := volumes[d.random.Intn(len(volumes))]
+	key := fmt.Sprintf("1 %020d", number)
+	switch what := d.random.Intn(6); {
+	case what == 0:
+		params := []string{"", "\x42\x00", "\x42\x03\x0a\x01k"}[d.random.Intn(3)]
+		value := strings.Fields(d.told[key])
+		return setMutable(number, params), d.told.with(key, strings.Join(value[:3], " ")+fmt.Sprintf(" %x %x", block, params))
+	case len(nodes[number]) == 0 && what == 1:
+		return removeVolume(number), d.told.with(key, "")
+	case len(nodes[number]) > 0 && what < 4:
+		if what == 2 {
+			behind = d.told
+			for _, node := range nodes[number] {
+				behind = behind.with(fmt.Sprintf("2 %020d %s", number, node), "")
+			}
+			return detachAll(number), behind
+		}
+		node := nodes[number][0]
+		return detach(number, node), d.told.with(fmt.Sprintf("2 %020d %s", number, node), "")
+	default:
+		for i := 0; ; i++ {
+			node := fmt.Sprintf("n%d", i)
+			key := fmt.Sprintf("2 %020d %s", number, node)
+			if d.told[key] == "" {
+				return attach(number, node, i%2 == 0), d.told.with(key, fmt.Sprintf("%x %d", block, (i+1)%2))
+			}
+		}
+	}
+}
+
+func (d *driver) add() (message []byte, behind rows) {
+	called := fmt.Sprintf("pvc-%d-%d", d.next, d.random.Intn(1000))
+	key := fmt.Sprintf("1 %020d", d.next)
+	behind = d.told.with(key, fmt.Sprintf("%s %d ssd %x ", called, 1<<20, block)).with("meta", fmt.Sprintf("2 %d", d.next+1))
+	return addVolume(d.next, called), behind
+}
+
+// String is what came of it.
+func (d *driver) String() string {
+	return fmt.Sprintf("%d OK, %d ends without a reply of which %d were made, refusals %v, at most %v between two OK", d.oks, d.opens, d.made, d.refused, d.gap.Round(time.Millisecond))
+}

@@ -1,0 +1,329 @@
+package tests
+
+import (
+	"context"
+	"encoding/hex"
+	"fmt"
+	"io"
+	"strings"
+	"testing"
+	"time"
+
+	"go.etcd.io/etcd/clientv3"
+	"google.golang.org/grpc/codes"
+
+	"../../front/tests/processes"
+	"./clusters"
+)
+
+// Each change is seen in etcd as the bytes that stand here, and is read again.
+func TestRows(t *testing.T) {
+	t.Parallel()
+	cluster := clusters.Start(t, 1)
+	p := start(t, cluster.Endpoints()).leads(t)
+	l := p.dial(t)
+	l.wants(t, readPath, "0a00", codes.OK, "2200")
+	has(t, cluster)
+	l.wants(t, leadPath, "", codes.OK, "")
+	l.wants(t, makePath, "", codes.OK, "")
+	l.wants(t, readPath, "0a00", codes.OK, "0a04 0802 1001 2200")
+	has(t, cluster, name+"/meta", `{"format_no":2,"next_number":1}`)
+	l.wants(t, makePath, "", codes.FailedPrecondition, "meta is there already")
+
+	l.commits(t, addVolumeWith(1, "pvc-1", 1048576, "ssd", block, "\x22\x06\x0a\x01k\x12\x01v\x42\x06\x0a\x01k\x12\x01v"))
+	l.commits(t, addVolumeWith(2, "a\"<é>\n", 2097152, "", "", ""))
+	l.commits(t, attach(1, "n/1", false))
+	l.commits(t, attach(1, "n é", true))
+	l.commits(t, attach(2, "n", true))
+	l.commits(t, setMutable(1, "\x42\x00"))
+	has(t, cluster,
+		name+"/attachments/00000000000000000001/n é", `{"cap":"1a060a001a020801","readonly":1}`,
+		name+"/attachments/00000000000000000001/n/1", `{"cap":"1a060a001a020801","readonly":0}`,
+		name+"/attachments/00000000000000000002/n", `{"cap":"1a060a001a020801","readonly":1}`,
+		name+"/meta", `{"format_no":2,"next_number":3}`,
+		name+"/volumes/00000000000000000001", `{"name":"pvc-1","bytes":1048576,"pool":"ssd","caps":"1a060a001a020801","params":"22060a016b1201764200"}`,
+		name+"/volumes/00000000000000000002", `{"name":"a\"<é>\n","bytes":2097152,"pool":"","caps":"","params":""}`)
+	l.wants(t, readPath, "", codes.OK, "0a04 0802 1003"+
+		"1228 0801 1205 7076632d31 18808040 2203 737364 2a08 1a060a001a020801 320a 22060a016b1201764200"+
+		"1216 0802 1207 61223cc3a93e0a 1880808001 2200 2a00 3200"+
+		"1a14 0801 1204 6e20c3a9 1a08 1a060a001a020801 2001"+
+		"1a13 0801 1203 6e2f31 1a08 1a060a001a020801 2000"+
+		"1a11 0802 1201 6e 1a08 1a060a001a020801 2001"+
+		"2200")
+
+	l.commits(t, detach(1, "n/1"))
+	l.commits(t, detach(1, "none"))
+	l.commits(t, detach(1<<64-1, "n"))
+	l.commits(t, detachAll(1))
+	l.commits(t, detachAll(9))
+	l.commits(t, removeVolume(1))
+	l.commits(t, removeVolume(1))
+	l.commits(t, removeVolume(1<<63))
+	has(t, cluster,
+		name+"/attachments/00000000000000000002/n", `{"cap":"1a060a001a020801","readonly":1}`,
+		name+"/meta", `{"format_no":2,"next_number":3}`,
+		name+"/volumes/00000000000000000002", `{"name":"a\"<é>\n","bytes":2097152,"pool":"","caps":"","params":""}`)
+	if read, pages, err := l.walk(); err != nil || pages != 1 || len(read) != 3 {
+		t.Errorf("%v, %d pages, %v", read, pages, err)
+	}
+}
+
+// What each change supposes is compared, and where it is otherwise nothing is made.
+func TestSuppositions(t *testing.T) {
+	t.Parallel()
+	cluster, _, l := begun(t)
+	l.commits(t, addVolume(1, "a"))
+	l.commits(t, attach(1, "n", false))
+	before := cluster.Ctl(t, "get", "--prefix", name)
+	const precondition = codes.FailedPrecondition
+	l.refuses(t, addVolume(1, "b"), precondition, "volumes/00000000000000000001 is there already")
+	l.refuses(t, addVolume(3, "b"), precondition, `meta is {"format_no":2,"next_number":2}, and not {"format_no":2,"next_number":3}`)
+	l.refuses(t, removeVolume(1), precondition, "attachments/00000000000000000001/n is there")
+	l.refuses(t, attach(2, "n", false), precondition, "volumes/00000000000000000002 is not there")
+	l.refuses(t, attach(1<<64-1, "n", false), precondition, "volumes/18446744073709551615 is not there")
+	l.refuses(t, attach(1, "n", true), precondition, "attachments/00000000000000000001/n is there already")
+	l.refuses(t, setMutable(2, ""), precondition, "volumes/00000000000000000002 is not there")
+	l.wants(t, makePath, "", precondition, "attachments/00000000000000000001/n is there already")
+	l.refuses(t, addVolume(1<<63-1, "b"), codes.InvalidArgument, "a number is above 9223372036854775807")
+	l.refuses(t, addVolumeWith(2, "b", 1<<63, "", "", ""), codes.InvalidArgument, "a number is above 9223372036854775807")
+	l.refuses(t, setMutable(1, "\x22\x00"), codes.InvalidArgument, "params is not fields of mutable parameters")
+	l.refuses(t, []byte("\x12\x00\x2a\x00"), codes.InvalidArgument, "more than one change")
+	l.refuses(t, []byte("\x00"), codes.InvalidArgument, "malformed message")
+	l.wants(t, readPath, "0a0131", codes.InvalidArgument, "the token is not the last one that this connection was given")
+	l.wants(t, readPath, "0a02", codes.InvalidArgument, "malformed message")
+	l.wants(t, makePath, "00", codes.InvalidArgument, "malformed message")
+	l.wants(t, "/fomaheti.log.v1.Log/Other", "", codes.Unimplemented, "unknown method")
+	cluster.Ctl(t, "del", name+"/meta")
+	l.refuses(t, addVolume(2, "b"), precondition, "meta is not there")
+	cluster.Ctl(t, "put", name+"/meta", `{"format_no":2,"next_number":2}`)
+	if after := cluster.Ctl(t, "get", "--prefix", name); after != before {
+		t.Errorf("etcd has\n%s, and had\n%s", after, before)
+	}
+	// The greatest number that a volume can have.
+	cluster.Ctl(t, "put", name+"/meta", `{"format_no":2,"next_number":9223372036854775806}`)
+	l.commits(t, addVolume(1<<63-2, "c"))
+	if got := cluster.Ctl(t, "get", name+"/meta"); got != name+"/meta\n{\"format_no\":2,\"next_number\":9223372036854775807}\n" {
+		t.Errorf("meta: %s", got)
+	}
+}
+
+// A malformed frame is refused at its place, and ends the connection.
+func TestMalformedFrame(t *testing.T) {
+	t.Parallel()
+	_, _, l := begun(t)
+	if _, err := l.Write(fromHex(t, "0001 21 01")); err != nil {
+		t.Fatal(err)
+	}
+	// The call of Make before had so many bytes.
+	l.SetDeadline(time.Now().Add(processes.Patience))
+	l.wants(t, readPath, "", codes.InvalidArgument, fmt.Sprintf("bad flag at byte %d", 7+len(makePath)+3))
+	if reply, err := l.call(readPath, nil); err == nil {
+		t.Errorf("behind a malformed frame: %v", reply)
+	}
+}
+
+// A set_mutable compares that the row is still the one that it read: of many at once and changes by hand no one is lost.
+func TestChangedMeanwhile(t *testing.T) {
+	t.Parallel()
+	cluster, _, l := begun(t)
+	l.commits(t, addVolumeWith(1, "a", 1<<20, "p", block, "\x22\x00"))
+	client := cluster.Client(t)
+	key := name + "/volumes/00000000000000000001"
+	end, ended := make(chan struct{}), make(chan int)
+	go func() {
+		puts := 0
+		for {
+			select {
+			case <-end:
+				ended <- puts
+				return
+			default:
+			}
+			value := fmt.Sprintf(`{"name":"a","bytes":%d,"pool":"p","caps":"1a060a001a020801","params":"2200"}`, puts)
+			if _, err := client.Put(context.Background(), key, value); err == nil {
+				puts++
+			}
+		}
+	}()
+	refused, made := 0, 0
+	for i := 0; i < 400 && (refused < 3 || made < 3); i++ {
+		reply, err := l.call(commitPath, setMutable(1, "\x42\x00"))
+		if err != nil {
+			t.Fatal(err)
+		}
+		switch {
+		case reply.Code == codes.OK:
+			made++
+		case reply.Code == codes.FailedPrecondition && reply.Text == "volumes/00000000000000000001 was changed meanwhile":
+			refused++
+		default:
+			t.Fatalf("%d %q", reply.Code, reply.Text)
+		}
+	}
+	close(end)
+	t.Logf("%d made, %d refused, beside %d puts by hand", made, refused, <-ended)
+	if refused == 0 {
+		t.Error("none was refused")
+	}
+}
+
+// fill puts so many volumes and attachments into etcd, and the row of meta.
+func fill(t *testing.T, client *clientv3.Client, count int) {
+	t.Helper()
+	var ops []clientv3.Op
+	flush := func() {
+		if _, err := client.Txn(context.Background()).Then(ops...).Commit(); err != nil {
+			t.Fatal(err)
+		}
+		ops = nil
+	}
+	for n := 1; n <= count; n++ {
+		value := fmt.Sprintf(`{"name":"pvc-%d","bytes":1048576,"pool":"ssd","caps":"1a060a001a020801","params":""}`, n)
+		ops = append(ops, clientv3.OpPut(fmt.Sprintf("%s/volumes/%020d", name, n), value))
+		if n%2 == 0 {
+			ops = append(ops, clientv3.OpPut(fmt.Sprintf("%s/attachments/%020d/node-%d", name, n, n%7), `{"cap":"1a060a001a020801","readonly":0}`))
+		}
+		if len(ops) >= 120 {
+			flush()
+		}
+	}
+	ops = append(ops, clientv3.OpPut(name+"/meta", fmt.Sprintf(`{"format_no":2,"next_number":%d}`, count+1)))
+	flush()
+}
+
+// 100,000 volumes and 50,000 attachments are read in pages, all at one revision while changes go on over another connection of etcd.
+func TestManyRows(t *testing.T) {
+	t.Parallel()
+	const count = 100000
+	cluster := clusters.Start(t, 1)
+	client := cluster.Client(t)
+	fill(t, client, count)
+	p := start(t, cluster.Endpoints()).leads(t)
+	l := p.dial(t)
+	ctx, cancel := context.WithCancel(context.Background())
+	ended := make(chan int)
+	go func() {
+		changes := 0
+		for ctx.Err() == nil {
+			// Volume 1 goes and comes again in the order of all, so no revision but the first has it and 100,000 others.
+			client.Txn(ctx).Then(clientv3.OpDelete(fmt.Sprintf("%s/volumes/%020d", name, 1+changes%count))).Commit()
+			changes += 997
+		}
+		ended <- changes / 997
+	}()
+	begin := time.Now()
+	read, pages, err := l.walk()
+	took := time.Since(begin)
+	cancel()
+	changes := <-ended
+	if err != nil {
+		t.Fatal(err)
+	}
+	volumes, attachments := 0, 0
+	for key := range read {
+		if strings.HasPrefix(key, "1 ") {
+			volumes++
+		} else if strings.HasPrefix(key, "2 ") {
+			attachments++
+		}
+	}
+	again, _, err := l.walk()
+	if err != nil {
+		t.Fatal(err)
+	}
+	t.Logf("%d volumes and %d attachments in %d pages in %v, beside %d changes; %d rows behind them", volumes, attachments, pages, took, changes, len(again))
+	if volumes > count || volumes < count-changes || attachments != count/2 || pages < 5 || len(again) >= len(read) {
+		t.Errorf("%d volumes, %d attachments, %d pages", volumes, attachments, pages)
+	}
+	if got := read["meta"]; got != fmt.Sprintf("2 %d", count+1) {
+		t.Errorf("meta: %s", got)
+	}
+}
+
+// Rows that are long make pages of fewer rows, of at most 4 MiB; and one that no page can have is named.
+func TestLongRows(t *testing.T) {
+	t.Parallel()
+	cluster := clusters.Start(t, 1, "--max-request-bytes", "12000000")
+	p := start(t, cluster.Endpoints()).leads(t)
+	l := p.dial(t)
+	l.wants(t, makePath, "", codes.OK, "")
+	for n := uint64(1); n <= 12; n++ {
+		l.commits(t, addVolumeWith(n, fmt.Sprintf("a%d", n), 1<<20, "p", strings.Repeat("\x1a\x00", 450000), ""))
+	}
+	read, pages, err := l.walk()
+	if err != nil || len(read) != 13 || pages < 4 {
+		t.Errorf("%d rows, %d pages, %v", len(read), pages, err)
+	}
+	value := `{"name":"b","bytes":1048576,"pool":"p","caps":"` + strings.Repeat("1a00", 1600000) + `","params":""}`
+	if _, err := cluster.Client(t).Put(context.Background(), name+"/volumes/00000000000000000001", value); err != nil {
+		t.Fatal(err)
+	}
+	l.wants(t, readPath, "", codes.FailedPrecondition, "volumes/00000000000000000001: the row is too long for a page")
+}
+
+// A change that is too long for etcd is refused as such, and the next one is made.
+func TestTooLong(t *testing.T) {
+	t.Parallel()
+	_, _, l := begun(t)
+	l.refuses(t, addVolumeWith(1, "a", 1<<20, "p", strings.Repeat("\x1a\x00", 500000), ""), codes.ResourceExhausted, "etcdserver: request is too large")
+	l.commits(t, addVolume(1, "a"))
+}
+
+// The newest connection is the one that is served.
+func TestNewestConnection(t *testing.T) {
+	t.Parallel()
+	_, p, first := begun(t)
+	second := p.dial(t)
+	first.ends(t)
+	second.commits(t, addVolume(1, "a"))
+	second.wants(t, readPath, "0a00", codes.OK, "0a04 0802 1002 121a 0801 1201 61 18808040 2203 737364 2a08 1a060a001a020801 3200 2200")
+	// A connection that says nothing takes the place too.
+	p.dial(t)
+	second.ends(t)
+}
+
+// ends waits until the program has closed a connection: it takes the newer one in its own time.
+func (l *link) ends(t *testing.T) {
+	t.Helper()
+	l.SetDeadline(time.Now().Add(processes.Patience))
+	if got, err := l.in.ReadByte(); err != io.EOF {
+		t.Errorf("the connection was not closed: %d, %v", got, err)
+	}
+}
+
+// Connections that come while changes are made: each change that was answered is there, and no other.
+func TestReplacedConnections(t *testing.T) {
+	t.Parallel()
+	_, p, _ := begun(t)
+	next := uint64(1)
+	for i := 0; i < 60; i++ {
+		l := p.dial(t)
+		read, _, err := l.walk()
+		if err != nil {
+			t.Fatal(err)
+		}
+		got := uint64(len(read) - 1)
+		if got+1 != next && got != next {
+			t.Fatalf("%d volumes, wanted %d or one more", got, next-1)
+		}
+		next = got + 1
+		for ; ; next++ {
+			if i%3 == 0 && next%5 == 0 {
+				// The reply is not waited for.
+				message := addVolume(next, fmt.Sprintf("a%d", next))
+				l.Write(append(frameHead(commitPath, len(message)), message...))
+				break
+			}
+			l.commits(t, addVolume(next, fmt.Sprintf("a%d", next)))
+			if next%4 == 0 {
+				next++
+				break
+			}
+		}
+	}
+}
+
+func frameHead(path string, size int) []byte {
+	head, _ := hex.DecodeString(fmt.Sprintf("%04x%x00%08x", len(path), path, size))
+	return head
+}

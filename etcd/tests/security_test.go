@@ -1,0 +1,191 @@
+package tests
+
+import (
+	"crypto/ecdsa"
+	"crypto/elliptic"
+	"crypto/rand"
+	"crypto/x509"
+	"crypto/x509/pkix"
+	"encoding/pem"
+	"math/big"
+	"net"
+	"os"
+	"path/filepath"
+	"strings"
+	"testing"
+	"time"
+
+	"google.golang.org/grpc/codes"
+
+	"../../front/tests/processes"
+	"./clusters"
+)
+
+// authority signs certificates, and keeps all in a folder.
+type authority struct {
+	folder string
+	cert   *x509.Certificate
+	key    *ecdsa.PrivateKey
+	count  int64
+}
+
+func newAuthority(t *testing.T) *authority {
+	t.Helper()
+	a := &authority{folder: processes.Folder(t)}
+	a.cert, a.key = a.sign(t, "ca", &x509.Certificate{IsCA: true, BasicConstraintsValid: true, KeyUsage: x509.KeyUsageCertSign})
+	return a
+}
+
+func (a *authority) path(name string) string { return filepath.Join(a.folder, name) }
+
+// sign makes a certificate for loopback, and its key, as the files NAME.pem and NAME.key.
+func (a *authority) sign(t *testing.T, name string, asked *x509.Certificate) (*x509.Certificate, *ecdsa.PrivateKey) {
+	t.Helper()
+	a.count++
+	asked.SerialNumber = big.NewInt(a.count)
+	asked.Subject = pkix.Name{CommonName: name}
+	asked.NotBefore, asked.NotAfter = time.Now().Add(-time.Hour), time.Now().Add(time.Hour)
+	asked.IPAddresses = []net.IP{net.IPv4(127, 0, 0, 1)}
+	key, err := ecdsa.GenerateKey(elliptic.P256(), rand.Reader)
+	if err != nil {
+		t.Fatal(err)
+	}
+	parent, signer := asked, key
+	if a.cert != nil {
+		parent, signer = a.cert, a.key
+	}
+	der, err := x509.CreateCertificate(rand.Reader, asked, parent, &key.PublicKey, signer)
+	if err != nil {
+		t.Fatal(err)
+	}
+	secret, err := x509.MarshalECPrivateKey(key)
+	if err != nil {
+		t.Fatal(err)
+	}
+	a.write(t, name+".pem", "CERTIFICATE", der)
+	a.write(t, name+".key", "EC PRIVATE KEY", secret)
+	cert, err := x509.ParseCertificate(der)
+	if err != nil {
+		t.Fatal(err)
+	}
+	return cert, key
+}
+
+func (a *authority) write(t *testing.T, name, kind string, der []byte) {
+	t.Helper()
+	if err := os.WriteFile(a.path(name), pem.EncodeToMemory(&pem.Block{Type: kind, Bytes: der}), 0o600); err != nil {
+		t.Fatal(err)
+	}
+}
+
+func (a *authority) client(t *testing.T, name string) []string {
+	t.Helper()
+	a.sign(t, name, &x509.Certificate{ExtKeyUsage: []x509.ExtKeyUsage{x509.ExtKeyUsageClientAuth}})
+	return []string{"--cacert", a.path("ca.pem"), "--cert", a.path(name + ".pem"), "--key", a.path(name + ".key")}
+}
+
+// secure starts a cluster that speaks TLS and wants certificates of clients.
+func secure(t *testing.T, a *authority, count int) *clusters.Cluster {
+	t.Helper()
+	a.sign(t, "etcd", &x509.Certificate{ExtKeyUsage: []x509.ExtKeyUsage{x509.ExtKeyUsageServerAuth, x509.ExtKeyUsageClientAuth}})
+	c := clusters.New(t, count, clusters.Settings{IsSecure: true, Words: []string{"--client-cert-auth", "--trusted-ca-file", a.path("ca.pem"),
+		"--cert-file", a.path("etcd.pem"), "--key-file", a.path("etcd.key")}})
+	c.Words = a.client(t, "root")
+	c.StartAll(t)
+	processes.Eventually(t, "etcd with TLS", func() bool { return c.Try("endpoint", "health") == nil })
+	return c
+}
+
+// Members are reached by TLS with a certificate, and by nothing else.
+func TestTLS(t *testing.T) {
+	t.Parallel()
+	a := newAuthority(t)
+	cluster := secure(t, a, 3)
+	words := a.client(t, "csid")
+	p := start(t, cluster.Endpoints(), words...).leads(t)
+	l := p.dial(t)
+	l.wants(t, makePath, "", codes.OK, "")
+	l.commits(t, addVolume(1, "a"))
+	plain := start(t, strings.ReplaceAll(cluster.Endpoints(), "https://", ""), append(words, "--timeout", "1s")...)
+	plain.says(t, "csid-etcd: waits for the lock, which ")
+	for name, words := range map[string][]string{"no certificate": words[:2], "another authority": newAuthority(t).client(t, "csid")} {
+		other := start(t, cluster.Endpoints(), append(words, "--timeout", "1s")...)
+		other.says(t, "csid-etcd: no lock: ")
+		dialled := other.dial(t)
+		if reply, err := dialled.call(readPath, nil); err != nil || reply.Code != codes.FailedPrecondition || !strings.HasPrefix(reply.Text, "waiting for the lock: ") {
+			t.Errorf("%s: %v, %v", name, reply, err)
+		}
+	}
+	// Files that are not there yet are waited for.
+	missing := start(t, cluster.Endpoints(), "--cacert", a.path("later.pem"))
+	missing.says(t, "csid-etcd: no lock: --cacert: open "+a.path("later.pem")+": no such file or directory")
+}
+
+// A user whose role may read and write below NAME/ has all rights that the program needs, with a password of a file that may change.
+func TestUser(t *testing.T) {
+	t.Parallel()
+	cluster := clusters.Start(t, 1)
+	password := filepath.Join(processes.Folder(t), "password")
+	write := func(text string) {
+		t.Helper()
+		if err := os.WriteFile(password, []byte(text), 0o600); err != nil {
+			t.Fatal(err)
+		}
+	}
+	cluster.Ctl(t, "user", "add", "root:secret")
+	cluster.Ctl(t, "role", "add", "csid")
+	cluster.Ctl(t, "role", "grant-permission", "csid", "readwrite", name+"/", "--prefix")
+	cluster.Ctl(t, "user", "add", "csid:first")
+	cluster.Ctl(t, "user", "grant-role", "csid", "csid")
+	cluster.Ctl(t, "auth", "enable")
+	cluster.Words = []string{"--user", "root:secret"}
+	write("wrong\n")
+	p := start(t, cluster.Endpoints(), "--user", "csid", "--password-file", password, "--lease", "3")
+	p.says(t, "csid-etcd: no lock: etcdserver: authentication failed, invalid user ID or password\n")
+	write("first\n")
+	p.leads(t)
+	l := p.dial(t)
+	l.wants(t, makePath, "", codes.OK, "")
+	l.commits(t, addVolume(1, "a"))
+	l.commits(t, attach(1, "n", false))
+	l.refuses(t, removeVolume(1), codes.FailedPrecondition, "attachments/00000000000000000001/n is there")
+	l.commits(t, detachAll(1))
+	l.commits(t, setMutable(1, "\x42\x00"))
+	// What was granted is taken away, and given again. The first change behind that shows that a token of before does.
+	cluster.Ctl(t, "role", "revoke-permission", "csid", name+"/", "--prefix")
+	l.refuses(t, addVolume(2, "b"), codes.Internal, "etcdserver: permission denied")
+	cluster.Ctl(t, "role", "grant-permission", "csid", "readwrite", name+"/", "--prefix")
+	l.commits(t, addVolume(2, "b"))
+	l.commits(t, removeVolume(1))
+	// A new password, and an etcd that knows no token of before.
+	before := len(p.Log.String())
+	cluster.Type(t, "second\n", "user", "passwd", "csid", "--interactive=false")
+	cluster.Members[0].Kill()
+	cluster.Members[0].Start(t)
+	processes.Eventually(t, "that it leads no more", func() bool { return strings.Contains(p.Log.String()[before:], "leads no more: its lease is over") })
+	p.says(t, "csid-etcd: no lock: etcdserver: authentication failed, invalid user ID or password\n")
+	write("second\n")
+	p.leadsSince(t, before)
+	l = p.dial(t)
+	l.commits(t, attach(2, "n", false))
+	// The lock is given back with the rights of that role.
+	p.Terminate(t)
+	if status := p.Status(t); status != 0 {
+		t.Errorf("it ended with %d", status)
+	}
+	if got := cluster.Ctl(t, "get", "--prefix", name+"/lock/"); got != "" {
+		t.Errorf("the lock: %s", got)
+	}
+	// Rows are moved with these rights too, and with less they are not.
+	words := []string{"--user", "csid", "--password-file", password}
+	cluster.Ctl(t, "del", "--prefix", name+"/")
+	moves(t, threeRows, "--import", cluster.Endpoints(), words...).wants(t, "an import by a user", 0, threeSaid, "")
+	if got := moves(t, "", "--export", cluster.Endpoints(), words...); got.status != 0 || got.said != threeSQL {
+		t.Errorf("an export by a user: %v", got)
+	}
+	cluster.Ctl(t, "del", "--prefix", name+"/")
+	cluster.Ctl(t, "role", "revoke-permission", "csid", name+"/", "--prefix")
+	cluster.Ctl(t, "role", "grant-permission", "csid", "read", name+"/", "--prefix")
+	moves(t, threeRows, "--import", cluster.Endpoints(), words...).wants(t, "an import by a user who may only read", 1, "",
+		"csid-etcd: --import: volumes/00000000000000000001: etcdserver: permission denied; nothing was written\n")
+}

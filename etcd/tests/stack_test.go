@@ -1,0 +1,534 @@
+package tests
+
+import (
+	"context"
+	"encoding/json"
+	"fmt"
+	"math/rand"
+	"net"
+	"os"
+	"os/exec"
+	"path/filepath"
+	"regexp"
+	"sort"
+	"strconv"
+	"strings"
+	"sync"
+	"sync/atomic"
+	"testing"
+	"time"
+
+	"go.etcd.io/etcd/clientv3"
+	"google.golang.org/grpc"
+	"google.golang.org/grpc/codes"
+	"google.golang.org/grpc/status"
+
+	"../../front/tests/processes"
+	"./clusters"
+)
+
+// A pool in which the volumes of all callers have no room together, and nodes on which there is little.
+const (
+	poolMebibytes = 40
+	configuration = `name = "example.fomaheti"
+vendor_version = "1.0.0"
+default_bytes = 1048576
+greatest_bytes = 8388608
+
+[[pool]]
+name = "p1"
+bytes = 41943040
+
+[[node]]
+id = "n1"
+max_volumes = 12
+
+[[node]]
+id = "n2"
+max_volumes = 12
+`
+)
+
+// stack is a csid-etcd, a csid before it and a front before that, which are killed and started again.
+type stack struct {
+	name      string
+	folder    string
+	endpoints string
+	log       *processes.Process
+	csid      *processes.Process
+	front     *processes.Process
+}
+
+func newStack(t *testing.T, called, endpoints string) *stack {
+	t.Helper()
+	s := &stack{name: called, folder: processes.Folder(t), endpoints: endpoints}
+	if err := os.WriteFile(s.path("config.toml"), []byte(configuration), 0o600); err != nil {
+		t.Fatal(err)
+	}
+	return s
+}
+
+func (s *stack) path(name string) string { return filepath.Join(s.folder, name) }
+
+func (s *stack) startLog(t *testing.T) {
+	t.Helper()
+	s.log = startAt(t, s.path("log.sock"), s.endpoints, append(shortLease, "--id", s.name, "--revision", s.path("revision"))...).Process
+}
+
+func (s *stack) startCsid(t *testing.T) {
+	t.Helper()
+	// No csid takes the socket of another one over.
+	os.Remove(s.path("csid.sock"))
+	s.csid = processes.Start(t, s.path("csid.sock"), exec.Command(processes.CsidProgram(t), "serve", "--socket", s.path("csid.sock"), "--log", s.path("log.sock"), "--config", s.path("config.toml")))
+}
+
+func (s *stack) startFront(t *testing.T) {
+	t.Helper()
+	s.front = processes.Start(t, s.path("csi.sock"), exec.Command(processes.FrontProgram(t), "--csid", s.path("csid.sock"), "--listen", s.path("csi.sock")))
+}
+
+func (s *stack) start(t *testing.T) *stack {
+	t.Helper()
+	s.startLog(t)
+	s.startCsid(t)
+	s.startFront(t)
+	return s
+}
+
+// revive starts again what has ended.
+func (s *stack) revive(t *testing.T) {
+	t.Helper()
+	if hasEnded(s.log) {
+		s.startLog(t)
+	}
+	if hasEnded(s.csid) {
+		s.startCsid(t)
+	}
+	if hasEnded(s.front) {
+		s.startFront(t)
+	}
+}
+
+func hasEnded(p *processes.Process) bool {
+	select {
+	case <-p.Ended:
+		return true
+	default:
+		return false
+	}
+}
+
+// bytesCodec sends and receives messages as they are.
+type bytesCodec struct{}
+
+func (bytesCodec) Marshal(v interface{}) ([]byte, error)      { return v.([]byte), nil }
+func (bytesCodec) Unmarshal(data []byte, v interface{}) error { *v.(*[]byte) = data; return nil }
+func (bytesCodec) Name() string                               { return "proto" }
+
+// fleet is both stacks before one etcd, and their callers.
+type fleet struct {
+	t       *testing.T
+	cluster *clusters.Cluster
+	stacks  []*stack
+	conns   []*grpc.ClientConn
+	// How many answers there were by their codes and texts, and when the call of the last OK was begun.
+	mutex    sync.Mutex
+	answers  map[string]int
+	lastCall time.Time
+	// Ids that were given, by the names that they were given for.
+	given map[string]string
+	// Calls that were answered OK.
+	oks int64
+}
+
+func newFleet(t *testing.T) *fleet {
+	t.Helper()
+	f := &fleet{t: t, cluster: clusters.Start(t, 3), answers: map[string]int{}, given: map[string]string{}}
+	for _, called := range []string{"a", "b"} {
+		s := newStack(t, called, f.cluster.Endpoints()).start(t)
+		f.stacks = append(f.stacks, s)
+		dial := func(ctx context.Context, _ string) (net.Conn, error) {
+			return (&net.Dialer{}).DialContext(ctx, "unix", s.path("csi.sock"))
+		}
+		conn, err := grpc.Dial("passthrough:///"+called, grpc.WithInsecure(), grpc.WithContextDialer(dial),
+			grpc.WithDefaultCallOptions(grpc.ForceCodec(bytesCodec{})), grpc.WithConnectParams(grpc.ConnectParams{MinConnectTimeout: time.Second}))
+		if err != nil {
+			t.Fatal(err)
+		}
+		t.Cleanup(func() { conn.Close() })
+		f.conns = append(f.conns, conn)
+	}
+	return f
+}
+
+// call makes a call, by the one front and the other, until the answer is not UNAVAILABLE.
+func (f *fleet) call(method string, message []byte) ([]byte, *status.Status) {
+	for i := 0; ; i++ {
+		ctx, cancel := context.WithTimeout(context.Background(), time.Minute)
+		var body []byte
+		begin := time.Now()
+		err := f.conns[i%2].Invoke(ctx, "/csi.v1.Controller/"+method, message, &body)
+		cancel()
+		why := status.Convert(err)
+		f.note(method, why, begin)
+		if why.Code() != codes.Unavailable {
+			return body, why
+		}
+		if i%2 == 1 {
+			time.Sleep(20 * time.Millisecond)
+		}
+	}
+}
+
+var details = regexp.MustCompile(`(dial|connect|read|write|transport|connection|csid:).*`)
+
+func (f *fleet) note(method string, why *status.Status, begin time.Time) {
+	f.mutex.Lock()
+	defer f.mutex.Unlock()
+	switch why.Code() {
+	case codes.OK:
+		f.oks++
+		if begin.After(f.lastCall) {
+			f.lastCall = begin
+		}
+	case codes.Unavailable:
+		f.answers["Unavailable"]++
+	default:
+		f.answers[fmt.Sprintf("%s %v %q", method, why.Code(), details.ReplaceAllString(why.Message(), "$1.."))]++
+	}
+}
+
+// served tells whether a call was answered OK that was begun behind a time.
+func (f *fleet) served(behind time.Time) bool {
+	f.mutex.Lock()
+	defer f.mutex.Unlock()
+	return f.lastCall.After(behind)
+}
+
+// give notes the id of a volume, which no other one has ever been given.
+func (f *fleet) give(id, called string) {
+	f.mutex.Lock()
+	defer f.mutex.Unlock()
+	if before, is := f.given[id]; is && before != called {
+		f.t.Errorf("%s was given to %s, and then to %s", id, before, called)
+	}
+	f.given[id] = called
+}
+
+// holding is a volume of a caller: what it was told.
+type holding struct{ called, id, node, params string }
+
+// caller has some volumes that no other one touches, so what it was told is what has to be there.
+type caller struct {
+	*fleet
+	number  int
+	random  *rand.Rand
+	volumes []*holding
+	made    int
+}
+
+var volumeID = regexp.MustCompile(`vol-[0-9]+`)
+
+// step makes one call that changes something, and notes what it was told.
+func (c *caller) step() {
+	if len(c.volumes) == 0 || (len(c.volumes) < 7 && c.random.Intn(3) == 0) {
+		c.create()
+		return
+	}
+	i := c.random.Intn(len(c.volumes))
+	v := c.volumes[i]
+	id := text(nil, 1, v.id)
+	switch what := c.random.Intn(5); {
+	case what == 0:
+		value := strconv.Itoa(c.random.Intn(1000))
+		entry := text(text(nil, 1, "k"), 2, value)
+		if c.wants("ControllerModifyVolume", text(id, 3, string(entry))) {
+			v.params = fmt.Sprintf("%x", text(nil, 8, string(entry)))
+		}
+	case v.node == "" && what < 3:
+		node := []string{"n1", "n2"}[c.random.Intn(2)]
+		if c.wants("ControllerPublishVolume", text(text(id, 2, node), 3, block[2:]), "node is full") {
+			v.node = node
+		}
+	case v.node != "" && what < 4:
+		if c.wants("ControllerUnpublishVolume", text(id, 2, v.node)) {
+			v.node = ""
+		}
+	case v.node == "":
+		if c.wants("DeleteVolume", id) {
+			c.volumes = append(c.volumes[:i], c.volumes[i+1:]...)
+		}
+	default:
+		if c.wants("DeleteVolume", id, "volume is in use") {
+			c.t.Errorf("%s was deleted in use", v.id)
+		}
+	}
+}
+
+func (c *caller) create() {
+	c.made++
+	v := &holding{called: fmt.Sprintf("pvc-%d-%d", c.number, c.made)}
+	message := text(text(nil, 1, v.called), 3, block[2:])
+	for again := 0; again < 2; again++ {
+		body, why := c.call("CreateVolume", message)
+		if why.Code() == codes.ResourceExhausted && why.Message() == "no room in the topology" && again == 0 {
+			return
+		}
+		id := string(volumeID.Find(body))
+		if why.Code() != codes.OK || id == "" || (again == 1 && id != v.id) {
+			c.t.Errorf("%s: %v %q, %q", v.called, why.Code(), why.Message(), id)
+			return
+		}
+		v.id = id
+		c.give(id, v.called)
+	}
+	c.volumes = append(c.volumes, v)
+}
+
+// wants makes a call that has to be answered OK, or refused by one of these texts.
+func (c *caller) wants(method string, message []byte, refusals ...string) bool {
+	_, why := c.call(method, message)
+	if why.Code() == codes.OK {
+		return true
+	}
+	for _, text := range refusals {
+		if why.Message() == text {
+			return false
+		}
+	}
+	c.t.Errorf("%s %x: %v %q", method, message, why.Code(), why.Message())
+	return false
+}
+
+// standing is the rows that callers were told, as keys and values of etcd.
+func standing(callers []*caller) (all []string) {
+	for _, c := range callers {
+		for _, v := range c.volumes {
+			number, _ := strconv.Atoi(strings.TrimPrefix(v.id, "vol-"))
+			all = append(all, fmt.Sprintf(`volumes/%020d {"name":"%s","bytes":1048576,"pool":"p1","caps":"%x","params":"%s"}`, number, v.called, block, v.params))
+			if v.node != "" {
+				all = append(all, fmt.Sprintf(`attachments/%020d/%s {"cap":"%x","readonly":0}`, number, v.node, block))
+			}
+		}
+	}
+	sort.Strings(all)
+	return all
+}
+
+// stored is the rows of etcd at one revision, but for meta; and the next number.
+func stored(client *clientv3.Client) (all []string, next int, err error) {
+	ctx, cancel := context.WithTimeout(context.Background(), 5*time.Second)
+	defer cancel()
+	read, err := client.Get(ctx, name+"/", clientv3.WithPrefix())
+	if err != nil {
+		return nil, 0, err
+	}
+	for _, found := range read.Kvs {
+		key := strings.TrimPrefix(string(found.Key), name+"/")
+		switch {
+		case strings.HasPrefix(key, "lock/"):
+		case key == "meta":
+			fmt.Sscanf(string(found.Value), `{"format_no":2,"next_number":%d}`, &next)
+		default:
+			all = append(all, key+" "+string(found.Value))
+		}
+	}
+	sort.Strings(all)
+	return all, next, nil
+}
+
+// watchRows looks at the rows again and again: at no revision is the pool overcommitted, a name twice there, a number above the next one, or an attachment
+// of no volume or beside another one.
+func watchRows(t *testing.T, client *clientv3.Client, ctx context.Context) (looks int) {
+	for ; ctx.Err() == nil; time.Sleep(50 * time.Millisecond) {
+		all, next, err := stored(client)
+		if err != nil {
+			continue
+		}
+		looks++
+		names, volumes, attached := map[string]bool{}, map[string]bool{}, map[string]bool{}
+		for i := len(all) - 1; i >= 0; i-- {
+			key, value, _ := strings.Cut(all[i], " ")
+			parts := strings.Split(key, "/")
+			if parts[0] == "volumes" {
+				var row struct{ Name string }
+				if err := json.Unmarshal([]byte(value), &row); err != nil || names[row.Name] {
+					t.Errorf("%s: %v", all[i], err)
+				}
+				if number, _ := strconv.Atoi(parts[1]); number >= next {
+					t.Errorf("%s, and the next number is %d", all[i], next)
+				}
+				names[row.Name], volumes[parts[1]] = true, true
+				continue
+			}
+			if !volumes[parts[1]] || attached[parts[1]] {
+				t.Errorf("%s: of no volume, or beside another one", all[i])
+			}
+			attached[parts[1]] = true
+		}
+		if len(volumes) > poolMebibytes {
+			t.Errorf("the pool has %d MiB, and volumes of %d MiB", poolMebibytes, len(volumes))
+		}
+	}
+	return looks
+}
+
+// leader is the stack whose csid-etcd has the lock; nil where none is known.
+func (f *fleet) leader(client *clientv3.Client) *stack {
+	ctx, cancel := context.WithTimeout(context.Background(), 2*time.Second)
+	defer cancel()
+	read, err := client.Get(ctx, name+"/lock/", clientv3.WithFirstCreate()...)
+	if err != nil || len(read.Kvs) == 0 {
+		return nil
+	}
+	for _, s := range f.stacks {
+		if s.name == string(read.Kvs[0].Value) && !hasEnded(s.log) {
+			return s
+		}
+	}
+	return nil
+}
+
+// kills is how many there are: a few in the gate.
+func kills(t *testing.T) int {
+	t.Helper()
+	said := os.Getenv("KILLS")
+	if said == "" {
+		return 10
+	}
+	count, err := strconv.Atoi(said)
+	if err != nil {
+		t.Fatal(err)
+	}
+	return count
+}
+
+// victim is what is killed: by itself, or so that the csid-etcd of its stack is told to end, as a unit does that is bound to it.
+type victim struct {
+	name    string
+	isBound bool
+}
+
+func (v victim) String() string {
+	if v.isBound {
+		return v.name + " and an end of its csid-etcd"
+	}
+	return v.name
+}
+
+// What of etcd may be killed: a member, any, or the one that leads.
+const (
+	anyMember     = "member of etcd"
+	leadingMember = "leader of etcd"
+)
+
+// member is the member of etcd that a victim is; nil where it is none.
+func (f *fleet) member(who victim, random *rand.Rand) *clusters.Member {
+	switch who.name {
+	case anyMember:
+		return f.cluster.Members[random.Intn(len(f.cluster.Members))]
+	case leadingMember:
+		return f.cluster.Leader(f.t)
+	}
+	return nil
+}
+
+// Of two stacks the one that serves loses its csid-etcd, its csid or its front again and again, or etcd one of its three members, while eight callers make
+// calls to both.
+func TestStacks(t *testing.T) {
+	help, err := exec.Command(processes.CsidProgram(t), "serve", "--help").Output()
+	if err != nil || !strings.Contains(string(help), "--log") {
+		t.Skip("left out: this csid knows no --log")
+	}
+	f := newFleet(t)
+	client := f.cluster.Client(t)
+	watched, endWatch := context.WithCancel(context.Background())
+	looks := make(chan int, 1)
+	go func() { looks <- watchRows(t, client, watched) }()
+	callers, isOver := make([]*caller, 8), int32(0)
+	var running sync.WaitGroup
+	for i := range callers {
+		callers[i] = &caller{fleet: f, number: i, random: rand.New(rand.NewSource(int64(i)))}
+		running.Add(1)
+		go func(c *caller) {
+			defer running.Done()
+			for atomic.LoadInt32(&isOver) == 0 && !t.Failed() {
+				c.step()
+			}
+		}(callers[i])
+	}
+	f.kill(client)
+	atomic.StoreInt32(&isOver, 1)
+	running.Wait()
+	endWatch()
+	all, next, err := stored(client)
+	told := standing(callers)
+	if err != nil || strings.Join(all, "\n") != strings.Join(told, "\n") {
+		t.Errorf("%v: etcd has\n%s\ntold\n%s", err, strings.Join(all, "\n"), strings.Join(told, "\n"))
+	}
+	t.Logf("%d OK, answers beside them %v, %d volumes and attachments, next number %d, %d ids given, rows looked at %d times", f.oks, f.answers, len(all), next, len(f.given), <-looks)
+}
+
+// kill kills again and again, and wants that service is back within the lease and 2 s, behind a member of etcd within 10 s.
+func (f *fleet) kill(client *clientv3.Client) {
+	t := f.t
+	random := rand.New(rand.NewSource(9))
+	victims := []victim{{"csid-etcd", false}, {"csid", false}, {"front", false}, {"csid", true}, {"front", true}, {anyMember, false}, {leadingMember, false}}
+	gaps := map[victim][]time.Duration{}
+	count := kills(t)
+	for i := 0; i < count && !t.Failed(); i++ {
+		begin := time.Now()
+		var s *stack
+		processes.Eventually(t, "service by a leader", func() bool {
+			s = f.leader(client)
+			return s != nil && f.served(begin)
+		})
+		time.Sleep(time.Duration(100+random.Intn(400)) * time.Millisecond)
+		who := victims[i%len(victims)]
+		member := f.member(who, random)
+		at := time.Now()
+		if member != nil {
+			member.Kill()
+		} else {
+			map[string]*processes.Process{"csid-etcd": s.log, "csid": s.csid, "front": s.front}[who.name].Kill()
+		}
+		if who.isBound {
+			s.log.Terminate(t)
+			s.log.Status(t)
+		}
+		revived := false
+		for !f.served(at) {
+			if time.Since(at) > processes.Patience {
+				t.Fatalf("kill %d of %v of %s: no service\n%s\n%s\n%s", i, who, s.name, s.log.Log, s.csid.Log, s.front.Log)
+			}
+			// Another one is started in its place behind a moment.
+			if !revived && time.Since(at) > 200*time.Millisecond {
+				s.revive(t)
+				revived = true
+			}
+			time.Sleep(2 * time.Millisecond)
+		}
+		gap, limit := time.Since(at), leaseLength+2*time.Second
+		if member != nil {
+			// An election of etcd's takes a second round now and then.
+			limit = 10 * time.Second
+		}
+		if gap > limit {
+			t.Errorf("kill %d of %v: no service for %v", i, who, gap)
+		}
+		gaps[who] = append(gaps[who], gap)
+		s.revive(t)
+		if member != nil {
+			member.Start(t)
+			f.cluster.Answers(t)
+		}
+	}
+	for _, who := range victims {
+		all := gaps[who]
+		if len(all) == 0 {
+			continue
+		}
+		sort.Slice(all, func(i, j int) bool { return all[i] < all[j] })
+		t.Logf("%d kills of %v: service was back within %v in the middle, %v at most", len(all), who, all[len(all)/2].Round(time.Millisecond), all[len(all)-1].Round(time.Millisecond))
+	}
+}

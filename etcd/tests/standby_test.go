@@ -1,0 +1,219 @@
+package tests
+
+import (
+	"fmt"
+	"os"
+	"path/filepath"
+	"strings"
+	"syscall"
+	"testing"
+	"time"
+
+	"google.golang.org/grpc/codes"
+
+	"../../front/tests/processes"
+	"./clusters"
+)
+
+const leaseLength = 3 * time.Second
+
+var shortLease = []string{"--lease", "3", "--timeout", "2s"}
+
+// pair is two programs before a cluster, of which the first leads.
+func pair(t *testing.T, cluster *clusters.Cluster) (first, second program) {
+	t.Helper()
+	first = start(t, cluster.Endpoints(), append(shortLease, "--id", "first")...).leads(t)
+	second = start(t, cluster.Endpoints(), append(shortLease, "--id", "second")...)
+	second.says(t, "csid-etcd: waits for the lock, which first holds\n")
+	return first, second
+}
+
+// leadsSince waits until the program leads again behind what its log had, and tells how long that took.
+func (p program) leadsSince(t *testing.T, before int) time.Duration {
+	t.Helper()
+	begin := time.Now()
+	processes.Eventually(t, "another leader, whose log has "+p.Log.String(), func() bool { return strings.Contains(p.Log.String()[before:], "leads, from revision") })
+	return time.Since(begin)
+}
+
+// isWaiting tells whether a program refuses calls for want of the lock.
+func (p program) wantsWaiting(t *testing.T, holder string) {
+	t.Helper()
+	l := p.dial(t)
+	want := "waiting for the lock, which " + holder + " holds"
+	begin := time.Now()
+	l.wants(t, readPath, "", codes.FailedPrecondition, want)
+	l.wants(t, makePath, "", codes.FailedPrecondition, want)
+	l.wants(t, leadPath, "", codes.FailedPrecondition, want)
+	l.refuses(t, addVolume(1, "a"), codes.FailedPrecondition, want)
+	l.wants(t, "/fomaheti.log.v1.Log/Other", "", codes.Unimplemented, "unknown method")
+	if took := time.Since(begin); took > time.Second {
+		t.Errorf("refusing took %v", took)
+	}
+	l.Close()
+}
+
+// A program that waits refuses at once, and leads within the lease and 2 s once the one before it was killed, and at once when that was ended.
+func TestStandby(t *testing.T) {
+	t.Parallel()
+	cluster := clusters.Start(t, 3)
+	first, second := pair(t, cluster)
+	second.wantsWaiting(t, "first")
+	d := newDriver(t, first, second)
+	end := d.begin()
+	time.Sleep(500 * time.Millisecond)
+	for i := 0; i < 4; i++ {
+		before := len(second.Log.String())
+		isKilled := i%2 == 0
+		if isKilled {
+			first.Kill()
+		} else {
+			first.Terminate(t)
+		}
+		took := second.leadsSince(t, before)
+		limit := time.Second
+		if isKilled {
+			limit = leaseLength + 2*time.Second
+		} else if status := first.Status(t); status != 0 {
+			t.Errorf("it ended with %d: %s", status, first.Log)
+		}
+		if took > limit {
+			t.Errorf("killed %v: the other one led behind %v", isKilled, took)
+		}
+		t.Logf("killed %v: the other one led behind %v", isKilled, took.Round(time.Millisecond))
+		if _, err := os.Lstat(first.Socket); (err == nil) != isKilled {
+			t.Errorf("killed %v: the socket: %v", isKilled, err)
+		}
+		again := startAt(t, first.Socket, cluster.Endpoints(), append(shortLease, "--id", fmt.Sprintf("again-%d", i))...)
+		again.says(t, "waits for the lock, which ")
+		first, second = second, again
+		time.Sleep(300 * time.Millisecond)
+	}
+	end()
+	t.Log(d)
+	wantsTold(t, d, first)
+}
+
+// stop stops a program, and waits until each of its threads stands.
+func (p program) stop(t *testing.T) {
+	t.Helper()
+	if err := p.Cmd.Process.Signal(syscall.SIGSTOP); err != nil {
+		t.Fatal(err)
+	}
+	processes.Eventually(t, "that it stands", func() bool {
+		threads, _ := filepath.Glob(fmt.Sprintf("/proc/%d/task/*/stat", p.Cmd.Process.Pid))
+		for _, thread := range threads {
+			if text, err := os.ReadFile(thread); err == nil && !strings.Contains(string(text), ") T ") {
+				return false
+			}
+		}
+		return len(threads) > 0
+	})
+}
+
+// A program that is stopped for twice its lease closes the connection and writes nothing more, also what it was asked for before, and does not say that it leads.
+func TestStopped(t *testing.T) {
+	t.Parallel()
+	cluster := clusters.Start(t, 3)
+	first, second := pair(t, cluster)
+	d := newDriver(t, second, first)
+	for i := 0; i < 3; i++ {
+		l := first.dial(t)
+		if _, _, err := l.walk(); err != nil {
+			t.Fatal(err)
+		}
+		l.call(makePath, nil)
+		read, _, err := l.walk()
+		if err != nil {
+			t.Fatal(err)
+		}
+		d.told, d.open = nil, nil
+		if err := d.compare(read); err != nil {
+			t.Fatal(err)
+		}
+		before := len(second.Log.String())
+		first.stop(t)
+		if message, _ := d.choose(); i == 1 {
+			l.Write(frameHead(leadPath, 0))
+		} else {
+			l.Write(append(frameHead(commitPath, len(message)), message...))
+		}
+		d.sockets = []string{second.Socket}
+		end := d.begin()
+		took := second.leadsSince(t, before)
+		if took > leaseLength+2*time.Second {
+			t.Errorf("the other one led behind %v", took)
+		}
+		time.Sleep(2*leaseLength - took)
+		stoppedLog := len(first.Log.String())
+		if err := first.Cmd.Process.Signal(syscall.SIGCONT); err != nil {
+			t.Fatal(err)
+		}
+		l.SetDeadline(time.Now().Add(processes.Patience))
+		begin := time.Now()
+		got := make([]byte, 1)
+		if size, err := l.Read(got); size > 0 && got[0] == 0 {
+			t.Errorf("a program that was stopped made a change, or said that it leads: %v", err)
+		}
+		closed := time.Since(begin)
+		first.says(t, "leads no more")
+		processes.Eventually(t, "that it waits again", func() bool {
+			return strings.Contains(first.Log.String()[stoppedLog:], "which second holds") || strings.Contains(first.Log.String()[stoppedLog:], "which first holds")
+		})
+		end()
+		t.Logf("the other one led behind %v; let go, the connection was closed or refused behind %v; %v", took.Round(time.Millisecond), closed.Round(time.Millisecond), d)
+		wantsTold(t, d, second)
+		first, second = second, first
+	}
+}
+
+// The lock is given back at an end, also while a change is under way; and a second signal ends the program at once.
+func TestEnd(t *testing.T) {
+	t.Parallel()
+	cluster, p, l := begun(t)
+	for i := uint64(1); i <= 20; i++ {
+		l.commits(t, addVolume(i, fmt.Sprintf("a%d", i)))
+	}
+	p.Terminate(t)
+	if status := p.Status(t); status != 0 {
+		t.Errorf("it ended with %d: %s", status, p.Log)
+	}
+	if got := cluster.Ctl(t, "get", "--prefix", name+"/lock/"); got != "" {
+		t.Errorf("the lock: %s", got)
+	}
+	if leases := strings.TrimSpace(cluster.Ctl(t, "lease", "list")); leases != "found 0 leases" {
+		t.Errorf("leases: %s", leases)
+	}
+}
+
+// A lock whose key somebody took away is lost, and had again by another key; what the lock says is what --id has.
+func TestLockTakenAway(t *testing.T) {
+	t.Parallel()
+	cluster, p, l := begun(t)
+	lines := strings.Split(cluster.Ctl(t, "get", "--prefix", name+"/lock/"), "\n")
+	host, _ := os.Hostname()
+	if len(lines) != 3 || lines[1] != fmt.Sprintf("%s:%d", host, p.Cmd.Process.Pid) {
+		t.Errorf("the lock: %q", lines)
+	}
+	before := len(p.Log.String())
+	cluster.Ctl(t, "del", lines[0])
+	reply, err := l.call(commitPath, addVolume(1, "a"))
+	if err == nil && (reply.Code != codes.FailedPrecondition || reply.Text != "this program does not lead any more: its key of the lock is gone") {
+		t.Errorf("without the key: %v", reply)
+	}
+	p.leadsSince(t, before)
+	second := p.dial(t)
+	second.wants(t, readPath, "", codes.OK, "0a04 0802 1001 2200")
+	// The key is put again by hand: what comes next is refused, and then made behind a fence.
+	lines = strings.Split(cluster.Ctl(t, "get", "--prefix", name+"/lock/"), "\n")
+	cluster.Ctl(t, "put", "--ignore-lease", lines[0], "other")
+	second.refuses(t, addVolume(1, "a"), codes.FailedPrecondition, "the key of the lock was put again")
+	second.commits(t, addVolume(1, "a"))
+	// The lease is ended by hand.
+	before = len(p.Log.String())
+	cluster.Ctl(t, "lease", "revoke", lines[0][strings.LastIndex(lines[0], "/")+1:])
+	p.leadsSince(t, before)
+	p.says(t, "leads no more")
+	third := p.dial(t)
+	third.commits(t, addVolume(2, "b"))
+}

@@ -1,0 +1,168 @@
+package main
+
+import (
+	"bytes"
+	"context"
+	"fmt"
+
+	"go.etcd.io/etcd/clientv3"
+	"go.etcd.io/etcd/mvcc/mvccpb"
+	"google.golang.org/grpc/codes"
+
+	"fomaheti/frames"
+)
+
+// A page ends behind so many bytes, or before a row with which it would have more than most.
+const (
+	enoughPage = 1 << 20
+	mostPage   = 3 << 20
+)
+
+// How many rows are read at once: few at first, and then so many that they have about enough for a page. etcd looks at the keys of all rows that
+// are left each time, whatever the limit is.
+const (
+	fewRows  = 64
+	manyRows = 10000
+)
+
+// walk is a walk over the rows at one revision, a page at a time.
+type walk struct {
+	term     *term
+	revision int64
+	// Whether its volumes are behind it.
+	isAtAttachments bool
+	// The least key that is still to come.
+	from string
+	// What has to be said for the next page.
+	token []byte
+	pages int
+	// How many rows are read next.
+	limit int64
+}
+
+// newWalk begins a walk, and gives what its first page has before volumes: the row of meta, where that is there.
+func newWalk(ctx context.Context, t *term) (*walk, []byte, error) {
+	if err := t.fence(ctx); err != nil {
+		return nil, nil, err
+	}
+	done, err := t.look(ctx, append(t.keys.unknown(), clientv3.OpGet(t.keys.meta()))...)
+	if err != nil {
+		return nil, nil, err
+	}
+	last := len(done.Responses) - 1
+	for _, part := range done.Responses[:last] {
+		for _, found := range part.GetResponseRange().Kvs {
+			return nil, nil, broken(t.keys, string(found.Key), errUnknownKey)
+		}
+	}
+	w := &walk{term: t, revision: done.Header.Revision, from: t.keys.volumes(), limit: fewRows}
+	for _, found := range done.Responses[last].GetResponseRange().Kvs {
+		row, err := readMeta(found.Value)
+		if err != nil {
+			return nil, nil, broken(t.keys, t.keys.meta(), err)
+		}
+		return w, appendBytes(nil, 1, row.message()), nil
+	}
+	return w, nil, nil
+}
+
+// unknown reads whether there is a key below the name of the plugin that is neither a row's nor the lock's.
+func (k keys) unknown() (reads []clientv3.Op) {
+	begin := k.all()
+	for _, known := range []struct{ begin, end string }{
+		{k.attachments(), behind(k.attachments())},
+		{k.locks(), behind(k.locks())},
+		{k.meta(), next(k.meta())},
+		{k.volumes(), behind(k.volumes())},
+		{behind(k.all()), ""},
+	} {
+		reads = append(reads, hasKey(begin, clientv3.WithRange(known.begin)))
+		begin = known.end
+	}
+	return reads
+}
+
+// page puts rows behind what a page begins with, until there are enough or none is left, and the token for the next page.
+func (w *walk) page(ctx context.Context, page []byte) ([]byte, error) {
+	for isFull := false; !isFull; {
+		var err error
+		if page, isFull, err = w.rows(ctx, page); err != nil {
+			return nil, err
+		}
+		if !isFull && w.from == "" {
+			if w.isAtAttachments {
+				w.token = nil
+				return appendBytes(page, 4, nil), nil
+			}
+			w.isAtAttachments, w.from = true, w.term.keys.attachments()
+		}
+		isFull = isFull || len(page) >= enoughPage
+	}
+	w.pages++
+	w.token = []byte(fmt.Sprintf("%d:%d", w.revision, w.pages))
+	return appendBytes(page, 4, w.token), nil
+}
+
+// rows puts the next rows behind a page. Where no row of this kind is left, it is at none.
+func (w *walk) rows(ctx context.Context, page []byte) (longer []byte, isFull bool, err error) {
+	all := w.term.keys.volumes()
+	if w.isAtAttachments {
+		all = w.term.keys.attachments()
+	}
+	read, err := w.term.get(ctx, w.from, clientv3.WithRange(behind(all)), clientv3.WithRev(w.revision), clientv3.WithLimit(w.limit))
+	if err != nil {
+		return nil, false, err
+	}
+	begin := len(page)
+	for _, found := range read.Kvs {
+		row, err := w.row(found)
+		if err != nil {
+			return nil, false, err
+		}
+		if len(page) > 0 && len(page)+len(row) > mostPage {
+			w.from = string(found.Key)
+			return page, true, nil
+		}
+		page = append(page, row...)
+	}
+	w.from = ""
+	if read.More {
+		w.from = next(string(read.Kvs[len(read.Kvs)-1].Key))
+	}
+	if len(read.Kvs) > 0 {
+		w.limit = paced(int64(len(read.Kvs)), int64(len(page)-begin))
+	}
+	return page, false, nil
+}
+
+// paced is how many rows are read next, where the last ones, at least one, had so many bytes.
+func paced(rows, bytes int64) int64 {
+	limit := enoughPage / (bytes/rows + 1)
+	if limit > 8*rows {
+		limit = 8 * rows
+	}
+	if limit > manyRows {
+		limit = manyRows
+	}
+	if limit < 1 {
+		limit = 1
+	}
+	return limit
+}
+
+// row is a row as a field of a page.
+func (w *walk) row(found *mvccpb.KeyValue) ([]byte, error) {
+	key := string(found.Key)
+	_, field, err := w.term.keys.rowInPage(key, found.Value)
+	if err != nil {
+		return nil, broken(w.term.keys, key, err)
+	}
+	return field, nil
+}
+
+var errToken = refusal{codes.InvalidArgument, frames.Text("the token is not the last one that this connection was given")}
+
+// isNext tells whether the walk goes on with this token.
+func (w *walk) isNext(token []byte) bool {
+	return w != nil && w.token != nil && bytes.Equal(w.token, token)
+}

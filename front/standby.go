@@ -1,0 +1,152 @@
+package main
+
+import (
+	"context"
+	"fmt"
+	"net/http"
+	"strings"
+	"sync"
+	"time"
+
+	"google.golang.org/grpc/codes"
+	"google.golang.org/grpc/status"
+
+	"fomaheti/sockets"
+)
+
+// How often csid is asked while its front waits for it, or hears nothing of it.
+const askingPause = time.Second
+
+// The bounds of --standby.
+const (
+	leastStandby = time.Second
+	mostStandby  = time.Hour
+)
+
+// standBy makes the socket once csid is ready, and serves until nothing was answered by csid for so long as --standby says. An orchestrator's
+// sidecars wait for a socket that is not there, but end where their first Probe is answered UNAVAILABLE.
+func (f *front) standBy() int {
+	if err := startMonitor(f.handler, f.asked, f.failed); err != nil {
+		return f.fails(err, noSocket)
+	}
+	ctx, cancel := context.WithCancel(context.Background())
+	defer cancel()
+	ready := make(chan struct{})
+	go func() {
+		defer close(ready)
+		f.handler.await(ctx)
+	}()
+	select {
+	case err := <-f.failed:
+		return f.fails(err, noSocket)
+	case <-f.stop:
+		return done
+	case <-ready:
+	}
+	listener, err := sockets.Listen(f.asked.listen)
+	if err != nil {
+		return f.fails(err, noSocket)
+	}
+	defer listener.Close()
+	go func() { f.silent <- f.handler.watch(f.asked.standby) }()
+	return f.serve(listener)
+}
+
+// life is when csid showed the last time that it lives. A reply shows that, whatever its status.
+type life struct {
+	mutex sync.Mutex
+	shown time.Time
+}
+
+func (l *life) shows() {
+	l.mutex.Lock()
+	defer l.mutex.Unlock()
+	l.shown = time.Now()
+}
+
+func (l *life) silence() time.Duration {
+	l.mutex.Lock()
+	defer l.mutex.Unlock()
+	return time.Since(l.shown)
+}
+
+// await asks csid by Probe until it is ready, or the context ends. Why it waits is told once, and again where the reason is another one.
+func (h *handler) await(ctx context.Context) {
+	h.isWaiting.Store(true)
+	defer h.isWaiting.Store(false)
+	for told := ""; ; {
+		next := time.After(askingPause)
+		err := h.isReadySoon(ctx, questionTime)
+		if ctx.Err() != nil {
+			return
+		}
+		if err == nil {
+			h.log.isReady()
+			return
+		}
+		if why := reason(err); why != told {
+			h.log.waits(why)
+			told = why
+		}
+		select {
+		case <-next:
+		case <-ctx.Done():
+			return
+		}
+	}
+}
+
+// watch waits until nothing was answered by csid for so long, and tells why. Each reply counts, so that a Probe is asked only where none came for a
+// third of that time, and one that waits behind other calls ends nothing while they are answered.
+func (h *handler) watch(limit time.Duration) error {
+	for why := ""; ; {
+		if pause := limit/3 - h.backend.life.silence(); pause > 0 {
+			why = ""
+			time.Sleep(pause)
+			continue
+		}
+		next := time.After(least(askingPause, limit/3))
+		left := limit - h.backend.life.silence()
+		if left < limit/10 {
+			// A front that stood still itself asks once more before it believes that csid does.
+			left = limit / 10
+		}
+		err := h.isReadySoon(context.Background(), left)
+		// A Probe that had no time for a connection says less than the one before it.
+		if err != nil && (why == "" || status.Code(err) != codes.DeadlineExceeded) {
+			why = reason(err)
+		}
+		if err != nil && h.backend.life.silence() >= limit {
+			return fmt.Errorf("nothing was answered by csid for %v: %s", limit, why)
+		}
+		<-next
+	}
+}
+
+// isReadySoon asks csid by Probe, and waits for so long.
+func (h *handler) isReadySoon(ctx context.Context, length time.Duration) error {
+	ctx, cancel := context.WithTimeout(ctx, length)
+	defer cancel()
+	return h.isReady(ctx)
+}
+
+// livez tells whether csid does anything. One that cannot serve, since another has the lock, closes each connection, and that is as it should be; a
+// Probe that waits behind calls that are answered is no fault either.
+func (h *handler) livez(answer http.ResponseWriter, request *http.Request) {
+	err := h.isReadySoon(request.Context(), questionTime)
+	if status.Code(err) == codes.DeadlineExceeded && h.backend.life.silence() >= questionTime {
+		http.Error(answer, "csid stands still", http.StatusServiceUnavailable)
+		return
+	}
+	fmt.Fprintln(answer, "ok")
+}
+
+// reason is why csid answered no Probe, behind words that name csid already.
+func reason(err error) string { return strings.TrimPrefix(status.Convert(err).Message(), "csid: ") }
+
+func least(one, other time.Duration) time.Duration {
+	if one < other {
+		return one
+	}
+	return other
+}

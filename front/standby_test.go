@@ -1,0 +1,148 @@
+package main
+
+import (
+	"context"
+	"net"
+	"net/http"
+	"net/http/httptest"
+	"strings"
+	"sync/atomic"
+	"testing"
+	"time"
+)
+
+// While replies come a Probe may wait for longer than the bound, and once none comes the watch is over.
+func TestWatchOverABusyCsid(t *testing.T) {
+	const limit, took, callers, busy = 600 * time.Millisecond, 60 * time.Millisecond, 16, 1800 * time.Millisecond
+	var isSilent, longest atomic.Int64
+	path, _ := csid(t, func(conn net.Conn) {
+		for isCalled(conn) && isSilent.Load() == 0 {
+			time.Sleep(took)
+			conn.Write(notFound)
+		}
+		isCalled(conn)
+	})
+	h := inFront(path)
+	h.backend.life.shows()
+	over := make(chan error, 1)
+	go func() { over <- h.watch(limit) }()
+	ctx, cancel := context.WithCancel(context.Background())
+	defer cancel()
+	for caller := 0; caller < callers; caller++ {
+		go func() {
+			for ctx.Err() == nil {
+				begin := time.Now()
+				h.backend.call(ctx, "/a/b", nil)
+				if spent := int64(time.Since(begin)); spent > longest.Load() {
+					longest.Store(spent)
+				}
+			}
+		}()
+	}
+	select {
+	case err := <-over:
+		t.Errorf("it is over while replies come: %v", err)
+	case <-time.After(busy):
+	}
+	if time.Duration(longest.Load()) < limit {
+		t.Errorf("no call waited for longer than %v", time.Duration(longest.Load()))
+	}
+	begin := time.Now()
+	isSilent.Store(1)
+	err := <-over
+	if want := "nothing was answered by csid for 600ms: context deadline exceeded"; err == nil || err.Error() != want {
+		t.Errorf("%v, wanted %s", err, want)
+	}
+	if spent := time.Since(begin); spent < limit || spent > 4*limit {
+		t.Errorf("it was over after %v", spent)
+	}
+}
+
+// Each reply is a sign of life, also a refusal. A connection that is closed unanswered is none.
+func TestWatchOverClosedConnections(t *testing.T) {
+	const limit = 300 * time.Millisecond
+	refusals := int32(0)
+	path, connections := csid(t, func(conn net.Conn) {
+		for atomic.AddInt32(&refusals, 1) < 8 && answerOnce(conn, notFound) {
+		}
+	})
+	h := inFront(path)
+	h.backend.life.shows()
+	begin := time.Now()
+	err := h.watch(limit)
+	if want := "nothing was answered by csid for 300ms: the connection was closed unanswered: see the log of csid"; err == nil || err.Error() != want {
+		t.Errorf("%v, wanted %s", err, want)
+	}
+	// Seven Probes, each a third of the limit behind the one before, and then none.
+	if spent, least := time.Since(begin), 7*limit/3+limit; spent < least || spent > 2*least {
+		t.Errorf("it was over after %v", spent)
+	}
+	if made := atomic.LoadInt32(connections); made < 2 || made > 4 {
+		t.Errorf("%d connections", made)
+	}
+}
+
+// answerOnce reads a Probe, and answers it.
+func answerOnce(conn net.Conn, reply []byte) bool {
+	head := make([]byte, 2+len(probe)+1+4)
+	for got := 0; got < len(head); {
+		count, err := conn.Read(head[got:])
+		if err != nil {
+			return false
+		}
+		got += count
+	}
+	conn.Write(reply)
+	return true
+}
+
+// A csid that closes connections is alive, and so is one that is not there: its supervisor knows. One that stands still is not, and no front without
+// --standby tells any of it.
+func TestLiveness(t *testing.T) {
+	closing, _ := csid(t, func(net.Conn) {})
+	still := func(conn net.Conn) { conn.Read(make([]byte, 1)); time.Sleep(time.Second) }
+	mute, _ := csid(t, still)
+	busy, _ := csid(t, still)
+	rows := []struct {
+		name, path string
+		standsBy   bool
+		status     int
+		text       string
+	}{
+		{"closing", closing, true, http.StatusOK, "ok\n"},
+		{"absent", closing + ".absent", true, http.StatusOK, "ok\n"},
+		{"mute", mute, true, http.StatusServiceUnavailable, "csid stands still\n"},
+		{"busy", busy, true, http.StatusOK, "ok\n"},
+		{"without --standby", closing, false, http.StatusNotFound, "404 page not found\n"},
+	}
+	for _, row := range rows {
+		ctx, cancel := context.WithTimeout(context.Background(), 100*time.Millisecond)
+		answer, h := httptest.NewRecorder(), inFront(row.path)
+		h.standsBy = row.standsBy
+		if row.path == busy {
+			h.backend.life.shows()
+		}
+		newMonitor(h, nil).ServeHTTP(answer, httptest.NewRequest("GET", "/livez", nil).WithContext(ctx))
+		cancel()
+		if answer.Code != row.status || answer.Body.String() != row.text {
+			t.Errorf("%s: %d, %q", row.name, answer.Code, answer.Body)
+		}
+	}
+}
+
+// While the front waits, what refuses its questions is told by the line of that, and behind it each has a line again.
+func TestLinesWhileItWaits(t *testing.T) {
+	path, _ := csid(t, func(net.Conn) {})
+	var said strings.Builder
+	h := newHandler(options{csid: path, late: time.Minute, waiting: 1}, newLogger(&said, textLines))
+	h.isWaiting.Store(true)
+	h.isReady(soon(t))
+	if said.Len() > 0 {
+		t.Errorf("said %q", said.String())
+	}
+	h.isWaiting.Store(false)
+	h.isReady(soon(t))
+	if want := `front: /csi.v1.Identity/Probe 14 "csid: the connection was closed unanswered: see the log of csid" `; !strings.HasPrefix(said.String(), want) {
+		t.Errorf("said %q", said.String())
+	}
+}
