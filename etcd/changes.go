@@ -160,24 +160,27 @@ func (c *setMutable) plan(ctx context.Context, t *term) (plan, error) {
 	}, nil
 }
 
-// makeMeta makes the row of meta where there is no key at all but those of the lock.
+// makeMeta makes the first row.
 type makeMeta struct{}
 
-func (makeMeta) plan(_ context.Context, t *term) (plan, error) {
-	all, locks := t.keys.all(), t.keys.locks()
+func (makeMeta) plan(_ context.Context, t *term) (plan, error) { return t.keys.firstRow(), nil }
+
+// firstRow makes the row of meta where there is no key at all but those of the lock.
+func (k keys) firstRow() plan {
+	all, locks := k.all(), k.locks()
 	return plan{
 		supposes: []clientv3.Cmp{noneOf(all, locks), noneOf(behind(locks), behind(all))},
-		does:     []clientv3.Op{clientv3.OpPut(t.keys.meta(), string(firstMeta.spelled()))},
+		does:     []clientv3.Op{clientv3.OpPut(k.meta(), string(firstMeta.spelled()))},
 		reads:    []clientv3.Op{hasKey(all, clientv3.WithRange(locks)), hasKey(behind(locks), clientv3.WithRange(behind(all)))},
 		why: func(read []*pb.RangeResponse) string {
 			for _, part := range read {
 				if len(part.Kvs) > 0 {
-					return t.keys.shown(string(part.Kvs[0].Key)) + " is there already"
+					return k.shown(string(part.Kvs[0].Key)) + " is there already"
 				}
 			}
 			return ""
 		},
-	}, nil
+	}
 }
 
 // broken refuses because of a row that no csid-etcd has written.

@@ -123,10 +123,3 @@ func (l *lease) renewOver(ctx context.Context) error {
 		late.Reset(l.length / 4)
 	}
 }
-
-// giveBack ends the lease, and takes the keys with it that stand by it.
-func (l *lease) giveBack(timeout time.Duration) {
-	ctx, cancel := context.WithTimeout(context.Background(), timeout)
-	defer cancel()
-	l.client.Revoke(ctx, l.id)
-}

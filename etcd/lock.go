@@ -9,6 +9,7 @@ import (
 	"time"
 
 	"go.etcd.io/etcd/clientv3"
+	"go.etcd.io/etcd/etcdserver/api/v3rpc/rpctypes"
 
 	"fomaheti/frames"
 )
@@ -50,6 +51,8 @@ type candidate struct {
 	say       func(format string, parts ...interface{})
 	// Closes the connection of csid.
 	drop func()
+	// The leases of terms that are over, as long as etcd did not end them.
+	leases []clientv3.LeaseID
 	// The last line about who holds the lock, or why etcd does not answer.
 	said string
 }
@@ -90,7 +93,6 @@ func (c *candidate) stand(ending context.Context) error {
 	if err != nil {
 		return err
 	}
-	defer lease.giveBack(c.asked.timeout)
 	c.revisions.check(least, revision)
 	ctx, cancel := context.WithCancel(ending)
 	defer cancel()
@@ -102,6 +104,9 @@ func (c *candidate) stand(ending context.Context) error {
 		c.drop()
 		kept <- why
 	}()
+	c.giveBack(client)
+	c.leases = append(c.leases, lease.id)
+	defer c.giveBack(client)
 	t := &term{
 		client: client, keys: c.keys, lease: lease, revisions: c.revisions, timeout: c.asked.timeout, ctx: ctx, end: cancel,
 		key: fmt.Sprintf("%s%x", c.keys.locks(), lease.id), id: c.asked.id,
@@ -115,6 +120,20 @@ func (c *candidate) stand(ending context.Context) error {
 	}
 	c.stop(err.Error(), refuse("waiting for the lock: %v", err))
 	return nil
+}
+
+// giveBack ends the leases of terms that are over, with the keys that stand by them, so that nobody waits until they end by themselves. One for which
+// etcd does not answer, as while it elects a leader, is ended before the next term.
+func (c *candidate) giveBack(client *clientv3.Client) {
+	ctx, cancel := context.WithTimeout(context.Background(), c.asked.timeout)
+	defer cancel()
+	var left []clientv3.LeaseID
+	for _, id := range c.leases {
+		if _, err := client.Revoke(ctx, id); err != nil && err != rpctypes.ErrLeaseNotFound {
+			left = append(left, id)
+		}
+	}
+	c.leases = left
 }
 
 // Why a term is over, beside that its lease is.
@@ -134,6 +153,9 @@ func (c *candidate) hold(t *term) error {
 		}
 		queue, err := t.queue()
 		switch {
+		case err == rpctypes.ErrAuthFailed:
+			// The user has another password than that which was read, and the lease may be kept for ever. The next term reads it again.
+			return err
 		case err != nil && !isLeading:
 			c.waits(err)
 		case err != nil:

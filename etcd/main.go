@@ -44,8 +44,8 @@ func run() int {
 		fmt.Println("csid-etcd", version)
 		return done
 	}
-	if asked.isExport || asked.isImport {
-		return move(asked, lines)
+	if asked.isOnce() {
+		return once(asked, lines)
 	}
 	stop := make(chan os.Signal, 2)
 	signal.Notify(stop, syscall.SIGTERM, syscall.SIGINT)
@@ -70,7 +70,7 @@ func serve(asked options, socket *sockets.Socket, revisions *revisions, stop <-c
 	ctx, cancel := context.WithCancel(context.Background())
 	defer cancel()
 	state := &leadership{}
-	server := &server{state: state, say: lines.Printf}
+	server := &server{state: state, isExisting: asked.isExisting, say: lines.Printf}
 	candidate := &candidate{asked: asked, keys: keys{asked.name}, revisions: revisions, state: state, say: lines.Printf, drop: server.drop}
 	candidate.begin()
 	ended, broken := make(chan struct{}), make(chan error, 1)

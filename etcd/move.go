@@ -1,10 +1,14 @@
 package main
 
 import (
+	"context"
+	"errors"
 	"fmt"
 	"io"
 	"log"
 	"os"
+
+	"go.etcd.io/etcd/clientv3"
 )
 
 // counts is what rows have together, as csid says it of a file.
@@ -36,20 +40,57 @@ func checkFormat(row meta) error {
 	return nil
 }
 
-// move brings rows from a file of csid into etcd, or from there into one. It neither has the lock nor a socket.
-func move(asked options, lines *log.Logger) int {
-	if asked.isExport {
-		return moved("--export", export(asked, os.Stdout, lines), lines)
+// once makes the first row, or brings rows from a file of csid into etcd, or from there into one. It neither has the lock nor a socket.
+func once(asked options, lines *log.Logger) int {
+	switch {
+	case asked.isNew:
+		return told("--new", makeNew(asked, os.Stdout), lines)
+	case asked.isExport:
+		return told("--export", export(asked, os.Stdout, lines), lines)
+	default:
+		return told("--import", importRows(asked, os.Stdin, os.Stdout), lines)
 	}
-	return moved("--import", importRows(asked, os.Stdin, os.Stdout), lines)
 }
 
-func moved(how string, err error, lines *log.Logger) int {
+func told(how string, err error, lines *log.Logger) int {
 	if err != nil {
 		lines.Printf("%s: %v", how, err)
 		return failed
 	}
 	return done
+}
+
+var errNotEnded = errors.New("rows are there, and meta is not: an import was not ended")
+
+// makeNew makes the first row where there is none yet, and leaves rows that stand.
+func makeNew(asked options, to io.Writer) error {
+	client, err := connect(asked)
+	if err != nil {
+		return err
+	}
+	defer client.Close()
+	k := keys{asked.name}
+	first := k.firstRow()
+	var answer *clientv3.TxnResponse
+	err = tries(context.Background(), client, asked.timeout, func(ctx context.Context) (err error) {
+		answer, err = client.Txn(ctx).If(first.supposes...).Then(first.does...).Else(clientv3.OpGet(k.meta())).Commit()
+		return err
+	})
+	if err != nil {
+		return err
+	}
+	if answer.Succeeded {
+		return printed(to, fmt.Sprintf("made: %v", counts{meta: firstMeta}))
+	}
+	stands := answer.Responses[0].GetResponseRange().Kvs
+	if len(stands) == 0 {
+		return errNotEnded
+	}
+	row, err := readMeta(stands[0].Value)
+	if err != nil {
+		return broken(k, k.meta(), err)
+	}
+	return printed(to, fmt.Sprintf("stands: next number %d, format %d", row.next, row.format))
 }
 
 // printed writes one line.

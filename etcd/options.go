@@ -11,13 +11,16 @@ import (
 	"time"
 
 	"fomaheti/frames"
+	"fomaheti/words"
 )
 
 const usage = `Keeps the rows of a csid in etcd, and makes its changes there while it holds a lock (csid-etcd(1), docs/ETCD.md).
 
 usage: csid-etcd --name NAME --listen PATH [--endpoints HOST:PORT,..] [--cacert PATH] [--cert PATH --key PATH]
                  [--user NAME[:PASSWORD]] [--password-file PATH] [--timeout TIME] [--lease SECONDS] [--id TEXT]
-                 [--revision PATH] [--accept-older]
+                 [--revision PATH] [--accept-older] [--existing]
+       csid-etcd --new --name NAME [--endpoints HOST:PORT,..] [--cacert PATH] [--cert PATH --key PATH]
+                 [--user NAME[:PASSWORD]] [--password-file PATH] [--timeout TIME]
        csid-etcd --import --name NAME [--endpoints HOST:PORT,..] [--cacert PATH] [--cert PATH --key PATH]
                  [--user NAME[:PASSWORD]] [--password-file PATH] [--timeout TIME]
        csid-etcd --export --name NAME [--endpoints HOST:PORT,..] [--cacert PATH] [--cert PATH --key PATH]
@@ -49,12 +52,14 @@ type options struct {
 	id           string
 	revision     string
 	acceptOlder  bool
+	isExisting   bool
+	isNew        bool
 	isExport     bool
 	isImport     bool
 	version      bool
 }
 
-func readOptions(words []string, shown io.Writer) (options, error) {
+func readOptions(given []string, shown io.Writer) (options, error) {
 	var asked options
 	var endpoints, user string
 	flags := flag.NewFlagSet("csid-etcd", flag.ContinueOnError)
@@ -67,24 +72,18 @@ func readOptions(words []string, shown io.Writer) (options, error) {
 	flags.StringVar(&asked.key, "key", "", "the `PATH` of the key of --cert")
 	flags.StringVar(&user, "user", "", "the user of etcd, as `NAME[:PASSWORD]`")
 	flags.StringVar(&asked.passwordFile, "password-file", "", "the `PATH` of a file whose first line is the password of --user")
-	flags.DurationVar(&asked.timeout, "timeout", 5*time.Second, "how long one request to etcd may take: a `TIME`")
+	flags.DurationVar(&asked.timeout, "timeout", 3*time.Second, "how long one request to etcd may take: a `TIME`")
 	flags.Int64Var(&asked.lease, "lease", 10, "how many `SECONDS` the lock outlives this program, 2 to 600")
 	flags.StringVar(&asked.id, "id", "", "the `TEXT` by which others know who holds the lock; without it the name of the host and the number of the process")
 	flags.StringVar(&asked.revision, "revision", "", "the `PATH` of a file that remembers the revision of etcd over a stop")
 	flags.BoolVar(&asked.acceptOlder, "accept-older", false, "go on with an etcd that was restored from an older snapshot")
+	flags.BoolVar(&asked.isExisting, "existing", false, "make no first row: rows have to be there")
+	flags.BoolVar(&asked.isNew, "new", false, "make the first row in an etcd that has none, and end")
 	flags.BoolVar(&asked.isExport, "export", false, "print all rows as SQL for a file of csid, and end")
 	flags.BoolVar(&asked.isImport, "import", false, "put the rows of standard input into an etcd that has none, and end")
 	flags.BoolVar(&asked.version, "version", false, "print the version, and end")
-	if err := flags.Parse(words); err != nil {
-		if errors.Is(err, flag.ErrHelp) {
-			fmt.Fprint(shown, usage)
-			flags.SetOutput(shown)
-			flags.PrintDefaults()
-		}
+	if err := words.Parse(flags, given, usage, shown); err != nil {
 		return options{}, err
-	}
-	if flags.NArg() > 0 {
-		return options{}, fmt.Errorf("a word that is not known: %q", flags.Arg(0))
 	}
 	if asked.version {
 		return asked, nil
@@ -94,27 +93,38 @@ func readOptions(words []string, shown io.Writer) (options, error) {
 	if asked.id == "" {
 		asked.id = ownID()
 	}
-	if err := checkMove(asked, flags); err != nil {
+	if err := checkOnce(flags); err != nil {
 		return options{}, err
 	}
 	return asked, check(asked)
 }
 
-// servingFlags are the options of a program that stays and answers csid.
-var servingFlags = map[string]bool{"listen": true, "lease": true, "id": true, "revision": true, "accept-older": true}
+// onceFlags are what is done once, and then the program ends; servingFlags are the options of one that stays and answers csid.
+var (
+	onceFlags    = map[string]bool{"new": true, "export": true, "import": true}
+	servingFlags = map[string]bool{"listen": true, "lease": true, "id": true, "revision": true, "accept-older": true, "existing": true}
+)
 
-// checkMove refuses the options beside --export and --import that say nothing there.
-func checkMove(asked options, flags *flag.FlagSet) (err error) {
-	if asked.isExport && asked.isImport {
-		return errors.New("--import: not with --export")
-	}
-	if asked.isExport || asked.isImport {
-		flags.Visit(func(given *flag.Flag) {
-			if servingFlags[given.Name] && err == nil {
-				err = fmt.Errorf("--%s: not with --export or --import", given.Name)
-			}
-		})
-	}
+// isOnce tells whether something is done once.
+func (asked options) isOnce() bool { return asked.isNew || asked.isExport || asked.isImport }
+
+// checkOnce refuses what says nothing beside that which is done once.
+func checkOnce(flags *flag.FlagSet) (err error) {
+	var once string
+	flags.Visit(func(given *flag.Flag) {
+		switch {
+		case !onceFlags[given.Name]:
+		case once == "":
+			once = given.Name
+		case err == nil:
+			err = fmt.Errorf("--%s: not with --%s", given.Name, once)
+		}
+	})
+	flags.Visit(func(given *flag.Flag) {
+		if once != "" && servingFlags[given.Name] && err == nil {
+			err = fmt.Errorf("--%s: not with --%s", given.Name, once)
+		}
+	})
 	return err
 }
 
@@ -137,7 +147,7 @@ func check(asked options) error {
 		return errors.New("--name: the name of the plugin is missing")
 	case !nameForm.MatchString(asked.name):
 		return fmt.Errorf("--name: %q is not 1 to 63 letters, digits, dots and dashes with a letter or digit at both ends", asked.name)
-	case asked.listen == "" && !asked.isExport && !asked.isImport:
+	case asked.listen == "" && !asked.isOnce():
 		return errors.New("--listen: the path of a socket is missing")
 	case asked.timeout <= 0:
 		return fmt.Errorf("--timeout: %v is not above 0", asked.timeout)

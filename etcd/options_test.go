@@ -15,18 +15,21 @@ func read(words string) (options, error) {
 }
 
 func TestOptions(t *testing.T) {
-	plain := options{name: "a", listen: "s", endpoints: []string{"127.0.0.1:2379"}, timeout: 5 * time.Second, lease: 10, id: ownID()}
+	plain := options{name: "a", listen: "s", endpoints: []string{"127.0.0.1:2379"}, timeout: 3 * time.Second, lease: 10, id: ownID()}
 	full := options{name: "example.fomaheti", listen: "s", endpoints: []string{"https://a:1", "https://b:2"}, cacert: "ca", cert: "c", key: "k", user: "u", password: "p:q",
-		timeout: time.Second, lease: 600, id: "me", revision: "r", acceptOlder: true}
+		timeout: time.Second, lease: 600, id: "me", revision: "r", acceptOlder: true, isExisting: true}
 	moving := plain
 	moving.listen, moving.isExport = "", true
+	making := plain
+	making.listen, making.isNew = "", true
 	rows := []struct {
 		words string
 		want  options
 	}{
 		{"--export --name a", moving},
+		{"--new --name a", making},
 		{"--name a --listen s", plain},
-		{"--name example.fomaheti --listen s --endpoints https://a:1,https://b:2 --cacert ca --cert c --key k --user u:p:q --timeout 1s --lease 600 --id me --revision r --accept-older", full},
+		{"--name example.fomaheti --listen s --endpoints https://a:1,https://b:2 --cacert ca --cert c --key k --user u:p:q --timeout 1s --lease 600 --id me --revision r --accept-older --existing", full},
 	}
 	for _, row := range rows {
 		if got, err := read(row.words); err != nil || !reflect.DeepEqual(got, row.want) {
@@ -45,8 +48,9 @@ func TestBadOptions(t *testing.T) {
 		{"--name " + strings.Repeat("a", 64) + " --listen s", `--name: "` + strings.Repeat("a", 64) + `" is not 1 to 63 letters, digits, dots and dashes with a letter or digit at both ends`},
 		{"--export", "--name: the name of the plugin is missing"},
 		{"--export --import --name a", "--import: not with --export"},
-		{"--export --name a --listen s", "--listen: not with --export or --import"}, {"--import --name a --lease 10", "--lease: not with --export or --import"},
-		{"--import --name a --accept-older", "--accept-older: not with --export or --import"}, {"--import --name a x", `a word that is not known: "x"`},
+		{"--export --new --name a", "--new: not with --export"}, {"--new --name a --existing", "--existing: not with --new"},
+		{"--export --name a --listen s", "--listen: not with --export"}, {"--import --name a --lease 10", "--lease: not with --import"},
+		{"--import --name a --accept-older", "--accept-older: not with --import"}, {"--import --name a x", `a word that is not known: "x"`},
 		{"--export --name a --timeout 0s", "--timeout: 0s is not above 0"},
 		{good + "x", `a word that is not known: "x"`},
 		{good + "--x", "flag provided but not defined: -x"},

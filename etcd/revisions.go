@@ -21,16 +21,20 @@ type revisions struct {
 	path     string
 	mutex    sync.Mutex
 	greatest int64
-	saved    int64
-	older    error
+	// The lower one that was seen, once there was one, and the refusal that it is.
+	lower int64
+	older error
+	// What the file has.
+	saved string
 }
 
-// openRevisions reads the file. Where an older etcd is accepted, what it has is forgotten.
+// openRevisions reads the file. Where an older etcd is accepted, what it has is forgotten, and written anew.
 func openRevisions(path string, acceptOlder bool) (*revisions, error) {
 	r := &revisions{path: path}
 	if path == "" || acceptOlder {
 		return r, nil
 	}
+	r.saved = r.text()
 	text, err := os.ReadFile(path)
 	if errors.Is(err, os.ErrNotExist) {
 		return r, nil
@@ -38,12 +42,39 @@ func openRevisions(path string, acceptOlder bool) (*revisions, error) {
 	if err != nil {
 		return nil, err
 	}
-	digits := strings.TrimSuffix(string(text), "\n")
-	if r.greatest, err = strconv.ParseInt(digits, 10, 64); err != nil || r.greatest < 0 || strconv.FormatInt(r.greatest, 10) != digits {
+	if !r.read(string(text)) {
 		return nil, fmt.Errorf("%s: it has no revision", path)
 	}
-	r.saved = r.greatest
+	r.saved = r.text()
 	return r, nil
+}
+
+// The file is a line: the greatest revision, and behind a space the lower one that was seen, where one was. So a refusal lasts over a stop, also where
+// etcd's revision was raised since, as the key of the lock does each time that it is put.
+func (r *revisions) text() string {
+	if r.older != nil {
+		return fmt.Sprintf("%d %d\n", r.greatest, r.lower)
+	}
+	return fmt.Sprintf("%d\n", r.greatest)
+}
+
+// read takes what the file has, and tells whether it is such a line.
+func (r *revisions) read(text string) bool {
+	greatest, lower, isOlder := strings.Cut(strings.TrimSuffix(text, "\n"), " ")
+	is := true
+	if r.greatest, is = readRevision(greatest); !is || !isOlder {
+		return is
+	}
+	if r.lower, is = readRevision(lower); !is || r.lower >= r.greatest {
+		return false
+	}
+	r.older = olderRefusal(r.greatest, r.lower)
+	return true
+}
+
+func readRevision(digits string) (int64, bool) {
+	n, err := strconv.ParseInt(digits, 10, 64)
+	return n, err == nil && n >= 0 && strconv.FormatInt(n, 10) == digits
 }
 
 // least is the lowest revision that etcd can be at, for what is asked of it from now on.
@@ -58,10 +89,14 @@ func (r *revisions) check(least, revision int64) error {
 	r.mutex.Lock()
 	defer r.mutex.Unlock()
 	if r.older == nil && revision < least {
-		r.older = refuse("etcd is at revision %d, and %d was answered: it was restored from an older snapshot, and volumes may be missing; --accept-older goes on",
-			revision, least)
+		r.lower, r.older = revision, olderRefusal(least, revision)
 	}
 	return r.older
+}
+
+func olderRefusal(answered, revision int64) error {
+	return refuse("etcd is at revision %d, and %d was answered: it was restored from an older snapshot, and volumes may be missing; --accept-older goes on",
+		revision, answered)
 }
 
 // answered notes the revision of what is answered.
@@ -93,15 +128,15 @@ func (r *revisions) keep(end <-chan struct{}, say func(format string, parts ...i
 // save writes the file where it is behind, so that a stop leaves the old one or the new one.
 func (r *revisions) save() error {
 	r.mutex.Lock()
-	greatest := r.greatest
+	text := r.text()
 	r.mutex.Unlock()
-	if r.path == "" || greatest == r.saved {
+	if r.path == "" || text == r.saved {
 		return nil
 	}
-	if err := replace(r.path, []byte(strconv.FormatInt(greatest, 10)+"\n")); err != nil {
+	if err := replace(r.path, []byte(text)); err != nil {
 		return err
 	}
-	r.saved = greatest
+	r.saved = text
 	return nil
 }
 

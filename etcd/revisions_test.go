@@ -41,9 +41,28 @@ func TestRevisions(t *testing.T) {
 			t.Errorf("%d: %v", revision, err)
 		}
 	}
+	// That lasts over a stop.
+	if err := second.save(); err != nil {
+		t.Fatal(err)
+	}
+	if text, err := os.ReadFile(path); err != nil || string(text) != "112 111\n" {
+		t.Errorf("the file has %q, %v", text, err)
+	}
+	if again, err := openRevisions(path, false); err != nil || again.saved != "112 111\n" {
+		t.Errorf("the file of a refusal: %v", err)
+	} else if err := again.check(again.least(), 200); err == nil || err.Error() != want {
+		t.Errorf("behind a stop: %v", err)
+	}
 	third, err := openRevisions(path, true)
 	if err != nil || third.check(third.least(), 50) != nil {
 		t.Fatal(err)
+	}
+	// It is accepted for good, also by a program that answers nothing.
+	if err := third.save(); err != nil {
+		t.Fatal(err)
+	}
+	if accepted, err := openRevisions(path, false); err != nil || accepted.check(accepted.least(), 1) != nil {
+		t.Errorf("behind --accept-older, and nothing else: %v", err)
 	}
 	third.answered(50)
 	if err := third.save(); err != nil {
@@ -56,7 +75,7 @@ func TestRevisions(t *testing.T) {
 
 func TestBadRevisionFile(t *testing.T) {
 	path := filepath.Join(t.TempDir(), "revision")
-	for _, text := range []string{"", "\n", "x", "-1\n", "01\n", "1\n\n", "1 \n", "9223372036854775808\n"} {
+	for _, text := range []string{"", "\n", "x", "-1\n", "01\n", "1\n\n", "1 \n", " 1\n", "1 1\n", "1 2\n", "2 01\n", "2 1 0\n", "9223372036854775808\n"} {
 		if err := os.WriteFile(path, []byte(text), 0o600); err != nil {
 			t.Fatal(err)
 		}

@@ -3,18 +3,12 @@ package main
 import (
 	"bytes"
 	"encoding/hex"
-	"strings"
 	"testing"
+
+	"fomaheti/fixtures"
 )
 
-func fromHex(t *testing.T, text string) []byte {
-	t.Helper()
-	all, err := hex.DecodeString(strings.ReplaceAll(text, " ", ""))
-	if err != nil {
-		t.Fatal(err)
-	}
-	return all
-}
+var fromHex = fixtures.FromHex
 
 // Rows with values written by hand are spelled as they stand here, and read as the rows again.
 func TestSpelling(t *testing.T) {

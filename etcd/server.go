@@ -22,8 +22,10 @@ const (
 // server answers the calls of csid: of the newest connection alone, one after the other.
 type server struct {
 	state *leadership
-	say   func(format string, parts ...interface{})
-	mutex sync.Mutex
+	// Whether rows have to be there: none is made first.
+	isExisting bool
+	say        func(format string, parts ...interface{})
+	mutex      sync.Mutex
 	// The newest connection.
 	served *connection
 }
@@ -48,8 +50,9 @@ func (s *server) take(conn net.Conn) {
 	before.replace()
 	go func() {
 		defer close(c.ended)
-		defer c.Close()
 		s.serve(c, before)
+		c.Close()
+		c.walk.settle()
 	}()
 }
 
@@ -126,6 +129,8 @@ func (s *server) answer(c *connection, request frames.Request) (frames.Reply, er
 	if term == nil {
 		return refused(why), nil
 	}
+	// The calls of a term come one after the other, and so does what is read ahead.
+	c.walk.settle()
 	body, err := s.do(c, term, request)
 	if term.isOver() {
 		return frames.Reply{}, errOver
@@ -136,6 +141,8 @@ func (s *server) answer(c *connection, request frames.Request) (frames.Reply, er
 	}
 	return frames.Reply{Body: body}, err
 }
+
+var errNotMade = refuse("there are no rows, and none are made")
 
 func refused(why refusal) frames.Reply { return frames.Reply{Code: why.code, Text: why.text} }
 
@@ -155,6 +162,9 @@ func (s *server) do(c *connection, t *term, request frames.Request) ([]byte, err
 		if err := readInto(request.Message, nil); err != nil {
 			return nil, err
 		}
+		if s.isExisting {
+			return nil, errNotMade
+		}
 		return nil, t.commit(t.ctx, makeMeta{})
 	default:
 		asked, err := readChange(request.Message)
@@ -171,15 +181,17 @@ func (c *connection) read(ctx context.Context, t *term, message []byte) (page []
 	if err != nil {
 		return nil, err
 	}
-	if len(token) == 0 {
-		c.walk, page, err = newWalk(ctx, t)
-	} else if !c.walk.isNext(token) || c.walk.term != t {
+	switch {
+	case len(token) == 0:
+		if c.walk, page, err = newWalk(ctx, t); err == nil {
+			page, err = c.walk.first(ctx, page)
+		}
+	case c.walk.isNext(token) && c.walk.term == t:
+		page, err = c.walk.next(ctx)
+	default:
 		err = errToken
 	}
 	if err != nil {
-		return nil, err
-	}
-	if page, err = c.walk.page(ctx, page); err != nil {
 		return nil, err
 	}
 	t.revisions.answered(c.walk.revision)

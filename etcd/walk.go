@@ -32,12 +32,20 @@ type walk struct {
 	// Whether its volumes are behind it.
 	isAtAttachments bool
 	// The least key that is still to come.
-	from string
-	// What has to be said for the next page.
-	token []byte
+	from  string
 	pages int
 	// How many rows are read next.
 	limit int64
+	// What has to be said for the next page, and that page once it is read. Nothing of it is there behind the last one.
+	token []byte
+	ahead chan page
+}
+
+// page is the body of a page, what has to be said for the next one (nothing, where it is the last), or why it could not be read.
+type page struct {
+	body  []byte
+	token []byte
+	err   error
 }
 
 // newWalk begins a walk, and gives what its first page has before volumes: the row of meta, where that is there.
@@ -82,25 +90,50 @@ func (k keys) unknown() (reads []clientv3.Op) {
 	return reads
 }
 
-// page puts rows behind what a page begins with, until there are enough or none is left, and the token for the next page.
-func (w *walk) page(ctx context.Context, page []byte) ([]byte, error) {
+// first gives the first page, which begins with this.
+func (w *walk) first(ctx context.Context, begin []byte) ([]byte, error) {
+	return w.give(ctx, w.read(ctx, begin))
+}
+
+// next gives the next page.
+func (w *walk) next(ctx context.Context) ([]byte, error) { return w.give(ctx, <-w.ahead) }
+
+// give gives a page, and begins to read the one behind it: csid puts the rows of a page into its tables meanwhile. Nothing else is asked of the term until
+// that is read (settle).
+func (w *walk) give(ctx context.Context, given page) ([]byte, error) {
+	w.token, w.ahead = given.token, nil
+	if given.token != nil {
+		w.ahead = make(chan page, 1)
+		go func() { w.ahead <- w.read(ctx, nil) }()
+	}
+	return given.body, given.err
+}
+
+// settle waits until nothing is read.
+func (w *walk) settle() {
+	if w != nil && w.ahead != nil {
+		w.ahead <- <-w.ahead
+	}
+}
+
+// read puts rows behind what a page begins with, until there are enough or none is left.
+func (w *walk) read(ctx context.Context, body []byte) page {
 	for isFull := false; !isFull; {
 		var err error
-		if page, isFull, err = w.rows(ctx, page); err != nil {
-			return nil, err
+		if body, isFull, err = w.rows(ctx, body); err != nil {
+			return page{err: err}
 		}
 		if !isFull && w.from == "" {
 			if w.isAtAttachments {
-				w.token = nil
-				return appendBytes(page, 4, nil), nil
+				return page{body: appendBytes(body, 4, nil)}
 			}
 			w.isAtAttachments, w.from = true, w.term.keys.attachments()
 		}
-		isFull = isFull || len(page) >= enoughPage
+		isFull = isFull || len(body) >= enoughPage
 	}
 	w.pages++
-	w.token = []byte(fmt.Sprintf("%d:%d", w.revision, w.pages))
-	return appendBytes(page, 4, w.token), nil
+	token := []byte(fmt.Sprintf("%d:%d", w.revision, w.pages))
+	return page{body: appendBytes(body, 4, token), token: token}
 }
 
 // rows puts the next rows behind a page. Where no row of this kind is left, it is at none.

@@ -1,26 +1,18 @@
 package main
 
 import (
-	"encoding/hex"
 	"errors"
 	"io"
 	"net"
 	"path/filepath"
-	"strings"
 	"testing"
 	"time"
 
+	"fomaheti/fixtures"
 	"fomaheti/frames"
 )
 
-func fromHex(t *testing.T, text string) []byte {
-	t.Helper()
-	all, err := hex.DecodeString(strings.ReplaceAll(text, " ", ""))
-	if err != nil {
-		t.Fatal(err)
-	}
-	return all
-}
+var fromHex = fixtures.FromHex
 
 // listening is a socket of a csid, and its path.
 func listening(t *testing.T) (net.Listener, string) {

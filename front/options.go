@@ -9,6 +9,8 @@ import (
 	"strconv"
 	"strings"
 	"time"
+
+	"fomaheti/words"
 )
 
 const usage = `Answers gRPC calls on a Unix socket by a csid that serves another one (docs/DEPLOY.md).
@@ -38,8 +40,8 @@ type options struct {
 	version    bool
 }
 
-// readOptions reads the words; endpoint is the value of CSI_ENDPOINT, and counts where no --listen is given.
-func readOptions(words []string, endpoint string, shown io.Writer) (options, error) {
+// readOptions reads the words that were given; endpoint is the value of CSI_ENDPOINT, and counts where no --listen is given.
+func readOptions(given []string, endpoint string, shown io.Writer) (options, error) {
 	var asked options
 	flags := flag.NewFlagSet("front", flag.ContinueOnError)
 	flags.SetOutput(io.Discard)
@@ -54,16 +56,8 @@ func readOptions(words []string, endpoint string, shown io.Writer) (options, err
 	flags.StringVar(&asked.metrics, "metrics", "", "the `HOST:PORT` on which /metrics and /healthz are answered over HTTP; port 0 is any that is free, and the log says which")
 	flags.Func("metrics-topology", "a topology whose available capacity is one of the metrics, as `KEY=VALUE,..`; may be given again", asked.addTopology)
 	flags.BoolVar(&asked.version, "version", false, "print the version, and end")
-	if err := flags.Parse(words); err != nil {
-		if errors.Is(err, flag.ErrHelp) {
-			fmt.Fprint(shown, usage)
-			flags.SetOutput(shown)
-			flags.PrintDefaults()
-		}
+	if err := words.Parse(flags, given, usage, shown); err != nil {
 		return options{}, err
-	}
-	if flags.NArg() > 0 {
-		return options{}, fmt.Errorf("a word that is not known: %q", flags.Arg(0))
 	}
 	if asked.version {
 		return asked, nil

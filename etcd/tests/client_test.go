@@ -18,6 +18,7 @@ import (
 
 	"../../front/tests/processes"
 	"./clusters"
+	"fomaheti/fixtures"
 	"fomaheti/frames"
 )
 
@@ -104,14 +105,7 @@ func (l *link) wants(t *testing.T, path, message string, code codes.Code, want s
 	}
 }
 
-func fromHex(t *testing.T, text string) []byte {
-	t.Helper()
-	all, err := hex.DecodeString(strings.ReplaceAll(text, " ", ""))
-	if err != nil {
-		t.Fatal(err)
-	}
-	return all
-}
+var fromHex = fixtures.FromHex
 
 // rows is what a walk has read: the row of meta, and each other one by its key, all as text.
 type rows map[string]string

@@ -294,7 +294,16 @@ func TestOlderSnapshot(t *testing.T) {
 	if status := p.Status(t); status != 0 {
 		t.Errorf("it ended with %d", status)
 	}
-	wantsFile(answered)
+	// And over a stop.
+	again := start(t, cluster.Endpoints(), "--lease", "3", "--timeout", "1s", "--revision", file)
+	refused(again)
+	again.Terminate(t)
+	if status := again.Status(t); status != 0 {
+		t.Errorf("it ended with %d", status)
+	}
+	if err := os.WriteFile(file, []byte(fmt.Sprintf("%d\n", answered)), 0o600); err != nil {
+		t.Fatal(err)
+	}
 	member.Kill()
 	member.Restore(t, snapshot)
 	member.Start(t)

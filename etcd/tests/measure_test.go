@@ -4,6 +4,7 @@ import (
 	"context"
 	"fmt"
 	"os"
+	"os/exec"
 	"sort"
 	"strconv"
 	"strings"
@@ -13,6 +14,7 @@ import (
 	"go.etcd.io/etcd/clientv3"
 	"google.golang.org/grpc/codes"
 
+	"../../front/tests/processes"
 	"./clusters"
 )
 
@@ -53,7 +55,41 @@ func (all times) String() string {
 	return fmt.Sprintf("%v in the middle, %v in the mean, %v for 99 of 100", all.at(0.5).Round(time.Microsecond), all.mean().Round(time.Microsecond), all.at(0.99).Round(time.Microsecond))
 }
 
-// A change through csid-etcd, beside the same transaction without it. They take turns, so that both meet the same disk.
+// besides measures calls that add volumes, and beside each the bare transaction of a volume. They take turns, so that both meet the same disk.
+func besides(t *testing.T, count int, client *clientv3.Client, add func(number uint64, called string)) (adds, bare times) {
+	t.Helper()
+	const prefix = "example.measured"
+	put(t, client, prefix+"/lock/1", "x")
+	put(t, client, prefix+"/meta", `{"format_no":2,"next_number":1}`)
+	read, err := client.Get(context.Background(), prefix+"/lock/1")
+	if err != nil {
+		t.Fatal(err)
+	}
+	lock := read.Kvs[0].ModRevision
+	for n := uint64(1); n <= uint64(count)+50; n++ {
+		called := fmt.Sprintf("pvc-%d", n)
+		with := func() { add(n, called) }
+		alone := func() { bareAdd(t, client, prefix, lock, n, called) }
+		if n <= 50 {
+			with()
+			alone()
+		} else if n%2 == 0 {
+			adds.take(with)
+			bare.take(alone)
+		} else {
+			bare.take(alone)
+			adds.take(with)
+		}
+	}
+	return adds, bare
+}
+
+// ratios is how many times as long some calls took as others.
+func ratios(these, others times) string {
+	return fmt.Sprintf("%.3f times in the middle, %.3f in the mean", float64(these.at(0.5))/float64(others.at(0.5)), float64(these.mean())/float64(others.mean()))
+}
+
+// A change through csid-etcd, beside the same transaction without it.
 func TestMeasureChanges(t *testing.T) {
 	count := measured(t)
 	for _, members := range []int{1, 3} {
@@ -61,39 +97,79 @@ func TestMeasureChanges(t *testing.T) {
 		p := start(t, cluster.Endpoints()).leads(t)
 		l := p.dial(t)
 		l.wants(t, makePath, "", codes.OK, "")
-		client, bare := cluster.Client(t), "example.measured"
-		put(t, client, bare+"/lock/1", "x")
-		put(t, client, bare+"/meta", `{"format_no":2,"next_number":1}`)
-		read, err := client.Get(context.Background(), bare+"/lock/1")
-		if err != nil {
-			t.Fatal(err)
-		}
-		lock := read.Kvs[0].ModRevision
-		var through, without times
-		for n := uint64(1); n <= uint64(count)+50; n++ {
-			called := fmt.Sprintf("pvc-%d", n)
-			with := func() { l.commits(t, addVolume(n, called)) }
-			alone := func() { bareAdd(t, client, bare, lock, n, called) }
-			if n <= 50 {
-				with()
-				alone()
-			} else if n%2 == 0 {
-				through.take(with)
-				without.take(alone)
-			} else {
-				without.take(alone)
-				through.take(with)
-			}
-		}
+		through, without := besides(t, count, cluster.Client(t), func(number uint64, called string) { l.commits(t, addVolume(number, called)) })
 		t.Logf("%d members, %d changes through csid-etcd: %v", members, count, through)
 		t.Logf("%d members, %d bare transactions: %v", members, count, without)
+		t.Logf("%d members: %s", members, ratios(through, without))
 		before := size(t, cluster)
 		for n := uint64(count) + 51; n <= uint64(count)+1050; n++ {
 			l.commits(t, addVolume(n, fmt.Sprintf("pvc-%d", n)))
 		}
 		t.Logf("%d members: a change takes %d bytes of the file", members, (size(t, cluster)-before)/1000)
-		t.Logf("%d members: %.3f times in the middle, %.3f in the mean", members, float64(through.at(0.5))/float64(without.at(0.5)), float64(through.mean())/float64(without.mean()))
 	}
+}
+
+// startCsid starts a csid whose log is a csid-etcd, with a pool and nodes that have room for all that is measured.
+func (p program) startCsid(t *testing.T) *processes.Process {
+	t.Helper()
+	folder := processes.Folder(t)
+	config := "name = \"example.fomaheti\"\nvendor_version = \"1.0.0\"\ndefault_bytes = 1048576\ngreatest_bytes = 1048576\n\n[[pool]]\nname = \"ssd\"\nbytes = 1125899906842624\n"
+	for i := 0; i < 7; i++ {
+		config += fmt.Sprintf("\n[[node]]\nid = \"node-%d\"\nmax_volumes = 100000\n", i)
+	}
+	if err := os.WriteFile(folder+"/config.toml", []byte(config), 0o600); err != nil {
+		t.Fatal(err)
+	}
+	socket := folder + "/csid.sock"
+	return processes.Start(t, socket, exec.Command(processes.CsidProgram(t), "serve", "--socket", socket, "--log", p.Socket, "--config", folder+"/config.toml"))
+}
+
+// probed is a connection to a csid, over which a first call was answered: all rows are read before that.
+func probed(t *testing.T, csid *processes.Process) *link {
+	t.Helper()
+	l, err := dial(csid.Answers(t).Socket)
+	if err != nil {
+		t.Fatal(err)
+	}
+	t.Cleanup(func() { l.Close() })
+	l.wants(t, "/csi.v1.Identity/Probe", "", codes.OK, "0a020801")
+	return l
+}
+
+// A CreateVolume of csid over csid-etcd, beside the transaction of it alone.
+func TestMeasureCreates(t *testing.T) {
+	count := measured(t)
+	for _, members := range []int{1, 3} {
+		cluster := clusters.Start(t, members)
+		l := probed(t, start(t, cluster.Endpoints()).leads(t).startCsid(t))
+		created, without := besides(t, count, cluster.Client(t), func(_ uint64, called string) {
+			message := append(text(nil, 1, called), fromHex(t, "1a060a001a020801")...)
+			if reply, err := l.call("/csi.v1.Controller/CreateVolume", message); err != nil || reply.Code != codes.OK {
+				t.Fatalf("%v, %v", reply.Text, err)
+			}
+		})
+		t.Logf("%d members, %d creates of csid: %v", members, count, created)
+		t.Logf("%d members, %d bare transactions: %v", members, count, without)
+		t.Logf("%d members: %s", members, ratios(created, without))
+	}
+}
+
+// How long a csid takes until it answers a first call over 100,000 volumes and 50,000 attachments.
+func TestMeasureTakeOvers(t *testing.T) {
+	measured(t)
+	cluster := clusters.Start(t, 1)
+	fill(t, cluster.Client(t), 100000)
+	p := start(t, cluster.Endpoints()).leads(t)
+	var all times
+	memory := 0
+	for i := 0; i < 5; i++ {
+		all.take(func() {
+			csid := p.startCsid(t)
+			probed(t, csid)
+			memory = csid.ResidentBytes(t)
+		})
+	}
+	t.Logf("csid over 100000 volumes and 50000 attachments: the first answer behind %v in the middle of 5, %d MiB in memory", all.at(0.5).Round(time.Millisecond), memory>>20)
 }
 
 // size is how many bytes of its file a member uses.

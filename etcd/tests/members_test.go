@@ -1,6 +1,7 @@
 package tests
 
 import (
+	"syscall"
 	"testing"
 	"time"
 
@@ -34,6 +35,34 @@ func TestKilledMembers(t *testing.T) {
 		t.Errorf("%d changes", d.oks)
 	}
 	wantsTold(t, d, p)
+}
+
+// Where etcd had no leader for longer than the lease, the program leads again as soon as there is one: etcd keeps the old lease for its whole length then, so the
+// program ends it.
+func TestWithoutLeader(t *testing.T) {
+	t.Parallel()
+	cluster := clusters.Start(t, 3)
+	p := start(t, cluster.Endpoints(), "--timeout", "1s", "--lease", "12").leads(t)
+	leader := cluster.Leader(t)
+	signal := func(what syscall.Signal) {
+		for _, member := range cluster.Members {
+			if member == leader {
+				continue
+			}
+			if err := member.Current.Cmd.Process.Signal(what); err != nil {
+				t.Fatal(err)
+			}
+		}
+	}
+	before := len(p.Log.String())
+	signal(syscall.SIGSTOP)
+	p.says(t, "leads no more: its lease is over")
+	// What of it waits for etcd is given up.
+	time.Sleep(2 * time.Second)
+	signal(syscall.SIGCONT)
+	if took := p.leadsSince(t, before); took > 9*time.Second {
+		t.Errorf("it led behind %v", took)
+	}
 }
 
 // wantsTold wants that the rows are those that were told.

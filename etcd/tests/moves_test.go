@@ -63,6 +63,25 @@ func manyLines(volumes int) (lines string, count int) {
 	return all.String(), volumes + volumes/2 + 1
 }
 
+// The first row is made once; rows that stand are left, and those that an import has left are told.
+func TestNew(t *testing.T) {
+	t.Parallel()
+	cluster := clusters.Start(t, 1)
+	client := cluster.Client(t)
+	put(t, client, name+".other/meta", "x")
+	moves(t, "", "--new", cluster.Endpoints()).wants(t, "no rows", 0, "made: volumes 0, attachments 0, next number 1, format 2\n", "")
+	has(t, cluster, name+"/meta", `{"format_no":2,"next_number":1}`)
+	moves(t, "", "--new", cluster.Endpoints()).wants(t, "once more", 0, "stands: next number 1, format 2\n", "")
+	p := start(t, cluster.Endpoints(), "--existing").leads(t)
+	p.dial(t).commits(t, addVolume(1, "a"))
+	moves(t, "", "--new", cluster.Endpoints()).wants(t, "beside one that leads", 0, "stands: next number 2, format 2\n", "")
+	cluster.Ctl(t, "del", name+"/meta")
+	moves(t, "", "--new", cluster.Endpoints()).wants(t, "a volume without meta", 1, "", "csid-etcd: --new: rows are there, and meta is not: an import was not ended\n")
+	cluster.Ctl(t, "del", name+"/volumes/00000000000000000001")
+	p.dial(t).wants(t, makePath, "", codes.FailedPrecondition, "there are no rows, and none are made")
+	has(t, cluster)
+}
+
 // Rows that are imported stand in etcd as they came, and are exported as SQL; and what is refused writes nothing.
 func TestMoves(t *testing.T) {
 	t.Parallel()

@@ -157,12 +157,32 @@ func TestUser(t *testing.T) {
 	cluster.Ctl(t, "role", "grant-permission", "csid", "readwrite", name+"/", "--prefix")
 	l.commits(t, addVolume(2, "b"))
 	l.commits(t, removeVolume(1))
-	// A new password, and an etcd that knows no token of before.
+	// A new password while nothing else ends a lease: the program that leads and one that waits take it from the file.
+	waiting := start(t, cluster.Endpoints(), "--user", "csid", "--password-file", password, "--lease", "600")
+	waiting.says(t, "csid-etcd: waits for the lock, which ")
 	before := len(p.Log.String())
+	cluster.Type(t, "between\n", "user", "passwd", "csid", "--interactive=false")
+	p.says(t, "csid-etcd: leads no more: etcdserver: authentication failed, invalid user ID or password\n")
+	waiting.says(t, "csid-etcd: no lock: etcdserver: authentication failed, invalid user ID or password\n")
+	behind := len(waiting.Log.String())
+	write("between\n")
+	processes.Eventually(t, "that the other one stands for the lock again", func() bool {
+		said := waiting.Log.String()[behind:]
+		return strings.Contains(said, "waits for the lock, which ") || strings.Contains(said, "leads, from revision ")
+	})
+	waiting.Terminate(t)
+	if status := waiting.Status(t); status != 0 {
+		t.Errorf("it ended with %d", status)
+	}
+	p.leadsSince(t, before)
+	l = p.dial(t)
+	l.commits(t, attach(2, "m", false))
+	// Another one, and an etcd that knows no token of before.
+	before = len(p.Log.String())
 	cluster.Type(t, "second\n", "user", "passwd", "csid", "--interactive=false")
 	cluster.Members[0].Kill()
 	cluster.Members[0].Start(t)
-	processes.Eventually(t, "that it leads no more", func() bool { return strings.Contains(p.Log.String()[before:], "leads no more: its lease is over") })
+	processes.Eventually(t, "that it leads no more", func() bool { return strings.Contains(p.Log.String()[before:], "leads no more: ") })
 	p.says(t, "csid-etcd: no lock: etcdserver: authentication failed, invalid user ID or password\n")
 	write("second\n")
 	p.leadsSince(t, before)

@@ -14,6 +14,7 @@ import (
 	"google.golang.org/grpc/status"
 
 	"./processes"
+	"fomaheti/fixtures"
 )
 
 const (
@@ -94,14 +95,7 @@ func (c *client) isLost(t *testing.T, path, message string) {
 	}
 }
 
-func fromHex(t *testing.T, text string) []byte {
-	t.Helper()
-	all, err := hex.DecodeString(strings.ReplaceAll(text, " ", ""))
-	if err != nil {
-		t.Fatal(err)
-	}
-	return all
-}
+var fromHex = fixtures.FromHex
 
 // soon is a context for so long.
 func soon(t *testing.T, length time.Duration) context.Context {

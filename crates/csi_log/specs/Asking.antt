@@ -78,8 +78,11 @@ abbrev pub commit_frame : Change → List ℕ
 commit_frame change = frame (record { path = path_of Commit; message = change_bytes change })
 
 -- a page of the rows is to be told, the first one or the one of a token
+abbrev pub token_bytes : List ℕ → List ℕ
+token_bytes token = spelling (bytes_field 1 token)
+
 abbrev pub read_frame : List ℕ → List ℕ
-read_frame token = frame (record { path = path_of Read; message = spelling (bytes_field 1 token) })
+read_frame token = frame (record { path = path_of Read; message = token_bytes token })
 
 -- the row of meta is to be made
 abbrev pub make_frame : List ℕ

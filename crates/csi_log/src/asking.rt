@@ -1,9 +1,10 @@
 //! The calls of a log, as frames.
 
-ghost use Rattle.std.specs.Prelude.{◌≡◌, ◌≢◌, Err, IfOk};
+ghost use Rattle.std.specs.Prelude.{◌≡◌, ◌≢◌, ◌<◌, Err, IfErr, IfOk, IsErrOf, length};
 ghost use Rattle.frames_core.specs.Envelope.{frame};
-ghost use Rattle.csi_keeper.specs.declared.change.StoreFault.TheVariants.{Down};
-ghost use Rattle.csi_log.specs.Asking.{lead_frame, make_frame, path_of, read_frame};
+ghost use Rattle.frames_core.specs.declared.limits.TheConstants.{MAX_MESSAGE_BYTES};
+ghost use Rattle.csi_keeper.specs.declared.change.StoreFault.TheVariants.{Down, NoMemory, Refused};
+ghost use Rattle.csi_log.specs.Asking.{lead_frame, make_frame, path_of, read_frame, token_bytes};
 
 use csi_keeper::StoreFault;
 use frames_core::{MAX_MESSAGE_BYTES, put_request};
@@ -45,6 +46,7 @@ impl Call {
 pub(crate) fn frame_of(alloc: Global, call: Call, message: &[u8]) -> Result<Vec<u8>, StoreFault>
     ensures frame { IfOk result (λ out. out.items ≡ frame (record { path = path_of call; message = message.now })) }
     ensures fault { result ≢ Err Down }
+    ensures refused { IsErrOf result Refused → MAX_MESSAGE_BYTES < length message.now }
 {
     if message.len() > MAX_MESSAGE_BYTES {
         return Err(StoreFault::Refused);
@@ -63,6 +65,7 @@ pub(crate) fn frame_of(alloc: Global, call: Call, message: &[u8]) -> Result<Vec<
 pub fn read_frame(alloc: Global, token: &[u8]) -> Result<Vec<u8>, StoreFault>
     ensures frame { IfOk result (λ frame. frame.items ≡ read_frame token.now) }
     ensures fault { result ≢ Err Down }
+    ensures refused { IsErrOf result Refused → MAX_MESSAGE_BYTES < length (token_bytes token.now) }
 {
     let mut message = Vec::new(alloc);
     put_bytes(&mut message, 1, token)?;
@@ -76,7 +79,7 @@ pub fn read_frame(alloc: Global, token: &[u8]) -> Result<Vec<u8>, StoreFault>
 /// `NoMemory`.
 pub fn make_frame(alloc: Global) -> Result<Vec<u8>, StoreFault>
     ensures frame { IfOk result (λ frame. frame.items ≡ make_frame) }
-    ensures fault { result ≢ Err Down }
+    ensures fault { IfErr result (λ fault. fault ≡ NoMemory) }
 {
     frame_of(alloc, Call::Make, &[])
 }
@@ -88,7 +91,7 @@ pub fn make_frame(alloc: Global) -> Result<Vec<u8>, StoreFault>
 /// `NoMemory`.
 pub fn lead_frame(alloc: Global) -> Result<Vec<u8>, StoreFault>
     ensures frame { IfOk result (λ frame. frame.items ≡ lead_frame) }
-    ensures fault { result ≢ Err Down }
+    ensures fault { IfErr result (λ fault. fault ≡ NoMemory) }
 {
     frame_of(alloc, Call::Lead, &[])
 }

@@ -1,8 +1,9 @@
 //! The frame that asks for a change.
 
-ghost use Rattle.std.specs.Prelude.{◌≡◌, ◌≢◌, ◌++◌, ◌∷◌, [], Err, IfOk, OnOk};
+ghost use Rattle.std.specs.Prelude.{◌≡◌, ◌≢◌, ◌++◌, ◌∷◌, ◌<◌, [], Err, IfOk, IsErrOf, OnOk, length};
+ghost use Rattle.frames_core.specs.declared.limits.TheConstants.{MAX_MESSAGE_BYTES};
 ghost use Rattle.pbwire.specs.Writing.{spellings};
-ghost use Rattle.csi_keeper.specs.declared.change.StoreFault.TheVariants.{Down};
+ghost use Rattle.csi_keeper.specs.declared.change.StoreFault.TheVariants.{Down, Refused};
 ghost use Rattle.std.specs.FinMap.{empty};
 ghost use Rattle.csi_tables.specs.Encoding.{params_bytes};
 ghost use Rattle.csi_log.specs.Asking.{asked_fields, attachment_fields, bytes_field, change_bytes, change_number, commit_frame, number_field, volume_fields};
@@ -108,6 +109,7 @@ fn message_of(alloc: Global, change: &Change) -> Result<Vec<u8>, AllocError>
 pub(crate) fn commit_frame(alloc: Global, change: &Change) -> Result<Vec<u8>, StoreFault>
     ensures frame { IfOk result (λ frame. frame.items ≡ commit_frame change.now) }
     ensures fault { result ≢ Err Down }
+    ensures refused { IsErrOf result Refused → MAX_MESSAGE_BYTES < length (change_bytes change.now) }
 {
     let message = message_of(alloc, change)?;
     frame_of(alloc, Call::Commit, message.as_slice())

@@ -5,18 +5,16 @@ ghost use Rattle.sqlite_disk.specs.Memory.{memory_is_usable};
 ghost use Rattle.csid.specs.Statuses.{IsOrNoMemory};
 
 use crate::failure::Failure;
+use crate::memory::{files_of, open};
 use crate::tables::of_database;
-use sqlite::{Connection, Error, ErrorCode, FileStore, Files, Options};
-use sqlite_disk::{Disk, Memory};
+use sqlite::{Connection, Error, ErrorCode, FileStore, Files};
+use sqlite_disk::Memory;
 use std::alloc::Global;
 use std::fs;
 use std::io::{self, ErrorKind};
 
 // How often a file is copied that is written meanwhile.
 const TRIES: usize = 10;
-
-// What a new log would be told by: the copy's log is never written.
-const SEED: u64 = 1;
 
 const IS_WRITTEN: &str = "it is written all the time";
 
@@ -56,30 +54,6 @@ fn beside(alloc: Global, real: &str, end: &str) -> Result<String, Failure>
     ensures { IfErr result (λ failure. IsOrNoMemory 4 failure) }
 {
     Ok(format!(in alloc; "{real}{end}")?)
-}
-
-// A file in memory.
-fn in_memory(alloc: Global, bytes: &[u8]) -> Result<Memory, Failure>
-    ensures usable { IfOk result (λ file. IsTrue (memory_is_usable file)) }
-    ensures failure { IfErr result (λ failure. IsOrNoMemory 4 failure) }
-{
-    let mut file = Memory::new(alloc);
-    match file.write_at(0, bytes) {
-        Ok(()) => Ok(file),
-        Err(_) => Err(Failure::NoMemory),
-    }
-}
-
-// A file in memory with its log, as they are opened.
-fn files_of(alloc: Global, log: &[u8], db: &[u8]) -> Result<Files<Memory>, Failure>
-    ensures usable { IfOk result (λ files. IsTrue (memory_is_usable files.log) × IsTrue (memory_is_usable files.db)) }
-    ensures failure { IfErr result (λ failure. IsOrNoMemory 4 failure) }
-{
-    let log = in_memory(alloc, log)?;
-    Ok(Files {
-        log,
-        db: in_memory(alloc, db)?,
-    })
 }
 
 // What a file and its log have at one moment. The file is read once more behind its log: where it was written meanwhile, both are read again.
@@ -124,8 +98,5 @@ pub(crate) fn open_copy(
     }
     let log = beside(rt.alloc(), real.as_str(), "-wal")?;
     let files = copied(rt, real.as_str(), log.as_str())?;
-    match Connection::open_files(rt.alloc(), files, Options::new(SEED)) {
-        Ok(conn) => Ok(conn),
-        Err((error, _)) => Err(of_database(rt.alloc(), path, &error)),
-    }
+    open(rt.alloc(), path, files)
 }

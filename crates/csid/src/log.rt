@@ -1,10 +1,11 @@
 //! Volumes that a log keeps, which another program is: its socket, what it tells at the start, and calls over both.
 
-ghost use Rattle.std.specs.Prelude.{◌≡◌, false, IfErr, IfOk};
+ghost use Rattle.std.specs.Prelude.{◌≡◌, false, IfErr};
 ghost use Rattle.csid.specs.Statuses.{IsOrNoMemory};
 
 use crate::content::read_content;
 use crate::failure::Failure;
+use crate::memory::{files_of, open};
 use crate::rows::{RowsFault, Told, take_no_meta, take_page};
 use crate::tables::{keep, of_database, of_reading, tell_content};
 use csi_client::{Received, ReceivedReply};
@@ -14,7 +15,7 @@ use csi_log::{Channel, Peer, RemoteLog, lead_frame, make_frame, read_frame};
 use csi_schema::make_tables;
 use csi_tables::Tables;
 use csi_through::Through;
-use sqlite::{Connection, MemStore};
+use sqlite::{Alter, Connection, Transaction};
 use std::alloc::Global;
 use std::os::unix::net::UnixStream;
 use std::time::Duration;
@@ -112,12 +113,12 @@ fn framed(alloc: Global, path: &str, frame: Result<Vec<u8>, StoreFault>) -> Resu
     }
 }
 
-// Puts all rows of a log into the tables on a connection, page by page.
-fn read_rows(
+// Puts all rows of a log into the tables of a transaction, page by page.
+fn read_pages<S: Alter>(
     alloc: Global,
     path: &str,
     line: &mut Line,
-    conn: &mut Connection<MemStore>,
+    tx: &mut Transaction<'_, S>,
 ) -> Result<Told, Failure>
     ensures { IfErr result (λ failure. IsOrNoMemory 4 failure) }
 {
@@ -125,7 +126,7 @@ fn read_rows(
     for _ in 0..MOST_PAGES {
         let frame = framed(alloc, path, read_frame(alloc, told.token.as_slice()))?;
         let body = asked(alloc, path, line, frame.as_slice())?;
-        if let Err(fault) = take_page(conn, &mut told, body.as_slice()) {
+        if let Err(fault) = take_page(tx, &mut told, body.as_slice()) {
             return Err(of_rows(alloc, path, &fault));
         }
         if told.token.is_empty() {
@@ -136,11 +137,11 @@ fn read_rows(
 }
 
 // Sees to the row of meta: where the log has no row at all, it is made there as it is in the new tables here.
-fn settle_meta(
+fn settle_meta<S: Alter>(
     alloc: Global,
     path: &str,
     line: &mut Line,
-    conn: &mut Connection<MemStore>,
+    tx: &mut Transaction<'_, S>,
     told: &Told,
 ) -> Result<(), Failure>
     ensures { IfErr result (λ failure. IsOrNoMemory 4 failure) }
@@ -152,7 +153,7 @@ fn settle_meta(
             &"its rows have format 1, and a log has those of format 2",
         )),
         Some(_) => Ok(()),
-        None if told.has_rows => match take_no_meta(conn) {
+        None if told.has_rows => match take_no_meta(tx) {
             Ok(()) => Ok(()),
             Err(fault) => Err(of_rows(alloc, path, &fault)),
         },
@@ -164,45 +165,65 @@ fn settle_meta(
     }
 }
 
-// New tables in memory.
-fn new_tables(alloc: Global, path: &str) -> Result<Connection<MemStore>, Failure>
+// Fills new tables with the rows of a log. It is one transaction, so that each page of the tables is written once, in whatever pages the rows come.
+fn fill<S: Alter>(
+    alloc: Global,
+    path: &str,
+    line: &mut Line,
+    conn: &mut Connection<S>,
+) -> Result<(), Failure>
+    requires { conn.old.in_transaction ≡ false }
     ensures { IfErr result (λ failure. IsOrNoMemory 4 failure) }
 {
-    let mut conn = Connection::open_in_memory(alloc)?;
-    match make_tables(&mut conn) {
-        Ok(()) => Ok(conn),
+    let mut tx = conn.transaction();
+    let told = read_pages(alloc, path, line, &mut tx)?;
+    settle_meta(alloc, path, line, &mut tx, &told)?;
+    match tx.commit() {
+        Ok(()) => Ok(()),
         Err(error) => Err(of_database(alloc, path, &error)),
     }
 }
 
-// Judges the rows of a log as those of a file are judged.
-fn judge(
+// Makes tables on a connection to a new database, fills them with the rows of a log, and judges them as those of a file are judged.
+fn read_tables<S: Alter + Drop>(
     rt: &HostRuntime,
     config: &Config,
     path: &str,
-    conn: Connection<MemStore>,
-) -> Result<Tables<MemStore>, Failure>
+    line: &mut Line,
+    mut conn: Connection<S>,
+) -> Result<Tables<S>, Failure>
+    requires { conn.in_transaction ≡ false }
     ensures { IfErr result (λ failure. IsOrNoMemory 4 failure) }
 {
+    if let Err(error) = make_tables(&mut conn) {
+        return Err(of_database(rt.alloc(), path, &error));
+    }
+    fill(rt.alloc(), path, line, &mut conn)?;
     if !conn.is_autocommit() {
         return Err(Failure::of_tables(rt.alloc(), path, &"its rows were not taken"));
     }
     keep(rt, path, conn, config)
 }
 
-// The rows of a log, as tables in memory that were judged.
-fn read_tables(
+// Reads and judges all that a log has, over a connection to a new database, and says what that is. The database is gone behind it.
+fn read_log<S: Alter + Drop>(
     rt: &HostRuntime,
     config: &Config,
     path: &str,
-    line: &mut Line,
-) -> Result<Tables<MemStore>, Failure>
+    mut line: Line,
+    conn: Connection<S>,
+) -> Result<Remote, Failure>
+    requires { conn.in_transaction ≡ false }
     ensures { IfErr result (λ failure. IsOrNoMemory 4 failure) }
 {
-    let mut conn = new_tables(rt.alloc(), path)?;
-    let told = read_rows(rt.alloc(), path, line, &mut conn)?;
-    settle_meta(rt.alloc(), path, line, &mut conn, &told)?;
-    judge(rt, config, path, conn)
+    let mut tables = read_tables(rt, config, path, &mut line, conn)?;
+    match Through::copied(rt.alloc(), &mut tables, RemoteLog::new(line)) {
+        Ok(keeper) => {
+            tell_content(rt, path, read_content(&mut tables.into_connection()));
+            Ok(keeper)
+        }
+        Err(fault) => Err(of_reading(rt.alloc(), path, fault)),
+    }
 }
 
 // A connection to a log. It gives up what takes too long.
@@ -228,26 +249,24 @@ fn reach(rt: &HostRuntime, path: &str) -> io::Result<(UnixStream, Line)> {
 
 /// Reads and judges all that a log has, and says what that is.
 ///
+/// Its rows stand in files in memory for that: there a row that comes in takes as many steps as its tree is deep, where the store of rows in memory
+/// would move all rows behind it.
+///
 /// # Errors
 ///
 /// Where the log cannot be had, its rows are refused, or memory is.
 pub(crate) fn open_log(rt: &HostRuntime, config: &Config, path: &str) -> Result<OpenLog, Failure>
     ensures { IfErr result (λ failure. IsOrNoMemory 4 failure) }
 {
-    let (stream, mut line) = match reach(rt, path) {
+    let (stream, line) = match reach(rt, path) {
         Ok(reached) => reached,
         Err(error) => return Err(of_log(rt.alloc(), path, &error)),
     };
-    let mut tables = read_tables(rt, config, path, &mut line)?;
-    match Through::copied(rt.alloc(), &mut tables, RemoteLog::new(line)) {
-        Ok(keeper) => {
-            tell_content(rt, path, read_content(&mut tables.into_connection()));
-            Ok(OpenLog {
-                keeper,
-                stream,
-                is_cut: false,
-            })
-        }
-        Err(fault) => Err(of_reading(rt.alloc(), path, fault)),
-    }
+    let conn = open(rt.alloc(), path, files_of(rt.alloc(), &[], &[])?)?;
+    let keeper = read_log(rt, config, path, line, conn)?;
+    Ok(OpenLog {
+        keeper,
+        stream,
+        is_cut: false,
+    })
 }

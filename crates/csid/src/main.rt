@@ -10,6 +10,7 @@ mod failure;
 mod group;
 pub mod laws;
 mod log;
+mod memory;
 mod peer;
 mod pending;
 mod rows;

@@ -2,7 +2,7 @@
 
 use pbwire::{Field, Fields, Value};
 use sqlite::types::ValueRef;
-use sqlite::{Alter, Connection, Error, ErrorCode};
+use sqlite::{Alter, Error, ErrorCode, Transaction};
 use std::alloc::{AllocError, Global};
 use thiserror::Error;
 
@@ -112,10 +112,10 @@ fn read_cells<'a>(payload: &'a [u8], cells: &mut [ValueRef<'a>]) -> Result<(), R
 }
 
 // The row of meta. Its format.
-fn take_meta<S: Alter>(conn: &mut Connection<S>, payload: &[u8]) -> Result<i64, RowsFault> {
+fn take_meta<S: Alter>(tx: &mut Transaction<'_, S>, payload: &[u8]) -> Result<i64, RowsFault> {
     let mut cells = [NUMBER, NUMBER];
     read_cells(payload, &mut cells)?;
-    conn.execute(SET_META, &cells)?;
+    tx.execute(SET_META, &cells)?;
     match cells[0] {
         ValueRef::Int(format) => Ok(format),
         _ => Err(RowsFault::Malformed),
@@ -132,33 +132,33 @@ fn row_outcome(cells: &[ValueRef<'_>], added: Result<usize, Error>) -> Result<()
     }
 }
 
-fn take_volume<S: Alter>(conn: &mut Connection<S>, payload: &[u8]) -> Result<(), RowsFault> {
+fn take_volume<S: Alter>(tx: &mut Transaction<'_, S>, payload: &[u8]) -> Result<(), RowsFault> {
     let mut cells = [NUMBER, TEXT, NUMBER, TEXT, BLOB, BLOB];
     read_cells(payload, &mut cells)?;
-    row_outcome(&cells, conn.execute(ADD_VOLUME, &cells))
+    row_outcome(&cells, tx.execute(ADD_VOLUME, &cells))
 }
 
-fn take_attachment<S: Alter>(conn: &mut Connection<S>, payload: &[u8]) -> Result<(), RowsFault> {
+fn take_attachment<S: Alter>(tx: &mut Transaction<'_, S>, payload: &[u8]) -> Result<(), RowsFault> {
     let mut cells = [NUMBER, TEXT, BLOB, NUMBER];
     read_cells(payload, &mut cells)?;
-    row_outcome(&cells, conn.execute(ADD_ATTACHMENT, &cells))
+    row_outcome(&cells, tx.execute(ADD_ATTACHMENT, &cells))
 }
 
 // A field of a page.
 fn take_field<S: Alter>(
-    conn: &mut Connection<S>,
+    tx: &mut Transaction<'_, S>,
     told: &mut Told,
     number: u32,
     payload: &[u8],
 ) -> Result<(), RowsFault> {
     match number {
-        1 => told.format = Some(take_meta(conn, payload)?),
+        1 => told.format = Some(take_meta(tx, payload)?),
         2 => {
-            take_volume(conn, payload)?;
+            take_volume(tx, payload)?;
             told.has_rows = true;
         }
         3 => {
-            take_attachment(conn, payload)?;
+            take_attachment(tx, payload)?;
             told.has_rows = true;
         }
         4 => {
@@ -170,13 +170,13 @@ fn take_field<S: Alter>(
     Ok(())
 }
 
-/// Puts the rows of a page into the tables on a connection.
+/// Puts the rows of a page into the tables of a transaction.
 ///
 /// # Errors
 ///
 /// Where the page is malformed, its rows cannot stand beside those that were told before, or memory is refused.
 pub(crate) fn take_page<S: Alter>(
-    conn: &mut Connection<S>,
+    tx: &mut Transaction<'_, S>,
     told: &mut Told,
     body: &[u8],
 ) -> Result<(), RowsFault> {
@@ -192,7 +192,7 @@ pub(crate) fn take_page<S: Alter>(
                     number,
                     value: Value::Bytes(payload),
                 },
-            ) => take_field(conn, told, number, payload)?,
+            ) => take_field(tx, told, number, payload)?,
             _ => return Err(RowsFault::Malformed),
         }
     }
@@ -204,7 +204,7 @@ pub(crate) fn take_page<S: Alter>(
 /// # Errors
 ///
 /// Where memory is refused.
-pub(crate) fn take_no_meta<S: Alter>(conn: &mut Connection<S>) -> Result<(), RowsFault> {
-    conn.execute(NO_META, &[])?;
+pub(crate) fn take_no_meta<S: Alter>(tx: &mut Transaction<'_, S>) -> Result<(), RowsFault> {
+    tx.execute(NO_META, &[])?;
     Ok(())
 }

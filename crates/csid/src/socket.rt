@@ -222,6 +222,27 @@ fn serve_over_tables(rt: &HostRuntime, config: &Config, serving: &Serving<'_>, p
     }
 }
 
+/// The log, if volumes are in one.
+#[derive(Drop)]
+struct KnownLog {
+    /// It, as it was read; none, where it could not be had.
+    open: Option<OpenLog>,
+    /// Why it could not be had, as it was said last; nothing, where it was had since.
+    said: String,
+}
+
+// Says why the log cannot be had, unless that was said last: where another program leads, each connection finds it so.
+fn say_why(rt: &HostRuntime, said: &mut String, failure: &Failure) {
+    let Ok(text) = format!(in rt.alloc(); "{failure}") else {
+        say(rt, failure);
+        return;
+    };
+    if text.as_str() != said.as_str() {
+        say(rt, failure);
+        *said = text;
+    }
+}
+
 // The log as it stands, or read anew where it does not stand.
 fn standing_log(
     rt: &HostRuntime,
@@ -264,12 +285,15 @@ fn serve_over_log(
     rt: &HostRuntime,
     config: &Config,
     path: &str,
-    log: &mut Option<OpenLog>,
+    log: &mut KnownLog,
     peer: &Pending,
 ) {
-    match standing_log(rt, config, path, log.take()) {
-        Ok(open) => *log = Some(serve_open(rt, config, path, open, peer)),
-        Err(failure) => say(rt, &failure),
+    match standing_log(rt, config, path, log.open.take()) {
+        Ok(open) => {
+            log.said.clear();
+            log.open = Some(serve_open(rt, config, path, open, peer));
+        }
+        Err(failure) => say_why(rt, &mut log.said, &failure),
     }
 }
 
@@ -278,7 +302,7 @@ fn serve_over_store(
     rt: &HostRuntime,
     config: &Config,
     serving: &Serving<'_>,
-    log: &mut Option<OpenLog>,
+    log: &mut KnownLog,
     peer: &Pending,
 ) {
     match serving.log {
@@ -293,7 +317,7 @@ fn serve_peer(
     rt: &HostRuntime,
     config: &Config,
     serving: &Serving<'_>,
-    log: &mut Option<OpenLog>,
+    log: &mut KnownLog,
     peer: &Pending,
 ) {
     if has_gone(&peer.stream) {
@@ -307,14 +331,18 @@ fn serve_peer(
 }
 
 // The log as it is at the start, if volumes are to be in one. Where it cannot be had, that is said, and the first connection tries again.
-fn first_log(rt: &HostRuntime, config: &Config, serving: &Serving<'_>) -> Option<OpenLog> {
-    match open_log(rt, config, serving.log?) {
-        Ok(open) => Some(open),
-        Err(failure) => {
-            say(rt, &failure);
-            None
+fn first_log(rt: &HostRuntime, config: &Config, serving: &Serving<'_>) -> KnownLog {
+    let mut log = KnownLog {
+        open: None,
+        said: String::new(rt.alloc()),
+    };
+    if let Some(path) = serving.log {
+        match open_log(rt, config, path) {
+            Ok(open) => log.open = Some(open),
+            Err(failure) => say_why(rt, &mut log.said, &failure),
         }
     }
+    log
 }
 
 // Answers the calls of connections as they come, until all are taken or the socket fails.

@@ -3,22 +3,16 @@ package frames
 import (
 	"bufio"
 	"bytes"
-	"encoding/hex"
 	"io"
 	"strings"
 	"testing"
 
 	"google.golang.org/grpc/codes"
+
+	"fomaheti/fixtures"
 )
 
-func fromHex(t *testing.T, text string) []byte {
-	t.Helper()
-	all, err := hex.DecodeString(strings.ReplaceAll(text, " ", ""))
-	if err != nil {
-		t.Fatal(err)
-	}
-	return all
-}
+var fromHex = fixtures.FromHex
 
 // The example of docs/PROTOCOL.md, and the greatest length.
 func TestRequestHead(t *testing.T) {

@@ -1,0 +1,62 @@
+//! Databases in files that are in memory.
+
+ghost use Rattle.std.specs.Prelude.{◌≡◌, false, IfErr, IfOk, IsTrue};
+ghost use Rattle.sqlite_disk.specs.Memory.{memory_is_usable};
+ghost use Rattle.csid.specs.Statuses.{IsOrNoMemory};
+
+use crate::failure::Failure;
+use crate::tables::of_database;
+use sqlite::{Connection, FileStore, Files, Options};
+use sqlite_disk::{Disk, Memory};
+use std::alloc::Global;
+
+// What new logs are told by: nobody else sees these.
+const SEED: u64 = 1;
+
+// A file in memory.
+fn in_memory(alloc: Global, bytes: &[u8]) -> Result<Memory, Failure>
+    ensures usable { IfOk result (λ file. IsTrue (memory_is_usable file)) }
+    ensures failure { IfErr result (λ failure. IsOrNoMemory 4 failure) }
+{
+    let mut file = Memory::new(alloc);
+    match file.write_at(0, bytes) {
+        Ok(()) => Ok(file),
+        Err(_) => Err(Failure::NoMemory),
+    }
+}
+
+/// A file in memory with its log.
+///
+/// # Errors
+///
+/// Where memory is refused.
+pub(crate) fn files_of(alloc: Global, log: &[u8], db: &[u8]) -> Result<Files<Memory>, Failure>
+    ensures usable { IfOk result (λ files. IsTrue (memory_is_usable files.log) × IsTrue (memory_is_usable files.db)) }
+    ensures failure { IfErr result (λ failure. IsOrNoMemory 4 failure) }
+{
+    let log = in_memory(alloc, log)?;
+    Ok(Files {
+        log,
+        db: in_memory(alloc, db)?,
+    })
+}
+
+/// A connection to the database that a file and its log hold; an empty one, where there is nothing in them. An error names the path.
+///
+/// # Errors
+///
+/// Where they hold no database, or memory is refused.
+pub(crate) fn open(
+    alloc: Global,
+    path: &str,
+    files: Files<Memory>,
+) -> Result<Connection<FileStore<Memory>>, Failure>
+    requires usable { IsTrue (memory_is_usable files.log) × IsTrue (memory_is_usable files.db) }
+    ensures idle { IfOk result (λ conn. conn.in_transaction ≡ false) }
+    ensures failure { IfErr result (λ failure. IsOrNoMemory 4 failure) }
+{
+    match Connection::open_files(alloc, files, Options::new(SEED)) {
+        Ok(conn) => Ok(conn),
+        Err((error, _)) => Err(of_database(alloc, path, &error)),
+    }
+}
