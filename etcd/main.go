@@ -10,6 +10,7 @@ import (
 	"log"
 	"os"
 	"os/signal"
+	"runtime"
 	"syscall"
 
 	"fomaheti/sockets"
@@ -53,6 +54,10 @@ func run() int {
 	if err != nil {
 		lines.Printf("--revision: %v", err)
 		return failed
+	}
+	// Calls come one after the other: a further processor would have to be woken for each step of one.
+	if os.Getenv("GOMAXPROCS") == "" {
+		runtime.GOMAXPROCS(1)
 	}
 	// Whatever is made from here on is its user's alone.
 	syscall.Umask(0o177)

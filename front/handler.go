@@ -26,6 +26,9 @@ const (
 	clientWindow = 1 << 20
 )
 
+// What the names and values of the headers of one call may have, with 32 bytes for each (RFC 9113, section 6.5.2). A call keeps them until it ends.
+const maxHeaderBytes = 16 << 10
+
 // bytesCodec hands messages on as they are.
 type bytesCodec struct{}
 
@@ -61,6 +64,7 @@ func newServer(h *handler) *grpc.Server {
 		grpc.MaxConcurrentStreams(maxWaitingCalls),
 		grpc.InitialWindowSize(callWindow),
 		grpc.InitialConnWindowSize(clientWindow),
+		grpc.MaxHeaderListSize(maxHeaderBytes),
 		grpc.ConnectionTimeout(greetingTime),
 	)
 }

@@ -14,8 +14,16 @@ import (
 // How many messages are received at once: until one has come, it may be of any length.
 const maxReceived = 16
 
-// How long a message may hold one of these places. One that comes later than that holds up nobody.
-const placeTime = 5 * time.Second
+// How long a message may take while other calls wait for theirs to be received. Where no message at all came for stillTime since one waits, all that are
+// received have clients that stand still: then it may take lookTime.
+const (
+	placeTime = 5 * time.Second
+	stillTime = time.Second
+	lookTime  = 50 * time.Millisecond
+)
+
+// errLate ends a call whose message held up others. What was received of it is dropped, or it would have no bound.
+var errLate = status.Error(codes.Unavailable, "the message did not come in time, and other calls wait")
 
 // messages bounds what the messages of all calls take that wait for their turn or for their replies.
 type messages struct {
@@ -23,6 +31,9 @@ type messages struct {
 	limit     int
 	mutex     sync.Mutex
 	bytes     int
+	// How many calls wait for others to be received, and when the last message came, or the first of them began to wait if that was later.
+	waiting    int
+	stillSince time.Time
 }
 
 func newMessages(limit int) *messages {
@@ -31,12 +42,11 @@ func newMessages(limit int) *messages {
 
 // receive receives the message of a call, and counts it until it is given back.
 func (m *messages) receive(stream grpc.ServerStream) ([]byte, error) {
-	leave, err := m.place(stream.Context())
-	if err != nil {
+	if err := m.place(stream.Context()); err != nil {
 		return nil, err
 	}
-	message, err := onlyMessage(stream)
-	leave()
+	message, err := m.inTime(func() ([]byte, error) { return onlyMessage(stream) })
+	<-m.receiving
 	if err != nil {
 		return nil, err
 	}
@@ -63,19 +73,67 @@ func (m *messages) giveBack(message []byte) {
 	m.bytes -= len(message)
 }
 
-// place waits until few enough messages are received, and gives the function that leaves the place again.
-func (m *messages) place(ctx context.Context) (leave func(), err error) {
+// place waits until few enough messages are received.
+func (m *messages) place(ctx context.Context) error {
 	select {
 	case m.receiving <- struct{}{}:
-	case <-ctx.Done():
-		return nil, status.FromContextError(ctx.Err()).Err()
+		return nil
+	default:
 	}
-	late := time.AfterFunc(placeTime, func() { <-m.receiving })
-	return func() {
-		if late.Stop() {
-			<-m.receiving
+	m.waits(1)
+	defer m.waits(-1)
+	select {
+	case m.receiving <- struct{}{}:
+		return nil
+	case <-ctx.Done():
+		return status.FromContextError(ctx.Err()).Err()
+	}
+}
+
+func (m *messages) waits(more int) {
+	m.mutex.Lock()
+	defer m.mutex.Unlock()
+	if m.waiting == 0 {
+		m.stillSince = time.Now()
+	}
+	m.waiting += more
+}
+
+// inTime gives what is received, unless it is late. The end of the call ends the receiving then.
+func (m *messages) inTime(receive func() ([]byte, error)) (message []byte, err error) {
+	begin, received := time.Now(), make(chan struct{})
+	var came []byte
+	var failure error
+	go func() {
+		defer close(received)
+		came, failure = receive()
+	}()
+	looks := time.NewTicker(lookTime)
+	defer looks.Stop()
+	for {
+		select {
+		case <-received:
+			m.came()
+			return came, failure
+		case <-looks.C:
+			if m.isLate(begin) {
+				return nil, errLate
+			}
 		}
-	}, nil
+	}
+}
+
+func (m *messages) came() {
+	m.mutex.Lock()
+	defer m.mutex.Unlock()
+	m.stillSince = time.Now()
+}
+
+// isLate tells whether a message that began to be received then holds up others.
+func (m *messages) isLate(begin time.Time) bool {
+	m.mutex.Lock()
+	defer m.mutex.Unlock()
+	return m.waiting > 0 && (time.Since(m.stillSince) >= stillTime || time.Since(begin) >= placeTime)
 }
 
 // onlyMessage receives the message of a call. A message that is too long is refused by RecvMsg, before it is read.

@@ -521,6 +521,8 @@ func (f *fleet) kill(client *clientv3.Client) {
 		if member != nil {
 			member.Start(t)
 			f.cluster.Answers(t)
+			// A new leader of etcd's keeps each lease for its whole length, and that of an election more.
+			time.Sleep(leaseLength)
 		}
 	}
 	for _, who := range victims {

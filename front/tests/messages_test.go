@@ -1,15 +1,21 @@
 package tests
 
 import (
+	"bytes"
 	"context"
 	"fmt"
+	"net"
 	"strings"
 	"sync/atomic"
 	"testing"
 	"time"
 
+	"golang.org/x/net/http2"
+	"golang.org/x/net/http2/hpack"
 	"google.golang.org/grpc"
 	"google.golang.org/grpc/codes"
+	"google.golang.org/grpc/metadata"
+	"google.golang.org/grpc/status"
 
 	"./processes"
 )
@@ -83,15 +89,17 @@ func TestManyGreatMessages(t *testing.T) {
 	}
 }
 
-// Callers that never send their messages hold up the others for a while at most, and are served themselves once they do.
+// Callers that never send their messages, as many as a client can have, hold up the others for a while at most, and take no room. Those that nobody
+// waits behind are served themselves once they do.
 func TestMessagesThatNeverCome(t *testing.T) {
 	t.Parallel()
+	const calls, places = 256, 16
 	csid := startFake(t)
 	process := processes.StartFront(t, csid.socket)
 	silent := newClient(t, process.Socket)
 	var streams []grpc.ClientStream
-	for call := 0; call < 20; call++ {
-		stream, err := silent.NewStream(soon(t, 3*processes.Patience), &grpc.StreamDesc{ClientStreams: true}, fmt.Sprintf("/a/silent%d", call))
+	for call := 0; call < calls; call++ {
+		stream, err := silent.NewStream(soon(t, 3*processes.Patience), &grpc.StreamDesc{ClientStreams: true}, "/a/silent")
 		if err != nil {
 			t.Fatal(err)
 		}
@@ -100,17 +108,121 @@ func TestMessagesThatNeverCome(t *testing.T) {
 		}
 		streams = append(streams, stream)
 	}
-	time.Sleep(500 * time.Millisecond)
+	time.Sleep(200 * time.Millisecond)
 	begin := time.Now()
 	newClient(t, process.Socket).wants(t, probe, "", ok(ready))
-	if spent := time.Since(begin); spent < time.Second || spent > processes.Patience/2 {
+	if spent := time.Since(begin); spent < 200*time.Millisecond || spent > processes.Patience/4 {
 		t.Errorf("served after %v", spent)
 	}
-	csid.sees(t, probe+" ")
-	var body []byte
-	streams[0].CloseSend()
-	if err := streams[0].RecvMsg(&body); err != nil {
-		t.Error(err)
+	served := 0
+	for _, stream := range streams {
+		var body []byte
+		stream.CloseSend()
+		if err := stream.RecvMsg(&body); err == nil {
+			served++
+		} else if status.Code(err) != codes.Unavailable || !strings.Contains(err.Error(), "the message did not come in time, and other calls wait") {
+			t.Error(err)
+		}
 	}
-	csid.sees(t, probe+" ", "/a/silent0 01")
+	if served == 0 || served >= places {
+		t.Errorf("%d were served", served)
+	}
+}
+
+// Calls that announce a great message, send a part of it, and go, again and again: no room is kept for what does not come.
+func TestMessagesThatAreAnnounced(t *testing.T) {
+	t.Parallel()
+	const turns, clients, calls = 2, 4, 256
+	csid := startFake(t)
+	process := processes.StartFront(t, csid.socket)
+	for turn := 0; turn < turns; turn++ {
+		var conns []net.Conn
+		for client := 0; client < clients; client++ {
+			conn, framer := speak(t, process.Socket)
+			conns = append(conns, conn)
+			for call := uint32(0); call < calls; call++ {
+				writeCall(framer, 2*call+1, 0)
+				framer.WriteData(2*call+1, false, []byte{0, 0, 0x10, 0, 0, 1})
+			}
+		}
+		newClient(t, process.Socket).wants(t, probe, "", ok(ready))
+		for _, conn := range conns {
+			conn.Close()
+		}
+	}
+	if taken := process.ResidentBytes(t); taken > 256<<20 {
+		t.Errorf("the front takes %d MiB", taken>>20)
+	}
+}
+
+// A call whose headers are too long ends before csid sees it; one whose headers are not is served.
+func TestHeadersThatAreTooLong(t *testing.T) {
+	t.Parallel()
+	csid := startFake(t)
+	front := newClient(t, processes.StartFront(t, csid.socket).Socket)
+	with := func(size int) context.Context {
+		return metadata.AppendToOutgoingContext(soon(t, processes.Patience), "n", strings.Repeat("v", size))
+	}
+	if got := front.send(with(15000), "/a/short", nil); got != ok(ready) {
+		t.Errorf("%v", got)
+	}
+	if got := front.send(with(17000), "/a/long", nil); got.code != codes.Internal {
+		t.Errorf("%v", got)
+	}
+	front.wants(t, "/a/then", "", ok(ready))
+	csid.sees(t, "/a/short ", "/a/then ")
+}
+
+// Of calls with long headers, as no client of gRPC sends them, nothing is kept.
+func TestManyLongHeaders(t *testing.T) {
+	t.Parallel()
+	const calls, fields = 50, 4000
+	csid := startFake(t)
+	process := processes.StartFront(t, csid.socket)
+	conn, framer := speak(t, process.Socket)
+	defer conn.Close()
+	for call := 0; call < calls; call++ {
+		writeCall(framer, uint32(2*call+1), fields)
+	}
+	newClient(t, process.Socket).wants(t, probe, "", ok(ready))
+	if taken := process.ResidentBytes(t); taken > 128<<20 {
+		t.Errorf("the front takes %d MiB", taken>>20)
+	}
+	csid.sees(t, probe+" ")
+}
+
+// speak makes a connection that speaks HTTP/2 by hand.
+func speak(t *testing.T, socket string) (net.Conn, *http2.Framer) {
+	t.Helper()
+	conn, err := net.Dial("unix", socket)
+	if err != nil {
+		t.Fatal(err)
+	}
+	conn.SetDeadline(time.Now().Add(3 * processes.Patience))
+	if _, err := conn.Write([]byte(http2.ClientPreface)); err != nil {
+		t.Fatal(err)
+	}
+	framer := http2.NewFramer(conn, nil)
+	framer.WriteSettings()
+	return conn, framer
+}
+
+// writeCall writes the headers of a call, with so many further fields of 1,000 bytes.
+func writeCall(framer *http2.Framer, stream uint32, fields int) {
+	var block bytes.Buffer
+	encoder := hpack.NewEncoder(&block)
+	write := func(name, value string) {
+		encoder.WriteField(hpack.HeaderField{Name: name, Value: value, Sensitive: true})
+	}
+	for _, field := range [][2]string{{":method", "POST"}, {":scheme", "http"}, {":path", "/a/long"}, {":authority", "csi"}, {"te", "trailers"}, {"content-type", "application/grpc"}} {
+		write(field[0], field[1])
+	}
+	for i := 0; i < fields; i++ {
+		write(fmt.Sprintf("n%d", i), strings.Repeat("v", 1000))
+	}
+	framer.WriteHeaders(http2.HeadersFrameParam{StreamID: stream, BlockFragment: block.Next(1 << 14), EndHeaders: fields == 0})
+	for block.Len() > 0 {
+		part := block.Next(1 << 14)
+		framer.WriteContinuation(stream, block.Len() == 0, part)
+	}
 }

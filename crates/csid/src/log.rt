@@ -1,6 +1,7 @@
 //! Volumes that a log keeps, which another program is: its socket, what it tells at the start, and calls over both.
 
 ghost use Rattle.std.specs.Prelude.{◌≡◌, false, IfErr};
+ghost use Rattle.csi_log.specs.Remote.{channel_model};
 ghost use Rattle.csid.specs.Statuses.{IsOrNoMemory};
 
 use crate::content::read_content;
@@ -17,7 +18,9 @@ use csi_tables::Tables;
 use csi_through::Through;
 use sqlite::{Alter, Connection, Transaction};
 use std::alloc::Global;
+use std::cell::Cell;
 use std::os::unix::net::UnixStream;
+use std::rc::Rc;
 use std::time::Duration;
 use std::{io, str};
 
@@ -27,7 +30,22 @@ const LONGEST: u64 = 30;
 // At most so many pages are read: more than 100,000 volumes have, whatever a page holds.
 const MOST_PAGES: u64 = 1 << 32;
 
-type Line = Channel<UnixStream, UnixStream>;
+/// The connection to a log.
+#[derive(Drop)]
+pub(crate) struct Line {
+    channel: Channel<UnixStream, UnixStream>,
+    // Noted for who answers calls over it.
+    is_asked: Rc<Cell<bool>>,
+}
+
+impl Peer for Line {
+    ghost model = { λ line. channel_model line.channel };
+
+    fn exchange(&mut self, alloc: Global, frame: &[u8]) -> Received {
+        self.is_asked.set(true);
+        self.channel.exchange(alloc, frame)
+    }
+}
 
 /// What is kept in memory of a log's volumes, and the log.
 pub(crate) type Remote = Through<MemKeeper, RemoteLog<Line>>;
@@ -39,6 +57,8 @@ pub(crate) struct OpenLog {
     pub(crate) keeper: Remote,
     /// Its connection, to ask whether it leads.
     pub(crate) stream: UnixStream,
+    /// Whether it was asked for a change since calls were read.
+    pub(crate) is_asked: Rc<Cell<bool>>,
     /// Whether it did not lead once: what it has is read anew.
     pub(crate) is_cut: bool,
 }
@@ -236,14 +256,17 @@ fn connect(rt: &HostRuntime, path: &str) -> io::Result<UnixStream> {
 }
 
 // The line over a connection.
-fn line_over(stream: &UnixStream) -> io::Result<Line> {
-    Ok(Channel::new(stream.try_clone()?, stream.try_clone()?))
+fn line_over(stream: &UnixStream, is_asked: Rc<Cell<bool>>) -> io::Result<Line> {
+    Ok(Line {
+        channel: Channel::new(stream.try_clone()?, stream.try_clone()?),
+        is_asked,
+    })
 }
 
 // A connection to a log, and the line over it.
-fn reach(rt: &HostRuntime, path: &str) -> io::Result<(UnixStream, Line)> {
+fn reach(rt: &HostRuntime, path: &str, is_asked: Rc<Cell<bool>>) -> io::Result<(UnixStream, Line)> {
     let stream = connect(rt, path)?;
-    let line = line_over(&stream)?;
+    let line = line_over(&stream, is_asked)?;
     Ok((stream, line))
 }
 
@@ -258,7 +281,10 @@ fn reach(rt: &HostRuntime, path: &str) -> io::Result<(UnixStream, Line)> {
 pub(crate) fn open_log(rt: &HostRuntime, config: &Config, path: &str) -> Result<OpenLog, Failure>
     ensures { IfErr result (λ failure. IsOrNoMemory 4 failure) }
 {
-    let (stream, line) = match reach(rt, path) {
+    let Ok(is_asked) = Rc::new(rt.alloc(), Cell::new(false)) else {
+        return Err(Failure::NoMemory);
+    };
+    let (stream, line) = match reach(rt, path, is_asked.clone()?) {
         Ok(reached) => reached,
         Err(error) => return Err(of_log(rt.alloc(), path, &error)),
     };
@@ -267,6 +293,7 @@ pub(crate) fn open_log(rt: &HostRuntime, config: &Config, path: &str) -> Result<
     Ok(OpenLog {
         keeper,
         stream,
+        is_asked,
         is_cut: false,
     })
 }

@@ -1,12 +1,11 @@
 //! The peer of a connection: whether it is there, and how long it may say nothing.
 
-ghost use Rattle.std.specs.Counts.{IsPrefixLen};
-ghost use Rattle.std.specs.Prelude.{IfOk};
-
 use crate::log::leads;
 use std::alloc::Global;
+use std::cell::Cell;
 use std::io::{self, ErrorKind, Read, Write};
 use std::os::unix::net::UnixStream;
+use std::rc::Rc;
 use std::time::Duration;
 
 /// Whether the peer has closed its end. Nothing can be written to it then, not even no byte, which is all that is tried. A peer that
@@ -31,47 +30,44 @@ pub(crate) fn settle(stream: &UnixStream, idle: Option<u32>) -> io::Result<()> {
     stream.set_write_timeout(longest)
 }
 
+/// A log, as the connection of a peer has to do with it.
+#[derive(Clone, Copy)]
+pub(crate) struct Watched<'a> {
+    pub(crate) stream: &'a UnixStream,
+    /// Whether it was asked for something since calls were read.
+    pub(crate) is_asked: &'a Rc<Cell<bool>>,
+}
+
 /// What a connection gives, behind the bytes that it has sent already.
 #[derive(Drop)]
 pub(crate) struct Patient<'a> {
     stream: &'a UnixStream,
     sent: &'a [u8],
-    // The connection to a log: what comes while that does not lead is not read.
-    log: Option<&'a UnixStream>,
-    alloc: Global,
+    log: Option<Watched<'a>>,
     /// Whether the last read waited for as long as it may.
     pub(crate) is_idle: bool,
-    /// Whether the log did not lead any more.
-    pub(crate) is_cut: bool,
 }
 
 impl<'a> Patient<'a> {
     pub(crate) fn new(
         stream: &'a UnixStream,
         sent: &'a [u8],
-        log: Option<&'a UnixStream>,
-        alloc: Global,
+        log: Option<Watched<'a>>,
     ) -> Patient<'a> {
         Patient {
             stream,
             sent,
             log,
-            alloc,
             is_idle: false,
-            is_cut: false,
         }
     }
+}
 
-    fn may_answer(&self) -> bool {
-        match self.log {
-            Some(log) => leads(self.alloc, log),
-            None => true,
+impl Read for Patient<'_> {
+    fn read(&mut self, buf: &mut [u8]) -> io::Result<usize> {
+        if let Some(log) = &self.log {
+            log.is_asked.set(false);
         }
-    }
-
-    fn read_on(&mut self, buf: &mut [u8]) -> io::Result<usize>
-        ensures { IfOk result (λ count. IsPrefixLen count buf.new) }
-    {
         if !self.sent.is_empty() {
             return self.sent.read(buf);
         }
@@ -82,14 +78,56 @@ impl<'a> Patient<'a> {
     }
 }
 
-impl Read for Patient<'_> {
-    fn read(&mut self, buf: &mut [u8]) -> io::Result<usize> {
-        let count = self.read_on(buf)?;
-        // Where another leads it may have changed the volumes, so that nothing is answered from memory.
-        self.is_cut = count > 0 && !self.may_answer();
-        if self.is_cut {
+/// What a connection is told. Nothing is, once its log does not lead any more: another one may have changed the volumes, and what was answered from memory is
+/// what they were.
+#[derive(Drop)]
+pub(crate) struct Guarded<'a> {
+    stream: &'a UnixStream,
+    log: Option<Watched<'a>>,
+    alloc: Global,
+    /// Whether the log did not lead any more.
+    pub(crate) is_cut: bool,
+}
+
+impl<'a> Guarded<'a> {
+    pub(crate) fn new(
+        stream: &'a UnixStream,
+        log: Option<Watched<'a>>,
+        alloc: Global,
+    ) -> Guarded<'a> {
+        Guarded {
+            stream,
+            log,
+            alloc,
+            is_cut: false,
+        }
+    }
+
+    // Whether what was answered since calls were read holds. A change that was asked for meanwhile tells it too: it is made while the log leads alone.
+    fn may_answer(&self) -> bool {
+        let Some(log) = &self.log else {
+            return true;
+        };
+        if log.is_asked.get() {
+            return true;
+        }
+        log.is_asked.set(true);
+        leads(self.alloc, log.stream)
+    }
+}
+
+impl Write for Guarded<'_> {
+    fn write(&mut self, buf: &[u8]) -> io::Result<usize> {
+        if self.is_cut || !self.may_answer() {
+            self.is_cut = true;
             return Err(io::Error::from(ErrorKind::ConnectionAborted));
         }
-        Ok(count)
+        let mut stream = self.stream;
+        stream.write(buf)
+    }
+
+    fn flush(&mut self) -> io::Result<()> {
+        let mut stream = self.stream;
+        stream.flush()
     }
 }

@@ -7,7 +7,7 @@ use crate::command::Serving;
 use crate::failure::{Failure, Peer, outcome};
 use crate::group::group_number;
 use crate::log::{OpenLog, open_log};
-use crate::peer::{Patient, has_gone, settle};
+use crate::peer::{Guarded, Patient, Watched, has_gone, settle};
 use crate::pending::{Pending, Start};
 use crate::run::FIRST_NUMBER;
 use crate::say::{say, say_of};
@@ -23,7 +23,7 @@ use std::alloc::Global;
 use std::fs::{self, Permissions};
 use std::io::{self, ErrorKind};
 use std::os::unix::fs::{PermissionsExt, chown};
-use std::os::unix::net::{UnixListener, UnixStream};
+use std::os::unix::net::UnixListener;
 
 // Who may connect: the owner, or the owner and a group.
 const OWNER: u32 = 0o600;
@@ -96,7 +96,7 @@ pub(crate) fn listen(
 fn tell_end(rt: &HostRuntime, is_idle: bool, is_cut: bool, end: RunEnd) {
     match end {
         RunEnd::ReadFailed if is_idle => say(rt, &"a connection that sent nothing was closed"),
-        RunEnd::ReadFailed if is_cut => say(rt, &"the log does not lead any more"),
+        RunEnd::WriteFailed if is_cut => say(rt, &"the log does not lead any more"),
         _ => {
             if let Err(failure) = outcome(Peer::Connection, end) {
                 say(rt, &failure);
@@ -111,13 +111,13 @@ fn serve_one<K: Keeper>(
     config: &Config,
     keeper: &mut K,
     peer: &Pending,
-    log: Option<&UnixStream>,
+    log: Option<Watched<'_>>,
 ) -> bool {
-    let mut reader = Patient::new(&peer.stream, peer.sent.as_slice(), log, rt.alloc());
-    let mut writer = &peer.stream;
+    let mut reader = Patient::new(&peer.stream, peer.sent.as_slice(), log);
+    let mut writer = Guarded::new(&peer.stream, log, rt.alloc());
     let end = serve(rt.alloc(), config, keeper, &mut reader, &mut writer);
-    tell_end(rt, reader.is_idle, reader.is_cut, end);
-    reader.is_cut
+    tell_end(rt, reader.is_idle, writer.is_cut, end);
+    writer.is_cut
 }
 
 // Refuses what a connection has sent, which begins no call: so no volume is asked for, and the tables are not opened.
@@ -266,7 +266,11 @@ fn serve_open(
     mut open: OpenLog,
     peer: &Pending,
 ) -> OpenLog {
-    open.is_cut = serve_one(rt, config, &mut open.keeper, peer, Some(&open.stream));
+    let log = Watched {
+        stream: &open.stream,
+        is_asked: &open.is_asked,
+    };
+    open.is_cut = serve_one(rt, config, &mut open.keeper, peer, Some(log));
     if open.keeper.is_down() {
         say_of(
             rt,
