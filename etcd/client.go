@@ -19,6 +19,9 @@ const maxRequestBytes = 4 << 20
 // How long a connection to etcd may be silent before it is asked for a sign of life. It is the least that gRPC has, and etcd allows.
 const silence = 10 * time.Second
 
+// How many bytes of answers may be on their way: more than a page of rows has.
+const answerWindow = 4 << 20
+
 // connect makes a client of etcd. Files are read each time, and the certificate and its key at each connection too.
 func connect(asked options) (*clientv3.Client, error) {
 	security, err := readTLS(asked)
@@ -38,8 +41,10 @@ func connect(asked options) (*clientv3.Client, error) {
 		Username:             asked.user,
 		Password:             password,
 		MaxCallSendMsgSize:   maxRequestBytes,
-		DialOptions:          []grpc.DialOption{grpc.WithChainUnaryInterceptor(sendOnce), grpc.WithDisableRetry()},
-		LogConfig:            &zap.Config{Level: zap.NewAtomicLevelAt(zap.FatalLevel), Encoding: "json", EncoderConfig: zap.NewProductionEncoderConfig()},
+		// With windows that are told, grpc does not measure the connection by a ping behind each answer.
+		DialOptions: []grpc.DialOption{grpc.WithChainUnaryInterceptor(sendOnce), grpc.WithDisableRetry(),
+			grpc.WithInitialWindowSize(answerWindow), grpc.WithInitialConnWindowSize(answerWindow)},
+		LogConfig: &zap.Config{Level: zap.NewAtomicLevelAt(zap.FatalLevel), Encoding: "json", EncoderConfig: zap.NewProductionEncoderConfig()},
 	})
 }
 
