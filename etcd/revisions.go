@@ -26,11 +26,13 @@ type revisions struct {
 	older error
 	// What the file has.
 	saved string
+	// Told once there is a lower one: that is written at once.
+	noticed chan struct{}
 }
 
 // openRevisions reads the file. Where an older etcd is accepted, what it has is forgotten, and written anew.
 func openRevisions(path string, acceptOlder bool) (*revisions, error) {
-	r := &revisions{path: path}
+	r := &revisions{path: path, noticed: make(chan struct{}, 1)}
 	if path == "" || acceptOlder {
 		return r, nil
 	}
@@ -90,6 +92,10 @@ func (r *revisions) check(least, revision int64) error {
 	defer r.mutex.Unlock()
 	if r.older == nil && revision < least {
 		r.lower, r.older = revision, olderRefusal(least, revision)
+		select {
+		case r.noticed <- struct{}{}:
+		default:
+		}
 	}
 	return r.older
 }
@@ -108,13 +114,14 @@ func (r *revisions) answered(revision int64) {
 	}
 }
 
-// keep writes the file now and then until it is told to end, and then a last time. A failure is told once, until it is over.
+// keep writes the file now and then, and at once where an older etcd was seen, until it is told to end, and then a last time. A failure is told once, until it is over.
 func (r *revisions) keep(end <-chan struct{}, say func(format string, parts ...interface{})) {
 	isFailing := false
 	for isEnding := false; !isEnding; {
 		select {
 		case <-end:
 			isEnding = true
+		case <-r.noticed:
 		case <-time.After(savePause):
 		}
 		err := r.save()

@@ -73,6 +73,31 @@ func TestRevisions(t *testing.T) {
 	}
 }
 
+// That an older etcd was seen is in the file before a stop can come in between: sooner than the file is written otherwise.
+func TestOlderIsWrittenAtOnce(t *testing.T) {
+	path := filepath.Join(t.TempDir(), "revision")
+	r, err := openRevisions(path, false)
+	if err != nil {
+		t.Fatal(err)
+	}
+	r.answered(112)
+	end := make(chan struct{})
+	defer close(end)
+	go r.keep(end, t.Logf)
+	if r.check(r.least(), 111) == nil {
+		t.Fatal("an older etcd is not refused")
+	}
+	for begin := time.Now(); ; time.Sleep(time.Millisecond) {
+		text, _ := os.ReadFile(path)
+		if string(text) == "112 111\n" {
+			return
+		}
+		if time.Since(begin) > savePause/2 {
+			t.Fatalf("the file has %q", text)
+		}
+	}
+}
+
 func TestBadRevisionFile(t *testing.T) {
 	path := filepath.Join(t.TempDir(), "revision")
 	for _, text := range []string{"", "\n", "x", "-1\n", "01\n", "1\n\n", "1 \n", " 1\n", "1 1\n", "1 2\n", "2 01\n", "2 1 0\n", "9223372036854775808\n"} {

@@ -3,9 +3,10 @@ import base64, collections, http.client, json, os, random, re, select, signal, s
 
 import vectors as v
 from broken import DATA, END, GOAWAY, HELLO, RESET, WINDOW, enveloped, h2, head, message_frames, replies_in
+from logs import SECONDS, wait
 
 TOP = os.path.dirname(os.path.dirname(os.path.abspath(__file__)))
-SECONDS, NAME = 30, "pools.example.org"
+NAME = "pools.example.org"
 CONFIG = 'name = "%s"\nvendor_version = "1.0.0"\ndefault_bytes = 1048576\ngreatest_bytes = 8388608\n[[pool]]\nname = "p1"\nbytes = %d\n' % (NAME, 1 << 40)
 
 
@@ -14,15 +15,6 @@ def program(name, place):
     if not os.access(path, os.X_OK):
         sys.exit("tests/faults: no program at %s" % path)
     return os.path.abspath(path)
-
-
-def wait(happens, seconds=SECONDS, pause=0.005):
-    end = time.monotonic() + seconds
-    while not happens():
-        if time.monotonic() > end:
-            return False
-        time.sleep(pause)
-    return True
 
 
 class Run:

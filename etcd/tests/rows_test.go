@@ -14,6 +14,7 @@ import (
 
 	"../../front/tests/processes"
 	"./clusters"
+	"fomaheti/frames"
 )
 
 // Each change is seen in etcd as the bytes that stand here, and is read again.
@@ -116,7 +117,10 @@ func TestMalformedFrame(t *testing.T) {
 	}
 	// The call of Make before had so many bytes.
 	l.SetDeadline(time.Now().Add(processes.Patience))
-	l.wants(t, readPath, "", codes.InvalidArgument, fmt.Sprintf("bad flag at byte %d", 7+len(makePath)+3))
+	want := fmt.Sprintf("bad flag at byte %d", 7+len(makePath)+3)
+	if reply, err := frames.ReadReply(l.in); err != nil || reply.Code != codes.InvalidArgument || reply.Text != want {
+		t.Errorf("%d %q, %v, wanted %q", reply.Code, reply.Text, err, want)
+	}
 	if reply, err := l.call(readPath, nil); err == nil {
 		t.Errorf("behind a malformed frame: %v", reply)
 	}
