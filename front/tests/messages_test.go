@@ -150,7 +150,8 @@ func TestMessagesThatAreAnnounced(t *testing.T) {
 			conn.Close()
 		}
 	}
-	if taken := process.ResidentBytes(t); taken > 256<<20 {
+	// 140 to 290 MiB, by when Go collects its garbage; with room for each message 420 to 1,050.
+	if taken := process.ResidentBytes(t); taken > 384<<20 {
 		t.Errorf("the front takes %d MiB", taken>>20)
 	}
 }

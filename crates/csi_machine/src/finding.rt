@@ -18,7 +18,7 @@ pub(crate) fn volume_of<K: Keeper>(
 ) -> Result<Option<(u64, Volume)>, StoreFault>
     ensures { Finds (K.model keeper.old) (K.model keeper.new) result (λ s found. found ≡ volume_at s (number_of_id id.now)) }
 {
-    let Some(number) = number_of_id(alloc, id.as_str())? else {
+    let Some(number) = number_of_id(id.as_str()) else {
         return Ok(None);
     };
     match keeper.by_number(alloc, number)? {

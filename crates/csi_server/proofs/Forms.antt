@@ -1,5 +1,5 @@
 -- The replies of a machine over requests are replies of the envelope.
-use Rattle.std.proofs.Common.{◌≡◌, ◌≢◌, ℕ, ◌≤◌, ◌<◌, ◌^◌, List, ◌++◌, length, All, Option, Some, None, Bool, true, false, Result, Ok, Err, refl, length-append, arith}
+use Rattle.std.proofs.Common.{◌≡◌, ◌≢◌, ℕ, ◌≤◌, ◌<◌, ◌^◌, List, ◌++◌, length, All, Option, Some, None, Bool, true, false, Result, Ok, Err, refl, subst, length-append, arith}
 use Rattle.std.specs.Prelude.{codes, decimal, nat_le, if◌then◌else◌}
 use Rattle.std.proofs.lemmas.Bool.{leb-true}
 use Rattle.std.proofs.lemmas.List.Elements.{All-append, All-nil}
@@ -24,7 +24,7 @@ use Rattle.csi_codec.specs.Methods.{IsNoRequest}
 use Rattle.csi_codec.specs.Reading.{read_request, IsRead}
 use Rattle.csi_machine.specs.Verdicts.{Told, Says, Denies, within, told_of}
 use Rattle.csi_server.specs.Machine.{refusal, refused}
-use Rattle.csi_server.specs.Requests.{requests, told, after_check, after_read, after_path}
+use Rattle.csi_server.specs.Requests.{requests, malformed, told, after_check, after_read, after_path}
 use Rattle.csi_server.proofs.Printable.{all_printable}
 use Rattle.csi_server.proofs.Reasons.{reason_printable, reason_short, reason_refuses, refusal_number}
 
@@ -70,6 +70,9 @@ code_status code.Internal = refl
 formed_refused : (r : Reason) → IsReply (refused r)
 formed_refused r = let short = reason_short r in formed_refusal (number_of (code_of r)) (text_of r) (code_status (code_of r)) (refusal_number (code_of r) (reason_refuses r)) (omega (arith, short)) (reason_printable r)
 
+pub formed_malformed : (at : ℕ) (text : List ℕ) → text ≡ codes "malformed message in the field at byte " ++ decimal at → length text ≤ 1024 → All IsTextByte text → IsReply (malformed at)
+formed_malformed at text is short printable = subst (λ (t : List ℕ). IsReply (refusal 3 t)) is (formed_refusal 3 text refl (λ e. omega arith) short printable)
+
 formed_told : (v : Told) → IsShort v → IsReply (told v)
 formed_told (Says body) short = record {
   status = refl;
@@ -92,7 +95,7 @@ module _ {S : Type 0} (answer : S → Request → Told × S) (short : (s : S) (r
   formed_read s m message few (Err at) is =
       let small : at < 2 ^ 64 = omega (arith, is.0.within) in
       let words = codes "malformed message in the field at byte " in
-      formed_refusal 3 (words ++ decimal at) refl (λ e. omega arith)
+      formed_malformed at (words ++ decimal at) refl
       (omega (arith, length-append words (decimal at), length-decimal-le 20 at (omega arith) (omega arith) small))
       (All-append IsTextByte words (decimal at) (all_printable words refl) (numbers at small))
 

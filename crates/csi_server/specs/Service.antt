@@ -1,15 +1,21 @@
 -- The reply that an answer and its frame make.
 use Rattle.std.specs.Prelude.{ℕ, ◌+◌, ◌≤◌, List, [], ◌∷◌, drop, length, Result, Ok, Err}
 use Rattle.csi_server.specs.declared.refused.Refusal.{Refusal}
-use Rattle.csi_types.specs.Codes.{number_of}
+use Rattle.csi_server.specs.declared.refused.Refusal.TheVariants.{For, Malformed}
 use Rattle.frames_core.specs.declared.limits.TheConstants.{REPLY_HEAD_BYTES, MAX_BODY_BYTES}
 use Rattle.frames_core.specs.Envelope.{ReplyBytes}
-use Rattle.csi_server.specs.Machine.{refusal}
+use Rattle.csi_server.specs.Machine.{refused}
+use Rattle.csi_server.specs.Requests.{malformed}
+
+-- the reply that refuses a call so
+abbrev pub refused_by : Refusal → ReplyBytes
+refused_by (For reason) = refused reason
+refused_by (Malformed at) = malformed at
 
 -- the body stands behind room for the head
 abbrev pub reply_of : {U : Type 0} → Result U Refusal → List ℕ → ReplyBytes
 reply_of (Ok done) buffer = record { status = 0; text = []; body = drop REPLY_HEAD_BYTES buffer }
-reply_of (Err r) buffer = refusal (number_of r.code) r.text
+reply_of (Err r) buffer = refused_by r
 
 -- there is that room, and the body is none that a reply can't hold
 abbrev pub HasBody : List ℕ → Type 0

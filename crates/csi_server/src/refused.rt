@@ -1,33 +1,70 @@
-ghost use Rattle.std.specs.Prelude.{◌≡◌, ◌≢◌, All};
-ghost use Rattle.csi_types.specs.declared.code.Code.TheVariants.{Ok};
-ghost use Rattle.frames_core.specs.Envelope.{IsTextByte};
+//! Why a call is not done.
 
+ghost use Rattle.std.specs.Prelude.{◌≡◌, ◌≤◌, List, ℕ, All, codes, length};
+ghost use Rattle.frames_core.specs.Envelope.{IsReply, IsTextByte, reply as reply_frame};
+ghost use Rattle.csi_server.specs.Service.{refused_by};
+
+use csi_codec::MALFORMED_MESSAGE;
 use csi_types::{Code, Reason};
-use frames_core::{FixedText, fixed_text};
+use frames_core::{FixedFrame, refusal_frame, text_and_number};
 
-/// Why a call is not done: a status code and what it is told in words.
-#[derive(Drop)]
-pub struct Refusal {
-    /// The code, other than that of success.
-    pub code: Code,
-    /// At most 140 bytes, each 0x20 to 0x7E.
-    pub text: FixedText,
-    ghost refuses: { code ≢ Ok },
-    ghost printable: { All IsTextByte text },
+/// Why a call is not done.
+#[derive(Clone, Copy, Debug, PartialEq, Eq)]
+pub enum Refusal {
+    /// For a reason, with its status code and its text.
+    For(Reason),
+    /// Its message is malformed in the field at this byte.
+    Malformed(u64),
 }
 
 /// What comes of a call: it is done, or refused.
 pub type Answer = Result<(), Refusal>;
 
-impl From<Reason> for Refusal {
-    ghost use Rattle.csi_types.specs.Reasons.{code_of, text_of};
+impl Refusal {
+    /// The frame of the reply that says so.
+    pub(crate) fn frame(self) -> FixedFrame
+        ensures spelled { result ≡ reply_frame (refused_by self) }
+        ensures formed { IsReply (refused_by self) }
+    {
+        match self {
+            Refusal::For(reason) => reason_frame(reason),
+            Refusal::Malformed(at) => malformed_frame(at),
+        }
+    }
+}
 
-    ghost from_gives = { λ reason refusal. (refusal.code ≡ code_of reason) × (refusal.text ≡ text_of reason) };
+fn reason_frame(reason: Reason) -> FixedFrame
+    ensures spelled { result ≡ reply_frame (refused_by (Refusal.For reason)) }
+    ensures formed { IsReply (refused_by (Refusal.For reason)) }
+{
+    refusal_frame(reason.code().number(), reason.text().as_bytes())
+}
+
+fn malformed_frame(at: u64) -> FixedFrame
+    ensures spelled { result ≡ reply_frame (refused_by (Refusal.Malformed at)) }
+    ensures formed { IsReply (refused_by (Refusal.Malformed at)) }
+{
+    refusal_frame(
+        Code::InvalidArgument.number(),
+        text_and_number(malformed_start(), at).bytes(),
+    )
+}
+
+// The text before the offset of the field.
+fn malformed_start() -> &'static [u8]
+    ensures value { result.now ≡ codes "malformed message in the field at byte " }
+    ensures short { length result.now ≤ 120 }
+    ensures printable { All IsTextByte result.now }
+{
+    MALFORMED_MESSAGE.as_bytes()
+}
+
+impl From<Reason> for Refusal {
+    ghost use Rattle.csi_server.specs.declared.refused.Refusal.TheVariants.{For};
+
+    ghost from_gives = { λ reason refusal. refusal ≡ For reason };
 
     fn from(reason: Reason) -> Refusal {
-        Refusal {
-            code: reason.code(),
-            text: fixed_text(reason.text().as_bytes()),
-        }
+        Refusal::For(reason)
     }
 }

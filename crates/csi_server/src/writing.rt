@@ -67,10 +67,7 @@ pub(crate) fn put_reply<W: Write>(
             set_head(reply);
             put_flushed(writer, reply.as_slice())
         }
-        Err(refusal) => put_flushed(
-            writer,
-            refusal_frame(refusal.code.number(), refusal.text.bytes()).bytes(),
-        ),
+        Err(refusal) => put_flushed(writer, refusal.frame().bytes()),
     }
 }
 

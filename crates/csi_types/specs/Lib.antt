@@ -7,4 +7,5 @@ pub mod Names
 pub mod Overlays
 pub mod Reasons
 pub mod Segments
+pub mod Texts
 pub mod Topology

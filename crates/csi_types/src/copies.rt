@@ -20,6 +20,10 @@ pub fn copy_map(alloc: Global, map: &Map) -> Result<Map, AllocError>
     ensures { IfOk result (λ copy. copy ≡ map.now) }
 {
     let mut copy = Map::new(alloc);
+    // Most maps are empty.
+    if map.is_empty() {
+        return Ok(copy);
+    }
     for (key, value) in map {
         copy.insert(
             copy_text(alloc, key.as_str())?,

@@ -1,10 +1,10 @@
 //! Lists of values, which contracts see as lists.
 
-ghost use Rattle.std.specs.Prelude.{◌≡◌, ◌==◌, ◌++◌, ◌∷◌, List, [], OnOk, OnErr, length, slice_get};
+ghost use Rattle.std.specs.Prelude.{◌≡◌, ◌==◌, ◌++◌, ◌∷◌, List, [], IfOk, OnOk, OnErr, length, slice_get};
 ghost use Rattle.std.specs.Option.{option_copied};
 ghost use Rattle.std.specs.Slice.Iter.{iter_rest};
 
-use std::alloc::{AllocFailed, Global};
+use std::alloc::{AllocError, AllocFailed, Global};
 use std::marker::Model;
 use std::slice::Iter;
 
@@ -34,6 +34,15 @@ impl<T> Items<T> {
         Items {
             vec: Vec::new(alloc),
         }
+    }
+
+    /// No values, and room for so many.
+    pub fn with_room(alloc: Global, room: usize) -> Result<Self, AllocError>
+        ensures { IfOk result (λ items. items ≡ []) }
+    {
+        Ok(Items {
+            vec: Vec::with_capacity(alloc, room)?,
+        })
     }
 
     /// Takes a vector, and no memory.
@@ -86,11 +95,15 @@ impl<T> Items<T> {
         self.as_slice().iter()
     }
 
-    /// Appends a value. Where memory is refused the list stays, and the value is given back.
+    /// Appends a value. Where memory is refused the list stays, and the value is given back. A list
+    /// of one value takes room for no more, since most have one.
     pub fn push(&mut self, item: T) -> Result<(), AllocFailed<T>>
         ensures ok { OnOk result (self.new ≡ self.old ++ item ∷ []) }
         ensures err { OnErr result (self.new ≡ self.old) }
     {
+        if self.is_empty() && self.vec.reserve_exact(1).is_err() {
+            return Err(AllocFailed { value: item });
+        }
         self.vec.push(item)
     }
 }

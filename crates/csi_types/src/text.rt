@@ -1,29 +1,42 @@
 //! Texts, which contracts see as their bytes.
 
-ghost use Rattle.std.specs.Prelude.{◌≡◌, ◌==◌, ℕ, List, [], IfOk, IsUtf8, OnErr, OnOk, length};
+ghost use Rattle.std.specs.Prelude.{◌≡◌, ◌==◌, ◌++◌, ℕ, List, [], IfOk, IsUtf8, OnErr, OnOk, length};
 ghost use Rattle.std.specs.String.{string_bytes};
 
+use arrayvec::ArrayString;
 use std::alloc::{AllocError, Global};
 use std::cmp::Ordering;
 use std::convert::AsStr;
 use std::fmt;
 use std::marker::Model;
 
+// The most bytes of a text that takes no memory: most ids, keys and names of pools have no more, and with more a text would be larger than its other form.
+const SHORT_BYTES: usize = 16;
+
+// Where a text stands.
+#[derive(Drop)]
+enum Kept {
+    // In the value itself. What a longer text would be taken from is kept beside it.
+    Short(ArrayString<SHORT_BYTES>, Global),
+    // In memory of its own.
+    Long(String),
+}
+
 /// A text in UTF-8 (Protocol Buffers language guide, 'Scalar Value Types').
 ///
-/// Texts are ordered by their bytes.
-#[derive(Debug, Drop)]
+/// Texts are ordered by their bytes. One of at most 16 bytes takes no memory but its own 32 bytes.
+#[derive(Drop)]
 pub struct Text {
-    string: String,
+    kept: Kept,
 }
 
 impl Model for Text {
     ghost use Rattle.std.specs.Prelude.{ℕ, List};
-    ghost use Rattle.std.specs.String.{string_bytes};
+    ghost use Rattle.csi_types.specs.Texts.{kept_bytes};
 
     ghost Value = { List ℕ };
 
-    ghost view = { λ a. string_bytes a.string };
+    ghost view = { λ a. kept_bytes a.kept };
 }
 
 impl Text {
@@ -32,7 +45,7 @@ impl Text {
         ensures { result ≡ [] }
     {
         Text {
-            string: String::new(alloc),
+            kept: Kept::Short(ArrayString::new(), alloc),
         }
     }
 
@@ -40,24 +53,35 @@ impl Text {
     pub fn from_str(alloc: Global, text: &str) -> Result<Self, AllocError>
         ensures { IfOk result (λ copy. copy ≡ text.now) }
     {
-        Ok(Text {
-            string: String::from_str(alloc, text)?,
-        })
+        let kept = match ArrayString::from(text) {
+            Ok(short) => Kept::Short(short, alloc),
+            Err(_) => Kept::Long(String::from_str(alloc, text)?),
+        };
+        Ok(Text { kept })
+    }
+
+    /// A text, and another one behind it.
+    pub fn joined(alloc: Global, first: &str, second: &str) -> Result<Self, AllocError>
+        ensures { IfOk result (λ both. both ≡ first.now ++ second.now) }
+    {
+        let mut short = ArrayString::new();
+        if short.try_push_str(first).is_ok() && short.try_push_str(second).is_ok() {
+            return Ok(Text {
+                kept: Kept::Short(short, alloc),
+            });
+        }
+        let mut string = String::from_str(alloc, first)?;
+        string.push_str(second)?;
+        Ok(Self::from_string(string))
     }
 
     /// Takes a string, and no memory.
     pub fn from_string(string: String) -> Self
         ensures { result ≡ string_bytes string }
     {
-        Self { string }
-    }
-
-    /// Gives the string back.
-    pub fn into_string(self) -> String
-        ensures { string_bytes result ≡ self }
-    {
-        let Text { string } = self;
-        string
+        Text {
+            kept: Kept::Long(string),
+        }
     }
 
     /// Makes it equal to another text, in the memory that it has where that is enough. Where memory
@@ -66,8 +90,19 @@ impl Text {
         ensures ok { OnOk result (self.new ≡ text.now) }
         ensures err { OnErr result (self.new ≡ []) }
     {
-        self.string.clear();
-        self.string.push_str(text)
+        match &mut self.kept {
+            Kept::Short(short, alloc) => {
+                short.clear();
+                if short.try_push_str(text).is_err() {
+                    self.kept = Kept::Long(String::from_str(*alloc, text)?);
+                }
+                Ok(())
+            }
+            Kept::Long(string) => {
+                string.clear();
+                string.push_str(text)
+            }
+        }
     }
 
     /// The text, lent.
@@ -75,7 +110,10 @@ impl Text {
         ensures bytes { result.now ≡ self.now }
         ensures utf8 { IsUtf8 self.now }
     {
-        self.string.as_str()
+        match &self.kept {
+            Kept::Short(short, _) => short.as_str(),
+            Kept::Long(string) => string.as_str(),
+        }
     }
 
     /// The bytes of the text, lent.
@@ -98,6 +136,13 @@ impl Text {
         ensures { result ≡ (length self.now == 0) }
     {
         self.as_str().is_empty()
+    }
+}
+
+// As the text, in quotes.
+impl fmt::Debug for Text {
+    fn fmt<W: fmt::Write>(&self, f: &mut fmt::Formatter<W>) -> fmt::Result {
+        fmt::Debug::fmt(self.as_str(), f)
     }
 }
 

@@ -1,7 +1,6 @@
 //! Volumes that a log keeps, which another program is: its socket, what it tells at the start, and calls over both.
 
 ghost use Rattle.std.specs.Prelude.{◌≡◌, false, IfErr};
-ghost use Rattle.csi_log.specs.Remote.{channel_model};
 ghost use Rattle.csid.specs.Statuses.{IsOrNoMemory};
 
 use crate::content::read_content;
@@ -24,28 +23,31 @@ use std::rc::Rc;
 use std::time::Duration;
 use std::{io, str};
 
-// How many seconds a log may take for a reply. Behind that nobody knows whether a change was made.
+// How many seconds a log may say nothing while its reply is waited for. Behind that nobody knows whether a change was made.
 const LONGEST: u64 = 30;
 
-// At most so many pages are read: more than 100,000 volumes have, whatever a page holds.
-const MOST_PAGES: u64 = 1 << 32;
+// At most so many pages are read: more than 100,000 volumes and their attachments have, also at one row a page.
+const MOST_PAGES: u64 = 1 << 20;
 
-/// The connection to a log.
+/// A peer, and whether it was asked for something. What it gives is what the peer gave.
 #[derive(Drop)]
-pub(crate) struct Line {
-    channel: Channel<UnixStream, UnixStream>,
-    // Noted for who answers calls over it.
+pub(crate) struct Noted<P> {
+    peer: P,
+    // For who answers calls over it.
     is_asked: Rc<Cell<bool>>,
 }
 
-impl Peer for Line {
-    ghost model = { λ line. channel_model line.channel };
+impl<P: Peer> Peer for Noted<P> {
+    ghost model = { λ noted. P.model noted.peer };
 
     fn exchange(&mut self, alloc: Global, frame: &[u8]) -> Received {
         self.is_asked.set(true);
-        self.channel.exchange(alloc, frame)
+        self.peer.exchange(alloc, frame)
     }
 }
+
+/// The connection to a log.
+pub(crate) type Line = Noted<Channel<UnixStream, UnixStream>>;
 
 /// What is kept in memory of a log's volumes, and the log.
 pub(crate) type Remote = Through<MemKeeper, RemoteLog<Line>>;
@@ -110,10 +112,10 @@ fn of_refusal(alloc: Global, path: &str, reply: &ReceivedReply) -> Failure
 }
 
 // Asks for something. The body of a reply that says OK.
-fn asked(alloc: Global, path: &str, line: &mut Line, frame: &[u8]) -> Result<Vec<u8>, Failure>
+fn asked<P: Peer>(alloc: Global, path: &str, log: &mut P, frame: &[u8]) -> Result<Vec<u8>, Failure>
     ensures { IfErr result (λ failure. IsOrNoMemory 4 failure) }
 {
-    match line.exchange(alloc, frame) {
+    match log.exchange(alloc, frame) {
         Received::Reply(reply) if reply.status == 0 => Ok(reply.body),
         Received::Reply(reply) => Err(of_refusal(alloc, path, &reply)),
         Received::NoMemory => Err(Failure::NoMemory),
@@ -134,10 +136,10 @@ fn framed(alloc: Global, path: &str, frame: Result<Vec<u8>, StoreFault>) -> Resu
 }
 
 // Puts all rows of a log into the tables of a transaction, page by page.
-fn read_pages<S: Alter>(
+fn read_pages<P: Peer, S: Alter>(
     alloc: Global,
     path: &str,
-    line: &mut Line,
+    log: &mut P,
     tx: &mut Transaction<'_, S>,
 ) -> Result<Told, Failure>
     ensures { IfErr result (λ failure. IsOrNoMemory 4 failure) }
@@ -145,7 +147,7 @@ fn read_pages<S: Alter>(
     let mut told = Told::nothing(alloc);
     for _ in 0..MOST_PAGES {
         let frame = framed(alloc, path, read_frame(alloc, told.token.as_slice()))?;
-        let body = asked(alloc, path, line, frame.as_slice())?;
+        let body = asked(alloc, path, log, frame.as_slice())?;
         if let Err(fault) = take_page(tx, &mut told, body.as_slice()) {
             return Err(of_rows(alloc, path, &fault));
         }
@@ -157,10 +159,10 @@ fn read_pages<S: Alter>(
 }
 
 // Sees to the row of meta: where the log has no row at all, it is made there as it is in the new tables here.
-fn settle_meta<S: Alter>(
+fn settle_meta<P: Peer, S: Alter>(
     alloc: Global,
     path: &str,
-    line: &mut Line,
+    log: &mut P,
     tx: &mut Transaction<'_, S>,
     told: &Told,
 ) -> Result<(), Failure>
@@ -179,25 +181,25 @@ fn settle_meta<S: Alter>(
         },
         None => {
             let frame = framed(alloc, path, make_frame(alloc))?;
-            asked(alloc, path, line, frame.as_slice())?;
+            asked(alloc, path, log, frame.as_slice())?;
             Ok(())
         }
     }
 }
 
 // Fills new tables with the rows of a log. It is one transaction, so that each page of the tables is written once, in whatever pages the rows come.
-fn fill<S: Alter>(
+fn fill<P: Peer, S: Alter>(
     alloc: Global,
     path: &str,
-    line: &mut Line,
+    log: &mut P,
     conn: &mut Connection<S>,
 ) -> Result<(), Failure>
     requires { conn.old.in_transaction ≡ false }
     ensures { IfErr result (λ failure. IsOrNoMemory 4 failure) }
 {
     let mut tx = conn.transaction();
-    let told = read_pages(alloc, path, line, &mut tx)?;
-    settle_meta(alloc, path, line, &mut tx, &told)?;
+    let told = read_pages(alloc, path, log, &mut tx)?;
+    settle_meta(alloc, path, log, &mut tx, &told)?;
     match tx.commit() {
         Ok(()) => Ok(()),
         Err(error) => Err(of_database(alloc, path, &error)),
@@ -205,11 +207,11 @@ fn fill<S: Alter>(
 }
 
 // Makes tables on a connection to a new database, fills them with the rows of a log, and judges them as those of a file are judged.
-fn read_tables<S: Alter + Drop>(
+fn read_tables<P: Peer, S: Alter + Drop>(
     rt: &HostRuntime,
     config: &Config,
     path: &str,
-    line: &mut Line,
+    log: &mut P,
     mut conn: Connection<S>,
 ) -> Result<Tables<S>, Failure>
     requires { conn.in_transaction ≡ false }
@@ -218,7 +220,7 @@ fn read_tables<S: Alter + Drop>(
     if let Err(error) = make_tables(&mut conn) {
         return Err(of_database(rt.alloc(), path, &error));
     }
-    fill(rt.alloc(), path, line, &mut conn)?;
+    fill(rt.alloc(), path, log, &mut conn)?;
     if !conn.is_autocommit() {
         return Err(Failure::of_tables(rt.alloc(), path, &"its rows were not taken"));
     }
@@ -226,18 +228,18 @@ fn read_tables<S: Alter + Drop>(
 }
 
 // Reads and judges all that a log has, over a connection to a new database, and says what that is. The database is gone behind it.
-fn read_log<S: Alter + Drop>(
+fn read_log<P: Peer + Drop, S: Alter + Drop>(
     rt: &HostRuntime,
     config: &Config,
     path: &str,
-    mut line: Line,
+    mut log: P,
     conn: Connection<S>,
-) -> Result<Remote, Failure>
+) -> Result<Through<MemKeeper, RemoteLog<P>>, Failure>
     requires { conn.in_transaction ≡ false }
     ensures { IfErr result (λ failure. IsOrNoMemory 4 failure) }
 {
-    let mut tables = read_tables(rt, config, path, &mut line, conn)?;
-    match Through::copied(rt.alloc(), &mut tables, RemoteLog::new(line)) {
+    let mut tables = read_tables(rt, config, path, &mut log, conn)?;
+    match Through::copied(rt.alloc(), &mut tables, RemoteLog::new(log)) {
         Ok(keeper) => {
             tell_content(rt, path, read_content(&mut tables.into_connection()));
             Ok(keeper)
@@ -257,8 +259,8 @@ fn connect(rt: &HostRuntime, path: &str) -> io::Result<UnixStream> {
 
 // The line over a connection.
 fn line_over(stream: &UnixStream, is_asked: Rc<Cell<bool>>) -> io::Result<Line> {
-    Ok(Line {
-        channel: Channel::new(stream.try_clone()?, stream.try_clone()?),
+    Ok(Noted {
+        peer: Channel::new(stream.try_clone()?, stream.try_clone()?),
         is_asked,
     })
 }

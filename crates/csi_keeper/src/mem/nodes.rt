@@ -44,9 +44,7 @@ pub(crate) fn drop_spot(nodes: &mut BTreeMap<(Text, u64), ()>, spot: &(Text, u64
 fn next_text(alloc: Global, text: &str) -> Result<Text, AllocError>
     ensures { IfOk result (λ t. t ≡ text.now ++ 0 ∷ []) }
 {
-    let mut string = String::from_str(alloc, text)?;
-    string.push('\0')?;
-    Ok(Text::from_string(string))
+    Text::joined(alloc, text, "\0")
 }
 
 #[tactic(auto, using(crate::proofs::SpotLemmas::spots_are))]

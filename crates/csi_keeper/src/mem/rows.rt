@@ -78,8 +78,9 @@ pub(crate) fn volumes_after(
     ensures value { IfOk result (λ vs. vs ≡ take count (map (λ e. e.1) (entries_between nat_cmp (Excluded after) Unbounded volumes.now.entries))) }
     ensures ordered { entries (volumes_of volumes.now.entries) ≡ volumes.now.entries }
 {
-    let mut copies = Items::new(alloc);
-    for (_, volume) in beyond(volumes, after) {
+    let rows = beyond(volumes, after);
+    let mut copies = Items::with_room(alloc, volumes.len().min(count as usize))?;
+    for (_, volume) in rows {
         if copies.len() >= count as usize {
             return Ok(copies);
         }
@@ -100,8 +101,9 @@ pub(crate) fn nodes_after(
         (map (λ e. nodes_in attachments.now.entries e.1.number) (entries_between nat_cmp (Excluded after) Unbounded volumes.now.entries))) }
     ensures ordered { entries (volumes_of volumes.now.entries) ≡ volumes.now.entries }
 {
-    let mut nodes = Items::new(alloc);
-    for (_, volume) in beyond(volumes, after) {
+    let rows = beyond(volumes, after);
+    let mut nodes = Items::with_room(alloc, volumes.len().min(count as usize))?;
+    for (_, volume) in rows {
         if nodes.len() >= count as usize {
             return Ok(nodes);
         }

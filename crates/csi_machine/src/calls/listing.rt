@@ -14,19 +14,15 @@ use csi_keeper::{Keeper, Volume};
 use csi_types::{Entry, Items, ListVolumes, MAX_PAGE_ENTRIES, Map, Reason, Response, Text};
 use std::alloc::{AllocError, Global};
 
-fn start_of(alloc: Global, next: u64, token: &Text) -> Result<Option<u64>, AllocError>
-    ensures { IfOk result (λ n. n ≡ start_of next token.now) }
+fn start_of(next: u64, token: &Text) -> Option<u64>
+    ensures { result ≡ start_of next token.now }
 {
     if token.is_empty() {
-        return Ok(Some(0));
+        return Some(0);
     }
-    match number_of(alloc, token.as_str())? {
-        Some(number) => if 1 <= number && number < next {
-            Ok(Some(number))
-        } else {
-            Ok(None)
-        },
-        None => Ok(None),
+    match number_of(token.as_str()) {
+        Some(number) if 1 <= number && number < next => Some(number),
+        _ => None,
     }
 }
 
@@ -86,7 +82,7 @@ fn entries_with(
     ensures { IfOk result (λ es. es ≡ entries_with config.now volumes.now nodes) }
 {
     let mut rest = nodes.into_vec().into_iter();
-    let mut entries = Items::new(alloc);
+    let mut entries = Items::with_room(alloc, volumes.len())?;
     for volume in volumes {
         let Some(published) = rest.next() else {
             return Ok(entries);
@@ -127,7 +123,7 @@ fn list_from<K: Keeper>(
         (λ s p. p ≡ list_after config.now s (whole request.now.max_entries) (start_of next request.now.token)) }
     ensures none { IfOk result (λ p. p.change ≡ None) }
 {
-    match start_of(alloc, next, &request.token)? {
+    match start_of(next, &request.token) {
         Some(after) => list_after(alloc, config, keeper, request.max_entries, after),
         None => Ok(refuse(Reason::BadToken)),
     }

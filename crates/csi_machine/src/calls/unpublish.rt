@@ -48,7 +48,7 @@ impl Planned for Unpublish {
     ghost planned = { λ config s r. unpublish s r };
 
     fn plan<K: Keeper>(&self, alloc: Global, _config: &Config, keeper: &mut K) -> Planning {
-        let Some(number) = number_of_id(alloc, self.volume_id.as_str())? else {
+        let Some(number) = number_of_id(self.volume_id.as_str()) else {
             return Ok(respond(alloc, Response::Unpublish)?);
         };
         let attachments = keeper.attachments(alloc, number)?;

@@ -1,9 +1,14 @@
-use Rattle.std.proofs.Common.{◌≡◌, ap, ◌∙◌, map, reverse}
-use Rattle.std.specs.FinMap.{entries, from_entries}
+use Rattle.std.proofs.Common.{◌≡◌, ap, sym, ◌∙◌, map, reverse, rules}
+use Rattle.std.specs.FinMap.{empty_of_len, entries, from_entries, len}
 use Rattle.std.specs.Map.Iter.{deref_pair}
 use Rattle.std.proofs.lemmas.Map.Iter.{iter_end}
 use Rattle.csi_types.proofs.Maps.{again, text_cmp}
 use Rattle.csi_types.proofs.copies.copy_map.Goals as goal
+
+pub returns-then-is_empty : goal.returns-then-is_empty
+returns-then-is_empty c =
+    let none : len c.args.map.now ≡ 0 = search rules in
+    c.new-copy.ensures ∙ sym (empty_of_len c.args.map.now none)
 
 pub returns : goal.returns
 returns c =

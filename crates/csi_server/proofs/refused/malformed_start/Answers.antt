@@ -2,7 +2,7 @@ use Rattle.std.proofs.Common.{◌≡◌, ℕ, List, All, refl, rules, sym, subst
 use Rattle.std.specs.Prelude.{codes}
 use Rattle.frames_core.specs.Envelope.{IsTextByte}
 use Rattle.csi_server.proofs.Printable.{all_printable}
-use Rattle.csi_server.proofs.message.malformed_start.Goals as goal
+use Rattle.csi_server.proofs.refused.malformed_start.Goals as goal
 
 pub returns-clause-printable : goal.returns-clause-printable
 returns-clause-printable c =
