@@ -49,6 +49,7 @@ fn is_long_access(access: &Access) -> bool
     match access {
         Access::Missing | Access::Block => false,
         Access::Mount(mount) => {
+            let mount = mount.get();
             is_long_text(&mount.fs_type)
                 || is_long_text(&mount.group)
                 || bytes_of_texts(&mount.flags) > MAX_MOUNT_FLAGS_BYTES

@@ -1,5 +1,5 @@
 -- What one more field changes in the views.
-use Rattle.std.proofs.Common.{◌≡◌, ℕ, Bool, true, false, cond, eqb, List, [], ◌∷◌, ◌++◌, reverse, ℤ, of_z, to_z, ◌<◌, ◌^◌, Option, None, Some, refl, sym, ap, ◌∙◌, ◌⊎◌, inl, inr}
+use Rattle.std.proofs.Common.{◌≡◌, ℕ, Bool, true, false, cond, eqb, List, [], ◌∷◌, ◌++◌, reverse, ℤ, of_z, to_z, ◌<◌, ◌^◌, Option, None, Some, refl, sym, ap, ◌∙◌, ◌⊎◌, inl, inr, Result, Ok, Err, OnOk}
 use Rattle.std.specs.List.{filter_map, cons_option}
 use Rattle.std.specs.Int.{cast_signed, w32, w64}
 use Rattle.std.proofs.lemmas.Int.{of_z-to_z}
@@ -151,3 +151,8 @@ not_mount a (inr e) m h = let w : variants.Block ≡ variants.Mount m = sym e �
 pub present_after : (ps : Payloads) (p : List ℕ) → is_present (ps ++ p ∷ []) ≡ true
 present_after [] p = refl
 present_after (q ∷ qs) p = refl
+
+-- what follows of what is so after a success
+pub then_ok : {X E : Type 0} {P Q : Type 0} (r : Result X E) → (P → Q) → OnOk r P → OnOk r Q
+then_ok (Ok x) f p = f p
+then_ok (Err e) f p = p

@@ -6,3 +6,5 @@ pub mod Canon
 pub mod messages
 pub mod Methods
 pub mod Kept
+pub mod Listing
+pub mod facts

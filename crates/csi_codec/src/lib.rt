@@ -20,13 +20,17 @@
 #![tactic(auto)]
 
 pub mod laws;
+mod listing;
 mod message;
 mod messages;
+mod placement;
 mod requests;
 mod responses;
 mod slots;
 mod writing;
 
+pub use listing::{ListedEntry, encode_entry};
 pub use message::{DecodeFault, MALFORMED_MESSAGE};
+pub use placement::Placement;
 pub use requests::{decode, decode_create, encode_create, encode_request};
 pub use responses::{decode_response, encode_response};

@@ -4,18 +4,18 @@
 
 ghost use Rattle.std.specs.Prelude.{◌≡◌, ◌++◌, ◌∷◌, [], ◌≤◌, ◌<◌, ◌^◌, List, OnOk, OnErr, option_to_list, length, take};
 ghost use Rattle.std.specs.FinMap.{entries};
-ghost use Rattle.pbwire.specs.Writing.{spellings};
+ghost use Rattle.pbwire.specs.Wire.{Payload};
+ghost use Rattle.pbwire.specs.Writing.{spelling, spellings};
 ghost use Rattle.csi_codec.specs.Canon.{Rows, bytes_of, row_fields, payload_fields, text_row, texts_row, signed_row, flag_row, presence_row, option_row, messages_row, map_row, canon_map_entry, FitsText, FitsTexts, FitsI64, FitsInner, FitsOption, FitsMessages, FitsMapEntry, FitsMap};
 ghost use Rattle.csi_codec.specs.Kept.{Keeps};
 
-use crate::message::Message;
 use csi_types::{Items, Map, Text};
 use pbwire::laws::closed;
 use pbwire::{close_bytes, put_bytes, put_entry, put_varint};
 use std::alloc::AllocError;
 
 /// A message with one spelling.
-pub trait Written: Message {
+pub trait Written {
     /// The fields of the spelling, by their numbers.
     ghost canon: { Self → Rows };
 
@@ -46,18 +46,64 @@ pub fn whole_or_none(
     written
 }
 
-/// Appends a text, unless it is empty.
+// Appends a text, unless it is empty.
 #[tactic(auto, unfolding(crate::specs::Canon::row_fields))]
-pub fn put_text(out: &mut Vec<u8>, number: u32, text: &Text) -> Result<(), AllocError>
+fn put_str(out: &mut Vec<u8>, number: u32, text: &str) -> Result<(), AllocError>
     requires { (1 ≤ number) × (number < 2 ^ 29) }
     ensures ok { OnOk result (out.new.items ≡ out.old.items ++ spellings (row_fields (text_row number text.now))) }
-    ensures fitting { OnOk result (FitsText text.now) }
     ensures kept { Keeps out.old.items out.new.items }
 {
     if text.is_empty() {
         return Ok(());
     }
     put_bytes(out, number, text.as_bytes())
+}
+
+/// Appends a text, unless it is empty.
+pub fn put_text(out: &mut Vec<u8>, number: u32, text: &Text) -> Result<(), AllocError>
+    requires { (1 ≤ number) × (number < 2 ^ 29) }
+    ensures ok { OnOk result (out.new.items ≡ out.old.items ++ spellings (row_fields (text_row number text.now))) }
+    ensures fitting { OnOk result (FitsText text.now) }
+    ensures kept { Keeps out.old.items out.new.items }
+{
+    put_str(out, number, text.as_str())
+}
+
+fn append_both(out: &mut Vec<u8>, first: &[u8], second: &[u8]) -> Result<(), AllocError>
+    ensures ok { OnOk result (out.new.items ≡ out.old.items ++ (first.now ++ second.now)) }
+    ensures kept { Keeps out.old.items out.new.items }
+{
+    out.extend_from_slice(first)?;
+    out.extend_from_slice(second)
+}
+
+fn put_both(out: &mut Vec<u8>, number: u32, first: &[u8], second: &[u8]) -> Result<(), AllocError>
+    requires { (1 ≤ number) × (number < 2 ^ 29) }
+    ensures ok { OnOk result (out.new.items ≡ out.old.items ++ spelling (record { number = number; part = Payload (first.now ++ second.now) })) }
+    ensures kept { Keeps out.old.items out.new.items }
+{
+    closed();
+    put_bytes(out, number, &[])?;
+    let from = out.len();
+    append_both(out, first, second)?;
+    close_bytes(out, from)
+}
+
+/// Appends a text in two parts, unless both are empty.
+pub fn put_joined(
+    out: &mut Vec<u8>,
+    number: u32,
+    first: &str,
+    second: &str,
+) -> Result<(), AllocError>
+    requires { (1 ≤ number) × (number < 2 ^ 29) }
+    ensures ok { OnOk result (out.new.items ≡ out.old.items ++ spellings (row_fields (text_row number (first.now ++ second.now)))) }
+    ensures kept { Keeps out.old.items out.new.items }
+{
+    if first.is_empty() {
+        return put_str(out, number, second);
+    }
+    put_both(out, number, first.as_bytes(), second.as_bytes())
 }
 
 /// Appends texts, also empty ones.

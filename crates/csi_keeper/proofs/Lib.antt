@@ -2,6 +2,7 @@ mod ChangeLemmas
 mod DetachLemmas
 mod InvariantLemmas
 mod KeptLemmas
+mod ListedLemmas
 mod ListingLemmas
 mod NamesLemmas
 mod ReadLemmas

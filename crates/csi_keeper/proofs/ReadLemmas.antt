@@ -9,13 +9,19 @@ use Rattle.csi_keeper.specs.declared.volume.Attachment.{Attachment}
 use Rattle.csi_keeper.specs.declared.volume.Volume.{Volume}
 use Rattle.csi_keeper.specs.declared.totals.Totals.{Totals}
 use Rattle.csi_keeper.specs.Totals.{total_of, zero_total, the_total, told}
-use Rattle.csi_keeper.specs.Memory.{Spot, IsKept, spots_of, numbers_by, volumes_of, places_of, place_end, nodes_in, first_state}
+use Rattle.csi_keeper.specs.Memory.{Spot, IsKept, spots_of, numbers_by, volumes_of, places_of, place_end, nodes_in, listed_in, first_state}
 use Rattle.csi_keeper.specs.State.{State, Place, place_cmp, sizes, page, attached, attached_at, published_of_page, used}
+use Rattle.csi_keeper.specs.Listing.{listed_at, listing}
 use Rattle.csi_keeper.specs.Texts.{Text}
 use Rattle.csi_keeper.proofs.ListingLemmas.{page_rows, place_rows}
 use Rattle.csi_keeper.specs.facts.Finite.{none_listed, none_some}
 use Rattle.csi_keeper.proofs.SpotLemmas.{numbers_spotted}
 use Rattle.csi_keeper.specs.facts.Sums.{in_order}
+
+mapped_page : {X : Type 0} (f : Volume → X) (count : ℕ) (es : List (ℕ × Volume)) → take count (map (λ e. f e.1) es) ≡ map f (take count (map (λ e. e.1) es))
+mapped_page f zero es = refl
+mapped_page f (suc count) [] = refl
+mapped_page f (suc count) (e ∷ es) = ap (λ xs. f e.1 ∷ xs) (mapped_page f count es)
 
 module _ (next : ℕ) (volumes : List (ℕ × Volume)) (names : List (Text × ℕ)) (pools : Totals) (attachments : List (Place × Attachment)) (spots : List (Spot × Unit {0})) (s : State) where
   pub held_next : IsKept next volumes names pools attachments spots s → next ≡ s.next
@@ -42,14 +48,17 @@ module _ (next : ℕ) (volumes : List (ℕ × Volume)) (names : List (Text × �
   pub held_nodes : (after count : ℕ) → fin.entries (volumes_of volumes) ≡ volumes → IsKept next volumes names pools attachments spots s
       → take count (map (λ e. nodes_in attachments e.1.number) (entries_between nat_cmp (Excluded after) Unbounded volumes)) ≡ published_of_page s after count
   held_nodes after count o k =
-      mapped_page (nodes_in attachments) count (entries_between nat_cmp (Excluded after) Unbounded volumes)
+      mapped_page (λ v. nodes_in attachments v.number) count (entries_between nat_cmp (Excluded after) Unbounded volumes)
       ∙ ap (λ (vs : List Volume). map (λ v. nodes_in attachments v.number) vs) (held_page after count o k)
       ∙ ap (λ (m : fin.FinMap place_cmp Attachment). map (λ v. map (λ a. a.node) (map (λ e. e.1) (filter (λ e. e.0.0 == v.number) (fin.entries m)))) (page s after count)) (sym k.attachments_are)
-    where
-      mapped_page : (f : ℕ → List Text) (count : ℕ) (es : List (ℕ × Volume)) → take count (map (λ e. f e.1.number) es) ≡ map (λ v. f v.number) (take count (map (λ e. e.1) es))
-      mapped_page f zero es = refl
-      mapped_page f (suc count) [] = refl
-      mapped_page f (suc count) (e ∷ es) = ap (λ xs. f e.1.number ∷ xs) (mapped_page f count es)
+
+  -- what a listing tells of a page
+  pub held_listing : (after count : ℕ) → fin.entries (volumes_of volumes) ≡ volumes → IsKept next volumes names pools attachments spots s
+      → take count (map (λ e. listed_in attachments e.1) (entries_between nat_cmp (Excluded after) Unbounded volumes)) ≡ listing s after count
+  held_listing after count o k =
+      mapped_page (listed_in attachments) count (entries_between nat_cmp (Excluded after) Unbounded volumes)
+      ∙ ap (λ (vs : List Volume). map (listed_in attachments) vs) (held_page after count o k)
+      ∙ ap (λ (m : fin.FinMap place_cmp Attachment). map (λ v. listed_at v (map (λ a. a.node) (map (λ e. e.1) (filter (λ e. e.0.0 == v.number) (fin.entries m))))) (page s after count)) (sym k.attachments_are)
 
   pub held_places : (n : ℕ) → fin.entries (places_of attachments) ≡ attachments → IsKept next volumes names pools attachments spots s → map (λ e. e.1) (filter (λ e. e.0.0 == n) (entries_between place_cmp (Included (n, [])) (place_end n) attachments)) ≡ attached s n
   held_places n o k =

@@ -4,6 +4,7 @@ pub mod Fakes
 pub mod Holding
 pub mod Invariant
 pub mod Keeper
+pub mod Listing
 pub mod Lookup
 pub mod Memory
 pub mod Model

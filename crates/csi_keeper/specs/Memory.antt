@@ -13,6 +13,8 @@ use Rattle.csi_keeper.specs.declared.volume.Volume.{Volume}
 use Rattle.csi_keeper.specs.declared.totals.Totals.{Totals}
 use Rattle.csi_keeper.specs.Totals.{AreTotals}
 use Rattle.csi_keeper.specs.State.{State, Place, place_cmp}
+use Rattle.csi_keeper.specs.Listing.{listed_at}
+use Rattle.csi_keeper.specs.declared.listed.Listed.{Listed}
 use Rattle.csi_keeper.specs.Texts.{Text, text_cmp}
 
 abbrev pub volumes_of : List (ℕ × Volume) → FinMap nat_cmp Volume
@@ -40,6 +42,10 @@ place_end n = if n == 2 ^ 64 - 1 then Unbounded else Excluded (n + 1, [])
 -- the nodes of a number's attachments
 abbrev pub nodes_in : List (Place × Attachment) → ℕ → List Text
 nodes_in es n = map (λ a. a.node) (map (λ e. e.1) (filter (λ e. e.0.0 == n) (entries (places_of es))))
+
+-- what a listing tells of a volume, by these attachments
+abbrev pub listed_in : List (Place × Attachment) → Volume → Listed
+listed_in es v = listed_at v (nodes_in es v.number)
 
 -- without the attachments at the places
 abbrev pub removed_each : FinMap place_cmp Attachment → List Place → FinMap place_cmp Attachment

@@ -3,10 +3,12 @@
 ghost use Rattle.std.specs.Prelude.{◌≡◌};
 ghost use Rattle.std.specs.FinMap.{get};
 ghost use Rattle.csi_keeper.specs.State.{State, IsBounded, named, used, sizes, attached, attached_at, page, published_of_page};
+ghost use Rattle.csi_keeper.specs.Listing.{listing};
 ghost use Rattle.csi_keeper.specs.Keeper.{Applies, Reads};
 ghost use Rattle.csi_keeper.specs.Model.{Model};
 
 use crate::change::{Change, StoreFault, Usage};
+use crate::listed::{Listed, listed_each};
 use crate::volume::{Attachment, Volume};
 use csi_types::{Items, Text};
 use std::alloc::Global;
@@ -83,6 +85,21 @@ pub trait Keeper {
         count: u32,
     ) -> Result<Items<Items<Text>>, StoreFault>
         ensures { Reads (model self.old) (model self.new) result (λ s xs. xs ≡ published_of_page s after count) };
+
+    /// What a listing tells of the volumes of a page: of `page` and of `published_nodes` what is
+    /// answered of them. It costs no more than both, and less where a keeper has the parts at hand.
+    fn listing(
+        &mut self,
+        alloc: Global,
+        after: u64,
+        count: u32,
+    ) -> Result<Items<Listed>, StoreFault>
+        ensures { Reads (model self.old) (model self.new) result (λ s xs. xs ≡ listing s after count) }
+    {
+        let volumes = self.page(alloc, after, count)?;
+        let nodes = self.published_nodes(alloc, after, count)?;
+        Ok(listed_each(alloc, volumes.as_slice(), nodes)?)
+    }
 
     /// Makes a change, which the State has to allow: the items of `Change` say when it does. A
     /// volume that is added has a number below 2^62, at most 2^62 bytes, and capabilities in order

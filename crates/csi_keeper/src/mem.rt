@@ -16,11 +16,13 @@ ghost use Rattle.csi_keeper.specs.Totals.{total_of, more, HasRoom};
 
 use crate::change::{Change, StoreFault, Usage};
 use crate::keeper::Keeper;
+use crate::listed::Listed;
 use crate::mem::attachments::{attached_to, put_place, take_attachment, take_places};
 use crate::mem::names::{drop_name, set_name, volume_named};
 use crate::mem::nodes::{numbers_at, put_spot};
 use crate::mem::rows::{
-    nodes_after, put_volume, set_mutable, sizes_of, take_volume, volume_at, volumes_after,
+    listed_after, nodes_after, put_volume, set_mutable, sizes_of, take_volume, volume_at,
+    volumes_after,
 };
 use crate::totals::Totals;
 use crate::volume::{Attachment, Volume};
@@ -231,6 +233,16 @@ impl Keeper for MemKeeper {
         count: u32,
     ) -> Result<Items<Items<Text>>, StoreFault> {
         Ok(nodes_after(alloc, &self.volumes, &self.attachments, after, count)?)
+    }
+
+    #[tactic(auto, using(crate::specs::facts::Reads::quiet_same, crate::proofs::ReadLemmas::held_listing))]
+    fn listing(
+        &mut self,
+        alloc: Global,
+        after: u64,
+        count: u32,
+    ) -> Result<Items<Listed>, StoreFault> {
+        Ok(listed_after(alloc, &self.volumes, &self.attachments, after, count)?)
     }
 
     fn apply(&mut self, alloc: Global, change: &Change) -> Result<(), StoreFault> {

@@ -40,7 +40,7 @@ use Rattle.csi_machine.specs.calls.Listing.{list_after, start_of}
 use Rattle.csi_machine.specs.calls.Modify.{modify}
 use Rattle.csi_machine.specs.calls.Publish.{publish}
 use Rattle.csi_machine.specs.calls.Unpublish.{unpublish}
-use Rattle.csi_machine.specs.Finding.{volume_at}
+use Rattle.csi_machine.specs.Finding.{Finds, volume_at}
 use Rattle.csi_machine.specs.calls.Validate.{validate_found, confirm, deny}
 use Rattle.csi_machine.proofs.CheckedLemmas.{asked}
 use Rattle.csi_machine.proofs.CreateLemmas.{create_sound}
@@ -224,6 +224,44 @@ performed config r a b x y result did = record {
   ties = did.ties;
   down = alone config r a b x y result did;
   stays = did.stays;
+}
+
+-- What is answered by reads alone, and changes nothing, performs a request.
+still_moved : (s : State) (w : Told) → moved s s w ≡ s
+still_moved s (Says body) = refl
+still_moved s (Denies reason) = refl
+
+still_step : (config : Config) (s : State) (r : Request) → (plan config s r).change ≡ None → (step config s r).1 ≡ s
+still_step config s r still = ap (λ (o : Option Change). moved s (after s o) (told_of (plan config s r).outcome)) still ∙ still_moved s (told_of (plan config s r).outcome)
+
+pub still_performed : (config : Config) (r : Request) (a b : Model State) (x y : List ℕ) (result : Result Verdict StoreFault) → ((s : State) → (plan config s r).change ≡ None)
+    → Finds a b result (λ s v. IsTold {E = StoreFault} (told_of (plan config s r).outcome) x y (Ok v)) → Appended x y result → Performs config r a b x y result
+still_performed config r a b x y (Err e) still found appended = record {
+  clean = found.quiet.clean;
+  appended = appended;
+  told = λ d s h inv. tt;
+  state = λ d s h inv. found.quiet.state d s h;
+  counted = found.count;
+  left = λ d s h inv. still_left e s _ (found.quiet.crash d);
+  ties = λ d s h inv. found.quiet.ties d;
+  down = record { down = found.down.down; refused = found.down.refused; unasked = λ is. tt };
+  stays = λ is. found.quiet.down ∙ is;
+}
+  where
+    still_left : (e : StoreFault) (s t : State) → ((u : State) → b.survivors u → a.survivors u) → Leaves a.survivors b.survivors s t (Err e)
+    still_left NoMemory s t crash = λ u v. inl (crash u v)
+    still_left Refused s t crash = λ u v. inl (crash u v)
+    still_left Down s t crash = crash
+still_performed config r a b x y (Ok v) still found appended = record {
+  clean = found.quiet.clean;
+  appended = appended;
+  told = λ d s h inv. found.value d s h;
+  state = λ d s h inv. subst b.holds (sym (still_step config s r (still s))) (found.quiet.state d s h);
+  counted = found.count;
+  left = λ d s h inv. inl (still_step config s r (still s), found.quiet.crash d);
+  ties = λ d s h inv. found.quiet.ties d;
+  down = record { down = found.down.down; refused = found.down.refused; unasked = λ is s. (found.down.unasked is s, still_step config s r (still s)) };
+  stays = λ is. found.quiet.down ∙ is;
 }
 
 pub keeps : (config : Config) (r : Request) → IsSound config (λ s. settled_plan config s r) → (s : State) → IsInvariant config s → IsInvariant config (step config s r).1

@@ -1,6 +1,6 @@
 -- What is found by reads, one after the other.
 use Rattle.std.proofs.Common.{◌≡◌, ◌∙◌, sym, arith, subst, Bool, Result, Ok}
-use Rattle.csi_keeper.specs.Keeper.{count_after}
+use Rattle.csi_keeper.specs.Keeper.{Reads, count_after}
 use Rattle.csi_keeper.specs.Model.{Model}
 use Rattle.csi_keeper.specs.State.{State}
 use Rattle.csi_keeper.specs.declared.change.StoreFault.{StoreFault}
@@ -45,3 +45,12 @@ found_then {a = a} {b = b} {c = c} {result = result} read found f =
         unasked = λ is. if_ok (λ y so s. f s (read.down.unasked is s) y (so s)) result (found.down.unasked (read.quiet.down ∙ is));
       };
     }
+
+-- a read that answers
+pub read_found : {X : Type 0} {P : State → X → Type 0} {a b : Model State} {x : X} → Reads a b (Ok x) P → Finds a b (Ok x) P
+read_found {a = a} read = record {
+  value = read.value;
+  quiet = read.quiet;
+  count = read.count;
+  down = record { down = λ e. absurd (cc); refused = λ e. absurd (cc); unasked = λ is s. absurd (let no = read.down.1 is in cc (no)) };
+}

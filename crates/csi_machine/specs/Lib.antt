@@ -7,6 +7,7 @@ pub mod Finding
 pub mod Ids
 pub mod Info
 pub mod Offer
+pub mod Places
 pub mod Plan
 pub mod Retry
 pub mod Size

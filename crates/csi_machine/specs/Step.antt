@@ -1,5 +1,5 @@
 -- One step of the volume machine: what each request is answered, and the State after it.
-use Rattle.std.specs.Prelude.{nat_le, length, if◌then◌else◌, Result, Ok, Err}
+use Rattle.std.specs.Prelude.{Bool, true, false, nat_le, length, if◌then◌else◌, Result, Ok, Err}
 use Rattle.csi_types.specs.declared.reason.Reason.{Reason}
 use Rattle.csi_types.specs.declared.responses.Response.{Response}
 use Rattle.csi_types.specs.declared.reason.Reason.TheVariants.{ReplyTooLarge}
@@ -38,6 +38,21 @@ plan config s (request.Validate r) = validate s r
 plan config s (request.List r) = list_volumes config s r
 plan config s (request.Capacity r) = capacity config s r
 plan config s (request.Modify r) = modify s r
+
+-- whether a request is answered by a plan that is made for it; the others are answered as they are read
+abbrev pub is_planned : Request → Bool
+is_planned request.PluginInfo = true
+is_planned request.PluginCapabilities = true
+is_planned request.Probe = false
+is_planned request.ControllerCapabilities = true
+is_planned (request.Create r) = true
+is_planned (request.Delete r) = true
+is_planned (request.Publish r) = true
+is_planned (request.Unpublish r) = true
+is_planned (request.Validate r) = true
+is_planned (request.List r) = false
+is_planned (request.Capacity r) = true
+is_planned (request.Modify r) = true
 
 -- a refusal keeps the State
 abbrev pub moved : {S : Type 0} → S → S → Told → S

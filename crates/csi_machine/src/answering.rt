@@ -1,18 +1,19 @@
 //! Requests over any keeper.
 
-ghost use Rattle.std.specs.Prelude.{◌≡◌, ◌≤◌, ◌++◌, length, [], IfOk, OnOk, OnErr, IfSome, None};
+ghost use Rattle.std.specs.Prelude.{◌≡◌, ◌≤◌, ◌++◌, length, [], IfOk, OnOk, OnErr, IfSome, IsTrue, None};
 ghost use Rattle.csi_types.specs.Checks.{checked};
 ghost use Rattle.frames_core.specs.declared.limits.TheConstants.{MAX_BODY_BYTES};
 ghost use Rattle.csi_machine.specs.Answering.{Carries, Performs, body_of, verdict_of};
 ghost use Rattle.csi_keeper.specs.Invariant.{IsInvariant};
 ghost use Rattle.csi_keeper.specs.State.{State, IsBounded};
-ghost use Rattle.csi_machine.specs.Step.{by_verdict, limited, step};
+ghost use Rattle.csi_machine.specs.Configured.{IsConfigured};
+ghost use Rattle.csi_machine.specs.Step.{by_verdict, is_planned, limited, step};
 ghost use Rattle.csi_machine.specs.Verdicts.{Appended, IsTold, told_of};
 
 use crate::body::{Verdict, append_body};
+use crate::calls::{append_page, append_ready, plan_of};
 use crate::configured::configured;
 use crate::plan::Plan;
-use crate::planned::Planned;
 use csi_config::Config;
 use csi_keeper::{Keeper, StoreFault};
 use csi_types::{Boxed, Reason, Request, Response};
@@ -79,6 +80,23 @@ fn finish<K: Keeper>(
     }
 }
 
+// Answers a request by its plan.
+fn append_planned<K: Keeper>(
+    alloc: Global,
+    config: &Config,
+    keeper: &mut K,
+    request: &Request,
+    out: &mut Vec<u8>,
+) -> Result<Verdict, StoreFault>
+    requires planned { IsTrue (is_planned request.now) }
+    requires configured { IsConfigured config.now }
+    requires checked { checked request.now ≡ None }
+    ensures { Performs config.now request.now (K.model keeper.old) (K.model keeper.new) out.old.items out.new.items result }
+{
+    let plan = plan_of(alloc, config, keeper, request)?;
+    finish(alloc, keeper, &plan, out)
+}
+
 /// Answers a request over any keeper by one step of the machine: the plan that the keeper's State
 /// gives the request. The body of its response is appended to `out`, and then its change is made.
 ///
@@ -101,8 +119,11 @@ pub fn append_answer<K: Keeper>(
     ensures invariant { (s : State) → IsInvariant config.now s → IsInvariant config.now (step config.now s request.now).1 }
 {
     configured(config);
-    let plan = request.plan(alloc, config, keeper)?;
-    finish(alloc, keeper, &plan, out)
+    match request {
+        Request::Probe => Ok(append_ready(out)?),
+        Request::List(listing) => append_page(alloc, config, keeper, listing.get(), out),
+        _ => append_planned(alloc, config, keeper, request, out),
+    }
 }
 
 /// Answers a request as [`append_answer`] does, and empties `out` first.

@@ -1,5 +1,7 @@
 //! The body of a reply.
 
+ghost use Rattle.std.specs.Prelude.{◌≤◌, drop, length, take, Ok};
+ghost use Rattle.std.specs.declared.alloc.AllocError.{AllocError as AnyError};
 ghost use Rattle.csi_codec.specs.Methods.{response_bytes};
 ghost use Rattle.csi_machine.specs.Verdicts.{within, Appended, IsTold};
 
@@ -17,6 +19,19 @@ pub enum Verdict {
     Refused(Reason),
 }
 
+/// Takes a body of more than [`MAX_BODY_BYTES`] back, which begins here, and refuses it with [`Reason::ReplyTooLarge`].
+pub(crate) fn limit_body(out: &mut Vec<u8>, from: usize) -> Verdict
+    requires { from ≤ length out.old.items }
+    ensures appended { Appended {E = AnyError} (take from out.old.items) out.new.items (Ok result) }
+    ensures told { IsTold {E = AnyError} (within (drop from out.old.items)) (take from out.old.items) out.new.items (Ok result) }
+{
+    if out.len() - from > MAX_BODY_BYTES {
+        out.truncate(from);
+        return Verdict::Refused(Reason::ReplyTooLarge);
+    }
+    Verdict::Done
+}
+
 /// Appends the body of a response, or refuses one of more than [`MAX_BODY_BYTES`] with
 /// [`Reason::ReplyTooLarge`]; the vector is then as it was.
 ///
@@ -29,9 +44,5 @@ pub fn append_body(response: &Response, out: &mut Vec<u8>) -> Result<Verdict, Al
 {
     let from = out.len();
     encode_response(response, out)?;
-    if out.len() - from > MAX_BODY_BYTES {
-        out.truncate(from);
-        return Ok(Verdict::Refused(Reason::ReplyTooLarge));
-    }
-    Ok(Verdict::Done)
+    Ok(limit_body(out, from))
 }

@@ -1,7 +1,11 @@
-//! The plan of each request: what it is answered, and the one change that it makes, by reads alone.
+//! The plan of each request: what it is answered, and the one change that it makes, by reads alone; and pages, which
+//! are answered as they are read.
 #![tactic(auto, using(csi_keeper::specs::facts::Reads::quiet_same, csi_keeper::specs::facts::Reads::quiet_then))]
 
-ghost use Rattle.csi_machine.specs.Step.{plan};
+ghost use Rattle.std.specs.Prelude.{◌≡◌, IfOk, IfSome, IsTrue};
+ghost use Rattle.csi_keeper.specs.State.{IsBounded};
+ghost use Rattle.csi_machine.specs.Finding.{Finds};
+ghost use Rattle.csi_machine.specs.Step.{is_planned, plan};
 
 mod capacity;
 mod create;
@@ -17,28 +21,33 @@ use crate::planned::{Planned, Planning};
 use csi_config::Config;
 use csi_keeper::Keeper;
 use csi_types::Request;
-use identity::{
-    plan_controller_capabilities, plan_plugin_capabilities, plan_plugin_info, plan_probe,
-};
+pub(crate) use identity::append_ready;
+use identity::{plan_controller_capabilities, plan_plugin_capabilities, plan_plugin_info};
+pub(crate) use listing::append_page;
 use std::alloc::Global;
 
-impl Planned for Request {
-    ghost planned = { plan };
-
-    fn plan<K: Keeper>(&self, alloc: Global, config: &Config, keeper: &mut K) -> Planning {
-        match self {
-            Request::PluginInfo => Ok(plan_plugin_info(alloc, config)?),
-            Request::PluginCapabilities => Ok(plan_plugin_capabilities(alloc)?),
-            Request::Probe => Ok(plan_probe(alloc)?),
-            Request::ControllerCapabilities => Ok(plan_controller_capabilities(alloc)?),
-            Request::Create(request) => request.plan(alloc, config, keeper),
-            Request::Delete(request) => request.plan(alloc, config, keeper),
-            Request::Publish(request) => request.plan(alloc, config, keeper),
-            Request::Unpublish(request) => request.plan(alloc, config, keeper),
-            Request::Validate(request) => request.plan(alloc, config, keeper),
-            Request::List(request) => request.plan(alloc, config, keeper),
-            Request::Capacity(request) => request.plan(alloc, config, keeper),
-            Request::Modify(request) => request.plan(alloc, config, keeper),
-        }
+/// The plan of a request that is not answered as it is read.
+pub(crate) fn plan_of<K: Keeper>(
+    alloc: Global,
+    config: &Config,
+    keeper: &mut K,
+    request: &Request,
+) -> Planning
+    requires { IsTrue (is_planned request.now) }
+    ensures bounded { IfOk result (λ p. IfSome p.change IsBounded) }
+    ensures finds { Finds (K.model keeper.old) (K.model keeper.new) result (λ s p. p ≡ plan config.now s request.now) }
+{
+    match request {
+        Request::PluginInfo => Ok(plan_plugin_info(alloc, config)?),
+        Request::PluginCapabilities => Ok(plan_plugin_capabilities(alloc)?),
+        Request::ControllerCapabilities => Ok(plan_controller_capabilities(alloc)?),
+        Request::Create(request) => request.plan(alloc, config, keeper),
+        Request::Delete(request) => request.plan(alloc, config, keeper),
+        Request::Publish(request) => request.plan(alloc, config, keeper),
+        Request::Unpublish(request) => request.plan(alloc, config, keeper),
+        Request::Validate(request) => request.plan(alloc, config, keeper),
+        Request::Capacity(request) => request.plan(alloc, config, keeper),
+        Request::Modify(request) => request.plan(alloc, config, keeper),
+        Request::Probe | Request::List(_) => unreachable!(),
     }
 }

@@ -9,6 +9,9 @@ use csi_types::Text;
 use itoa::Buffer;
 use std::alloc::{AllocError, Global};
 
+/// How the id of a volume begins, before its number in decimal.
+pub(crate) const ID_PREFIX: &str = "vol-";
+
 /// The number in decimal, without leading zeros.
 pub(crate) fn decimal_of(alloc: Global, number: u64) -> Result<Text, AllocError>
     ensures { IfOk result (λ t. t ≡ decimal number) }
@@ -39,12 +42,12 @@ pub(crate) fn number_of(text: &str) -> Option<u64>
 pub(crate) fn number_of_id(text: &str) -> Option<u64>
     ensures { result ≡ number_of_id text.now }
 {
-    number_of(text.strip_prefix("vol-")?)
+    number_of(text.strip_prefix(ID_PREFIX)?)
 }
 
 /// The id of the volume of a number: `vol-` and the number in decimal.
 pub(crate) fn id(alloc: Global, number: u64) -> Result<Text, AllocError>
     ensures { IfOk result (λ t. t ≡ id number) }
 {
-    Text::joined(alloc, "vol-", Buffer::new().format(number))
+    Text::joined(alloc, ID_PREFIX, Buffer::new().format(number))
 }

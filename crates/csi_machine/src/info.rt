@@ -12,7 +12,8 @@ use csi_keeper::Volume;
 use csi_types::{Items, Map, Text, VolumeInfo, copy_map, copy_text};
 use std::alloc::{AllocError, Global};
 
-fn context_of(alloc: Global, pool: &Text) -> Result<Map, AllocError>
+/// The context of a volume: the name of its pool.
+pub(crate) fn context_of(alloc: Global, pool: &Text) -> Result<Map, AllocError>
     ensures { IfOk result (λ m. m ≡ insert empty (codes "pool") pool.now) }
 {
     let mut context = Map::new(alloc);
@@ -20,7 +21,8 @@ fn context_of(alloc: Global, pool: &Text) -> Result<Map, AllocError>
     Ok(context)
 }
 
-fn topology_of(alloc: Global, segments: &Map) -> Result<Items<Map>, AllocError>
+/// The topology of a volume: the segments of its pool, if there are any.
+pub(crate) fn topology_of(alloc: Global, segments: &Map) -> Result<Items<Map>, AllocError>
     ensures { IfOk result (λ ms. ms ≡ topology_of segments.now) }
 {
     let mut terms = Items::new(alloc);

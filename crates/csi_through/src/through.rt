@@ -10,7 +10,7 @@ ghost use Rattle.csi_through.specs.Through.{Opens, through_model};
 use crate::copying::copy_of;
 use crate::health::Health;
 use crate::log::{Log, Logged};
-use csi_keeper::{Attachment, Change, Keeper, MemKeeper, StoreFault, Usage, Volume};
+use csi_keeper::{Attachment, Change, Keeper, Listed, MemKeeper, StoreFault, Usage, Volume};
 use csi_types::{Items, Text};
 use std::alloc::Global;
 
@@ -188,6 +188,17 @@ impl<M: Keeper, D: Log> Keeper for Through<M, D> {
     ) -> Result<Items<Items<Text>>, StoreFault> {
         self.health.begin()?;
         let answer = self.memory.published_nodes(alloc, after, count);
+        self.health.end(answer)
+    }
+
+    fn listing(
+        &mut self,
+        alloc: Global,
+        after: u64,
+        count: u32,
+    ) -> Result<Items<Listed>, StoreFault> {
+        self.health.begin()?;
+        let answer = self.memory.listing(alloc, after, count);
         self.health.end(answer)
     }
 

@@ -29,6 +29,15 @@ impl<T> Boxed<T> {
     }
 }
 
+impl<T> Boxed<T> {
+    /// The value, taken out.
+    pub fn into_value(self) -> T
+        ensures { result ≡ self }
+    {
+        Box::into_inner(self.kept)
+    }
+}
+
 impl<T: Drop> Boxed<T> {
     /// Takes memory for a value. Where it is refused, the value is let go.
     pub fn new(alloc: Global, value: T) -> Result<Boxed<T>, AllocError>

@@ -3,6 +3,7 @@
 ghost use Rattle.std.specs.Prelude.{◌≡◌};
 ghost use Rattle.csi_types.specs.Checks.{is_known_mode, is_supported, writes_beside_others};
 
+use crate::boxed::Boxed;
 use crate::items::Items;
 use crate::limits::MAX_ACCESS_MODE;
 use crate::text::Text;
@@ -28,7 +29,7 @@ pub enum Access {
     /// `block`, field 1: a raw block device.
     Block,
     /// `mount`, field 2: a mounted file system.
-    Mount(Mount),
+    Mount(Boxed<Mount>),
 }
 
 /// `VolumeCapability` (CSI specification, 'CreateVolume').

@@ -2,6 +2,7 @@
 
 ghost use Rattle.std.specs.Prelude.{◌≡◌, IfOk};
 
+use crate::boxed::Boxed;
 use crate::capability::{Access, Capability, Mount};
 use crate::items::Items;
 use crate::map::Map;
@@ -40,7 +41,7 @@ pub fn copy_capability(alloc: Global, capability: &Capability) -> Result<Capabil
     let access = match &capability.access {
         Access::Missing => Access::Missing,
         Access::Block => Access::Block,
-        Access::Mount(mount) => Access::Mount(copy_mount(alloc, mount)?),
+        Access::Mount(mount) => Access::Mount(Boxed::new(alloc, copy_mount(alloc, mount.get())?)?),
     };
     Ok(Capability {
         access,

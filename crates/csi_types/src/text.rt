@@ -10,7 +10,7 @@ use std::convert::AsStr;
 use std::fmt;
 use std::marker::Model;
 
-// The most bytes of a text that takes no memory: most ids, keys and names of pools have no more, and with more a text would be larger than its other form.
+// The most bytes of a text that takes no memory: most ids, keys and names of pools have no more, and with room for more a text would take more than 32 bytes.
 const SHORT_BYTES: usize = 16;
 
 // Where a text stands.

@@ -4,7 +4,9 @@ use crate::command::fields;
 use crate::failure::Failure;
 use clap::ArgMatches;
 use command_line::{CommandOption, is_decimal};
-use csi_types::{Access, Capability, CapacityRange, Items, Map, Method, Mount, Requirement, Text};
+use csi_types::{
+    Access, Boxed, Capability, CapacityRange, Items, Map, Method, Mount, Requirement, Text,
+};
 use std::alloc::{AllocError, Global};
 
 /// Why a field is not had. It is small, and so is what a function spells out that makes a message of many fields.
@@ -164,11 +166,12 @@ impl<'m, 'a> Fields<'m, 'a> {
         let Some(fs) = self.arguments.get_str("fs") else {
             return Ok(Access::Block);
         };
-        Ok(Access::Mount(Mount {
+        let mount = Mount {
             fs_type: Text::from_str(self.alloc, fs)?,
             flags: Items::new(self.alloc),
             group: Text::new(self.alloc),
-        }))
+        };
+        Ok(Access::Mount(Boxed::new(self.alloc, mount)?))
     }
 
     /// The one capability, where a mode is given.

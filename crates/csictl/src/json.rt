@@ -133,7 +133,7 @@ fn capability(alloc: Global, capability: &Capability) -> Json {
         Access::Missing => json!(in alloc; {"accessMode": mode}),
         Access::Block => json!(in alloc; {"block": {}, "accessMode": mode}),
         Access::Mount(mount) => json!(in alloc; {
-            "mount": {"fsType": mount.fs_type.as_str(), "mountFlags": texts(alloc, &mount.flags)?},
+            "mount": {"fsType": mount.get().fs_type.as_str(), "mountFlags": texts(alloc, &mount.get().flags)?},
             "accessMode": mode,
         }),
     }

@@ -121,13 +121,3 @@ pub fn fault_text(fault: &FrameFault) -> FixedText
 {
     text_and_number(fault.why.text().as_bytes(), fault.at)
 }
-
-/// The text as it is: at most 140 bytes.
-pub fn fixed_text(text: &[u8]) -> FixedText
-    requires { length text.now ≤ 140 }
-    ensures { result ≡ text.now }
-{
-    let mut copy = FixedText::new();
-    copy.extend(text);
-    copy
-}

@@ -41,8 +41,7 @@ mod taken_reply;
 pub use call::Call;
 pub use fault::{Fault, FrameFault, FrameWhy};
 pub use fixed::{
-    Fixed, FixedFrame, FixedText, fault_text, fixed_text, refusal_frame, reply_head,
-    text_and_number,
+    Fixed, FixedFrame, FixedText, fault_text, refusal_frame, reply_head, text_and_number,
 };
 pub use framer::{Cutter, Framer, ReplyFramer};
 pub use limits::{

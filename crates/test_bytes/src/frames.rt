@@ -13,7 +13,7 @@ use crate::words::first_word;
 use frames_core::{MAX_MESSAGE_BYTES, MAX_PATH_BYTES, Taken, put_request, take_frame};
 use parts::{Kind, parts_answer, prefixes_answer};
 use pieces::{pieces_answer, steps_answer};
-use spelled::{fixed_answer, head_answer, limits_answer, refusal_answer, texts_answer};
+use spelled::{head_answer, limits_answer, refusal_answer, texts_answer};
 use std::alloc::Global;
 use test_kit::{RowFault, bytes_of, bytes_text};
 
@@ -33,7 +33,6 @@ pub(crate) fn answer(alloc: Global, row: &str) -> Result<String, RowFault> {
         "head" => head_answer(alloc, rest),
         "refusal" => refusal_answer(alloc, rest),
         "texts" => texts_answer(alloc, rest),
-        "fixed" => fixed_answer(alloc, rest),
         "limits" => limits_answer(alloc),
         _ => Err(RowFault::NotRow),
     }

@@ -4,9 +4,10 @@ use Rattle.std.specs.Prelude.{ℕ, List}
 use Rattle.csi_types.specs.declared.volume.VolumeInfo.{VolumeInfo}
 use Rattle.csi_types.specs.declared.volume.Entry.{Entry}
 use Rattle.csi_types.specs.declared.volume.Confirmed.{Confirmed}
+use Rattle.csi_types.specs.Maps.{TextMap}
 use Rattle.csi_codec.specs.Views.{Views, text, i64, inner, messages, text_map, value_of}
 use Rattle.csi_codec.specs.Schema.{Schema, AnyPayload, TextAt, MessageAt, map_entry_schema}
-use Rattle.csi_codec.specs.Canon.{Rows, Start, ◌▸◌, text_row, texts_row, signed_row, option_row, messages_row, map_row, FitsText, FitsTexts, FitsI64, FitsOption, FitsMap}
+use Rattle.csi_codec.specs.Canon.{Rows, Start, ◌▸◌, bytes_of, text_row, texts_row, signed_row, option_row, messages_row, map_row, FitsText, FitsTexts, FitsI64, FitsOption, FitsMap}
 use Rattle.csi_codec.specs.messages.Capability.{capability_in, capability_schema, canon_capability, FitsCapabilities}
 use Rattle.csi_codec.specs.messages.Topology.{map_in, map_schema, canon_map, FitsTerms}
 
@@ -23,6 +24,10 @@ canon_volume v = Start ▸ signed_row 1 v.bytes ▸ text_row 2 v.id ▸ map_row 
 
 abbrev pub FitsVolume : VolumeInfo → Type 0
 FitsVolume v = FitsI64 v.bytes × FitsText v.id × FitsMap v.context × FitsTerms v.topology
+
+-- the fields that the pool gives
+abbrev pub placement_bytes : TextMap → List TextMap → List ℕ
+placement_bytes context topology = bytes_of (Start ▸ map_row 3 context ▸ messages_row canon_map 5 topology)
 
 -- ---- ListVolumesResponse.VolumeStatus { published_node_ids 1 }
 

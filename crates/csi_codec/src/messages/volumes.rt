@@ -1,11 +1,13 @@
 //! What requests and responses are made of: capabilities, ranges of bytes, topologies, and volumes.
 
-ghost use Rattle.std.specs.Prelude.{◌≡◌, ◌++◌, ◌∷◌, [], ℕ, List, OnOk};
+ghost use Rattle.std.specs.Prelude.{◌≡◌, ◌++◌, ◌∷◌, [], ℕ, List, OnOk, IfOk};
 ghost use Rattle.std.specs.Int.{cast_signed};
+ghost use Rattle.csi_types.specs.declared.capability.Access.TheVariants.{Mount as AnyMount};
 ghost use Rattle.csi_codec.specs.Schema.{AnyPayload, GoodField, Good};
-ghost use Rattle.csi_codec.specs.Views.{one_of};
+ghost use Rattle.pbwire.specs.Wire.{WireField};
+ghost use Rattle.csi_codec.specs.Views.{one_of, value_of};
 ghost use Rattle.csi_codec.specs.Canon.{bytes_of, FitsTexts};
-ghost use Rattle.csi_codec.specs.Fields.{AreGood};
+ghost use Rattle.csi_codec.specs.Fields.{AreGood, fields_of};
 ghost use Rattle.csi_codec.specs.Kept.{Keeps};
 ghost use Rattle.csi_codec.specs.messages.Capability.{mount_in, mount_schema, canon_mount, FitsMount, access, canon_access, FitsAccess, capability_in, capability_schema, canon_capability, FitsCapability};
 ghost use Rattle.csi_codec.specs.messages.Capacity.{range_in, canon_range, FitsRange};
@@ -19,11 +21,12 @@ use crate::writing::{
     Written, put_map, put_message, put_messages, put_option, put_signed, put_text, put_texts,
 };
 use csi_types::{
-    Access, Capability, CapacityRange, Confirmed, Entry, Items, Map, Mount, Requirement, Text,
-    VolumeInfo,
+    Access, Boxed, Capability, CapacityRange, Confirmed, Entry, Items, Map, Mount, Requirement,
+    Text, VolumeInfo,
 };
 use pbwire::put_bytes;
 use std::alloc::{AllocError, Global};
+use std::mem::replace;
 
 #[tactic(auto, using(crate::proofs::ViewLemmas::last_after))]
 impl Message for Mount {
@@ -64,16 +67,38 @@ impl Message for Mount {
     }
 }
 
-/// Merges a mount with its earlier occurrences, back to where another member stood.
+// The mount with what a further occurrence has.
+fn merged(alloc: Global, mut mount: Mount, payload: &[u8]) -> Result<Mount, AllocError>
+    requires { AreGood (GoodField (Good mount_schema)) payload.now }
+    ensures { IfOk result (λ new. (fs : List WireField) → mount ≡ value_of mount_in fs → new ≡ value_of mount_in (fs ++ fields_of payload.now)) }
+{
+    merge(&mut mount, alloc, payload)?;
+    Ok(mount)
+}
+
+fn set_mount(slot: &mut Access, alloc: Global, mount: Mount) -> Result<(), AllocError>
+    ensures { OnOk result (slot.new ≡ AnyMount mount) }
+{
+    *slot = Access::Mount(Boxed::new(alloc, mount)?);
+    Ok(())
+}
+
+/// Merges a mount with its earlier occurrences, back to where another member stood. Where memory is refused, no
+/// member is set.
 fn merge_mount(slot: &mut Access, alloc: Global, payload: &[u8]) -> Result<(), AllocError>
     requires { AreGood (GoodField (Good mount_schema)) payload.now }
     ensures { OnOk result ((ms : List (ℕ × List ℕ)) → slot.old ≡ access (one_of ms) → slot.new ≡ access (one_of (ms ++ (2, payload.now) ∷ []))) }
 {
-    match slot {
-        Access::Mount(mount) => merge(mount, alloc, payload)?,
-        Access::Missing | Access::Block => *slot = Access::Mount(read(alloc, payload)?),
+    match replace(slot, Access::Missing) {
+        Access::Mount(before) => {
+            let mount = merged(alloc, before.into_value(), payload)?;
+            set_mount(slot, alloc, mount)
+        }
+        Access::Missing | Access::Block => {
+            let mount = read(alloc, payload)?;
+            set_mount(slot, alloc, mount)
+        }
     }
-    Ok(())
 }
 
 #[tactic(auto, using(crate::proofs::ViewLemmas::one_of_push))]
@@ -138,7 +163,7 @@ fn put_access(out: &mut Vec<u8>, access: &Access) -> Result<(), AllocError>
     match access {
         Access::Missing => Ok(()),
         Access::Block => put_bytes(out, 1, &[]),
-        Access::Mount(mount) => put_message(out, 2, mount),
+        Access::Mount(mount) => put_message(out, 2, mount.get()),
     }
 }
 

@@ -9,10 +9,11 @@ ghost use Rattle.std.specs.FinMap.{get, insert, remove, entries};
 ghost use Rattle.std.specs.Ordering.{nat_cmp};
 ghost use Rattle.std.specs.declared.ops.Bound.TheVariants.{Excluded, Unbounded};
 ghost use Rattle.csi_types.specs.Maps.{same_text};
-ghost use Rattle.csi_keeper.specs.Memory.{volumes_of, nodes_in};
+ghost use Rattle.csi_keeper.specs.Memory.{volumes_of, nodes_in, listed_in};
 ghost use Rattle.csi_keeper.specs.State.{mutable_set};
 
 use crate::copies::copy_volume;
+use crate::listed::{Listed, listed_at};
 use crate::mem::attachments::nodes_of;
 use crate::volume::{Attachment, Volume};
 use csi_types::{Items, Map, Text};
@@ -110,6 +111,40 @@ pub(crate) fn nodes_after(
         nodes.push(nodes_of(alloc, attachments, volume.number)?)?;
     }
     Ok(nodes)
+}
+
+fn listed_in(
+    alloc: Global,
+    attachments: &BTreeMap<(u64, Text), Attachment>,
+    volume: &Volume,
+) -> Result<Listed, AllocError>
+    ensures { IfOk result (λ told. told ≡ listed_in attachments.now.entries volume.now) }
+{
+    let nodes = nodes_of(alloc, attachments, volume.number)?;
+    listed_at(alloc, volume, nodes)
+}
+
+/// What a listing tells of the volumes with greater numbers, of at most that many.
+pub(crate) fn listed_after(
+    alloc: Global,
+    volumes: &BTreeMap<u64, Volume>,
+    attachments: &BTreeMap<(u64, Text), Attachment>,
+    after: u64,
+    count: u32,
+) -> Result<Items<Listed>, AllocError>
+    ensures value { IfOk result (λ xs. xs ≡ take count
+        (map (λ e. listed_in attachments.now.entries e.1) (entries_between nat_cmp (Excluded after) Unbounded volumes.now.entries))) }
+    ensures ordered { entries (volumes_of volumes.now.entries) ≡ volumes.now.entries }
+{
+    let rows = beyond(volumes, after);
+    let mut listed = Items::with_room(alloc, volumes.len().min(count as usize))?;
+    for (_, volume) in rows {
+        if listed.len() >= count as usize {
+            return Ok(listed);
+        }
+        listed.push(listed_in(alloc, attachments, volume)?)?;
+    }
+    Ok(listed)
 }
 
 /// Adds a copy of a volume. Where memory is refused the rows stay.

@@ -48,12 +48,6 @@ token_for last (v ∷ vs) = decimal last
 abbrev pub entry_with : Config → Volume → List Text → Entry
 entry_with config v nodes = record { volume = Some (info config v); nodes = Some nodes }
 
--- volumes, and the nodes of each
-abbrev pub entries_with : Config → List Volume → List (List Text) → List Entry
-entries_with config [] nodes = []
-entries_with config (v ∷ vs) [] = []
-entries_with config (v ∷ vs) (ns ∷ nodes) = entry_with config v ns ∷ entries_with config vs nodes
-
 -- a volume, and the nodes at which it is published
 abbrev pub entry_of : Config → State → Volume → Entry
 entry_of config s v = entry_with config v (published s v.number)

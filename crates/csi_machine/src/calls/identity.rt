@@ -3,7 +3,9 @@
 
 ghost use Rattle.std.specs.Prelude.{◌≡◌, None, IfOk};
 ghost use Rattle.csi_machine.specs.calls.Identity.{plugin_info, plugin_capabilities, probe, controller_capabilities};
+ghost use Rattle.csi_machine.specs.Verdicts.{Appended, IsTold, told_of};
 
+use crate::body::{Verdict, append_body};
 use crate::plan::{Plan, respond};
 use csi_config::Config;
 use csi_types::{Items, Response, copy_text};
@@ -37,12 +39,12 @@ pub(crate) fn plan_plugin_capabilities(alloc: Global) -> Result<Plan, AllocError
     respond(alloc, Response::PluginCapabilities(types))
 }
 
-/// The plan of Probe: ready.
-pub(crate) fn plan_probe(alloc: Global) -> Result<Plan, AllocError>
-    ensures none { IfOk result (λ p. p.change ≡ None) }
-    ensures value { IfOk result (λ p. p ≡ probe) }
+/// Answers Probe: ready. It is asked so often that its response is not kept as one of a plan.
+pub(crate) fn append_ready(out: &mut Vec<u8>) -> Result<Verdict, AllocError>
+    ensures appended { Appended out.old.items out.new.items result }
+    ensures told { IsTold (told_of probe.outcome) out.old.items out.new.items result }
 {
-    respond(alloc, Response::Probe(Some(true)))
+    append_body(&Response::Probe(Some(true)), out)
 }
 
 /// The plan of ControllerGetCapabilities: `CREATE_DELETE_VOLUME`, `PUBLISH_UNPUBLISH_VOLUME`,

@@ -1,17 +1,26 @@
-//! ListVolumes (CSI specification, 'ListVolumes').
+//! ListVolumes (CSI specification, 'ListVolumes'). A page is written as it is read: no response of its entries is made.
 
-ghost use Rattle.std.specs.Prelude.{◌≡◌, Some, None, IfOk};
+ghost use Rattle.std.specs.Prelude.{◌≡◌, ◌++◌, ◌∷◌, [], map, Ok, Some, IfOk, OnOk};
+ghost use Rattle.csi_codec.specs.Kept.{Keeps};
+ghost use Rattle.csi_codec.specs.Methods.{response_bytes};
+ghost use Rattle.csi_types.specs.declared.responses.Response.TheVariants as response;
+ghost use Rattle.csi_config.specs.declared.config.Config.{Config as AnyConfig};
+ghost use Rattle.csi_keeper.specs.declared.change.StoreFault.{StoreFault as AnyFault};
 ghost use Rattle.csi_machine.specs.Finding.{Finds};
+ghost use Rattle.csi_machine.specs.Places.{ArePlaced, IsPlaced, entry_at, last_row, row_token};
 ghost use Rattle.csi_machine.specs.Size.{whole};
-ghost use Rattle.csi_machine.specs.calls.Listing.{start_of, entries_for, last_of, token_for, entry_with, entries_with, list_after, list_volumes};
+ghost use Rattle.csi_machine.specs.Verdicts.{Appended, IsTold, told_of, within};
+ghost use Rattle.csi_machine.specs.calls.Listing.{start_of, entries_for, list_after, list_volumes};
 
-use crate::ids::{decimal_of, number_of};
-use crate::info::{info_at, segments_at};
-use crate::plan::{refuse, respond};
-use crate::planned::{Planned, Planning};
+use crate::body::{Verdict, limit_body};
+use crate::ids::{ID_PREFIX, decimal_of, number_of};
+use crate::info::signed;
+use crate::places::{Place, place_named, place_of};
+use csi_codec::{ListedEntry, encode_entry, encode_response};
 use csi_config::Config;
-use csi_keeper::{Keeper, Volume};
-use csi_types::{Entry, Items, ListVolumes, MAX_PAGE_ENTRIES, Map, Reason, Response, Text};
+use csi_keeper::{Keeper, Listed, StoreFault};
+use csi_types::{Items, ListVolumes, MAX_PAGE_ENTRIES, Reason, Response, Text};
+use itoa::Buffer;
 use std::alloc::{AllocError, Global};
 
 fn start_of(next: u64, token: &Text) -> Option<u64>
@@ -37,18 +46,18 @@ fn entries_for(most: i32) -> u32
 }
 
 #[tactic(auto, using(crate::proofs::PageLemmas::last_more))]
-fn last_of(after: u64, volumes: &[Volume]) -> u64
-    ensures { result ≡ last_of after volumes.now }
+fn last_of(after: u64, rows: &[Listed]) -> u64
+    ensures { result ≡ last_row after rows.now }
 {
     let mut last = after;
-    for volume in volumes {
-        last = volume.number;
+    for row in rows {
+        last = row.number;
     }
     last
 }
 
-fn token_for(alloc: Global, last: u64, rest: &[Volume]) -> Result<Text, AllocError>
-    ensures { IfOk result (λ t. t ≡ token_for last rest.now) }
+fn token_for(alloc: Global, last: u64, rest: &[Listed]) -> Result<Text, AllocError>
+    ensures { IfOk result (λ t. t ≡ row_token last rest.now) }
 {
     if rest.is_empty() {
         return Ok(Text::new(alloc));
@@ -56,86 +65,131 @@ fn token_for(alloc: Global, last: u64, rest: &[Volume]) -> Result<Text, AllocErr
     decimal_of(alloc, last)
 }
 
-fn entry_with(
-    alloc: Global,
-    config: &Config,
-    volume: &Volume,
-    nodes: Items<Text>,
-) -> Result<Entry, AllocError>
-    ensures { IfOk result (λ e. e ≡ entry_with config.now volume.now nodes) }
+// Appends the entry of a volume of this place.
+fn put_placed(row: &Listed, place: &Place, out: &mut Vec<u8>) -> Result<(), AllocError>
+    ensures ok { OnOk result ((config : AnyConfig) → IsPlaced config place.now → place.now.pool ≡ row.now.pool
+        → out.new.items ≡ out.old.items ++ response_bytes (response.List (entry_at config row.now ∷ []) [])) }
+    ensures kept { Keeps out.old.items out.new.items }
 {
-    let nowhere = Map::new(alloc);
-    let segments = segments_at(config, &volume.pool, &nowhere);
-    Ok(Entry {
-        volume: Some(info_at(alloc, segments, volume)?),
-        nodes: Some(nodes),
-    })
+    let mut buffer = Buffer::new();
+    let entry = ListedEntry {
+        bytes: signed(row.bytes),
+        prefix: ID_PREFIX,
+        suffix: buffer.format(row.number),
+        placement: &place.placement,
+        nodes: &row.nodes,
+    };
+    encode_entry(&entry, out)
 }
 
-// Entries of volumes and the nodes of each, of as many as there are of both.
-fn entries_with(
+// Appends the entry of a volume, and keeps its place where it is the first of it.
+fn put_row(
     alloc: Global,
     config: &Config,
-    volumes: &[Volume],
-    nodes: Items<Items<Text>>,
-) -> Result<Items<Entry>, AllocError>
-    ensures { IfOk result (λ es. es ≡ entries_with config.now volumes.now nodes) }
+    places: &mut Vec<Place>,
+    row: &Listed,
+    out: &mut Vec<u8>,
+) -> Result<(), AllocError>
+    requires { ArePlaced config.now places.old.items }
+    ensures ok { OnOk result (out.new.items ≡ out.old.items ++ response_bytes (response.List (entry_at config.now row.now ∷ []) [])) }
+    ensures placed { OnOk result (ArePlaced config.now places.new.items) }
+    ensures kept { Keeps out.old.items out.new.items }
 {
-    let mut rest = nodes.into_vec().into_iter();
-    let mut entries = Items::with_room(alloc, volumes.len())?;
-    for volume in volumes {
-        let Some(published) = rest.next() else {
-            return Ok(entries);
-        };
-        entries.push(entry_with(alloc, config, volume, published)?)?;
+    if let Some(place) = place_named(places, &row.pool) {
+        return put_placed(row, place, out);
     }
-    Ok(entries)
+    let place = place_of(alloc, config, &row.pool)?;
+    put_placed(row, &place, out)?;
+    places.push(place)?;
+    Ok(())
 }
 
-#[tactic(auto, using(csi_keeper::specs::facts::Reads::quiet_same, csi_keeper::specs::facts::Reads::quiet_then, crate::proofs::PageLemmas::token_one, crate::proofs::PageLemmas::entries_page))]
-fn list_after<K: Keeper>(
+fn put_rows(
+    alloc: Global,
+    config: &Config,
+    rows: &[Listed],
+    out: &mut Vec<u8>,
+) -> Result<(), AllocError>
+    ensures ok { OnOk result (out.new.items ≡ out.old.items ++ response_bytes (response.List (map (entry_at config.now) rows.now) [])) }
+    ensures kept { Keeps out.old.items out.new.items }
+{
+    let mut places = Vec::new(alloc);
+    for row in rows {
+        put_row(alloc, config, &mut places, row, out)?;
+    }
+    Ok(())
+}
+
+// Appends the body of a page. Where memory is refused a part of it may stand there.
+fn put_page(
+    alloc: Global,
+    config: &Config,
+    rows: &[Listed],
+    token: Text,
+    out: &mut Vec<u8>,
+) -> Result<(), AllocError>
+    ensures ok { OnOk result (out.new.items ≡ out.old.items ++ response_bytes (response.List (map (entry_at config.now) rows.now) token)) }
+    ensures kept { Keeps out.old.items out.new.items }
+{
+    put_rows(alloc, config, rows, out)?;
+    let entries = Items::new(alloc);
+    encode_response(&Response::List { entries, token }, out)
+}
+
+// Appends the body of a page, or refuses one that no reply holds.
+fn append_rows(
+    alloc: Global,
+    config: &Config,
+    rows: &[Listed],
+    token: Text,
+    out: &mut Vec<u8>,
+) -> Result<Verdict, AllocError>
+    ensures appended { Appended out.old.items out.new.items result }
+    ensures told { IsTold (within (response_bytes (response.List (map (entry_at config.now) rows.now) token))) out.old.items out.new.items result }
+{
+    let from = out.len();
+    if let Err(refused) = put_page(alloc, config, rows, token, out) {
+        out.truncate(from);
+        return Err(refused);
+    }
+    Ok(limit_body(out, from))
+}
+
+fn append_after<K: Keeper>(
     alloc: Global,
     config: &Config,
     keeper: &mut K,
     most: i32,
     after: u64,
-) -> Planning
-    ensures finds { Finds (K.model keeper.old) (K.model keeper.new) result (λ s p. p ≡ list_after config.now s (whole most) (Some after)) }
-    ensures none { IfOk result (λ p. p.change ≡ None) }
+    out: &mut Vec<u8>,
+) -> Result<Verdict, StoreFault>
+    ensures finds { Finds (K.model keeper.old) (K.model keeper.new) result
+        (λ s v. IsTold {E = AnyFault} (told_of (list_after config.now s (whole most) (Some after)).outcome) out.old.items out.new.items (Ok v)) }
+    ensures appended { Appended out.old.items out.new.items result }
 {
-    let volumes = keeper.page(alloc, after, entries_for(most))?;
-    let nodes = keeper.published_nodes(alloc, after, entries_for(most))?;
-    let last = last_of(after, volumes.as_slice());
-    let rest = keeper.page(alloc, last, 1)?;
-    let entries = entries_with(alloc, config, volumes.as_slice(), nodes)?;
+    let rows = keeper.listing(alloc, after, entries_for(most))?;
+    let last = last_of(after, rows.as_slice());
+    let rest = keeper.listing(alloc, last, 1)?;
     let token = token_for(alloc, last, rest.as_slice())?;
-    Ok(respond(alloc, Response::List { entries, token })?)
+    Ok(append_rows(alloc, config, rows.as_slice(), token, out)?)
 }
 
-fn list_from<K: Keeper>(
+/// Appends the body of a page, or refuses its token. A page has at most 100 entries; its token is the number of its last
+/// volume, which need not stand any more when the next page is asked for.
+pub(crate) fn append_page<K: Keeper>(
     alloc: Global,
     config: &Config,
     keeper: &mut K,
-    next: u64,
     request: &ListVolumes,
-) -> Planning
+    out: &mut Vec<u8>,
+) -> Result<Verdict, StoreFault>
     ensures finds { Finds (K.model keeper.old) (K.model keeper.new) result
-        (λ s p. p ≡ list_after config.now s (whole request.now.max_entries) (start_of next request.now.token)) }
-    ensures none { IfOk result (λ p. p.change ≡ None) }
+        (λ s v. IsTold {E = AnyFault} (told_of (list_volumes config.now s request.now).outcome) out.old.items out.new.items (Ok v)) }
+    ensures appended { Appended out.old.items out.new.items result }
 {
+    let next = keeper.next_number()?;
     match start_of(next, &request.token) {
-        Some(after) => list_after(alloc, config, keeper, request.max_entries, after),
-        None => Ok(refuse(Reason::BadToken)),
-    }
-}
-
-/// A page has at most 100 entries; its token is the number of its last volume, which need not stand
-/// any more when the next page is asked for.
-impl Planned for ListVolumes {
-    ghost planned = { list_volumes };
-
-    fn plan<K: Keeper>(&self, alloc: Global, config: &Config, keeper: &mut K) -> Planning {
-        let next = keeper.next_number()?;
-        list_from(alloc, config, keeper, next, self)
+        Some(after) => append_after(alloc, config, keeper, request.max_entries, after, out),
+        None => Ok(Verdict::Refused(Reason::BadToken)),
     }
 }

@@ -5,13 +5,10 @@ use crate::shown::displayed;
 use frames_core::{
     FrameFault, FrameWhy, MAX_BODY_BYTES, MAX_FRAME_BYTES, MAX_HEAD_BYTES, MAX_MESSAGE_BYTES,
     MAX_PATH_BYTES, MAX_REFUSAL_TEXT_BYTES, MAX_REPLY_BYTES, MAX_REPLY_HEAD_BYTES, MAX_TEXT_BYTES,
-    REPLY_HEAD_BYTES, fault_text, fixed_text, refusal_frame, reply_head,
+    REPLY_HEAD_BYTES, fault_text, refusal_frame, reply_head,
 };
 use std::alloc::Global;
 use test_kit::{RowFault, bytes_text, number_of, put_part};
-
-// The longest text that is copied as it is.
-const MAX_FIXED_BYTES: usize = 140;
 
 /// What stands before a body of a length.
 pub(crate) fn head_answer(alloc: Global, length: &str) -> Result<String, RowFault> {
@@ -45,16 +42,6 @@ pub(crate) fn texts_answer(alloc: Global, at: &str) -> Result<String, RowFault> 
             put_part(&mut out, "displayed otherwise")?;
         }
     }
-    Ok(out)
-}
-
-/// A text as it is.
-pub(crate) fn fixed_answer(alloc: Global, text: &str) -> Result<String, RowFault> {
-    if text.len() > MAX_FIXED_BYTES {
-        return Err(RowFault::NotRow);
-    }
-    let mut out = String::new(alloc);
-    put_part(&mut out, text_of(fixed_text(text.as_bytes()).bytes())?)?;
     Ok(out)
 }
 

@@ -3,8 +3,8 @@
 use super::texts::{map_of, text_at, texts_of};
 use crate::shown::{displayed, in_rust};
 use csi_types::{
-    Access, Capability, Code, Map, Mount, Reason, copy_capability, copy_map, has_each, laid_over,
-    map_bytes, method_of, name_reason,
+    Access, Boxed, Capability, Code, Map, Mount, Reason, copy_capability, copy_map, has_each,
+    laid_over, map_bytes, method_of, name_reason,
 };
 use std::alloc::Global;
 use std::convert::AsStr;
@@ -156,7 +156,7 @@ fn capability_of(alloc: Global, words: &[&str]) -> Result<Capability, RowFault> 
         }),
         "mount" => Ok(Capability {
             mode: Some(number_at(words, 3)?),
-            access: Access::Mount(mount_of(alloc, words)?),
+            access: Access::Mount(Boxed::new(alloc, mount_of(alloc, words)?)?),
         }),
         _ => Err(RowFault::NotRow),
     }

@@ -1,21 +1,26 @@
-use Rattle.std.proofs.Common.{rules, ap}
-use Rattle.csi_machine.specs.Step.{limited, settled_plan}
-use Rattle.csi_machine.proofs.AnsweringLemmas.{carried, performed, keeps, settled_sound}
+use Rattle.std.proofs.Common.{◌≡◌, ◌∙◌, ap, sym, subst}
+use Rattle.csi_types.specs.declared.requests.ListVolumes.{ListVolumes}
+use Rattle.csi_types.specs.declared.requests.Request.{Request}
+use Rattle.csi_types.specs.declared.requests.Request.TheVariants as request
+use Rattle.csi_machine.specs.Answering.{Performs}
+use Rattle.csi_machine.specs.Size.{whole}
+use Rattle.csi_machine.specs.calls.Listing.{start_of}
+use Rattle.csi_machine.proofs.AnsweringLemmas.{keeps, list_still, settled_sound, still_performed}
 use Rattle.csi_machine.proofs.answering.append_answer.Goals as goal
 
-pub returns-in_err-plan-clause-performs : goal.returns-in_err-plan-clause-performs
-returns-in_err-plan-clause-performs g c = performed c.args.config.now c.args.request.now _ _ _ _ _ (search rules)
+pub returns-in-List-clause-performs : goal.returns-in-List-clause-performs
+returns-in-List-clause-performs g c =
+    let m = g.K.Keeper.model in
+    let asked : ListVolumes = c.get.result.now in
+    let is : c.args.request.now ≡ request.List asked = c.in-List.is ∙ ap (λ (l : ListVolumes). request.List l) (sym c.get.ensures) in
+    subst (λ (r : Request). Performs c.args.config.now r (m c.args.keeper.now) (m c.append_page.new.keeper) c.args.out.now.items c.append_page.new.out.items c.append_page.result) (sym is)
+    (still_performed c.args.config.now (request.List asked) _ _ _ _ _ (λ s. list_still c.args.config.now s (whole asked.max_entries) (start_of s.next asked.token)) c.append_page.ensures.finds c.append_page.ensures.appended)
 
-pub returns-in_err-plan-clause-invariant : goal.returns-in_err-plan-clause-invariant
-returns-in_err-plan-clause-invariant g c = keeps c.args.config.now c.args.request.now (settled_sound c.args.config.now c.configured.ensures c.args.request.now c.requires)
+pub returns-in-List-clause-invariant : goal.returns-in-List-clause-invariant
+returns-in-List-clause-invariant g c = keeps c.args.config.now c.args.request.now (settled_sound c.args.config.now c.configured.ensures c.args.request.now c.requires)
 
-pub returns-clause-performs : goal.returns-clause-performs
-returns-clause-performs g c =
-    let found = c.in_ok-plan.ensures.finds in
-    let did = c.finish.ensures in
-    performed c.args.config.now c.args.request.now _ _ _ _ _
-    (carried c.args.config.now (λ s. settled_plan c.args.config.now s c.args.request.now) _ _ _ _ _ _ _ (settled_sound c.args.config.now c.configured.ensures c.args.request.now c.requires)
-    found.quiet (λ d s h. ap limited (found.value d s h)) (λ is s. ap limited (found.down.unasked is s)) did.carries found.count did.body did.err did.small)
-
-pub returns-clause-invariant : goal.returns-clause-invariant
-returns-clause-invariant g c = keeps c.args.config.now c.args.request.now (settled_sound c.args.config.now c.configured.ensures c.args.request.now c.requires)
+pub returns-in_default : goal.returns-in_default
+returns-in_default g c = record {
+  performs = c.append_planned.ensures;
+  invariant = keeps c.args.config.now c.args.request.now (settled_sound c.args.config.now c.configured.ensures c.args.request.now c.requires);
+}

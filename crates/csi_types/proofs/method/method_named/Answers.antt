@@ -1,4 +1,4 @@
-use Rattle.std.proofs.Common.{◌≡◌, ◌++◌, ap, codes, sym, subst, ◌∙◌, IfOk, None, Option, Some}
+use Rattle.std.proofs.Common.{◌≡◌, ◌++◌, ap, codes, sym, subst, ◌∙◌, IfOk, Option}
 use Rattle.csi_types.specs.declared.method.Method.{Method}
 use Rattle.csi_types.specs.Methods.{method_at, method_named, or_else}
 use Rattle.csi_types.proofs.method.method_named.Goals as goal

@@ -1,7 +1,7 @@
 use Rattle.std.proofs.Common.{◌∙◌, ap, sym}
 use Rattle.csi_machine.specs.Step.{plan}
 use Rattle.csi_machine.proofs.FindingLemmas.{found_as}
-use Rattle.csi_machine.proofs.calls.RequestPlanned.plan.Goals as goal
+use Rattle.csi_machine.proofs.calls.plan_of.Goals as goal
 
 pub returns-in-Delete-clause-finds : goal.returns-in-Delete-clause-finds
 returns-in-Delete-clause-finds g c = found_as (λ s p so. so ∙ ap (plan c.args.config.now s) (sym c.in-Delete.is)) c.plan-in-Delete.ensures.finds

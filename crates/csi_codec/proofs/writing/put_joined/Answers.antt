@@ -1,0 +1,20 @@
+use Rattle.std.proofs.Common.{◌≡◌, ◌++◌, ◌∙◌, ◌≤◌, [], ap, ap₂, length, subst, sym, List, OnOk, ℕ}
+use Rattle.pbwire.specs.Wire.{Payload}
+use Rattle.pbwire.specs.Writing.{spelling, spellings}
+use Rattle.csi_codec.specs.Canon.{row_fields, text_row}
+use Rattle.csi_codec.proofs.ViewLemmas.{then_ok}
+use Rattle.csi_codec.proofs.WritingLemmas.{joined_row, no_bytes, some_bytes}
+use Rattle.csi_codec.proofs.writing.put_joined.Goals as goal
+
+pub returns-then-is_empty-clause-ok : goal.returns-then-is_empty-clause-ok
+returns-then-is_empty-clause-ok c =
+    let none : c.args.first.now ≡ [] = no_bytes c.args.first.now (sym c.is_empty.ensures ∙ c.if-is_empty.true) in
+    subst (λ (first : List ℕ). OnOk c.put_str.result (c.put_str.new.out.items ≡ c.args.out.now.items ++ spellings (row_fields (text_row c.args.number (first ++ c.args.second.now))))) (sym none) c.put_str.ensures.ok
+
+pub returns-clause-ok : goal.returns-clause-ok
+returns-clause-ok c =
+    let some : 1 ≤ length c.args.first.now = some_bytes c.args.first.now (sym c.is_empty.ensures ∙ c.if-is_empty.false) in
+    let both : c.as_bytes.result.now ++ c.as_bytes-2.result.now ≡ c.args.first.now ++ c.args.second.now = ap₂ (λ (xs ys : List ℕ). xs ++ ys) c.as_bytes.ensures.value c.as_bytes-2.ensures.value in
+    then_ok c.put_both.result (λ is.
+    is ∙ ap (λ (bs : List ℕ). c.args.out.now.items ++ spelling (record { number = c.args.number; part = Payload bs })) both
+    ∙ ap (λ (bs : List ℕ). c.args.out.now.items ++ bs) (joined_row c.args.number c.args.first.now c.args.second.now some)) c.put_both.ensures.ok

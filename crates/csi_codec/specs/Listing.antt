@@ -1,0 +1,13 @@
+-- Entries of a listing by the parts that they are written from.
+use Rattle.std.specs.Prelude.{ℕ, ℤ, List, ◌++◌, Some}
+use Rattle.csi_types.specs.declared.volume.VolumeInfo.{VolumeInfo}
+use Rattle.csi_types.specs.declared.volume.Entry.{Entry}
+use Rattle.csi_codec.specs.declared.placement.Placement.{Placement}
+use Rattle.csi_codec.specs.declared.listing.ListedEntry.{ListedEntry}
+
+-- a volume that a pool gives its context and its topology
+abbrev pub placed_volume : ℤ → List ℕ → Placement → VolumeInfo
+placed_volume bytes id p = record { bytes = bytes; id = id; context = p.context; topology = p.topology }
+
+abbrev pub listed_entry : ListedEntry → Entry
+listed_entry e = record { volume = Some (placed_volume e.bytes (e.prefix.now ++ e.suffix.now) e.placement.now); nodes = Some e.nodes.now }

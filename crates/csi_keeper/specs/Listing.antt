@@ -1,0 +1,24 @@
+-- What a listing tells of volumes.
+use Rattle.std.specs.Prelude.{ℕ, List, [], ◌∷◌, map}
+use Rattle.csi_keeper.specs.declared.listed.Listed.{Listed}
+use Rattle.csi_keeper.specs.declared.volume.Volume.{Volume}
+use Rattle.csi_keeper.specs.State.{State, page, published}
+use Rattle.csi_keeper.specs.Texts.{Text}
+
+-- what is told of a volume that is published at these nodes
+abbrev pub listed_at : Volume → List Text → Listed
+listed_at v nodes = record { number = v.number; bytes = v.bytes; pool = v.pool; nodes = nodes }
+
+-- what is told of volumes and the nodes of each
+abbrev pub listed_each : List Volume → List (List Text) → List Listed
+listed_each [] nodes = []
+listed_each (v ∷ vs) [] = []
+listed_each (v ∷ vs) (ns ∷ nodes) = listed_at v ns ∷ listed_each vs nodes
+
+-- what is told of a volume of a State
+abbrev pub listed_of : State → Volume → Listed
+listed_of s v = listed_at v (published s v.number)
+
+-- what is told of the volumes of a page
+abbrev pub listing : State → ℕ → ℕ → List Listed
+listing s after count = map (listed_of s) (page s after count)

@@ -1,0 +1,56 @@
+//! What a listing tells of volumes.
+
+ghost use Rattle.std.specs.Prelude.{◌≡◌, IfOk};
+ghost use Rattle.csi_keeper.specs.Listing.{listed_at, listed_each};
+
+use crate::volume::Volume;
+use csi_types::{Items, Text, copy_text};
+use std::alloc::{AllocError, Global};
+
+/// What a listing tells of a volume (CSI 1.x, `ListVolumesResponse.Entry`).
+#[derive(Debug, Drop)]
+pub struct Listed {
+    /// The number.
+    pub number: u64,
+    /// The size in bytes.
+    pub bytes: u64,
+    /// The name of the pool that it takes its bytes from.
+    pub pool: Text,
+    /// The nodes that it is published at, in byte order of their ids.
+    pub nodes: Items<Text>,
+}
+
+/// What is told of a volume that is published at these nodes.
+pub(crate) fn listed_at(
+    alloc: Global,
+    volume: &Volume,
+    nodes: Items<Text>,
+) -> Result<Listed, AllocError>
+    ensures { IfOk result (λ told. told ≡ listed_at volume.now nodes) }
+{
+    Ok(Listed {
+        number: volume.number,
+        bytes: volume.bytes,
+        pool: copy_text(alloc, volume.pool.as_str())?,
+        nodes,
+    })
+}
+
+/// What is told of volumes and the nodes of each, of as many as there are of both.
+pub(crate) fn listed_each(
+    alloc: Global,
+    volumes: &[Volume],
+    nodes: Items<Items<Text>>,
+) -> Result<Items<Listed>, AllocError>
+    ensures { IfOk result (λ told. told ≡ listed_each volumes.now nodes) }
+{
+    let mut rest = nodes.into_vec().into_iter();
+    let mut listed = Items::with_room(alloc, volumes.len())?;
+    for volume in volumes {
+        let Some(published) = rest.next() else {
+            return Ok(listed);
+        };
+        listed.push(listed_at(alloc, volume, published)?)?;
+    }
+    Ok(listed)
+}

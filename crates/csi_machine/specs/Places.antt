@@ -1,0 +1,37 @@
+-- Entries of a listing, of volumes whose pools are spelled once.
+use Rattle.std.specs.Prelude.{◌≡◌, ℕ, List, [], ◌∷◌, Some, codes}
+use Rattle.std.specs.FinMap.{empty, insert}
+use Rattle.std.specs.Fmt.{decimal}
+use Rattle.std.specs.List.{AllByRecursion}
+use Rattle.csi_types.specs.declared.volume.Entry.{Entry}
+use Rattle.csi_config.specs.declared.config.Config.{Config}
+use Rattle.csi_keeper.specs.declared.listed.Listed.{Listed}
+use Rattle.csi_keeper.specs.Texts.{Text}
+use Rattle.csi_machine.specs.Ids.{id}
+use Rattle.csi_machine.specs.Info.{signed, segments_at, topology_of}
+use Rattle.csi_machine.specs.declared.places.Place.{Place}
+
+-- what a configuration gives the volumes of the pool
+pub record IsPlaced (config : Config) (place : Place) : Type 0 where
+  pub context : place.placement.context ≡ insert empty (codes "pool") place.pool
+  pub topology : place.placement.topology ≡ topology_of (segments_at config place.pool)
+
+abbrev pub ArePlaced : Config → List Place → Type 0
+ArePlaced config places = AllByRecursion (IsPlaced config) places
+
+-- what is answered of a volume, by what a listing tells of it
+abbrev pub entry_at : Config → Listed → Entry
+entry_at config row = record {
+  volume = Some (record { bytes = signed row.bytes; id = id row.number; context = insert empty (codes "pool") row.pool; topology = topology_of (segments_at config row.pool) });
+  nodes = Some row.nodes;
+}
+
+-- the last number of a page, or the one after which it began
+abbrev pub last_row : ℕ → List Listed → ℕ
+last_row after [] = after
+last_row after (row ∷ rows) = last_row row.number rows
+
+-- the token of the next page, if a volume stands beyond this one
+abbrev pub row_token : ℕ → List Listed → Text
+row_token last [] = []
+row_token last (row ∷ rows) = decimal last

@@ -1,0 +1,40 @@
+//! What the pools of a configuration give their volumes, spelled as a listing comes to them.
+
+ghost use Rattle.std.specs.Prelude.{◌≡◌, IfOk, find};
+ghost use Rattle.std.specs.Option.{option_copied};
+ghost use Rattle.csi_types.specs.Maps.{same_text};
+ghost use Rattle.csi_machine.specs.Places.{IsPlaced};
+
+use crate::info::{context_of, segments_at, topology_of};
+use csi_codec::Placement;
+use csi_config::Config;
+use csi_types::{Map, Text, copy_text};
+use std::alloc::{AllocError, Global};
+
+/// What is answered alike of each volume of a pool.
+#[derive(Drop)]
+pub(crate) struct Place {
+    pub(crate) pool: Text,
+    pub(crate) placement: Placement,
+}
+
+/// That of a pool.
+pub(crate) fn place_of(alloc: Global, config: &Config, pool: &Text) -> Result<Place, AllocError>
+    ensures pool { IfOk result (λ place. place.pool ≡ pool.now) }
+    ensures placed { IfOk result (λ place. IsPlaced config.now place) }
+{
+    let nowhere = Map::new(alloc);
+    let context = context_of(alloc, pool)?;
+    let topology = topology_of(alloc, segments_at(config, pool, &nowhere))?;
+    Ok(Place {
+        pool: copy_text(alloc, pool.as_str())?,
+        placement: Placement::new(alloc, context, topology)?,
+    })
+}
+
+/// The first of a pool.
+pub(crate) fn place_named<'a>(places: &'a [Place], pool: &Text) -> Option<&'a Place>
+    ensures { option_copied result ≡ find (λ place. same_text place.pool pool.now) places.now }
+{
+    places.iter().find(|place| place.pool == *pool)
+}
