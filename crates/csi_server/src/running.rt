@@ -25,6 +25,7 @@ pub(crate) enum Step {
 }
 
 // Feeds the piece and answers all its frames.
+#[inline(always)]
 fn answer_piece<C, S: Service<C>, W: Write>(
     alloc: Global,
     config: &C,

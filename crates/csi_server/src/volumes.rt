@@ -68,6 +68,7 @@ impl<K: Keeper> Service<Config> for K {
 
     ghost model = { λ c k. seen c (K.model k) };
 
+    #[inline(always)]
     fn answer(
         &mut self,
         config: &Config,

@@ -14,6 +14,7 @@ use std::io;
 use std::io::{ErrorKind, Write};
 
 // Writes all of the bytes, or fails after a prefix of them. A write that takes nothing is a failure.
+#[inline(always)]
 fn put<W: Write>(writer: &mut W, bytes: &[u8]) -> io::Result<()>
     ensures all { OnOk result (Appends (W.contents writer.old) (W.contents writer.new) bytes.now) }
     ensures part { WrotePrefix (W.contents writer.old) (W.contents writer.new) bytes.now }
@@ -31,6 +32,7 @@ fn put<W: Write>(writer: &mut W, bytes: &[u8]) -> io::Result<()>
 }
 
 // Writes all of the bytes and flushes.
+#[inline(always)]
 fn put_flushed<W: Write>(writer: &mut W, bytes: &[u8]) -> io::Result<()>
     ensures all { OnOk result (Appends (W.contents writer.old) (W.contents writer.new) bytes.now) }
     ensures part { WrotePrefix (W.contents writer.old) (W.contents writer.new) bytes.now }
@@ -40,6 +42,7 @@ fn put_flushed<W: Write>(writer: &mut W, bytes: &[u8]) -> io::Result<()>
 }
 
 // Writes the head of a reply with status 0 over the bytes before its body.
+#[inline(always)]
 fn set_head(reply: &mut Vec<u8>)
     requires head { REPLY_HEAD_BYTES ≤ length reply.old.items }
     requires small { length reply.old.items ≤ REPLY_HEAD_BYTES + MAX_BODY_BYTES }
@@ -52,6 +55,7 @@ fn set_head(reply: &mut Vec<u8>)
 }
 
 /// Writes the reply of an answer and flushes. The body goes out with its head in one write, where the writer takes it whole.
+#[inline(always)]
 pub(crate) fn put_reply<W: Write>(
     writer: &mut W,
     answer: &Answer,

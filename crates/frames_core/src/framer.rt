@@ -78,6 +78,7 @@ impl<F: Fault> Cutter<F> {
     }
 
     // The bytes of the frame that is whole, if one is, and what is known where none is.
+    #[inline(always)]
     fn whole_frame(&self) -> Option<&[u8]>
         ensures some { IfSome result (λ bytes. (bytes.now ≡ self.now.held) × IsUnbroken F.kind bytes.now × IsWhole F.kind bytes.now × (self.now.fault ≡ None)) }
         ensures frame { IsTrue (is_some result) → IsFrame F.kind self.now.held }
@@ -96,6 +97,7 @@ impl<F: Fault> Cutter<F> {
     }
 
     /// Gives up the frame that is whole, so that the next one can be taken. Without one nothing changes.
+    #[inline(always)]
     pub fn next_frame(&mut self)
         ensures given_up { IsFrame F.kind self.old.held → self.new ≡ record { past = self.old.past + length self.old.held; held = []; fault = None } }
         ensures open { IsFrame F.kind self.old.held → IsUnfinished F.kind self.new.held }
@@ -118,6 +120,7 @@ impl<F: Fault> Cutter<F> {
     }
 
     // Whether nothing more is taken.
+    #[inline(always)]
     fn is_settled(&self) -> bool
         ensures settled { IsTrue result → IsSettledAs F.kind self.now }
         ensures open { (result ≡ false) → (self.now.fault ≡ None) × IsUnbroken F.kind self.now.held × IsShort F.kind self.now.held }
@@ -128,6 +131,7 @@ impl<F: Fault> Cutter<F> {
     /// Takes bytes of the piece up to the end of one frame, or up to the byte at which a fault is known, and says how many.
     ///
     /// All bytes taken and the piece are fewer than 2^63.
+    #[inline(always)]
     pub fn feed(&mut self, piece: &[u8]) -> usize
         requires room { self.old.past + length self.old.held + length piece.now < 2 ^ 63 }
         ensures within { result ≤ length piece.now }

@@ -10,6 +10,7 @@ use crate::reply::Reply;
 
 // The length of the text, which the two bytes before it give.
 #[tactic(auto, unfolding(crate::specs::Grammar::text_length))]
+#[inline(always)]
 fn text_length_of(kind: Kind, bytes: &[u8]) -> usize
     requires { lead kind + 2 ≤ length bytes.now }
     ensures value { result ≡ text_length kind bytes.now }
@@ -21,6 +22,7 @@ fn text_length_of(kind: Kind, bytes: &[u8]) -> usize
 
 // The length of the body, which the four bytes behind the flag give.
 #[tactic(auto, unfolding(crate::specs::Grammar::body_length))]
+#[inline(always)]
 fn body_length_of(kind: Kind, bytes: &[u8], from: usize) -> usize
     requires from { from ≡ lead kind + 3 + text_length kind bytes.now }
     requires there { from + 4 ≤ length bytes.now }
@@ -44,6 +46,7 @@ pub(crate) struct Head {
 
 impl Head {
     /// What they say, where all bytes before the body are there.
+    #[inline(always)]
     pub(crate) fn read(kind: Kind, bytes: &[u8]) -> Option<Head>
         ensures { MatchOption result (length bytes.now < lead kind + 7 + text_length kind bytes.now) (IsHead kind bytes.now) }
     {
@@ -72,6 +75,7 @@ impl Head {
 
 /// Whether the bytes have the length that they give.
 #[tactic(auto, unfolding(crate::specs::Head::IsWhole))]
+#[inline(always)]
 pub(crate) fn is_whole(kind: Kind, bytes: &[u8]) -> bool
     ensures { IsTrue result ↔ IsWhole kind bytes.now }
 {
@@ -104,6 +108,7 @@ pub(crate) enum Look {
 /// What these bytes are, of which so many were looked at before and break nothing.
 ///
 /// Takes the time of the text's bytes that are new: none of the body is looked at.
+#[inline(always)]
 pub(crate) fn look_at(kind: Kind, bytes: &[u8], seen: usize) -> Look
     requires within { seen ≤ length bytes.now }
     requires prefix { IsUnbroken kind (take seen bytes.now) }
@@ -152,6 +157,7 @@ fn broken(part: Part, at: usize, size: usize) -> Look
 }
 
 // The first byte that no text has, of those from here on that the text has.
+#[inline(always)]
 fn bad_byte(kind: Kind, bytes: &[u8], from: usize, end: usize) -> Option<usize>
     ensures { MatchOption result (AreGoodBytes kind bytes.now from end (length bytes.now)) (λ at. IsBadByte kind bytes.now from end at) }
 {
@@ -169,6 +175,7 @@ fn bad_byte(kind: Kind, bytes: &[u8], from: usize, end: usize) -> Option<usize>
 
 // The text and the body of a whole frame.
 #[tactic(auto, unfolding(crate::specs::Head::IsWhole))]
+#[inline(always)]
 fn parts(kind: Kind, bytes: &[u8]) -> (&[u8], &[u8])
     requires unbroken { IsUnbroken kind bytes.now }
     requires whole { IsWhole kind bytes.now }
@@ -182,6 +189,7 @@ fn parts(kind: Kind, bytes: &[u8]) -> (&[u8], &[u8])
 }
 
 /// The call of a whole frame.
+#[inline(always)]
 pub(crate) fn call_of(bytes: &[u8]) -> Call<'_>
     requires { IsUnbroken Calls bytes.now × IsWhole Calls bytes.now }
     ensures { IsCall (bytes_of result) × (bytes.now ≡ frame (bytes_of result)) }

@@ -18,6 +18,7 @@ pub(crate) struct Prefix {
 /// Takes bytes of the piece up to the end of one frame, or up to the byte that breaks the table.
 ///
 /// What may be the head is appended, looked at and cut back to where the frame or the break ends; the body then comes as one copy.
+#[inline(always)]
 pub(crate) fn take_prefix(kind: Kind, buffer: &mut Vec<u8>, piece: &[u8]) -> Prefix
     requires room { most_frame kind ≤ vec_capacity buffer.old }
     requires unbroken { IsUnbroken kind buffer.old.items }
@@ -69,6 +70,7 @@ fn at_most(n: usize, bound: usize) -> usize
 }
 
 // Appends the bytes, for which there is room.
+#[inline(always)]
 fn append(buffer: &mut Vec<u8>, bytes: &[u8])
     requires { vec_len buffer.old + length bytes.now ≤ vec_capacity buffer.old }
     ensures items { buffer.new.items ≡ buffer.old.items ++ bytes.now }
@@ -81,6 +83,7 @@ fn append(buffer: &mut Vec<u8>, bytes: &[u8])
 
 // How many bytes of the body are missing: 0 until its length is known.
 #[tactic(auto, unfolding(crate::specs::Head::IsShort))]
+#[inline(always)]
 fn missing(kind: Kind, bytes: &[u8]) -> usize
     requires { IsShort kind bytes.now }
     ensures { Misses kind bytes.now result }
