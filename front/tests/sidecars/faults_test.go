@@ -119,7 +119,7 @@ func killUntil(t *testing.T, csid *processes.Server, front string, random *rand.
 // answered, and nothing else does.
 func TestKills(t *testing.T) {
 	t.Parallel()
-	const count, wantedKills = 100, 5
+	const count, wantedKills = 400, 5
 	random := rand.New(rand.NewSource(1))
 	csid, socket := startDriver(t, twoZones)
 	k, claims := startCluster(t, socket), newClaims(random, count)
