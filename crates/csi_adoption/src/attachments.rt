@@ -26,7 +26,6 @@ use sqlite::{Alter, Connection, Error, ErrorCode};
 use std::alloc::{AllocError, Global};
 
 /// What a scan over attachments shows, whose rowids rise.
-#[derive(Drop)]
 pub(crate) struct AttachmentsSeen {
     // The first row that breaks each constraint; of the first constraint it is named by its rowid.
     pub(crate) kinds: Option<RowName>,
@@ -35,6 +34,19 @@ pub(crate) struct AttachmentsSeen {
     pub(crate) node: Option<RowName>,
     // The number of each node's attachments.
     pub(crate) node_volumes: Vec<TextSum>,
+}
+
+// Written out, so that what drops one has one call for it, and its proof no branch for each of its parts.
+impl Drop for AttachmentsSeen {
+    fn drop(self) {
+        let AttachmentsSeen {
+            kinds: _kinds,
+            cap: _cap,
+            readonly: _readonly,
+            node: _node,
+            node_volumes: _node_volumes,
+        } = self;
+    }
 }
 
 type Kinds = Both<FirstBroken<Sure<HasAttachmentKinds>>, Rising>;

@@ -33,7 +33,7 @@ pub enum Foreign {
 }
 
 /// Why tables are not adopted. Its `Display` names the row where one is to blame.
-#[derive(Debug, PartialEq, Eq, Drop, Error)]
+#[derive(Debug, PartialEq, Eq, Error)]
 pub enum AdoptFault {
     /// The tables are not those that this program makes.
     #[error("{0}")]
@@ -53,6 +53,17 @@ pub enum AdoptFault {
     /// Memory was refused.
     #[error("out of memory")]
     NoMemory,
+}
+
+impl Drop for AdoptFault {
+    fn drop(self) {
+        match self {
+            AdoptFault::Foreign(_) | AdoptFault::NoMemory => {}
+            AdoptFault::Newer { format: _ } => {}
+            AdoptFault::Broken(_broken) => {}
+            AdoptFault::Store(_error) => {}
+        }
+    }
 }
 
 impl From<SqlError> for AdoptFault {

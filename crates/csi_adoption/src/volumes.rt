@@ -27,7 +27,6 @@ use sqlite::{Alter, Connection, Error, ErrorCode};
 use std::alloc::{AllocError, Global};
 
 /// What a scan over volumes shows, whose numbers rise.
-#[derive(Drop)]
 pub(crate) struct VolumesSeen {
     // The format of the tables, by which the rows were judged.
     pub(crate) format: u32,
@@ -43,6 +42,24 @@ pub(crate) struct VolumesSeen {
     pub(crate) pool_bytes: Vec<TextSum>,
     pub(crate) pool_volumes: Vec<TextSum>,
     pub(crate) rows: u64,
+}
+
+impl Drop for VolumesSeen {
+    fn drop(self) {
+        let VolumesSeen {
+            format: _,
+            kinds: _kinds,
+            number: _number,
+            name: _name,
+            pool: _pool,
+            bytes: _bytes,
+            caps: _caps,
+            params: _params,
+            pool_bytes: _pool_bytes,
+            pool_volumes: _pool_volumes,
+            rows: _,
+        } = self;
+    }
 }
 
 type Kinds = Both<FirstBroken<Sure<HasVolumeKinds>>, Rising>;

@@ -4,6 +4,7 @@ pub mod ReadingLemmas
 pub mod ViewLemmas
 pub mod OffsetLemmas
 pub mod WritingLemmas
+pub mod EntryLemmas
 pub mod CanonLemmas
 pub mod SlotLemmas
 pub mod FieldLemmas

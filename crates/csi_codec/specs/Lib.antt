@@ -7,4 +7,5 @@ pub mod messages
 pub mod Methods
 pub mod Kept
 pub mod Listing
+pub mod Created
 pub mod facts

@@ -19,6 +19,7 @@
 //! ```
 #![tactic(auto)]
 
+mod created;
 pub mod laws;
 mod listing;
 mod message;
@@ -29,6 +30,7 @@ mod responses;
 mod slots;
 mod writing;
 
+pub use created::{CreatedVolume, encode_created};
 pub use listing::{ListedEntry, encode_entry};
 pub use message::{DecodeFault, MALFORMED_MESSAGE};
 pub use placement::Placement;

@@ -4,7 +4,7 @@ ghost use Rattle.std.specs.Prelude.{◌≡◌, ◌++◌, ◌∷◌, [], OnOk};
 ghost use Rattle.csi_types.specs.declared.responses.Response.TheVariants as response;
 ghost use Rattle.csi_codec.specs.Kept.{Keeps};
 ghost use Rattle.csi_codec.specs.Listing.{listed_entry};
-ghost use Rattle.csi_codec.specs.Methods.{response_bytes};
+ghost use Rattle.csi_codec.specs.Methods.{response_bytes, FitsResponse};
 
 use crate::placement::{Placement, put_placement};
 use crate::writing::{Written, put_joined, put_message, put_signed};
@@ -22,12 +22,12 @@ struct PlacedVolume<'a> {
 
 impl Written for PlacedVolume<'_> {
     ghost use Rattle.std.specs.Prelude.{◌++◌};
-    ghost use Rattle.csi_codec.specs.messages.Volume.{canon_volume};
+    ghost use Rattle.csi_codec.specs.messages.Volume.{canon_volume, FitsVolume};
     ghost use Rattle.csi_codec.specs.Listing.{placed_volume};
 
     ghost canon = { λ v. canon_volume (placed_volume v.bytes (v.prefix.now ++ v.suffix.now) v.placement.now) };
 
-    ghost fits = { λ v. Unit {0} };
+    ghost fits = { λ v. FitsVolume (placed_volume v.bytes (v.prefix.now ++ v.suffix.now) v.placement.now) };
 
     fn write(&self, out: &mut Vec<u8>) -> Result<(), AllocError> {
         put_signed(out, 1, self.bytes)?;
@@ -52,12 +52,12 @@ pub struct ListedEntry<'a> {
 }
 
 impl Written for ListedEntry<'_> {
-    ghost use Rattle.csi_codec.specs.messages.Volume.{canon_entry};
+    ghost use Rattle.csi_codec.specs.messages.Volume.{canon_entry, FitsEntry};
     ghost use Rattle.csi_codec.specs.Listing.{listed_entry};
 
     ghost canon = { λ e. canon_entry (listed_entry e) };
 
-    ghost fits = { λ e. Unit {0} };
+    ghost fits = { λ e. FitsEntry (listed_entry e) };
 
     fn write(&self, out: &mut Vec<u8>) -> Result<(), AllocError> {
         let volume = PlacedVolume {
@@ -77,8 +77,10 @@ impl Written for ListedEntry<'_> {
 /// # Errors
 ///
 /// Where memory is refused a part of it may stand behind what the vector had.
+#[tactic(auto, using(crate::specs::facts::Listing::entries_only), unfolding(crate::specs::Methods::FitsResponse))]
 pub fn encode_entry(entry: &ListedEntry, out: &mut Vec<u8>) -> Result<(), AllocError>
     ensures ok { OnOk result (out.new.items ≡ out.old.items ++ response_bytes (response.List (listed_entry entry.now ∷ []) [])) }
+    ensures fitting { OnOk result (FitsResponse (response.List (listed_entry entry.now ∷ []) [])) }
     ensures kept { Keeps out.old.items out.new.items }
 {
     put_message(out, 1, entry)

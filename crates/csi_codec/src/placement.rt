@@ -1,6 +1,9 @@
 //! What a pool gives its volumes, spelled.
 
 ghost use Rattle.std.specs.Prelude.{◌≡◌, ◌++◌, IfOk, OnOk, OnErr};
+ghost use Rattle.std.proofs.Props.{props};
+ghost use Rattle.csi_codec.specs.Canon.{FitsMap};
+ghost use Rattle.csi_codec.specs.messages.Topology.{FitsTerms};
 ghost use Rattle.csi_codec.specs.messages.Volume.{placement_bytes};
 
 use crate::writing::{put_map, put_messages};
@@ -15,6 +18,7 @@ pub struct Placement {
     topology: Items<Map>,
     spelling: Vec<u8>,
     ghost spelled: { spelling.items ≡ placement_bytes context topology },
+    ghost fitting: { FitsMap context × FitsTerms topology } by { Prim.hlevel props },
 }
 
 impl Placement {

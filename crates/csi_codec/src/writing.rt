@@ -3,7 +3,7 @@
 //! An embedded message is written in place: an empty field, its fields behind it, and then its length.
 
 ghost use Rattle.std.specs.Prelude.{◌≡◌, ◌++◌, ◌∷◌, [], ◌≤◌, ◌<◌, ◌^◌, List, OnOk, OnErr, option_to_list, length, take};
-ghost use Rattle.std.specs.FinMap.{entries};
+ghost use Rattle.std.specs.FinMap.{empty, entries, insert};
 ghost use Rattle.pbwire.specs.Wire.{Payload};
 ghost use Rattle.pbwire.specs.Writing.{spelling, spellings};
 ghost use Rattle.csi_codec.specs.Canon.{Rows, bytes_of, row_fields, payload_fields, text_row, texts_row, signed_row, flag_row, presence_row, option_row, messages_row, map_row, canon_map_entry, FitsText, FitsTexts, FitsI64, FitsInner, FitsOption, FitsMessages, FitsMapEntry, FitsMap};
@@ -51,6 +51,7 @@ pub fn whole_or_none(
 fn put_str(out: &mut Vec<u8>, number: u32, text: &str) -> Result<(), AllocError>
     requires { (1 ≤ number) × (number < 2 ^ 29) }
     ensures ok { OnOk result (out.new.items ≡ out.old.items ++ spellings (row_fields (text_row number text.now))) }
+    ensures fitting { OnOk result (FitsText text.now) }
     ensures kept { Keeps out.old.items out.new.items }
 {
     if text.is_empty() {
@@ -80,6 +81,7 @@ fn append_both(out: &mut Vec<u8>, first: &[u8], second: &[u8]) -> Result<(), All
 fn put_both(out: &mut Vec<u8>, number: u32, first: &[u8], second: &[u8]) -> Result<(), AllocError>
     requires { (1 ≤ number) × (number < 2 ^ 29) }
     ensures ok { OnOk result (out.new.items ≡ out.old.items ++ spelling (record { number = number; part = Payload (first.now ++ second.now) })) }
+    ensures fitting { OnOk result (length (first.now ++ second.now) < 2 ^ 64) }
     ensures kept { Keeps out.old.items out.new.items }
 {
     closed();
@@ -98,6 +100,7 @@ pub fn put_joined(
 ) -> Result<(), AllocError>
     requires { (1 ≤ number) × (number < 2 ^ 29) }
     ensures ok { OnOk result (out.new.items ≡ out.old.items ++ spellings (row_fields (text_row number (first.now ++ second.now)))) }
+    ensures fitting { OnOk result (FitsText (first.now ++ second.now)) }
     ensures kept { Keeps out.old.items out.new.items }
 {
     if first.is_empty() {
@@ -222,14 +225,25 @@ pub fn put_map(out: &mut Vec<u8>, number: u32, map: &Map) -> Result<(), AllocErr
     ensures kept { Keeps out.old.items out.new.items }
 {
     for (key, value) in map.iter() {
-        put_map_entry(out, number, key, value)?;
+        put_map_entry(out, number, key.as_str(), value.as_str())?;
     }
     Ok(())
 }
 
+/// Appends a map of one entry, which nothing is copied for.
+#[tactic(auto, using(crate::proofs::EntryLemmas::one_entry, crate::proofs::EntryLemmas::one_entry_fits), unfolding(crate::specs::Canon::row_fields))]
+pub fn put_single(out: &mut Vec<u8>, number: u32, key: &str, value: &str) -> Result<(), AllocError>
+    requires { (1 ≤ number) × (number < 2 ^ 29) }
+    ensures ok { OnOk result (out.new.items ≡ out.old.items ++ spellings (row_fields (map_row number (insert empty key.now value.now)))) }
+    ensures fitting { OnOk result (FitsMap (insert empty key.now value.now)) }
+    ensures kept { Keeps out.old.items out.new.items }
+{
+    put_map_entry(out, number, key, value)
+}
+
 // Appends an entry of a map, with both its parts, also empty ones.
 #[tactic(auto, unfolding(crate::specs::Canon::row_fields))]
-fn put_map_entry(out: &mut Vec<u8>, number: u32, key: &Text, value: &Text) -> Result<(), AllocError>
+fn put_map_entry(out: &mut Vec<u8>, number: u32, key: &str, value: &str) -> Result<(), AllocError>
     requires { (1 ≤ number) × (number < 2 ^ 29) }
     ensures ok { OnOk result (out.new.items ≡ out.old.items ++ spellings (payload_fields number (bytes_of (canon_map_entry (key.now, value.now)) ∷ []))) }
     ensures fitting { OnOk result (FitsInner FitsMapEntry canon_map_entry (key.now, value.now)) }

@@ -12,7 +12,7 @@ use csi_types::Items;
 
 /// A configuration, which has none of the faults of [`ConfigFault`]: so it was made by [`Config::new`],
 /// or whoever made it has proved as much.
-#[derive(Debug, Drop)]
+#[derive(Debug)]
 pub struct Config {
     /// Who the plugin is.
     pub plugin: Plugin,
@@ -23,6 +23,19 @@ pub struct Config {
     /// The nodes.
     pub nodes: Items<Node>,
     ghost faultless: { fault_of plugin sizes pools nodes ≡ None },
+}
+
+// Written out, so that what drops one has one call for it, and its proof no branch for each of its parts.
+impl Drop for Config {
+    #[inline(always)]
+    fn drop(self) {
+        let Config {
+            plugin: _plugin,
+            sizes: _,
+            pools: _pools,
+            nodes: _nodes,
+        } = self;
+    }
 }
 
 impl Config {

@@ -1,12 +1,12 @@
 -- What rows stand for after a change, and after one that memory refused.
-use Rattle.std.proofs.Common.{◌≡◌, ◌∙◌, inl, inr, ap, sym, subst, cond, arith, refl, ℕ, ◌+◌, ◌*◌, ◌<◌, ◌≤◌, ◌^◌, List, [], ◌∷◌, length, sum, Bool, true, false, Some, None}
+use Rattle.std.proofs.Common.{◌≡◌, ◌∙◌, inl, inr, ap, sym, subst, cond, arith, refl, ℕ, ◌+◌, ◌*◌, ◌<◌, ◌≤◌, ◌^◌, List, [], ◌∷◌, length, sum, Bool, true, false, Some, None, Ordering, Less, Equal, Greater}
 use Rattle.std.specs.BTreeMap.{is_at}
 use Rattle.std.specs.Cmp.{nat_cmp_total}
-use Rattle.std.specs.Cmp.Lexicographic.{texts_ties}
 use Rattle.std.specs.FinMap as fin
 use Rattle.std.specs.List.{AllByRecursion}
 use Rattle.std.specs.Map.{lookup}
-use Rattle.std.specs.Ordering.{nat_cmp, eq_by_cmp}
+use Rattle.std.specs.Ordering.{nat_cmp, eq_by_cmp, is_eq}
+use Rattle.std.proofs.lemmas.Cmp.{tied_itself}
 use lib.Pointwise.{bytes_decides}
 use Rattle.csi_types.specs.Maps.{TextMap, same_text}
 use Rattle.csi_keeper.specs.declared.volume.Attachment.{Attachment}
@@ -14,15 +14,16 @@ use Rattle.csi_keeper.specs.declared.change.Change.TheVariants.{AddVolume, Remov
 use Rattle.csi_keeper.specs.declared.volume.Volume.{Volume}
 use Rattle.csi_keeper.specs.declared.totals.Total.{Total}
 use Rattle.csi_keeper.specs.declared.totals.Totals.{Totals}
-use Rattle.csi_keeper.specs.Memory.{Spot, IsKept, volumes_of}
+use Rattle.csi_keeper.specs.Memory.{Spot, IsKept, volumes_of, name_key}
 use Rattle.csi_keeper.specs.Totals.{total_of, more, less, HasRoom}
-use Rattle.csi_keeper.specs.State.{State, Place, changed, Allows, with_mutable, mutable_set}
-use Rattle.csi_keeper.specs.Texts.{Text, text_cmp}
-use Rattle.csi_keeper.specs.facts.Finite.{same_some, removed, not_there, all_entries, tied}
+use Rattle.csi_keeper.specs.State.{State, Place, changed, Allows, with_mutable, mutable_set, place_cmp}
+use Rattle.csi_keeper.specs.Texts.{Text}
+use Rattle.csi_keeper.specs.facts.Finite.{same_some, removed, not_there, all_entries, put_there, tied}
 use Rattle.csi_keeper.proofs.KeptLemmas.{kept_add, kept_remove}
 use Rattle.csi_keeper.proofs.TreeLemmas.{get_number, one_volume}
 use Rattle.csi_keeper.specs.facts.Mutable.{stood, as_many, totals_kept}
 use Rattle.csi_keeper.specs.facts.Names.{nobody}
+use Rattle.csi_keeper.specs.facts.Orders.{place_exact, place_total}
 use Rattle.csi_keeper.specs.facts.Sums.{in_order, total_cons, count_cons}
 
 -- the rows where a volume got other mutable parameters
@@ -35,15 +36,40 @@ one_mutable es fs k v m some h = one_volume es fs k (with_mutable m v) h ∙ sym
 pub no_mutable : (es : List (ℕ × Volume)) (k : ℕ) (m : TextMap) → lookup (is_at (nat_cmp k)) es ≡ None → volumes_of es ≡ mutable_set (volumes_of es) k m (fin.get (volumes_of es) k)
 no_mutable es k m none = sym (ap (mutable_set (volumes_of es) k m) (get_number es k ∙ none))
 
+-- keys of names are equal where the names are
+name_ties : (k q : Text) → same_text k q ≡ is_eq (place_cmp (name_key k) (name_key q))
+name_ties k q = go (same_text k q) refl
+  where
+    apart : (r : Ordering) → place_cmp (name_key k) (name_key q) ≡ r → same_text k q ≡ false → false ≡ is_eq r
+    apart Less e t = refl
+    apart Greater e t = refl
+    apart Equal e t =
+        let same : k ≡ q = ap (λ (p : Place). p.1) (place_exact (name_key k) (name_key q) e) in
+        let yes = (bytes_decides k q).1 same in
+        absurd (cc (yes, t))
+
+    go : (b : Bool) → same_text k q ≡ b → b ≡ is_eq (place_cmp (name_key k) (name_key q))
+    go true t = sym (subst (λ (x : Text). is_eq (place_cmp (name_key k) (name_key x)) ≡ true) ((bytes_decides k q).0 t) (ap is_eq (tied_itself place_total (name_key k))))
+    go false t = apart (place_cmp (name_key k) (name_key q)) refl t
+
 -- the index with a name set
-pub name_set : (es fs : List (Text × ℕ)) (k : Text) (n : ℕ) (q : Text) → lookup (is_at (text_cmp q)) fs ≡ cond (is_at (text_cmp k) q) (Some n) (lookup (is_at (text_cmp q)) es)
-    → lookup (is_at (text_cmp q)) fs ≡ cond (same_text k q) (Some n) (lookup (is_at (text_cmp q)) es)
-name_set es fs k n q h = h ∙ ap (λ b. cond b (Some n) (lookup (is_at (text_cmp q)) es)) (sym (texts_ties k q))
+pub name_set : (es fs : List (Place × ℕ)) (k : Text) (n : ℕ) (q : Text) → lookup (is_at (place_cmp (name_key q))) fs ≡ cond (is_at (place_cmp (name_key k)) (name_key q)) (Some n) (lookup (is_at (place_cmp (name_key q))) es)
+    → lookup (is_at (place_cmp (name_key q))) fs ≡ cond (same_text k q) (Some n) (lookup (is_at (place_cmp (name_key q))) es)
+name_set es fs k n q h = h ∙ ap (λ b. cond b (Some n) (lookup (is_at (place_cmp (name_key q))) es)) (sym (name_ties k q))
 
 -- the index with a name taken out
-pub name_gone : (es fs : List (Text × ℕ)) (k : Text) (q : Text) → lookup (is_at (text_cmp q)) fs ≡ cond (is_at (text_cmp k) q) None (lookup (is_at (text_cmp q)) es)
-    → lookup (is_at (text_cmp q)) fs ≡ cond (same_text k q) None (lookup (is_at (text_cmp q)) es)
-name_gone es fs k q h = h ∙ ap (λ b. cond b None (lookup (is_at (text_cmp q)) es)) (sym (texts_ties k q))
+pub name_gone : (es fs : List (Place × ℕ)) (k : Text) (q : Text) → lookup (is_at (place_cmp (name_key q))) fs ≡ cond (is_at (place_cmp (name_key k)) (name_key q)) None (lookup (is_at (place_cmp (name_key q))) es)
+    → lookup (is_at (place_cmp (name_key q))) fs ≡ cond (same_text k q) None (lookup (is_at (place_cmp (name_key q))) es)
+name_gone es fs k q h = h ∙ ap (λ b. cond b None (lookup (is_at (place_cmp (name_key q))) es)) (sym (name_ties k q))
+
+-- a name is taken out under another spelling of itself
+pub dropped_as : (index back : List (Place × ℕ)) (name other : Text) → other ≡ name → ((q : Text) → lookup (is_at (place_cmp (name_key q))) back ≡ cond (same_text other q) None (lookup (is_at (place_cmp (name_key q))) index))
+    → (q : Text) → lookup (is_at (place_cmp (name_key q))) back ≡ cond (same_text name q) None (lookup (is_at (place_cmp (name_key q))) index)
+dropped_as index back name other is h q = h q ∙ ap (λ (t : Text). cond (same_text t q) None (lookup (is_at (place_cmp (name_key q))) index)) is
+
+-- the volume that was put into the rows stands there
+pub stands_now : (es rows : List (ℕ × Volume)) (v : Volume) → volumes_of rows ≡ fin.insert (volumes_of es) v.number v → fin.get (volumes_of rows) v.number ≡ Some v
+stands_now es rows v is = ap (λ (m : fin.FinMap nat_cmp Volume). fin.get m v.number) is ∙ put_there nat_cmp_total fin.nat_cmp-IsAntisymmetric (volumes_of es) v.number v
 
 count_most : (es : List (ℕ × Volume)) (pool : Text) → length (in_order es pool) ≤ length es
 count_most [] pool = omega arith
@@ -67,7 +93,7 @@ sum_most (e ∷ es) pool a =
       | false ↦ λ o t. omega (arith, o, t, more)
     ] one two
 
-module _ (next : ℕ) (volumes : List (ℕ × Volume)) (names : List (Text × ℕ)) (pools : Totals) (attachments : List (Place × Attachment)) (spots : List (Spot × Unit {0})) (s : State) where
+module _ (next : ℕ) (volumes : List (ℕ × Volume)) (names : List (Place × ℕ)) (pools : Totals) (attachments : List (Place × Attachment)) (spots : List (Spot × Unit {0})) (s : State) where
   -- the totals have room for one more
   pub room : (v : Volume) → IsKept next volumes names pools attachments spots s → Allows s (AddVolume v) → v.number < 2 ^ 62 → v.bytes ≤ 2 ^ 62
       → HasRoom (total_of pools v.pool) v.bytes
@@ -83,8 +109,8 @@ module _ (next : ℕ) (volumes : List (ℕ × Volume)) (names : List (Text × �
       (omega (arith, n, most, len, few, first, number), omega (arith, m, most, len, few, first, number, sums, bytes))
 
   -- the index is ahead of a volume that was not added
-  pub kept_name : (index : List (Text × ℕ)) (v : Volume) → IsKept next volumes names pools attachments spots s → Allows s (AddVolume v)
-      → ((q : Text) → lookup (is_at (text_cmp q)) index ≡ cond (same_text v.name q) (Some v.number) (lookup (is_at (text_cmp q)) names))
+  pub kept_name : (index : List (Place × ℕ)) (v : Volume) → IsKept next volumes names pools attachments spots s → Allows s (AddVolume v)
+      → ((q : Text) → lookup (is_at (place_cmp (name_key q))) index ≡ cond (same_text v.name q) (Some v.number) (lookup (is_at (place_cmp (name_key q))) names))
       → IsKept next volumes index pools attachments spots s
   kept_name index v k allows is_index = record {
     next_is = k.next_is;
@@ -97,7 +123,7 @@ module _ (next : ℕ) (volumes : List (ℕ × Volume)) (names : List (Text × �
     spotted = k.spotted;
   }
     where
-      other : (n : ℕ) (w : Volume) → fin.get s.volumes n ≡ Some w → (b : Bool) → same_text v.name w.name ≡ b → cond b (Some v.number) (lookup (is_at (text_cmp w.name)) names) ≡ Some n
+      other : (n : ℕ) (w : Volume) → fin.get s.volumes n ≡ Some w → (b : Bool) → same_text v.name w.name ≡ b → cond b (Some v.number) (lookup (is_at (place_cmp (name_key w.name))) names) ≡ Some n
       other n w e true t = absurd (nobody s v.name n w allows.2 e (sym ((bytes_decides v.name w.name).0 t)))
       other n w e false t = k.named n w e
 
@@ -135,16 +161,16 @@ module _ (next : ℕ) (volumes : List (ℕ × Volume)) (names : List (Text × �
       subst (λ (m : fin.FinMap nat_cmp Volume). IsKept next rows names pools attachments spots (record s { volumes = m })) (sym same_state) (kept_rows rows k (is_rows ∙ same))
 
   -- the name was set, a refused growth left the rows, and the name was taken out
-  pub refused_rows : (rows : List (ℕ × Volume)) (index back : List (Text × ℕ)) (v : Volume) (name : Text) → name ≡ v.name → IsKept next volumes names pools attachments spots s → Allows s (AddVolume v)
-      → ((q : Text) → lookup (is_at (text_cmp q)) index ≡ cond (same_text name q) (Some v.number) (lookup (is_at (text_cmp q)) names))
-      → ((q : Text) → lookup (is_at (text_cmp q)) back ≡ cond (same_text v.name q) None (lookup (is_at (text_cmp q)) index))
+  pub refused_rows : (rows : List (ℕ × Volume)) (index back : List (Place × ℕ)) (v : Volume) (name : Text) → name ≡ v.name → IsKept next volumes names pools attachments spots s → Allows s (AddVolume v)
+      → ((q : Text) → lookup (is_at (place_cmp (name_key q))) index ≡ cond (same_text name q) (Some v.number) (lookup (is_at (place_cmp (name_key q))) names))
+      → ((q : Text) → lookup (is_at (place_cmp (name_key q))) back ≡ cond (same_text v.name q) None (lookup (is_at (place_cmp (name_key q))) index))
       → volumes_of rows ≡ volumes_of volumes → IsKept next rows back pools attachments spots s
   refused_rows rows index back v name is k allows is_index is_back same =
-      let ahead : IsKept next volumes index pools attachments spots s = kept_name index v k allows (λ q. is_index q ∙ ap (λ (t : Text). cond (same_text t q) (Some v.number) (lookup (is_at (text_cmp q)) names)) is) in
+      let ahead : IsKept next volumes index pools attachments spots s = kept_name index v k allows (λ q. is_index q ∙ ap (λ (t : Text). cond (same_text t q) (Some v.number) (lookup (is_at (place_cmp (name_key q))) names)) is) in
       nameless rows index back v (kept_rows rows k same) allows ahead is_back same
     where
-      nameless : (rows : List (ℕ × Volume)) (index back : List (Text × ℕ)) (v : Volume) → IsKept next rows names pools attachments spots s → Allows s (AddVolume v) → IsKept next volumes index pools attachments spots s
-          → ((q : Text) → lookup (is_at (text_cmp q)) back ≡ cond (same_text v.name q) None (lookup (is_at (text_cmp q)) index))
+      nameless : (rows : List (ℕ × Volume)) (index back : List (Place × ℕ)) (v : Volume) → IsKept next rows names pools attachments spots s → Allows s (AddVolume v) → IsKept next volumes index pools attachments spots s
+          → ((q : Text) → lookup (is_at (place_cmp (name_key q))) back ≡ cond (same_text v.name q) None (lookup (is_at (place_cmp (name_key q))) index))
           → volumes_of rows ≡ volumes_of volumes → IsKept next rows back pools attachments spots s
       nameless rows index back v k allows ahead is_back same = record {
         next_is = k.next_is;
@@ -157,14 +183,14 @@ module _ (next : ℕ) (volumes : List (ℕ × Volume)) (names : List (Text × �
         spotted = ahead.spotted;
       }
         where
-          other : IsKept next volumes index pools attachments spots s → (n : ℕ) (w : Volume) → fin.get s.volumes n ≡ Some w → (b : Bool) → same_text v.name w.name ≡ b → cond b None (lookup (is_at (text_cmp w.name)) index) ≡ Some n
+          other : IsKept next volumes index pools attachments spots s → (n : ℕ) (w : Volume) → fin.get s.volumes n ≡ Some w → (b : Bool) → same_text v.name w.name ≡ b → cond b None (lookup (is_at (place_cmp (name_key w.name))) index) ≡ Some n
           other ahead n w e true t = absurd (nobody s v.name n w allows.2 e (sym ((bytes_decides v.name w.name).0 t)))
           other ahead n w e false t = ahead.named n w e
 
   -- the volume was added, and taken back with its name
-  pub refused_total : (taken rows : List (ℕ × Volume)) (index back : List (Text × ℕ)) (kept : Totals) (v copy : Volume) (name : Text) → copy ≡ v → name ≡ v.name → IsKept next volumes names pools attachments spots s → Allows s (AddVolume v)
-      → ((q : Text) → lookup (is_at (text_cmp q)) index ≡ cond (same_text name q) (Some v.number) (lookup (is_at (text_cmp q)) names))
-      → ((q : Text) → lookup (is_at (text_cmp q)) back ≡ cond (same_text v.name q) None (lookup (is_at (text_cmp q)) index))
+  pub refused_total : (taken rows : List (ℕ × Volume)) (index back : List (Place × ℕ)) (kept : Totals) (v copy : Volume) (name : Text) → copy ≡ v → name ≡ v.name → IsKept next volumes names pools attachments spots s → Allows s (AddVolume v)
+      → ((q : Text) → lookup (is_at (place_cmp (name_key q))) index ≡ cond (same_text name q) (Some v.number) (lookup (is_at (place_cmp (name_key q))) names))
+      → ((q : Text) → lookup (is_at (place_cmp (name_key q))) back ≡ cond (same_text v.name q) None (lookup (is_at (place_cmp (name_key q))) index))
       → volumes_of rows ≡ fin.insert (volumes_of volumes) copy.number copy
       → volumes_of taken ≡ fin.remove (volumes_of rows) v.number
       → ((q : Text) → total_of kept q ≡ total_of pools q) → IsKept next taken back kept attachments spots s
@@ -184,9 +210,9 @@ module _ (next : ℕ) (volumes : List (ℕ × Volume)) (names : List (Text × �
       }
 
   -- the volume was added
-  pub added : (rows : List (ℕ × Volume)) (index : List (Text × ℕ)) (kept : Totals) (v copy : Volume) (name pool : Text) → copy ≡ v → name ≡ v.name → pool ≡ v.pool → IsKept next volumes names pools attachments spots s → Allows s (AddVolume v)
+  pub added : (rows : List (ℕ × Volume)) (index : List (Place × ℕ)) (kept : Totals) (v copy : Volume) (name pool : Text) → copy ≡ v → name ≡ v.name → pool ≡ v.pool → IsKept next volumes names pools attachments spots s → Allows s (AddVolume v)
       → v.number < 2 ^ 62 → v.bytes ≤ 2 ^ 62
-      → ((q : Text) → lookup (is_at (text_cmp q)) index ≡ cond (same_text name q) (Some v.number) (lookup (is_at (text_cmp q)) names))
+      → ((q : Text) → lookup (is_at (place_cmp (name_key q))) index ≡ cond (same_text name q) (Some v.number) (lookup (is_at (place_cmp (name_key q))) names))
       → volumes_of rows ≡ fin.insert (volumes_of volumes) copy.number copy
       → (HasRoom (total_of pools pool) v.bytes → (q : Text) → total_of kept q ≡ cond (same_text pool q) (more (total_of pools pool) v.bytes) (total_of pools q))
       → IsKept (v.number + 1) rows index kept attachments spots (changed s (AddVolume v))
@@ -195,15 +221,15 @@ module _ (next : ℕ) (volumes : List (ℕ × Volume)) (names : List (Text × �
       subst (λ (n : ℕ). IsKept (n + 1) rows index kept attachments spots (changed s (AddVolume v))) (sym k.next_is ∙ sym allows.0)
       (kept_add next volumes rows names pools kept attachments spots s index v k allows bytes
       (add ∙ ap (λ (w : Volume). fin.insert (volumes_of volumes) w.number w) one)
-      (λ q. is_index q ∙ ap (λ (t : Text). cond (same_text t q) (Some v.number) (lookup (is_at (text_cmp q)) names)) is)
+      (λ q. is_index q ∙ ap (λ (t : Text). cond (same_text t q) (Some v.number) (lookup (is_at (place_cmp (name_key q))) names)) is)
       (λ q. counted fits q ∙ ap (λ (p : Text). cond (same_text p q) (more (total_of pools p) v.bytes) (total_of pools q)) in_pool))
 
   -- the volume was taken away, out of its pool's total, and its name out of the index
-  pub taken : (rows : List (ℕ × Volume)) (index : List (Text × ℕ)) (kept : Totals) (n : ℕ) (v : Volume) → IsKept next volumes names pools attachments spots s
+  pub taken : (rows : List (ℕ × Volume)) (index : List (Place × ℕ)) (kept : Totals) (n : ℕ) (v : Volume) → IsKept next volumes names pools attachments spots s
       → fin.get (volumes_of volumes) n ≡ Some v
       → volumes_of rows ≡ fin.remove (volumes_of volumes) n
       → ((q : Text) → total_of kept q ≡ cond (same_text v.pool q) (less (total_of pools v.pool) v.bytes) (total_of pools q))
-      → ((q : Text) → lookup (is_at (text_cmp q)) index ≡ cond (same_text v.name q) None (lookup (is_at (text_cmp q)) names))
+      → ((q : Text) → lookup (is_at (place_cmp (name_key q))) index ≡ cond (same_text v.name q) None (lookup (is_at (place_cmp (name_key q))) names))
       → IsKept next rows index kept attachments spots (changed s (RemoveVolume n))
   taken rows index kept n v k some is_rows is_totals is_index = record {
     next_is = new.next_is;
@@ -222,10 +248,10 @@ module _ (next : ℕ) (volumes : List (ℕ × Volume)) (names : List (Text × �
       new : IsKept next rows names kept attachments spots (changed s (RemoveVolume n))
       new = kept_remove next volumes rows names pools kept attachments spots s n v k stands is_rows is_totals
 
-      other : (m : ℕ) (w : Volume) → (m ≡ n → ⊥) × (fin.get s.volumes m ≡ Some w) → (b : Bool) → same_text v.name w.name ≡ b → cond b None (lookup (is_at (text_cmp w.name)) names) ≡ Some m
+      other : (m : ℕ) (w : Volume) → (m ≡ n → ⊥) × (fin.get s.volumes m ≡ Some w) → (b : Bool) → same_text v.name w.name ≡ b → cond b None (lookup (is_at (place_cmp (name_key w.name))) names) ≡ Some m
       other m w old true t =
           let is : v.name ≡ w.name = (bytes_decides v.name w.name).0 t in
-          absurd (old.0 (same_some m n (sym (k.named m w old.1) ∙ ap (λ (x : Text). lookup (is_at (text_cmp x)) names) (sym is) ∙ k.named n v stands)))
+          absurd (old.0 (same_some m n (sym (k.named m w old.1) ∙ ap (λ (x : Text). lookup (is_at (place_cmp (name_key x))) names) (sym is) ∙ k.named n v stands)))
       other m w old false t = k.named m w old.1
 
   -- a volume got other mutable parameters, or none stands
@@ -236,9 +262,9 @@ module _ (next : ℕ) (volumes : List (ℕ × Volume)) (names : List (Text × �
     next_is = k.next_is;
     volumes_are = sym (subst (λ (vs : fin.FinMap nat_cmp Volume). volumes_of rows ≡ mutable_set vs n m (fin.get vs n)) (sym k.volumes_are) is);
     attachments_are = k.attachments_are;
-    named = λ q w e. let old = stood s.volumes n m q w e in elim old.2 as (λ _. lookup (is_at (text_cmp w.name)) names ≡ Some q) [
-      | inl a ↦ ap (λ (x : Volume). lookup (is_at (text_cmp x.name)) names) a ∙ k.named q old.0 old.1
-      | inr b ↦ ap (λ (x : Volume). lookup (is_at (text_cmp x.name)) names) b.1 ∙ k.named q old.0 old.1
+    named = λ q w e. let old = stood s.volumes n m q w e in elim old.2 as (λ _. lookup (is_at (place_cmp (name_key w.name))) names ≡ Some q) [
+      | inl a ↦ ap (λ (x : Volume). lookup (is_at (place_cmp (name_key x.name))) names) a ∙ k.named q old.0 old.1
+      | inr b ↦ ap (λ (x : Volume). lookup (is_at (place_cmp (name_key x.name))) names) b.1 ∙ k.named q old.0 old.1
     ];
     totals = totals_kept pools s n m k.totals;
     few = let less = k.few in let same = as_many s.volumes n m in omega (arith, less, same);

@@ -12,11 +12,11 @@ use Rattle.csi_keeper.specs.declared.volume.Attachment.{Attachment}
 use Rattle.csi_keeper.specs.declared.change.Change.TheVariants.{AddVolume, RemoveVolume, Attach}
 use Rattle.csi_keeper.specs.declared.volume.Volume.{Volume}
 use Rattle.csi_keeper.specs.declared.totals.Totals.{Totals}
-use Rattle.csi_keeper.specs.Memory.{Spot, spot_cmp, AreSpotted, IsKept, volumes_of, places_of}
+use Rattle.csi_keeper.specs.Memory.{Spot, spot_cmp, AreSpotted, IsKept, volumes_of, places_of, name_key}
 use Rattle.csi_keeper.specs.Totals.{total_of, more, less}
 use Rattle.csi_keeper.specs.State.{State, Place, place_cmp, changed, Allows}
 use Rattle.csi_keeper.specs.Restoring.{CanRestore, from_number}
-use Rattle.csi_keeper.specs.Texts.{Text, text_cmp}
+use Rattle.csi_keeper.specs.Texts.{Text}
 use Rattle.csi_keeper.specs.facts.Names.{nobody}
 use Rattle.csi_keeper.specs.facts.Finite.{inserted, removed}
 use Rattle.csi_keeper.proofs.SpotLemmas.{spotted_more}
@@ -29,11 +29,11 @@ restorable s v can =
     let whole : s.next - v.number + v.number ≡ v.number = omega (arith, least) in
     (sym whole ∙ sub-add-eq-max s.next v.number, can.1, can.2)
 
-module _ (next : ℕ) (volumes rows : List (ℕ × Volume)) (names : List (Text × ℕ)) (pools kept : Totals) (attachments : List (Place × Attachment)) (spots : List (Spot × Unit {0})) (s : State) where
+module _ (next : ℕ) (volumes rows : List (ℕ × Volume)) (names : List (Place × ℕ)) (pools kept : Totals) (attachments : List (Place × Attachment)) (spots : List (Spot × Unit {0})) (s : State) where
   -- a volume more
-  pub kept_add : (index : List (Text × ℕ)) (v : Volume) → IsKept next volumes names pools attachments spots s → Allows s (AddVolume v) → v.bytes ≤ 2 ^ 62
+  pub kept_add : (index : List (Place × ℕ)) (v : Volume) → IsKept next volumes names pools attachments spots s → Allows s (AddVolume v) → v.bytes ≤ 2 ^ 62
       → volumes_of rows ≡ fin.insert (volumes_of volumes) v.number v
-      → ((q : Text) → lookup (is_at (text_cmp q)) index ≡ cond (same_text v.name q) (Some v.number) (lookup (is_at (text_cmp q)) names))
+      → ((q : Text) → lookup (is_at (place_cmp (name_key q))) index ≡ cond (same_text v.name q) (Some v.number) (lookup (is_at (place_cmp (name_key q))) names))
       → ((q : Text) → total_of kept q ≡ cond (same_text v.pool q) (more (total_of pools v.pool) v.bytes) (total_of pools q))
       → IsKept (next + 1) rows index kept attachments spots (changed s (AddVolume v))
   kept_add index v k allows small is_rows is_index is_totals =
@@ -44,10 +44,10 @@ module _ (next : ℕ) (volumes rows : List (ℕ × Volume)) (names : List (Text 
         next_is = ap (λ n. n + 1) k.next_is;
         volumes_are = ap (λ (m : fin.FinMap nat_cmp Volume). fin.insert m v.number v) k.volumes_are ∙ sym is_rows;
         attachments_are = k.attachments_are;
-        named = λ n w e. elim (split n w e) as (λ _. lookup (is_at (text_cmp w.name)) index ≡ Some n) [
+        named = λ n w e. elim (split n w e) as (λ _. lookup (is_at (place_cmp (name_key w.name))) index ≡ Some n) [
           | inl a ↦
               let same : same_text v.name w.name ≡ true = (bytes_decides v.name w.name).1 (ap (λ (x : Volume). x.name) a.1) in
-              is_index w.name ∙ ap (λ b. cond b (Some v.number) (lookup (is_at (text_cmp w.name)) names)) same ∙ ap Some (sym a.0)
+              is_index w.name ∙ ap (λ b. cond b (Some v.number) (lookup (is_at (place_cmp (name_key w.name))) names)) same ∙ ap Some (sym a.0)
           | inr b ↦ is_index w.name ∙ other n w b (same_text v.name w.name) refl
         ];
         totals = totals_added pools kept s v allows.1 k.totals is_totals;
@@ -62,7 +62,7 @@ module _ (next : ℕ) (volumes rows : List (ℕ × Volume)) (names : List (Text 
         spotted = k.spotted;
       }
     where
-      other : (n : ℕ) (w : Volume) → fin.get s.volumes n ≡ Some w → (b : Bool) → same_text v.name w.name ≡ b → cond b (Some v.number) (lookup (is_at (text_cmp w.name)) names) ≡ Some n
+      other : (n : ℕ) (w : Volume) → fin.get s.volumes n ≡ Some w → (b : Bool) → same_text v.name w.name ≡ b → cond b (Some v.number) (lookup (is_at (place_cmp (name_key w.name))) names) ≡ Some n
       other n w e true t = absurd (nobody s v.name n w allows.2 e (sym ((bytes_decides v.name w.name).0 t)))
       other n w e false t = k.named n w e
 
@@ -101,7 +101,7 @@ module _ (next : ℕ) (volumes rows : List (ℕ × Volume)) (names : List (Text 
         spotted = k.spotted;
       }
 
-module _ (next : ℕ) (volumes : List (ℕ × Volume)) (names : List (Text × ℕ)) (pools : Totals) (attachments : List (Place × Attachment)) (spots : List (Spot × Unit {0})) (s : State) where
+module _ (next : ℕ) (volumes : List (ℕ × Volume)) (names : List (Place × ℕ)) (pools : Totals) (attachments : List (Place × Attachment)) (spots : List (Spot × Unit {0})) (s : State) where
   -- other attachments, that are in the index
   pub kept_places : (rows : List (Place × Attachment)) (ahead : List (Spot × Unit {0})) (m : fin.FinMap place_cmp Attachment) → IsKept next volumes names pools attachments spots s → m ≡ places_of rows → AreSpotted rows ahead
       → IsKept next volumes names pools rows ahead (record s { attachments = m })

@@ -8,3 +8,4 @@ mod NamesLemmas
 mod ReadLemmas
 mod SpotLemmas
 mod TreeLemmas
+mod WalkLemmas

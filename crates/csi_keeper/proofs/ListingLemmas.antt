@@ -82,7 +82,7 @@ above a q = elim (nat_lt a q) as (λ b. (is_lt (cond b Less (cond (a == q) Equal
 pub page_rows : (es : List (ℕ × Volume)) (a : ℕ) → entries_between nat_cmp (Excluded a) Unbounded es ≡ filter (λ e. nat_lt a e.0) es
 page_rows es a = filter_same _ _ (λ e. above a e.0) es
 
-empty_first : (t : Text) → is_le (text_cmp [] t) ≡ true
+pub empty_first : (t : Text) → is_le (text_cmp [] t) ≡ true
 empty_first [] = refl
 empty_first (b ∷ t) = refl
 

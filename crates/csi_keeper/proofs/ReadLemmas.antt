@@ -23,7 +23,7 @@ mapped_page f zero es = refl
 mapped_page f (suc count) [] = refl
 mapped_page f (suc count) (e ∷ es) = ap (λ xs. f e.1 ∷ xs) (mapped_page f count es)
 
-module _ (next : ℕ) (volumes : List (ℕ × Volume)) (names : List (Text × ℕ)) (pools : Totals) (attachments : List (Place × Attachment)) (spots : List (Spot × Unit {0})) (s : State) where
+module _ (next : ℕ) (volumes : List (ℕ × Volume)) (names : List (Place × ℕ)) (pools : Totals) (attachments : List (Place × Attachment)) (spots : List (Spot × Unit {0})) (s : State) where
   pub held_next : IsKept next volumes names pools attachments spots s → next ≡ s.next
   held_next k = sym k.next_is
 
@@ -75,7 +75,7 @@ module _ (next : ℕ) (volumes : List (ℕ × Volume)) (names : List (Text × �
   held_used pool k = ap told (k.totals pool)
 
 -- trees with no entries, and totals of nothing, stand for the first State
-pub first_held : (first : ℕ) → 1 ≤ first → (volumes : List (ℕ × Volume)) (names : List (Text × ℕ)) (pools : Totals) (attachments : List (Place × Attachment)) (spots : List (Spot × Unit {0}))
+pub first_held : (first : ℕ) → 1 ≤ first → (volumes : List (ℕ × Volume)) (names : List (Place × ℕ)) (pools : Totals) (attachments : List (Place × Attachment)) (spots : List (Spot × Unit {0}))
     → volumes ≡ [] → attachments ≡ [] → ((q : Text) → total_of pools q ≡ zero_total) → IsKept first volumes names pools attachments spots (first_state first)
 first_held first least volumes names pools attachments spots v a none = subst (λ (es : List (ℕ × Volume)). IsKept first es names pools attachments spots (first_state first)) (sym v)
     (subst (λ (es : List (Place × Attachment)). IsKept first [] names pools es spots (first_state first)) (sym a) (record {

@@ -13,4 +13,5 @@ pub mod Restoring
 pub mod State
 pub mod Texts
 pub mod Totals
+pub mod Walking
 pub mod facts

@@ -1,5 +1,5 @@
 -- What rows in memory stand for.
-use Rattle.std.specs.Prelude.{◌≡◌, ℕ, ◌+◌, ◌-◌, ◌<◌, ◌≤◌, ◌^◌, ◌==◌, ◌&&◌, Bool, List, [], ◌∷◌, Option, Some, None, is_some, map, filter, if◌then◌else◌}
+use Rattle.std.specs.Prelude.{◌≡◌, ℕ, ◌+◌, ◌-◌, ◌*◌, ◌%◌, ◌<◌, ◌≤◌, ◌^◌, ◌==◌, ◌&&◌, Bool, List, [], ◌∷◌, Option, Some, None, is_some, map, filter, length, min, take, if◌then◌else◌}
 use Rattle.std.specs.BTreeMap.{is_at}
 use Rattle.std.specs.FinMap.{FinMap, get, len, empty, remove, entries, from_entries}
 use Rattle.std.specs.Map.{lookup}
@@ -31,9 +31,18 @@ abbrev pub at_number : FinMap nat_cmp Volume → Text → Option ℕ → Option 
 at_number volumes name None = None
 at_number volumes name (Some n) = if_named name (get volumes n)
 
+-- these bytes behind a number, as digits
+abbrev pub packed : ℕ → List ℕ → ℕ
+packed n [] = n
+packed n (b ∷ bs) = packed (((n * 256) % 2 ^ 64 + b) % 2 ^ 64) bs
+
+-- the first eight bytes of a name as a number, which tell most names apart, and the name
+abbrev pub name_key : Text → Place
+name_key name = (packed 0 (take (min (length name) 8) name), name)
+
 -- the volume of a name, by an index that may be out of date
-abbrev pub named_by : List (Text × ℕ) → FinMap nat_cmp Volume → Text → Option Volume
-named_by names volumes name = at_number volumes name (lookup (is_at (text_cmp name)) names)
+abbrev pub named_by : List (Place × ℕ) → FinMap nat_cmp Volume → Text → Option Volume
+named_by names volumes name = at_number volumes name (lookup (is_at (place_cmp (name_key name))) names)
 
 -- the end of the places of a number that a u64 keeps
 abbrev pub place_end : ℕ → Bound Place
@@ -76,11 +85,11 @@ abbrev pub numbers_by : List (Spot × Unit {0}) → List (Place × Attachment) �
 numbers_by spots es node = map (λ e. e.0.1) (filter (λ e. same_text e.0.0 node && stands_at es e.0) spots)
 
 -- rows, an index of names, an index of nodes and kept totals stand for a State
-pub record IsKept (next : ℕ) (volumes : List (ℕ × Volume)) (names : List (Text × ℕ)) (pools : Totals) (attachments : List (Place × Attachment)) (spots : List (Spot × Unit {0})) (s : State) : Type 0 where
+pub record IsKept (next : ℕ) (volumes : List (ℕ × Volume)) (names : List (Place × ℕ)) (pools : Totals) (attachments : List (Place × Attachment)) (spots : List (Spot × Unit {0})) (s : State) : Type 0 where
   pub next_is : s.next ≡ next
   pub volumes_are : s.volumes ≡ volumes_of volumes
   pub attachments_are : s.attachments ≡ places_of attachments
-  pub named : (n : ℕ) (v : Volume) → get s.volumes n ≡ Some v → lookup (is_at (text_cmp v.name)) names ≡ Some n
+  pub named : (n : ℕ) (v : Volume) → get s.volumes n ≡ Some v → lookup (is_at (place_cmp (name_key v.name))) names ≡ Some n
   pub totals : AreTotals pools s
   pub spotted : AreSpotted attachments spots
   -- so that neither total passes what it is kept in

@@ -1,11 +1,14 @@
 //! How what is kept changes, what is told of it, and why a call fails.
 
+ghost use Rattle.std.specs.Prelude.{◌≡◌, IfErr, IfOk};
+ghost use Rattle.csi_keeper.specs.declared.change.Change.TheVariants.{AddVolume};
+
 use crate::volume::{Attachment, Volume};
 use csi_types::{Map, Text};
 use std::alloc::{AllocError, AllocFailed};
 
 /// One change of the State, which is made whole or not at all.
-#[derive(Debug, Drop)]
+#[derive(Debug)]
 pub enum Change {
     /// A new volume. Its number is the State's next one, no volume has its name, and it has at most
     /// 2^62 bytes. The next number becomes greater by 1.
@@ -23,6 +26,34 @@ pub enum Change {
     /// The volume of the number, which stands, has these mutable parameters, of at most 4,096 bytes,
     /// in place of its own.
     SetMutable(u64, Map),
+}
+
+// Written out, so that what drops a change has one call for it, and its proof no branch for each.
+impl Drop for Change {
+    #[inline(always)]
+    fn drop(self) {
+        match self {
+            Change::AddVolume(_volume) => {}
+            Change::RemoveVolume(_) => {}
+            Change::Attach(_, _attachment) => {}
+            Change::Detach(_, _node) => {}
+            Change::DetachAll(_) => {}
+            Change::SetMutable(_, _mutable) => {}
+        }
+    }
+}
+
+impl Change {
+    /// The volume that is added. Any other change comes back.
+    pub(crate) fn into_added(self) -> Result<Volume, Change>
+        ensures added { IfOk result (λ volume. self ≡ AddVolume volume) }
+        ensures other { IfErr result (λ change. change ≡ self) }
+    {
+        match self {
+            Change::AddVolume(volume) => Ok(volume),
+            change => Err(change),
+        }
+    }
 }
 
 /// How many volumes a pool has, and the sum of their bytes.

@@ -112,4 +112,13 @@ pub trait Keeper {
     fn apply(&mut self, alloc: Global, change: &Change) -> Result<(), StoreFault>
         requires { IsBounded change.now }
         ensures { Applies (model self.old) (model self.new) change.now result };
+
+    /// Makes a change as `apply` does. It costs no more, and less where a keeper has a use for what the change owns, as
+    /// one in memory has for a volume that is added.
+    fn apply_owned(&mut self, alloc: Global, change: Change) -> Result<(), StoreFault>
+        requires { IsBounded change }
+        ensures { Applies (model self.old) (model self.new) change result }
+    {
+        self.apply(alloc, &change)
+    }
 }

@@ -6,9 +6,10 @@
 //! after a change, the orders of the maps, what a chain of reads leaves, what supported keys have.
 //!
 //! The trait [`Keeper`] is all that the step of requests stands on. [`MemKeeper`] has three ordered maps and the running totals of pools: `mem/rows.rt`
-//! the volumes, `mem/names.rt` the index of names, `mem/attachments.rt` the attachments, [`Totals`] the totals, a type of its own for other keepers too.
-//! `specs/Memory.antt` says which State rows stand for; a change of the rows is tied to the change of the State there, and each change takes back
-//! what it did where memory is refused. [`fakes`] has a keeper that refuses one call, for tests of what stands on keepers.
+//! the volumes, `mem/names.rt` the index of names, `mem/attachments.rt` the attachments, `mem/walk.rt` a walk over them beside a page of volumes,
+//! [`Totals`] the totals, a type of its own for other keepers too. `specs/Memory.antt` says which State rows stand for; a change of the rows is tied to
+//! the change of the State there, and each change takes back what it did where memory is refused. [`fakes`] has a keeper that refuses one call, for
+//! tests of what stands on keepers.
 //!
 //! ```rust
 //! let mut keeper = MemKeeper::new(alloc, 1)?;

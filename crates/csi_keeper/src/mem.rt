@@ -4,17 +4,17 @@ mod attachments;
 mod names;
 mod nodes;
 mod rows;
+mod walk;
 
-ghost use Rattle.std.specs.Prelude.{◌≡◌, ◌≤◌, ◌<◌, ◌^◌, ℕ, List, IfOk, OnOk, OnErr, if◌then◌else◌};
-ghost use Rattle.csi_types.specs.Maps.{same_text};
+ghost use Rattle.std.specs.Prelude.{◌≡◌, ◌≤◌, ◌<◌, ◌^◌, IfOk, OnOk, OnErr};
 ghost use Rattle.csi_keeper.specs.State.{State, Allows, changed};
 ghost use Rattle.csi_keeper.specs.declared.change.Change.TheVariants.{AddVolume, RemoveVolume, Attach, Detach, DetachAll, SetMutable};
 ghost use Rattle.csi_keeper.specs.Holding.{Holds};
 ghost use Rattle.csi_keeper.specs.Memory.{first_state};
 ghost use Rattle.csi_keeper.specs.Restoring.{CanRestore, from_number, restored};
-ghost use Rattle.csi_keeper.specs.Totals.{total_of, more, HasRoom};
 
 use crate::change::{Change, StoreFault, Usage};
+use crate::copies::copy_volume;
 use crate::keeper::Keeper;
 use crate::listed::Listed;
 use crate::mem::attachments::{attached_to, put_place, take_attachment, take_places};
@@ -35,16 +35,17 @@ use std::collections::BTreeMap;
 ///
 /// Each volume is there once. For n volumes and m attachments a volume is found by its number or
 /// name in O(log n), the attachments of a volume in O(log m) and their number, and a page in
-/// O(log n) and its entries, for its nodes O(log m) more an entry; what a pool has used costs
-/// O(log p) for p pools. What is attached at a node costs O(log m) for each of its numbers;
+/// O(log n) and its entries, for its nodes O(log m) more and their number; what a pool has used
+/// costs O(log p) for p pools. What is attached at a node costs O(log m) for each of its numbers;
 /// `sizes_in` looks through all volumes. A change costs O(log n + log m), and `DetachAll` the
 /// attachments that it takes away. What is answered is a copy.
 #[derive(Drop)]
 pub struct MemKeeper {
     next: u64,
     volumes: BTreeMap<u64, Volume>,
-    // The number of a name's volume. A volume is asked for its name before it is answered.
-    names: BTreeMap<Text, u64>,
+    // The number of a name's volume, by the first bytes of the name as a number, which are compared fast and tell most names apart, and by
+    // the name. A volume is asked for its name before it is answered.
+    names: BTreeMap<(u64, Text), u64>,
     pools: Totals,
     attachments: BTreeMap<(u64, Text), Attachment>,
     // Where an attachment stands, by node. It is asked for before its number is answered.
@@ -91,26 +92,30 @@ impl MemKeeper {
         ensures same { OnErr result ((s : State) → Holds self.old s → CanRestore s volume.now → Holds self.new (from_number s volume.now.number)) }
     {
         self.skip_to(volume.number);
-        self.add(alloc, volume)
+        self.add(alloc, copy_volume(alloc, volume)?)
     }
 
-    fn add(&mut self, alloc: Global, volume: &Volume) -> Result<(), AllocError>
-        requires number { volume.now.number < 2 ^ 62 }
-        requires bytes { volume.now.bytes ≤ 2 ^ 62 }
-        ensures made { OnOk result ((s : State) → Holds self.old s → Allows s (AddVolume volume.now) → Holds self.new (changed s (AddVolume volume.now))) }
-        ensures same { OnErr result ((s : State) → Holds self.old s → Allows s (AddVolume volume.now) → Holds self.new s) }
+    fn add(&mut self, alloc: Global, volume: Volume) -> Result<(), AllocError>
+        requires number { volume.number < 2 ^ 62 }
+        requires bytes { volume.bytes ≤ 2 ^ 62 }
+        ensures made { OnOk result ((s : State) → Holds self.old s → Allows s (AddVolume volume) → Holds self.new (changed s (AddVolume volume))) }
+        ensures same { OnErr result ((s : State) → Holds self.old s → Allows s (AddVolume volume) → Holds self.new s) }
     {
-        set_name(alloc, &mut self.names, &volume.name, volume.number)?;
-        if let Err(refused) = put_volume(alloc, &mut self.volumes, volume) {
-            drop_name(&mut self.names, &volume.name);
+        let (number, bytes) = (volume.number, volume.bytes);
+        let pool = copy_text(alloc, volume.pool.as_str())?;
+        set_name(alloc, &mut self.names, &volume.name, number)?;
+        if let Err(failed) = put_volume(&mut self.volumes, volume) {
+            let (_, volume) = failed.value;
+            drop_name(&mut self.names, volume.name);
+            return Err(AllocError);
+        }
+        if let Err(refused) = self.pools.add(pool, bytes) {
+            if let Some(volume) = take_volume(&mut self.volumes, number) {
+                drop_name(&mut self.names, volume.name);
+            }
             return Err(refused);
         }
-        if let Err(refused) = count_in(alloc, &mut self.pools, volume) {
-            take_volume(&mut self.volumes, volume.number);
-            drop_name(&mut self.names, &volume.name);
-            return Err(refused);
-        }
-        self.next = volume.number + 1;
+        self.next = number + 1;
         Ok(())
     }
 
@@ -119,7 +124,7 @@ impl MemKeeper {
     {
         if let Some(volume) = take_volume(&mut self.volumes, number) {
             self.pools.remove(&volume.pool, volume.bytes);
-            drop_name(&mut self.names, &volume.name);
+            drop_name(&mut self.names, volume.name);
         }
     }
 
@@ -166,15 +171,6 @@ impl MemKeeper {
     }
 }
 
-// Counts a volume in its pool. Where memory is refused each total stays.
-fn count_in(alloc: Global, pools: &mut Totals, volume: &Volume) -> Result<(), AllocError>
-    ensures counted { OnOk result (HasRoom (total_of pools.old volume.now.pool) volume.now.bytes → (q : List ℕ)
-        → total_of pools.new q ≡ (if same_text volume.now.pool q then more (total_of pools.old volume.now.pool) volume.now.bytes else total_of pools.old q)) }
-    ensures same { OnErr result ((q : List ℕ) → total_of pools.new q ≡ total_of pools.old q) }
-{
-    pools.add(copy_text(alloc, volume.pool.as_str())?, volume.bytes)
-}
-
 impl Keeper for MemKeeper {
     ghost use Rattle.csi_keeper.specs.Holding.{mem_model};
 
@@ -192,7 +188,7 @@ impl Keeper for MemKeeper {
     #[tactic(auto, using(crate::specs::facts::Reads::quiet_same, crate::proofs::NamesLemmas::named_kept))]
     fn by_name(&mut self, alloc: Global, name: &str) -> Result<Option<Volume>, StoreFault> {
         let name = copy_text(alloc, name)?;
-        Ok(volume_named(alloc, &self.names, &self.volumes, &name)?)
+        Ok(volume_named(alloc, &self.names, &self.volumes, name)?)
     }
 
     #[tactic(auto, using(crate::specs::facts::Reads::quiet_same, crate::proofs::ReadLemmas::held_number))]
@@ -247,7 +243,7 @@ impl Keeper for MemKeeper {
 
     fn apply(&mut self, alloc: Global, change: &Change) -> Result<(), StoreFault> {
         match change {
-            Change::AddVolume(volume) => self.add(alloc, volume)?,
+            Change::AddVolume(volume) => self.add(alloc, copy_volume(alloc, volume)?)?,
             Change::RemoveVolume(number) => self.remove(*number),
             Change::Attach(number, attachment) => self.attach(alloc, *number, attachment)?,
             Change::Detach(number, node) => self.detach(alloc, *number, node)?,
@@ -255,5 +251,12 @@ impl Keeper for MemKeeper {
             Change::SetMutable(number, mutable) => self.set_mutable(alloc, *number, mutable)?,
         }
         Ok(())
+    }
+
+    fn apply_owned(&mut self, alloc: Global, change: Change) -> Result<(), StoreFault> {
+        match change.into_added() {
+            Ok(volume) => Ok(self.add(alloc, volume)?),
+            Err(change) => self.apply(alloc, &change),
+        }
     }
 }

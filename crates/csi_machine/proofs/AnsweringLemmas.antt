@@ -1,5 +1,5 @@
 -- The answer to a request: reads that make a plan, the body of its response, its change, and what a keeper has then.
-use Rattle.std.proofs.Common.{◌≡◌, ◌∙◌, ◌⊎◌, inl, inr, ap, sym, subst, arith, refl, ℕ, ◌≤◌, ◌==◌, ◌&&◌, ◌||◌, ◌++◌, ◌∷◌, [], List, length, sum_by, nat_le, Bool, true, false, cond, Option, Some, None, Result, Ok, Err, IfSome, IsSome, OnOk, OnErr}
+use Rattle.std.proofs.Common.{◌≡◌, ◌∙◌, ◌⊎◌, inl, inr, ap, sym, subst, arith, refl, ℕ, ◌≤◌, ◌==◌, ◌&&◌, ◌||◌, ◌++◌, ◌∷◌, [], List, length, sum_by, nat_le, Bool, true, false, cond, Option, Some, None, Result, Ok, Err, IfSome, IsSome, OnOk, OnErr, append-nil}
 use Rattle.std.specs.FinMap as fin
 use Rattle.std.specs.List.{list_all}
 use Rattle.csi_types.specs.declared.reason.Reason.{Reason}
@@ -51,16 +51,12 @@ use Rattle.csi_machine.proofs.PlanLemmas.{IsSound, sound_by, sound_still}
 use Rattle.csi_machine.proofs.PublishLemmas.{publish_fits}
 use Rattle.csi_machine.proofs.UnpublishLemmas.{unpublish_fits}
 
-no_more : (xs : List ℕ) → xs ++ [] ≡ xs
-no_more [] = refl
-no_more (x ∷ xs) = ap (λ l. x ∷ l) (no_more xs)
-
 -- the body that is told is appended
 pub appended_by : (x y : List ℕ) (o : Result Response Reason) (v : Verdict) → v ≡ verdict_of o → y ≡ x ++ body_of o → length (body_of o) ≤ MAX_BODY_BYTES → Appended {E = StoreFault} x y (Ok v)
 appended_by x y (Ok r) verdict.Done e b l = (response_bytes r, b, l)
 appended_by x y (Ok r) (verdict.Refused q) e b l = absurd (cc)
 appended_by x y (Err q) verdict.Done e b l = absurd (cc)
-appended_by x y (Err q) (verdict.Refused p) e b l = b ∙ no_more x
+appended_by x y (Err q) (verdict.Refused p) e b l = b ∙ append-nil x
 
 -- what a stop leaves of a plan is left of an equal one
 left_of : (p q : Plan) (s t : State) (Old : Type 0) → p ≡ q → Old ⊎ (IsSome p.change × (t ≡ after s p.change)) → Old ⊎ (IsSome q.change × (t ≡ after s q.change))
@@ -234,9 +230,9 @@ still_moved s (Denies reason) = refl
 still_step : (config : Config) (s : State) (r : Request) → (plan config s r).change ≡ None → (step config s r).1 ≡ s
 still_step config s r still = ap (λ (o : Option Change). moved s (after s o) (told_of (plan config s r).outcome)) still ∙ still_moved s (told_of (plan config s r).outcome)
 
-pub still_performed : (config : Config) (r : Request) (a b : Model State) (x y : List ℕ) (result : Result Verdict StoreFault) → ((s : State) → (plan config s r).change ≡ None)
-    → Finds a b result (λ s v. IsTold {E = StoreFault} (told_of (plan config s r).outcome) x y (Ok v)) → Appended x y result → Performs config r a b x y result
-still_performed config r a b x y (Err e) still found appended = record {
+-- a fault of reads performs a request
+pub fault_performed : {X : Type 0} {IsSo : State → X → Type 0} (config : Config) (r : Request) (a b : Model State) (x y : List ℕ) (e : StoreFault) → Finds {X = X} a b (Err e) IsSo → y ≡ x → Performs config r a b x y (Err e)
+fault_performed config r a b x y e found appended = record {
   clean = found.quiet.clean;
   appended = appended;
   told = λ d s h inv. tt;
@@ -244,14 +240,21 @@ still_performed config r a b x y (Err e) still found appended = record {
   counted = found.count;
   left = λ d s h inv. still_left e s _ (found.quiet.crash d);
   ties = λ d s h inv. found.quiet.ties d;
-  down = record { down = found.down.down; refused = found.down.refused; unasked = λ is. tt };
+  down = record { down = λ is. found.down.down (same_fault e Down is); refused = λ is. found.down.refused (same_fault e Refused is); unasked = λ is. tt };
   stays = λ is. found.quiet.down ∙ is;
 }
   where
+    same_fault : {A B : Type 0} (e f : StoreFault) → ◌≡◌ {A = Result A StoreFault} (Err e) (Err f) → ◌≡◌ {A = Result B StoreFault} (Err e) (Err f)
+    same_fault e f is = let same : e ≡ f = cc (is) in ap (λ (g : StoreFault). Err g) same
+
     still_left : (e : StoreFault) (s t : State) → ((u : State) → b.survivors u → a.survivors u) → Leaves a.survivors b.survivors s t (Err e)
     still_left NoMemory s t crash = λ u v. inl (crash u v)
     still_left Refused s t crash = λ u v. inl (crash u v)
     still_left Down s t crash = crash
+
+pub still_performed : (config : Config) (r : Request) (a b : Model State) (x y : List ℕ) (result : Result Verdict StoreFault) → ((s : State) → (plan config s r).change ≡ None)
+    → Finds a b result (λ s v. IsTold {E = StoreFault} (told_of (plan config s r).outcome) x y (Ok v)) → Appended x y result → Performs config r a b x y result
+still_performed config r a b x y (Err e) still found appended = fault_performed config r a b x y e found appended
 still_performed config r a b x y (Ok v) still found appended = record {
   clean = found.quiet.clean;
   appended = appended;

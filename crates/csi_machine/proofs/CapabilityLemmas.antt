@@ -1,5 +1,5 @@
 -- Capability keys in order, and the keys of capabilities, one capability after the other.
-use Rattle.std.proofs.Common.{◌≡◌, ◌∙◌, ap, ap₂, sym, subst, refl, cond, arith, ℕ, ◌+◌, ◌<◌, ◌≤◌, Bool, true, false, ◌&&◌, ◌||◌, is_some, List, [], ◌∷◌, ◌++◌, map, length, take, get_or, Option, Some, None, T, Ordering, Less, Equal, Greater}
+use Rattle.std.proofs.Common.{◌≡◌, ◌∙◌, ap, ap₂, sym, subst, refl, cond, arith, ℕ, ◌+◌, ◌<◌, ◌≤◌, Bool, true, false, ◌&&◌, ◌||◌, is_some, List, [], ◌∷◌, ◌++◌, map, length, take, get_or, Option, Some, None, T, Ordering, Less, Equal, Greater, append-nil}
 use Rattle.std.specs.BTreeMap.{is_at}
 use Rattle.std.specs.BTreeSet.{insert_key}
 use Rattle.std.specs.FinMap as fin
@@ -62,10 +62,6 @@ ordered_push ks k = ap fin.keys (set_push ks k) ∙ insert_is (set_of ks) k
 ordered_cons : (k : CapKey) (ks : List CapKey) → ordered (k ∷ ks) ≡ insert_key key_cmp (ordered ks) k
 ordered_cons k ks = insert_is (set_of ks) k
 
-no_more : {A : Type 0} (xs : List A) → xs ++ [] ≡ xs
-no_more [] = refl
-no_more (x ∷ xs) = ap (λ l. x ∷ l) (no_more xs)
-
 onto : (o : Option CapKey) (ks js : List CapKey) → cons_option o (ks ++ js) ≡ cons_option o ks ++ js
 onto None ks js = refl
 onto (Some k) ks js = refl
@@ -84,7 +80,7 @@ keys_more cs i d k h e =
 
 pub keys_same : (cs : List Capability) (i : ℕ) (d : Capability) → i < length cs → None ≡ key_of (get_or cs i d) → keys_of (take (i + 1) cs) ≡ keys_of (take i cs)
 keys_same cs i d h e =
-    next_keys cs i d h ∙ ap (λ o. ordered (filter_map key_of (take i cs) ++ cons_option o [])) (sym e) ∙ ap ordered (no_more (filter_map key_of (take i cs)))
+    next_keys cs i d h ∙ ap (λ o. ordered (filter_map key_of (take i cs) ++ cons_option o [])) (sym e) ∙ ap ordered (append-nil (filter_map key_of (take i cs)))
 
 -- keys of no capabilities
 pub keys_none : fin.keys (fin.empty {X = Bool} {R = key_cmp}) ≡ []
@@ -93,6 +89,13 @@ keys_none = zero_long (fin.keys (fin.empty {X = Bool} {R = key_cmp})) (length-ma
     zero_long : (ks : List CapKey) → length ks ≡ 0 → ks ≡ []
     zero_long [] h = refl
     zero_long (k ∷ ks) h = absurd (omega arith)
+
+-- the keys of one capability: its key, if it has one
+pub keys_of_unknown : (c : Capability) → None ≡ key_of c → [] ≡ keys_of (c ∷ [])
+keys_of_unknown c e = sym (ap (λ o. ordered (cons_option o [])) (sym e) ∙ keys_none)
+
+pub keys_of_one : (c : Capability) (k : CapKey) → Some k ≡ key_of c → k ∷ [] ≡ keys_of (c ∷ [])
+keys_of_one c k e = sym (ap (λ o. ordered (cons_option o [])) (sym e) ∙ ordered_cons k [] ∙ ap (λ ks. insert_key key_cmp ks k) keys_none)
 
 is_less : (r : Ordering) → T (is_lt r) → r ≡ Less
 is_less Less p = refl

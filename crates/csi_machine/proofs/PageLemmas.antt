@@ -1,5 +1,5 @@
 -- Pages, one volume more at a time.
-use Rattle.std.proofs.Common.{◌≡◌, ◌∙◌, ap, ap₂, refl, subst, sym, ℕ, ◌+◌, ◌<◌, List, [], ◌∷◌, ◌++◌, length, map, take, find, get_or, append_assoc, Result, Ok, Err, OnOk, Some, Bool, true, false, cond}
+use Rattle.std.proofs.Common.{◌≡◌, ◌∙◌, ap, ap₂, refl, subst, sym, ℕ, ◌+◌, ◌<◌, List, [], ◌∷◌, ◌++◌, length, map, take, find, get_or, append_assoc, Result, Ok, Err, OnOk, Some, Bool, true, false, cond, append-nil}
 use Rattle.std.proofs.lemmas.List.{take_more}
 use lib.Pointwise.{bytes_decides}
 use Rattle.csi_types.specs.Maps.{same_text}
@@ -89,19 +89,15 @@ pub then_ok : {X E : Type 0} {A B : Type 0} (r : Result X E) → (A → B) → O
 then_ok (Ok x) f a = f a
 then_ok (Err e) f a = a
 
-pub no_more : (xs : List ℕ) → xs ++ [] ≡ xs
-no_more [] = refl
-no_more (x ∷ xs) = ap (λ l. x ∷ l) (no_more xs)
-
 pub keeps_none : (xs : List ℕ) → Keeps xs xs
-keeps_none xs = record { tail = []; is = sym (no_more xs) }
+keeps_none xs = record { tail = []; is = sym (append-nil xs) }
 
 pub keeps_on : (old mid new : List ℕ) → Keeps mid new → Keeps old mid → Keeps old new
 keeps_on old mid new b a = record { tail = a.tail ++ b.tail; is = b.is ∙ ap (λ (l : List ℕ). l ++ b.tail) a.is ∙ append_assoc old a.tail b.tail }
 
 -- no entries
 pub wrote_none : (old : List ℕ) → old ≡ old ++ response_bytes (response.List [] [])
-wrote_none old = sym (ap (λ (bs : List ℕ). old ++ bs) listing_none ∙ no_more old)
+wrote_none old = sym (ap (λ (bs : List ℕ). old ++ bs) listing_none ∙ append-nil old)
 
 map_push : {A B : Type 0} (f : A → B) (xs : List A) (x : A) → map f (xs ++ x ∷ []) ≡ map f xs ++ f x ∷ []
 map_push f [] x = refl

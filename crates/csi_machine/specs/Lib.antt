@@ -2,6 +2,7 @@ pub mod calls
 pub mod Answering
 pub mod Choice
 pub mod Configured
+pub mod Creation
 pub mod Down
 pub mod Finding
 pub mod Ids

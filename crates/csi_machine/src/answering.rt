@@ -1,77 +1,44 @@
 //! Requests over any keeper.
 
-ghost use Rattle.std.specs.Prelude.{◌≡◌, ◌≤◌, ◌++◌, length, [], IfOk, OnOk, OnErr, IfSome, IsTrue, None};
+ghost use Rattle.std.specs.Prelude.{◌≡◌, ◌≤◌, ◌++◌, length, [], OnOk, OnErr, IfSome, IsTrue, None};
 ghost use Rattle.csi_types.specs.Checks.{checked};
 ghost use Rattle.frames_core.specs.declared.limits.TheConstants.{MAX_BODY_BYTES};
-ghost use Rattle.csi_machine.specs.Answering.{Carries, Performs, body_of, verdict_of};
+ghost use Rattle.csi_types.specs.declared.requests.Request.TheVariants.{Create};
+ghost use Rattle.csi_machine.specs.Answering.{Carries, Performs, body_of};
 ghost use Rattle.csi_keeper.specs.Invariant.{IsInvariant};
 ghost use Rattle.csi_keeper.specs.State.{State, IsBounded};
 ghost use Rattle.csi_machine.specs.Configured.{IsConfigured};
-ghost use Rattle.csi_machine.specs.Step.{by_verdict, is_planned, limited, step};
+ghost use Rattle.csi_machine.specs.Step.{is_planned, limited, step};
 ghost use Rattle.csi_machine.specs.Verdicts.{Appended, IsTold, told_of};
 
-use crate::body::{Verdict, append_body};
-use crate::calls::{append_page, append_ready, plan_of};
+use crate::body::Verdict;
+use crate::calls::{append_page, append_ready, create, plan_of};
 use crate::configured::configured;
-use crate::plan::Plan;
+use crate::outcome::Outcome;
 use csi_config::Config;
 use csi_keeper::{Keeper, StoreFault};
-use csi_types::{Boxed, Reason, Request, Response};
-use std::alloc::{AllocError, Global};
-
-// Appends the body of a plan's response. A body that no reply holds is a refusal, and then the plan
-// makes no change.
-fn append_plan(plan: &Plan, out: &mut Vec<u8>) -> Result<Verdict, AllocError>
-    ensures value { IfOk result (λ v. limited plan.now ≡ by_verdict plan.now v) }
-    ensures body { OnOk result (out.new.items ≡ out.old.items ++ body_of (limited plan.now).outcome) }
-    ensures small { OnOk result (length (body_of (limited plan.now).outcome) ≤ MAX_BODY_BYTES) }
-    ensures err { OnErr result (out.new.items ≡ out.old.items) }
-{
-    match &plan.outcome {
-        Ok(response) => append_body(response.get(), out),
-        Err(reason) => Ok(Verdict::Refused(*reason)),
-    }
-}
-
-fn verdict_of(outcome: &Result<Boxed<Response>, Reason>) -> Verdict
-    ensures { result ≡ verdict_of outcome.now }
-{
-    match outcome {
-        Ok(_) => Verdict::Done,
-        Err(reason) => Verdict::Refused(*reason),
-    }
-}
-
-// Makes the plan's change, if it has one, and gives its verdict.
-fn carry_out<K: Keeper>(alloc: Global, keeper: &mut K, plan: &Plan) -> Result<Verdict, StoreFault>
-    requires { IfSome plan.now.change IsBounded }
-    ensures { Carries plan.now (K.model keeper.old) (K.model keeper.new) result }
-{
-    if let Some(change) = &plan.change {
-        keeper.apply(alloc, change.get())?;
-    }
-    Ok(verdict_of(&plan.outcome))
-}
+use csi_types::{CreateVolume, Map, Request};
+use std::alloc::Global;
 
 // Appends the body of a plan's response, and makes its change then: a body for which memory is
 // refused leaves the State, and a fault of the keeper takes the body back.
-fn finish<K: Keeper>(
+fn finish<K: Keeper, P: Outcome>(
     alloc: Global,
     keeper: &mut K,
-    plan: &Plan,
+    outcome: P,
     out: &mut Vec<u8>,
 ) -> Result<Verdict, StoreFault>
-    requires { IfSome plan.now.change IsBounded }
-    ensures carries { Carries (limited plan.now) (K.model keeper.old) (K.model keeper.new) result }
-    ensures body { OnOk result (out.new.items ≡ out.old.items ++ body_of (limited plan.now).outcome) }
-    ensures small { OnOk result (length (body_of (limited plan.now).outcome) ≤ MAX_BODY_BYTES) }
+    requires { IfSome (P.plan outcome).change IsBounded }
+    ensures carries { Carries (limited (P.plan outcome)) (K.model keeper.old) (K.model keeper.new) result }
+    ensures body { OnOk result (out.new.items ≡ out.old.items ++ body_of (limited (P.plan outcome)).outcome) }
+    ensures small { OnOk result (length (body_of (limited (P.plan outcome)).outcome) ≤ MAX_BODY_BYTES) }
     ensures err { OnErr result (out.new.items ≡ out.old.items) }
 {
     let from = out.len();
-    if let Verdict::Refused(reason) = append_plan(plan, out)? {
+    if let Verdict::Refused(reason) = outcome.append(out)? {
         return Ok(Verdict::Refused(reason));
     }
-    match carry_out(alloc, keeper, plan) {
+    match outcome.carry_out(alloc, keeper) {
         Ok(verdict) => Ok(verdict),
         Err(fault) => {
             out.truncate(from);
@@ -94,7 +61,24 @@ fn append_planned<K: Keeper>(
     ensures { Performs config.now request.now (K.model keeper.old) (K.model keeper.new) out.old.items out.new.items result }
 {
     let plan = plan_of(alloc, config, keeper, request)?;
-    finish(alloc, keeper, &plan, out)
+    finish(alloc, keeper, plan, out)
+}
+
+// Answers a create, whose response is written from the volume.
+fn append_creation<K: Keeper>(
+    alloc: Global,
+    config: &Config,
+    keeper: &mut K,
+    request: &CreateVolume,
+    out: &mut Vec<u8>,
+) -> Result<Verdict, StoreFault>
+    requires configured { IsConfigured config.now }
+    requires checked { checked (Create request.now) ≡ None }
+    ensures { Performs config.now (Create request.now) (K.model keeper.old) (K.model keeper.new) out.old.items out.new.items result }
+{
+    let nowhere = Map::new(alloc);
+    let creation = create(alloc, config, &nowhere, keeper, request)?;
+    finish(alloc, keeper, creation, out)
 }
 
 /// Answers a request over any keeper by one step of the machine: the plan that the keeper's State
@@ -121,6 +105,7 @@ pub fn append_answer<K: Keeper>(
     configured(config);
     match request {
         Request::Probe => Ok(append_ready(out)?),
+        Request::Create(request) => append_creation(alloc, config, keeper, request.get(), out),
         Request::List(listing) => append_page(alloc, config, keeper, listing.get(), out),
         _ => append_planned(alloc, config, keeper, request, out),
     }

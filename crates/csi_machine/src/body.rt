@@ -19,7 +19,7 @@ pub enum Verdict {
     Refused(Reason),
 }
 
-/// Takes a body of more than [`MAX_BODY_BYTES`] back, which begins here, and refuses it with [`Reason::ReplyTooLarge`].
+/// Takes the body that begins at `from` back where it has more than [`MAX_BODY_BYTES`], and refuses it with [`Reason::ReplyTooLarge`].
 pub(crate) fn limit_body(out: &mut Vec<u8>, from: usize) -> Verdict
     requires { from ≤ length out.old.items }
     ensures appended { Appended {E = AnyError} (take from out.old.items) out.new.items (Ok result) }

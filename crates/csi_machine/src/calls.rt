@@ -18,6 +18,7 @@ mod unpublish;
 mod validate;
 
 use crate::planned::{Planned, Planning};
+pub(crate) use create::create;
 use csi_config::Config;
 use csi_keeper::Keeper;
 use csi_types::Request;
@@ -41,13 +42,12 @@ pub(crate) fn plan_of<K: Keeper>(
         Request::PluginInfo => Ok(plan_plugin_info(alloc, config)?),
         Request::PluginCapabilities => Ok(plan_plugin_capabilities(alloc)?),
         Request::ControllerCapabilities => Ok(plan_controller_capabilities(alloc)?),
-        Request::Create(request) => request.plan(alloc, config, keeper),
         Request::Delete(request) => request.plan(alloc, config, keeper),
         Request::Publish(request) => request.plan(alloc, config, keeper),
         Request::Unpublish(request) => request.plan(alloc, config, keeper),
         Request::Validate(request) => request.plan(alloc, config, keeper),
         Request::Capacity(request) => request.plan(alloc, config, keeper),
         Request::Modify(request) => request.plan(alloc, config, keeper),
-        Request::Probe | Request::List(_) => unreachable!(),
+        Request::Probe | Request::Create(_) | Request::List(_) => unreachable!(),
     }
 }

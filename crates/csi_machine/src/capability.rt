@@ -1,12 +1,15 @@
 //! Sets of capability keys.
 
-ghost use Rattle.std.specs.Prelude.{◌≡◌, Some, IfOk};
+ghost use Rattle.std.specs.Prelude.{◌≡◌, ◌∷◌, [], Some, IfOk};
 ghost use Rattle.csi_keeper.specs.Capability.{key_of, wider_key, has_same, has_key, have_keys, ordered, keys_of};
 
-use csi_keeper::{CapKey, cap_key, copy_key, wider_key};
+use csi_keeper::{CapKey, cap_key, copy_key, has_key as is_had, wider_key};
 use csi_types::{Capability, Items};
 use std::alloc::{AllocError, Global};
 use std::collections::BTreeSet;
+
+// So many keys are looked through one by one; more are put in order first.
+const FEW_KEYS: usize = 4;
 
 #[tactic(auto, using(crate::proofs::CapabilityLemmas::keys_more, crate::proofs::CapabilityLemmas::keys_same, crate::proofs::CapabilityLemmas::keys_none))]
 fn key_set(alloc: Global, capabilities: &[Capability]) -> Result<BTreeSet<CapKey>, AllocError>
@@ -31,6 +34,17 @@ fn listed(alloc: Global, set: BTreeSet<CapKey>) -> Result<Items<CapKey>, AllocEr
     Ok(keys)
 }
 
+#[tactic(auto, using(crate::proofs::CapabilityLemmas::keys_of_one, crate::proofs::CapabilityLemmas::keys_of_unknown))]
+fn key_alone(alloc: Global, capability: &Capability) -> Result<Items<CapKey>, AllocError>
+    ensures { IfOk result (λ keys. keys ≡ keys_of (capability.now ∷ [])) }
+{
+    let mut alone = Items::new(alloc);
+    if let Some(key) = cap_key(alloc, capability)? {
+        alone.push(key)?;
+    }
+    Ok(alone)
+}
+
 /// The keys of capabilities, in order and without doubles: O(n log n) for n capabilities.
 pub(crate) fn keys_of(
     alloc: Global,
@@ -38,7 +52,11 @@ pub(crate) fn keys_of(
 ) -> Result<Items<CapKey>, AllocError>
     ensures { IfOk result (λ keys. keys ≡ keys_of capabilities.now) }
 {
-    listed(alloc, key_set(alloc, capabilities)?)
+    // Most volumes have one.
+    match capabilities {
+        [capability] => key_alone(alloc, capability),
+        _ => listed(alloc, key_set(alloc, capabilities)?),
+    }
 }
 
 #[tactic(auto, using(crate::proofs::CapabilityLemmas::ordered_more, crate::proofs::CapabilityLemmas::keys_none))]
@@ -91,6 +109,28 @@ fn have_all(
     Ok(true)
 }
 
+// As has_key, of keys that are looked through. It takes no memory for them.
+#[tactic(auto, using(crate::proofs::CapabilityLemmas::has_none))]
+fn few_have_key(alloc: Global, keys: &[CapKey], capability: &Capability) -> Result<bool, AllocError>
+    ensures { IfOk result (λ has. has ≡ has_key keys.now (key_of capability.now)) }
+{
+    match cap_key(alloc, capability)? {
+        Some(key) => Ok(is_had(keys, &key)),
+        None => Ok(false),
+    }
+}
+
+fn few_have(alloc: Global, keys: &[CapKey], capabilities: &[Capability]) -> Result<bool, AllocError>
+    ensures { IfOk result (λ have. have ≡ have_keys keys.now capabilities.now) }
+{
+    for capability in capabilities {
+        if !few_have_key(alloc, keys, capability)? {
+            return Ok(false);
+        }
+    }
+    Ok(true)
+}
+
 /// Whether they have the key of each capability: O((n + m) log m) for n capabilities and m
 /// keys, which need no order.
 #[tactic(auto, using(crate::proofs::CapabilityLemmas::have_ordered))]
@@ -101,6 +141,9 @@ pub(crate) fn have_keys(
 ) -> Result<bool, AllocError>
     ensures { IfOk result (λ have. have ≡ have_keys keys.now capabilities.now) }
 {
+    if keys.len() <= FEW_KEYS {
+        return few_have(alloc, keys, capabilities);
+    }
     let keys = set_of(alloc, keys)?;
     have_all(alloc, &keys, capabilities)
 }

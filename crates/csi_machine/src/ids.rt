@@ -3,7 +3,7 @@
 ghost use Rattle.std.specs.Prelude.{◌≡◌, IfOk};
 ghost use Rattle.std.specs.Fmt.{decimal};
 ghost use Rattle.csi_types.specs.Maps.{same_text};
-ghost use Rattle.csi_machine.specs.Ids.{number_of, number_of_id, id};
+ghost use Rattle.csi_machine.specs.Ids.{number_of, number_of_id};
 
 use csi_types::Text;
 use itoa::Buffer;
@@ -43,11 +43,4 @@ pub(crate) fn number_of_id(text: &str) -> Option<u64>
     ensures { result ≡ number_of_id text.now }
 {
     number_of(text.strip_prefix(ID_PREFIX)?)
-}
-
-/// The id of the volume of a number: `vol-` and the number in decimal.
-pub(crate) fn id(alloc: Global, number: u64) -> Result<Text, AllocError>
-    ensures { IfOk result (λ t. t ≡ id number) }
-{
-    Text::joined(alloc, ID_PREFIX, Buffer::new().format(number))
 }

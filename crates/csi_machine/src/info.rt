@@ -3,21 +3,25 @@
 ghost use Rattle.std.specs.Prelude.{◌≡◌, IfOk, codes};
 ghost use Rattle.std.specs.Option.{option_copied};
 ghost use Rattle.std.specs.FinMap.{empty, insert};
-ghost use Rattle.csi_machine.specs.Info.{signed, topology_of, info_at, segments_at};
+ghost use Rattle.csi_machine.specs.Info.{signed, topology_of, segments_at};
 ghost use Rattle.csi_keeper.specs.Lookup.{pool_named};
 
-use crate::ids::id;
 use csi_config::{Config, Pool};
-use csi_keeper::Volume;
-use csi_types::{Items, Map, Text, VolumeInfo, copy_map, copy_text};
+use csi_types::{Items, Map, Text, copy_map, copy_text};
 use std::alloc::{AllocError, Global};
 
-/// The context of a volume: the name of its pool.
+/// The one key of a volume's context, under which stands the name of its pool.
+pub(crate) const CONTEXT_KEY: &str = "pool";
+
+/// The context of a volume.
 pub(crate) fn context_of(alloc: Global, pool: &Text) -> Result<Map, AllocError>
     ensures { IfOk result (λ m. m ≡ insert empty (codes "pool") pool.now) }
 {
     let mut context = Map::new(alloc);
-    context.insert(copy_text(alloc, "pool")?, copy_text(alloc, pool.as_str())?)?;
+    context.insert(
+        copy_text(alloc, CONTEXT_KEY)?,
+        copy_text(alloc, pool.as_str())?,
+    )?;
     Ok(context)
 }
 
@@ -37,23 +41,6 @@ pub(crate) fn signed(bytes: u64) -> i64
     ensures { result ≡ signed bytes }
 {
     bytes.min(i64::MAX as u64) as i64
-}
-
-/// What is answered of a volume whose pool has these segments (CSI specification, 'CreateVolume',
-/// `Volume`).
-pub(crate) fn info_at(
-    alloc: Global,
-    segments: &Map,
-    volume: &Volume,
-) -> Result<VolumeInfo, AllocError>
-    ensures { IfOk result (λ i. i ≡ info_at segments.now volume.now) }
-{
-    Ok(VolumeInfo {
-        bytes: signed(volume.bytes),
-        id: id(alloc, volume.number)?,
-        context: context_of(alloc, &volume.pool)?,
-        topology: topology_of(alloc, segments)?,
-    })
 }
 
 fn pool_named<'a>(pools: &'a [Pool], name: &Text) -> Option<&'a Pool>

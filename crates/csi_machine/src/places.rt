@@ -18,7 +18,7 @@ pub(crate) struct Place {
     pub(crate) placement: Placement,
 }
 
-/// That of a pool.
+/// What the configuration has answered alike of each volume of a pool.
 pub(crate) fn place_of(alloc: Global, config: &Config, pool: &Text) -> Result<Place, AllocError>
     ensures pool { IfOk result (λ place. place.pool ≡ pool.now) }
     ensures placed { IfOk result (λ place. IsPlaced config.now place) }
@@ -32,7 +32,7 @@ pub(crate) fn place_of(alloc: Global, config: &Config, pool: &Text) -> Result<Pl
     })
 }
 
-/// The first of a pool.
+/// The first place of a pool; `None` where there is none yet.
 pub(crate) fn place_named<'a>(places: &'a [Place], pool: &Text) -> Option<&'a Place>
     ensures { option_copied result ≡ find (λ place. same_text place.pool pool.now) places.now }
 {

@@ -1,19 +1,51 @@
 //! What a request is answered, and the one change that it makes.
 
 ghost use Rattle.std.specs.Prelude.{◌≡◌, IfOk};
+ghost use Rattle.csi_machine.specs.Answering.{verdict_of};
 ghost use Rattle.csi_machine.specs.Plan.{make, refuse, respond};
 
+use crate::body::Verdict;
 use csi_keeper::Change;
 use csi_types::{Boxed, Reason, Response};
 use std::alloc::{AllocError, Global};
 
 /// What a request is answered, and the change that is made before it is.
-#[derive(Debug, Drop)]
+#[derive(Debug)]
 pub struct Plan {
     /// The response, or the reason for which the request is refused and changes nothing.
     pub outcome: Result<Boxed<Response>, Reason>,
     /// What changes, if anything.
     pub change: Option<Boxed<Change>>,
+}
+
+// Written out, so that what drops one has one call for it, and its proof no branch for each of its parts.
+impl Drop for Plan {
+    #[inline(always)]
+    fn drop(self) {
+        let Plan {
+            outcome: _outcome,
+            change: _change,
+        } = self;
+    }
+}
+
+fn verdict_of(outcome: &Result<Boxed<Response>, Reason>) -> Verdict
+    ensures { result ≡ verdict_of outcome.now }
+{
+    match outcome {
+        Ok(_) => Verdict::Done,
+        Err(reason) => Verdict::Refused(*reason),
+    }
+}
+
+impl Plan {
+    /// Its verdict, and its change.
+    pub(crate) fn into_parts(self) -> (Verdict, Option<Boxed<Change>>)
+        ensures { result ≡ (verdict_of self.outcome, self.change) }
+    {
+        let Plan { outcome, change } = self;
+        (verdict_of(&outcome), change)
+    }
 }
 
 /// A refusal, which changes nothing.

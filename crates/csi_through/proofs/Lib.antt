@@ -1,2 +1,3 @@
 mod CopyLemmas
 mod OpeningLemmas
+mod StoppedLemmas

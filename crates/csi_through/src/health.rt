@@ -1,6 +1,6 @@
 //! The calls of a keeper over a memory and a log: how many were refused, and what is answered.
 
-ghost use Rattle.std.specs.Prelude.{◌≡◌, ◌≢◌, ◌+◌, ◌-◌, ◌^◌, ◌↔◌, min, true, false, Err, IsTrue, OnOk};
+ghost use Rattle.std.specs.Prelude.{◌≡◌, ◌≢◌, ◌+◌, ◌-◌, ◌^◌, ◌↔◌, min, true, false, Err, IsTrue, OnErr, OnOk};
 ghost use Rattle.csi_keeper.specs.Keeper.{count_after};
 ghost use Rattle.csi_keeper.specs.declared.change.StoreFault.TheVariants.{NoMemory, Refused, Down};
 ghost use Rattle.csi_through.specs.Told.{told};
@@ -62,11 +62,40 @@ impl Health {
         }
     }
 
-    /// Has each further call answered `Down`.
-    pub(crate) fn stop(&mut self)
+    fn stop(&mut self)
         ensures { self.new ≡ record self.old { is_down = true } }
     {
         self.is_down = true;
+    }
+
+    /// Lets a change begin, as any call. Where it may not, each further call is answered `Down`.
+    pub(crate) fn begin_change(&mut self) -> Result<(), StoreFault>
+        ensures down { (result ≡ Err Down) ↔ IsTrue self.old.is_down }
+        ensures fault { result ≢ Err NoMemory }
+        ensures current { OnOk result (self.old.is_current ≡ true) }
+        ensures count { self.new.refusals ≡ count_after self.old.refusals result }
+        ensures stays { (OnOk result (self.new.is_down ≡ self.old.is_down)) × (self.new.is_current ≡ self.old.is_current) }
+        ensures stops { OnErr result (self.new.is_down ≡ true) }
+    {
+        let begun = self.begin();
+        if begun.is_err() {
+            self.stop();
+        }
+        begun
+    }
+
+    /// What a change is answered, as any call. Where the log has not made it, each further call is answered `Down`.
+    pub(crate) fn end_change(&mut self, answer: Result<(), StoreFault>) -> Result<(), StoreFault>
+        ensures told { result ≡ told answer }
+        ensures up { result ≢ Err Down }
+        ensures count { self.new.refusals ≡ count_after self.old.refusals result }
+        ensures stays { (OnOk result (self.new.is_down ≡ self.old.is_down)) × (self.new.is_current ≡ self.old.is_current) }
+        ensures stops { OnErr result (self.new.is_down ≡ true) }
+    {
+        if answer.is_err() {
+            self.stop();
+        }
+        self.end(answer)
     }
 
     /// The memory has not got a change that the log has made.

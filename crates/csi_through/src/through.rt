@@ -22,11 +22,21 @@ use std::alloc::Global;
 /// A change that the log made is made, also where the memory has no room for it: it is answered `Ok`.
 /// The memory is behind then, so each further read is answered `Refused`, until the keeper is opened
 /// again; a further change is refused and not tried, and with it the keeper is down.
-#[derive(Drop)]
 pub struct Through<M, D> {
     memory: M,
     log: D,
     health: Health,
+}
+
+// Written out, so that what drops one has one call for it, and its proof no branch for each of its parts.
+impl<M: Drop, D: Drop> Drop for Through<M, D> {
+    fn drop(self) {
+        let Through {
+            memory: _memory,
+            log: _log,
+            health: _health,
+        } = self;
+    }
 }
 
 impl<M: Keeper, D: Log> Through<M, D> {
@@ -121,7 +131,12 @@ impl<M: Drop, D> Through<M, D> {
     pub fn into_log(self) -> D
         ensures { result ≡ self.log }
     {
-        self.log
+        let Through {
+            memory: _memory,
+            log,
+            health: _health,
+        } = self;
+        log
     }
 }
 
@@ -207,16 +222,24 @@ impl<M: Keeper, D: Log> Keeper for Through<M, D> {
         ensures applies { Applies (through_model M.model D.model self.old) (through_model M.model D.model self.new) change.now result }
         ensures stops { OnErr result (IsTrue self.new.health.is_down) }
     {
-        if let Err(fault) = self.health.begin() {
-            self.health.stop();
-            return Err(fault);
-        }
+        self.health.begin_change()?;
         let answer = self.log.commit(alloc, change);
-        if answer.is_err() {
-            self.health.stop();
-            return self.health.end(answer);
-        }
+        self.health.end_change(answer)?;
         if self.memory.apply(alloc, change).is_err() {
+            self.health.fall_behind();
+        }
+        Ok(())
+    }
+
+    fn apply_owned(&mut self, alloc: Global, change: Change) -> Result<(), StoreFault>
+        requires { IsBounded change }
+        ensures applies { Applies (through_model M.model D.model self.old) (through_model M.model D.model self.new) change result }
+        ensures stops { OnErr result (IsTrue self.new.health.is_down) }
+    {
+        self.health.begin_change()?;
+        let made = self.log.commit(alloc, &change);
+        self.health.end_change(made)?;
+        if self.memory.apply_owned(alloc, change).is_err() {
             self.health.fall_behind();
         }
         Ok(())

@@ -22,11 +22,20 @@ use std::marker::Model;
 ///
 /// Entries that come in rising order of their keys stand in a list, others in a tree: a map of one
 /// entry takes no more than its room.
-#[derive(Drop)]
 pub struct Map {
     listed: Vec<(Text, Text)>,
     // The keys are beyond those of the list.
     tree: BTreeMap<Text, Text>,
+}
+
+impl Drop for Map {
+    #[inline(always)]
+    fn drop(self) {
+        let Map {
+            listed: _listed,
+            tree: _tree,
+        } = self;
+    }
 }
 
 impl Model for Map {

@@ -179,7 +179,7 @@ impl fmt::Debug for Modify {
 }
 
 /// The request of a call, by its method. The message of one that has fields is kept apart, so that a request is small wherever it goes.
-#[derive(Debug, PartialEq, Eq, Drop)]
+#[derive(Debug, PartialEq, Eq)]
 pub enum Request {
     /// `GetPluginInfoRequest`, without fields.
     PluginInfo,
@@ -205,4 +205,24 @@ pub enum Request {
     Capacity(Boxed<GetCapacity>),
     /// `ControllerModifyVolumeRequest`.
     Modify(Boxed<Modify>),
+}
+
+impl Drop for Request {
+    #[inline(always)]
+    fn drop(self) {
+        match self {
+            Request::PluginInfo => {}
+            Request::PluginCapabilities => {}
+            Request::Probe => {}
+            Request::ControllerCapabilities => {}
+            Request::Create(_request) => {}
+            Request::Delete(_request) => {}
+            Request::Publish(_request) => {}
+            Request::Unpublish(_request) => {}
+            Request::Validate(_request) => {}
+            Request::List(_request) => {}
+            Request::Capacity(_request) => {}
+            Request::Modify(_request) => {}
+        }
+    }
 }

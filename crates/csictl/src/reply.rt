@@ -4,7 +4,7 @@ use crate::failure::{Ended, Failure};
 use crate::json;
 use csi_client::{put_body_lines, put_reply_line};
 use csi_codec::{DecodeFault, decode_response};
-use csi_types::{Entry, Items, Method, Response, Text};
+use csi_types::{Entry, Items, Method, Response, Text, copy_text};
 use frames_core::Reply;
 use serde_json::Value;
 use std::alloc::{AllocError, Global};
@@ -132,20 +132,18 @@ impl Listing {
         body: &[u8],
         are_kept: bool,
     ) -> Result<(), Failure> {
-        match decode_response(alloc, Method::ListVolumes, body) {
-            Ok(Response::List { entries, token }) => {
-                if token == self.token && !token.is_empty() {
-                    return Err(Failure::NoEnd);
-                }
-                self.token = token;
-                if are_kept {
-                    self.take(alloc, &entries)?;
-                }
-                Ok(())
-            }
-            Ok(_) => Err(Failure::BadBody),
-            Err(fault) => Err(Failure::from(fault)),
+        let response = decode_response(alloc, Method::ListVolumes, body)?;
+        let Response::List { entries, token } = &response else {
+            return Err(Failure::BadBody);
+        };
+        if *token == self.token && !token.is_empty() {
+            return Err(Failure::NoEnd);
         }
+        self.token = copy_text(alloc, token.as_str())?;
+        if are_kept {
+            self.take(alloc, entries)?;
+        }
+        Ok(())
     }
 
     /// Shows all entries as one line of JSON, if they were kept for it.

@@ -35,7 +35,7 @@ impl Thing {
 }
 
 /// Why the program ends with a status other than 0. Its `Display` is the line that is said.
-#[derive(Debug, Drop, Error)]
+#[derive(Debug, Error)]
 pub(crate) enum Failure {
     /// A frame is malformed.
     #[error("{0}")]
@@ -64,6 +64,23 @@ pub(crate) enum Failure {
     /// The socket has no path.
     #[error("the socket's path is empty")]
     NoSocketPath,
+}
+
+// Written out, so that what drops one has one call for it, and its proof no branch for each of its parts.
+impl Drop for Failure {
+    fn drop(self) {
+        match self {
+            Failure::Malformed(_) => {}
+            Failure::Arguments(_fault) => {}
+            Failure::Unusable(_, _cause) => {}
+            Failure::NoTablesPath => {}
+            Failure::ReadFailed(_) => {}
+            Failure::WriteFailed(_) => {}
+            Failure::TurnsSpent => {}
+            Failure::NoMemory => {}
+            Failure::NoSocketPath => {}
+        }
+    }
 }
 
 impl From<AllocError> for Failure {

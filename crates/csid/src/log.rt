@@ -30,11 +30,19 @@ const LONGEST: u64 = 30;
 const MOST_PAGES: u64 = 1 << 20;
 
 /// A peer, and whether it was asked for something. What it gives is what the peer gave.
-#[derive(Drop)]
 pub(crate) struct Noted<P> {
     peer: P,
     // For who answers calls over it.
     is_asked: Rc<Cell<bool>>,
+}
+
+impl<P: Drop> Drop for Noted<P> {
+    fn drop(self) {
+        let Noted {
+            peer: _peer,
+            is_asked: _is_asked,
+        } = self;
+    }
 }
 
 impl<P: Peer> Peer for Noted<P> {
@@ -53,7 +61,6 @@ pub(crate) type Line = Noted<Channel<UnixStream, UnixStream>>;
 pub(crate) type Remote = Through<MemKeeper, RemoteLog<Line>>;
 
 /// A log that was read.
-#[derive(Drop)]
 pub(crate) struct OpenLog {
     /// Its keeper.
     pub(crate) keeper: Remote,
@@ -63,6 +70,17 @@ pub(crate) struct OpenLog {
     pub(crate) is_asked: Rc<Cell<bool>>,
     /// Whether it did not lead once: what it has is read anew.
     pub(crate) is_cut: bool,
+}
+
+impl Drop for OpenLog {
+    fn drop(self) {
+        let OpenLog {
+            keeper: _keeper,
+            stream: _stream,
+            is_asked: _is_asked,
+            is_cut: _,
+        } = self;
+    }
 }
 
 impl OpenLog {

@@ -36,7 +36,6 @@ pub(crate) enum Heard {
 }
 
 /// A connection that waits, and what it has sent so far.
-#[derive(Drop)]
 pub(crate) struct Pending {
     pub(crate) stream: UnixStream,
     pub(crate) sent: Vec<u8>,
@@ -44,6 +43,17 @@ pub(crate) struct Pending {
     pub(crate) start: Option<Start>,
     /// When a byte of it came last, or it itself.
     pub(crate) since: Instant,
+}
+
+impl Drop for Pending {
+    fn drop(self) {
+        let Pending {
+            stream: _stream,
+            sent: _sent,
+            start: _,
+            since: _,
+        } = self;
+    }
 }
 
 // What the bytes begin that a connection has sent, up to its end or so far.

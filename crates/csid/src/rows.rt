@@ -23,7 +23,7 @@ const TEXT: ValueRef<'static> = ValueRef::Text(&[]);
 const BLOB: ValueRef<'static> = ValueRef::Blob(&[]);
 
 /// Why what a log told is not taken.
-#[derive(Debug, Drop, Error)]
+#[derive(Clone, Copy, Debug, Error)]
 pub(crate) enum RowsFault {
     /// A reply is malformed, or has a number that no row can have.
     #[error("its rows are malformed")]

@@ -19,6 +19,7 @@ use csi_tables::Tables;
 use csi_through::{NotCopied, Through};
 use sqlite::{Alter, Connection};
 use std::alloc::Global;
+use std::mem::forget;
 
 /// The number that the first volume gets.
 pub(crate) const FIRST_NUMBER: u64 = 1;
@@ -34,7 +35,10 @@ fn serve_pipe<K: Keeper>(rt: &HostRuntime, config: &Config, keeper: &mut K) -> R
 // Answers the calls of standard input, and keeps the volumes in memory.
 fn pipe_over_memory(rt: &HostRuntime, config: &Config) -> Result<(), Failure> {
     let mut keeper = MemKeeper::new(rt.alloc(), FIRST_NUMBER)?;
-    serve_pipe(rt, config, &mut keeper)
+    let served = serve_pipe(rt, config, &mut keeper);
+    // The program ends, and gives its memory back whole: volume by volume 100,000 of them would take a twentieth of a second.
+    forget(keeper);
+    served
 }
 
 // What came of calls and of the file behind them: both are said, and the program ends with what became of the file.

@@ -223,12 +223,20 @@ fn serve_over_tables(rt: &HostRuntime, config: &Config, serving: &Serving<'_>, p
 }
 
 /// The log, if volumes are in one.
-#[derive(Drop)]
 struct KnownLog {
     /// It, as it was read; none, where it could not be had.
     open: Option<OpenLog>,
     /// Why it could not be had, as it was said last; nothing, where it was had since.
     said: String,
+}
+
+impl Drop for KnownLog {
+    fn drop(self) {
+        let KnownLog {
+            open: _open,
+            said: _said,
+        } = self;
+    }
 }
 
 // Says why the log cannot be had, unless that was said last: where another program leads, each connection finds it so.

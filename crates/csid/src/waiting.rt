@@ -20,7 +20,6 @@ const AT_ONCE: usize = 64;
 const ANY: Token = Token(0);
 
 /// The connections that wait, and the socket that they come from.
-#[derive(Drop)]
 pub(crate) struct Waiting<'a> {
     listener: &'a UnixListener,
     poll: Poll,
@@ -32,6 +31,20 @@ pub(crate) struct Waiting<'a> {
     idle: Option<Duration>,
     // Whether something came at the last look.
     is_stirring: bool,
+}
+
+impl Drop for Waiting<'_> {
+    fn drop(self) {
+        let Waiting {
+            listener: _,
+            poll: _poll,
+            events: _events,
+            pending: _pending,
+            left: _,
+            idle: _,
+            is_stirring: _,
+        } = self;
+    }
 }
 
 // Has a wait end when a source can be read.

@@ -9,10 +9,18 @@ use std::alloc::{AllocError, Global};
 use test_kit::{Answer, AnswerRow, Reply, RowFault, bytes_counted, bytes_of, number_of, reply_to};
 
 /// A configuration, and a keeper of the volumes that requests made under it.
-#[derive(Drop)]
 pub(crate) struct Bench {
     pub(crate) config: Config,
     pub(crate) keeper: MemKeeper,
+}
+
+impl Drop for Bench {
+    fn drop(self) {
+        let Bench {
+            config: _config,
+            keeper: _keeper,
+        } = self;
+    }
 }
 
 impl Bench {
@@ -61,7 +69,7 @@ impl Bench {
         let mut last = String::from_str(alloc, "no other")?;
         for count in 0..number_of::<u32>(times)? {
             let reply = self.reply(alloc, method, &bytes_counted(alloc, notation, count)?);
-            match reply {
+            match &reply {
                 Reply::Done(_) => done = done.saturating_add(1),
                 refused => last = refused.text(alloc)?,
             }

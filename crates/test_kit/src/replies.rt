@@ -15,7 +15,6 @@ use std::fmt::Write;
 const TRIES: u8 = 2;
 
 /// What a call is answered.
-#[derive(Drop)]
 pub enum Reply {
     /// The body.
     Done(Vec<u8>),
@@ -25,6 +24,15 @@ pub enum Reply {
     Refused(Reason),
     /// The keeper failed.
     Failed(StoreFault),
+}
+
+impl Drop for Reply {
+    fn drop(self) {
+        match self {
+            Reply::Done(_body) => {}
+            Reply::Malformed(_) | Reply::Refused(_) | Reply::Failed(_) => {}
+        }
+    }
 }
 
 impl Reply {

@@ -1,6 +1,7 @@
 -- A listing is its entries, one behind the other, and then its token.
 use Rattle.std.proofs.Common.{◌≡◌, ◌∙◌, ap, ap₂, sym, refl, ℕ, List, [], ◌∷◌, ◌++◌}
 use Rattle.std.proofs.lemmas.Grind.{flat_map-append}
+use Rattle.std.proofs.lemmas.List.{append-nil}
 use Rattle.pbwire.specs.Wire.{WireField, Payload}
 use Rattle.pbwire.specs.Writing.{spelling, spellings}
 use Rattle.csi_types.specs.declared.responses.Response.TheVariants as response
@@ -15,10 +16,6 @@ entry_fields es = payload_fields 1 (spelled canon_entry es)
 abbrev pub token_fields : List ℕ → List WireField
 token_fields token = payload_fields 2 (present token)
 
-no_more : (xs : List ℕ) → xs ++ [] ≡ xs
-no_more [] = refl
-no_more (x ∷ xs) = ap (λ l. x ∷ l) (no_more xs)
-
 -- a listing in two parts
 in_parts : (es : List Entry) (token : List ℕ) → response_bytes (response.List es token) ≡ spellings (entry_fields es) ++ spellings (token_fields token)
 unfolding response_bytes row_fields
@@ -26,7 +23,7 @@ in_parts es token = flat_map-append spelling (entry_fields es) (token_fields tok
 
 -- entries, and no token
 pub entries_only : (es : List Entry) → response_bytes (response.List es []) ≡ spellings (entry_fields es)
-entries_only es = in_parts es [] ∙ no_more (spellings (entry_fields es))
+entries_only es = in_parts es [] ∙ append-nil (spellings (entry_fields es))
 
 more_fields : (es : List Entry) (e : Entry) → entry_fields (es ++ e ∷ []) ≡ entry_fields es ++ entry_fields (e ∷ [])
 more_fields [] e = refl

@@ -64,6 +64,10 @@ module _ {K X : Type 0} {R : K → K → Ordering} (o : IsTotalOrder R) (exact :
       ] refl
       ∙ sym (fin.get-insert o (fin.remove m k) k x q ∙ ap (cond (eq_by_cmp R q k) (Some x)) (fin.get-remove o m k q)))
 
+  -- what was put somewhere stands there
+  pub put_there : (m : fin.FinMap R X) (k : K) (x : X) → fin.get (fin.insert m k x) k ≡ Some x
+  put_there m k x = fin.get-insert o m k x k ∙ ap (λ b. cond b (Some x) (fin.get m k)) (ap is_eq (tied_itself o k))
+
   pub gone : (m : fin.FinMap R X) (k : K) → fin.get (fin.remove m k) k ≡ None
   gone m k = fin.get-remove o m k k ∙ ap (λ b. cond b None (fin.get m k)) (ap is_eq (tied_itself o k))
 

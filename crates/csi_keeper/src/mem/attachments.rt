@@ -74,7 +74,8 @@ pub(crate) fn attached_to(
     Ok(copies)
 }
 
-fn push_node(
+/// Adds the node of an attachment, if it is one of a number.
+pub(crate) fn push_node(
     alloc: Global,
     nodes: &mut Items<Text>,
     number: u64,

@@ -4,8 +4,8 @@ ghost use Rattle.std.specs.BTreeMap.{is_at};
 ghost use Rattle.std.specs.Map.{lookup};
 ghost use Rattle.std.specs.Prelude.{◌≡◌, Some, None, List, ℕ, IfOk, OnOk, OnErr, if◌then◌else◌};
 ghost use Rattle.csi_types.specs.Maps.{same_text};
-ghost use Rattle.csi_keeper.specs.Memory.{volumes_of, named_by};
-ghost use Rattle.csi_keeper.specs.Texts.{text_cmp};
+ghost use Rattle.csi_keeper.specs.Memory.{volumes_of, name_key, named_by, packed};
+ghost use Rattle.csi_keeper.specs.State.{place_cmp};
 
 use crate::mem::rows::volume_at;
 use crate::volume::Volume;
@@ -13,21 +13,43 @@ use csi_types::{Text, copy_text};
 use std::alloc::{AllocError, Global};
 use std::collections::BTreeMap;
 
+// So many bytes of a name are compared as a number, before the name is.
+const FIRST_BYTES: usize = 8;
+
+fn packed(bytes: &[u8]) -> u64
+    ensures { result ≡ packed 0 bytes.now }
+{
+    let mut number: u64 = 0;
+    for byte in bytes {
+        number = number.wrapping_mul(256).wrapping_add(u64::from(*byte));
+    }
+    number
+}
+
+fn key_of(name: Text) -> (u64, Text)
+    ensures { result ≡ name_key name }
+{
+    let bytes = name.as_bytes();
+    let first = packed(&bytes[..bytes.len().min(FIRST_BYTES)]);
+    (first, name)
+}
+
 /// A copy of the volume of a name, by an index that may be out of date.
 pub(crate) fn volume_named(
     alloc: Global,
-    names: &BTreeMap<Text, u64>,
+    names: &BTreeMap<(u64, Text), u64>,
     volumes: &BTreeMap<u64, Volume>,
-    name: &Text,
+    name: Text,
 ) -> Result<Option<Volume>, AllocError>
-    ensures { IfOk result (λ v. v ≡ named_by names.now.entries (volumes_of volumes.now.entries) name.now) }
+    ensures { IfOk result (λ v. v ≡ named_by names.now.entries (volumes_of volumes.now.entries) name) }
 {
-    let Some(number) = names.get(name) else {
+    let key = key_of(name);
+    let Some(number) = names.get(&key) else {
         return Ok(None);
     };
     match volume_at(alloc, volumes, *number)? {
         Some(volume) => {
-            if volume.name == *name {
+            if volume.name == key.1 {
                 Ok(Some(volume))
             } else {
                 Ok(None)
@@ -41,23 +63,24 @@ pub(crate) fn volume_named(
 #[tactic(auto, using(crate::proofs::ChangeLemmas::name_set))]
 pub(crate) fn set_name(
     alloc: Global,
-    names: &mut BTreeMap<Text, u64>,
+    names: &mut BTreeMap<(u64, Text), u64>,
     name: &Text,
     number: u64,
 ) -> Result<(), AllocError>
-    ensures ok { OnOk result ((q : List ℕ) → lookup (is_at (text_cmp q)) names.new.entries
-        ≡ (if same_text name.now q then Some number else lookup (is_at (text_cmp q)) names.old.entries)) }
+    ensures ok { OnOk result ((q : List ℕ) → lookup (is_at (place_cmp (name_key q))) names.new.entries
+        ≡ (if same_text name.now q then Some number else lookup (is_at (place_cmp (name_key q))) names.old.entries)) }
     ensures err { OnErr result (names.new.entries ≡ names.old.entries) }
 {
-    names.insert(copy_text(alloc, name.as_str())?, number)?;
+    let key = key_of(copy_text(alloc, name.as_str())?);
+    names.insert(key, number)?;
     Ok(())
 }
 
 /// Takes a name out of the index.
 #[tactic(auto, using(crate::proofs::ChangeLemmas::name_gone))]
-pub(crate) fn drop_name(names: &mut BTreeMap<Text, u64>, name: &Text)
-    ensures { (q : List ℕ) → lookup (is_at (text_cmp q)) names.new.entries
-        ≡ (if same_text name.now q then None else lookup (is_at (text_cmp q)) names.old.entries) }
+pub(crate) fn drop_name(names: &mut BTreeMap<(u64, Text), u64>, name: Text)
+    ensures { (q : List ℕ) → lookup (is_at (place_cmp (name_key q))) names.new.entries
+        ≡ (if same_text name q then None else lookup (is_at (place_cmp (name_key q))) names.old.entries) }
 {
-    names.remove(name);
+    names.remove(&key_of(name));
 }

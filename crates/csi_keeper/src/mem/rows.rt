@@ -1,6 +1,6 @@
 //! The volumes in memory, by their numbers.
 
-ghost use Rattle.std.specs.Prelude.{◌≡◌, ℕ, IfOk, OnOk, OnErr, map, filter, take};
+ghost use Rattle.std.specs.Prelude.{◌≡◌, ℕ, IfErr, IfOk, OnOk, OnErr, map, filter, take};
 ghost use Rattle.std.specs.BTreeMap.{values};
 ghost use Rattle.std.specs.BTreeMap.Range.{entries_between};
 ghost use Rattle.std.specs.Map.Iter.{ShowsInOrder, deref_pair};
@@ -14,10 +14,10 @@ ghost use Rattle.csi_keeper.specs.State.{mutable_set};
 
 use crate::copies::copy_volume;
 use crate::listed::{Listed, listed_at};
-use crate::mem::attachments::nodes_of;
+use crate::mem::walk::walk_after;
 use crate::volume::{Attachment, Volume};
 use csi_types::{Items, Map, Text};
-use std::alloc::{AllocError, Global};
+use std::alloc::{AllocError, AllocFailed, Global};
 use std::collections::BTreeMap;
 use std::collections::btree_map::Range;
 use std::ops::Bound;
@@ -103,25 +103,15 @@ pub(crate) fn nodes_after(
     ensures ordered { entries (volumes_of volumes.now.entries) ≡ volumes.now.entries }
 {
     let rows = beyond(volumes, after);
+    let mut walk = walk_after(alloc, attachments, after);
     let mut nodes = Items::with_room(alloc, volumes.len().min(count as usize))?;
     for (_, volume) in rows {
         if nodes.len() >= count as usize {
             return Ok(nodes);
         }
-        nodes.push(nodes_of(alloc, attachments, volume.number)?)?;
+        nodes.push(walk.nodes_of(alloc, attachments, volume.number)?)?;
     }
     Ok(nodes)
-}
-
-fn listed_in(
-    alloc: Global,
-    attachments: &BTreeMap<(u64, Text), Attachment>,
-    volume: &Volume,
-) -> Result<Listed, AllocError>
-    ensures { IfOk result (λ told. told ≡ listed_in attachments.now.entries volume.now) }
-{
-    let nodes = nodes_of(alloc, attachments, volume.number)?;
-    listed_at(alloc, volume, nodes)
 }
 
 /// What a listing tells of the volumes with greater numbers, of at most that many.
@@ -137,27 +127,29 @@ pub(crate) fn listed_after(
     ensures ordered { entries (volumes_of volumes.now.entries) ≡ volumes.now.entries }
 {
     let rows = beyond(volumes, after);
+    let mut walk = walk_after(alloc, attachments, after);
     let mut listed = Items::with_room(alloc, volumes.len().min(count as usize))?;
     for (_, volume) in rows {
         if listed.len() >= count as usize {
             return Ok(listed);
         }
-        listed.push(listed_in(alloc, attachments, volume)?)?;
+        let nodes = walk.nodes_of(alloc, attachments, volume.number)?;
+        listed.push(listed_at(alloc, volume, nodes)?)?;
     }
     Ok(listed)
 }
 
-/// Adds a copy of a volume. Where memory is refused the rows stay.
+/// Adds a volume. Where memory is refused the rows stay, and it comes back with its number.
 #[tactic(auto, using(crate::proofs::TreeLemmas::one_volume))]
 pub(crate) fn put_volume(
-    alloc: Global,
     volumes: &mut BTreeMap<u64, Volume>,
-    volume: &Volume,
-) -> Result<(), AllocError>
-    ensures ok { OnOk result (volumes_of volumes.new.entries ≡ insert (volumes_of volumes.old.entries) volume.now.number volume.now) }
+    volume: Volume,
+) -> Result<(), AllocFailed<(u64, Volume)>>
+    ensures ok { OnOk result (volumes_of volumes.new.entries ≡ insert (volumes_of volumes.old.entries) volume.number volume) }
     ensures err { OnErr result (volumes.new.entries ≡ volumes.old.entries) }
+    ensures back { IfErr result (λ failed. failed.value ≡ (volume.number, volume)) }
 {
-    volumes.insert(volume.number, copy_volume(alloc, volume)?)?;
+    volumes.insert(volume.number, volume)?;
     Ok(())
 }
 

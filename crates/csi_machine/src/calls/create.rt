@@ -5,20 +5,21 @@ ghost use Rattle.std.specs.Option.{option_copied};
 ghost use Rattle.csi_machine.specs.Finding.{Finds};
 ghost use Rattle.csi_machine.specs.Choice.{room_value, rooms};
 ghost use Rattle.csi_keeper.specs.State.{IsBounded};
+ghost use Rattle.std.specs.FinMap.{empty};
+ghost use Rattle.csi_machine.specs.Creation.{plan_of};
 ghost use Rattle.csi_machine.specs.calls.Create.{is_compatible, again, made, place_in, place, fresh, create};
 
 use crate::capability::{have_keys, keys_of};
 use crate::choice::{Room, choose, count, read_rooms};
-use crate::info::{info_at, segments_at};
-use crate::plan::{Plan, make, refuse, respond};
-use crate::planned::{Planned, Planning};
+use crate::creation::Creation;
+use crate::info::segments_at;
 use crate::size::{has_size, size};
 use crate::topology::is_reachable;
 use csi_config::laws::sizes_whole;
 use csi_config::{Config, Pool};
-use csi_keeper::{Change, Keeper, Volume};
+use csi_keeper::{Keeper, StoreFault, Volume};
 use csi_types::{
-    CreateVolume, MAX_NUMBER, MAX_VOLUMES, Map, Reason, Response, copy_map, copy_text, has_each,
+    CreateVolume, MAX_NUMBER, MAX_VOLUMES, Map, Reason, copy_map, copy_text, has_each,
 };
 use std::alloc::{AllocError, Global};
 
@@ -45,23 +46,23 @@ fn is_compatible(
     )
 }
 
-// The plan where a volume of the name stands.
-fn again(
+// What is done where a volume of the name stands.
+fn again<'a>(
     alloc: Global,
-    config: &Config,
+    config: &'a Config,
+    nowhere: &'a Map,
     request: &CreateVolume,
-    volume: &Volume,
-) -> Result<Plan, AllocError>
-    ensures value { IfOk result (λ plan. plan ≡ again config.now request.now volume.now) }
-    ensures none { IfOk result (λ plan. plan.change ≡ None) }
+    volume: Volume,
+) -> Result<Creation<'a>, AllocError>
+    requires { nowhere.now ≡ empty }
+    ensures value { IfOk result (λ creation. plan_of creation ≡ again config.now request.now volume) }
+    ensures none { IfOk result (λ creation. (plan_of creation).change ≡ None) }
 {
-    let nowhere = Map::new(alloc);
-    let segments = segments_at(config, &volume.pool, &nowhere);
-    if !is_compatible(alloc, segments, volume, request)? {
-        return Ok(refuse(Reason::VolumeNotCompatible));
+    let segments = segments_at(config, &volume.pool, nowhere);
+    if !is_compatible(alloc, segments, &volume, request)? {
+        return Ok(Creation::Refused(Reason::VolumeNotCompatible));
     }
-    let info = info_at(alloc, segments, volume)?;
-    respond(alloc, Response::Create(Some(info)))
+    Ok(Creation::Standing(volume, segments))
 }
 
 fn made(
@@ -84,90 +85,93 @@ fn made(
     })
 }
 
-fn place_in(
+fn place_in<'a>(
     alloc: Global,
     request: &CreateVolume,
     number: u64,
     bytes: u64,
-    pool: Option<&Pool>,
-) -> Result<Plan, AllocError>
-    ensures { IfOk result (λ plan. plan ≡ place_in request.now number bytes (option_copied pool.entry)) }
+    pool: Option<&'a Pool>,
+) -> Result<Creation<'a>, AllocError>
+    ensures { IfOk result (λ creation. plan_of creation ≡ place_in request.now number bytes (option_copied pool.entry)) }
 {
     let Some(pool) = pool else {
-        return Ok(refuse(Reason::NoRoom));
+        return Ok(Creation::Refused(Reason::NoRoom));
     };
     let volume = made(alloc, request, number, bytes, pool)?;
-    let info = info_at(alloc, &pool.segments, &volume)?;
-    make(
-        alloc,
-        Response::Create(Some(info)),
-        Change::AddVolume(volume),
-    )
+    Ok(Creation::Made(volume, &pool.segments))
 }
 
-fn place(
+fn place<'a>(
     alloc: Global,
-    rooms: &[Room<'_>],
+    rooms: &[Room<'a>],
     next: u64,
     request: &CreateVolume,
     bytes: u64,
-) -> Result<Plan, AllocError>
-    ensures { IfOk result (λ plan. plan ≡ place (map room_value rooms.now) next request.now (Some bytes)) }
+) -> Result<Creation<'a>, AllocError>
+    ensures { IfOk result (λ creation. plan_of creation ≡ place (map room_value rooms.now) next request.now (Some bytes)) }
 {
     if count(rooms) >= MAX_VOLUMES {
-        return Ok(refuse(Reason::TooManyVolumes));
+        return Ok(Creation::Refused(Reason::TooManyVolumes));
     }
     if next >= MAX_NUMBER {
-        return Ok(refuse(Reason::NumbersUsedUp));
+        return Ok(Creation::Refused(Reason::NumbersUsedUp));
     }
     let pool = choose(alloc, rooms, &request.topology, bytes);
     place_in(alloc, request, next, bytes, pool)
 }
 
-// The plan where no volume of the name stands.
+// What is done where no volume of the name stands.
 #[tactic(auto, using(crate::proofs::CreateLemmas::fresh_bounded))]
-fn fresh(
+fn fresh<'a>(
     alloc: Global,
     config: &Config,
-    rooms: &[Room<'_>],
+    rooms: &[Room<'a>],
     next: u64,
     request: &CreateVolume,
-) -> Result<Plan, AllocError>
-    ensures bounded { IfOk result (λ plan. IfSome plan.change IsBounded) }
-    ensures value { IfOk result (λ plan. plan ≡ fresh config.now (map room_value rooms.now) next request.now) }
+) -> Result<Creation<'a>, AllocError>
+    ensures bounded { IfOk result (λ creation. IfSome (plan_of creation).change IsBounded) }
+    ensures value { IfOk result (λ creation. plan_of creation ≡ fresh config.now (map room_value rooms.now) next request.now) }
 {
     sizes_whole(config);
     match size(config.sizes(), &request.range) {
         Some(bytes) => place(alloc, rooms, next, request, bytes),
-        None => Ok(refuse(Reason::OutOfRange)),
+        None => Ok(Creation::Refused(Reason::OutOfRange)),
     }
 }
 
-fn plan_fresh<K: Keeper>(
+fn create_fresh<'a, K: Keeper>(
     alloc: Global,
-    config: &Config,
+    config: &'a Config,
     keeper: &mut K,
     request: &CreateVolume,
-) -> Planning
-    ensures bounded { IfOk result (λ plan. IfSome plan.change IsBounded) }
+) -> Result<Creation<'a>, StoreFault>
+    ensures bounded { IfOk result (λ creation. IfSome (plan_of creation).change IsBounded) }
     ensures finds { Finds (K.model keeper.old) (K.model keeper.new) result
-        (λ s plan. plan ≡ fresh config.now (rooms config.now s) s.next request.now) }
+        (λ s creation. plan_of creation ≡ fresh config.now (rooms config.now s) s.next request.now) }
 {
     let rooms = read_rooms(alloc, config, keeper)?;
     let next = keeper.next_number()?;
     Ok(fresh(alloc, config, &rooms, next, request)?)
 }
 
+/// What a request comes to, by reads of the keeper alone; `nowhere` is an empty map, of segments where there are none.
+///
 /// A volume of the name is answered again if it is as the request asks, and refused otherwise.
 /// Without one a volume is made in the chosen pool, unless the size is out of range, there are too
 /// many volumes, the numbers are used up, or no pool has room, which are asked in this order.
-impl Planned for CreateVolume {
-    ghost planned = { create };
-
-    fn plan<K: Keeper>(&self, alloc: Global, config: &Config, keeper: &mut K) -> Planning {
-        if let Some(volume) = keeper.by_name(alloc, self.name.as_str())? {
-            return Ok(again(alloc, config, self, &volume)?);
-        }
-        plan_fresh(alloc, config, keeper, self)
+pub(crate) fn create<'a, K: Keeper>(
+    alloc: Global,
+    config: &'a Config,
+    nowhere: &'a Map,
+    keeper: &mut K,
+    request: &CreateVolume,
+) -> Result<Creation<'a>, StoreFault>
+    requires { nowhere.now ≡ empty }
+    ensures bounded { IfOk result (λ creation. IfSome (plan_of creation).change IsBounded) }
+    ensures finds { Finds (K.model keeper.old) (K.model keeper.new) result (λ s creation. plan_of creation ≡ create config.now s request.now) }
+{
+    if let Some(volume) = keeper.by_name(alloc, request.name.as_str())? {
+        return Ok(again(alloc, config, nowhere, request, volume)?);
     }
+    create_fresh(alloc, config, keeper, request)
 }

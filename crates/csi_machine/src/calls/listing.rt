@@ -82,7 +82,7 @@ fn put_placed(row: &Listed, place: &Place, out: &mut Vec<u8>) -> Result<(), Allo
     encode_entry(&entry, out)
 }
 
-// Appends the entry of a volume, and keeps its place where it is the first of it.
+// Appends the entry of a volume. The place of the first volume of a pool is kept for the others.
 fn put_row(
     alloc: Global,
     config: &Config,

@@ -9,10 +9,19 @@ use test_kit::RowFault;
 const MANY: u64 = 1_099_511_627_776;
 
 /// A framer of calls or of replies.
-#[derive(Drop)]
 pub(crate) enum AnyFramer {
     Calls(Framer),
     Replies(ReplyFramer),
+}
+
+// Written out, so that what drops one has one call for it, and its proof no branch for each of its parts.
+impl Drop for AnyFramer {
+    fn drop(self) {
+        match self {
+            AnyFramer::Calls(_framer) => {}
+            AnyFramer::Replies(_framer) => {}
+        }
+    }
 }
 
 impl AnyFramer {

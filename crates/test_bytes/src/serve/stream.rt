@@ -22,12 +22,22 @@ pub(crate) struct Fault {
 }
 
 /// Calls, and perhaps a fault behind them. The output has the replies to the calls.
-#[derive(Drop)]
 pub(crate) struct Stream {
     pub(crate) input: Vec<u8>,
     pub(crate) output: Vec<u8>,
     pub(crate) calls: Vec<Call>,
     pub(crate) fault: Option<Fault>,
+}
+
+impl Drop for Stream {
+    fn drop(self) {
+        let Stream {
+            input: _input,
+            output: _output,
+            calls: _calls,
+            fault: _fault,
+        } = self;
+    }
 }
 
 impl Stream {

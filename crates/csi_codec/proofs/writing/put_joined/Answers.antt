@@ -1,4 +1,5 @@
-use Rattle.std.proofs.Common.{◌≡◌, ◌++◌, ◌∙◌, ◌≤◌, [], ap, ap₂, length, subst, sym, List, OnOk, ℕ}
+use Rattle.std.proofs.Common.{◌≡◌, ◌++◌, ◌∙◌, ◌≤◌, ◌<◌, ◌^◌, [], ap, ap₂, length, subst, sym, List, OnOk, ℕ}
+use Rattle.std.proofs.lemmas.Str.{IsUtf8-append}
 use Rattle.pbwire.specs.Wire.{Payload}
 use Rattle.pbwire.specs.Writing.{spelling, spellings}
 use Rattle.csi_codec.specs.Canon.{row_fields, text_row}
@@ -18,3 +19,9 @@ returns-clause-ok c =
     then_ok c.put_both.result (λ is.
     is ∙ ap (λ (bs : List ℕ). c.args.out.now.items ++ spelling (record { number = c.args.number; part = Payload bs })) both
     ∙ ap (λ (bs : List ℕ). c.args.out.now.items ++ bs) (joined_row c.args.number c.args.first.now c.args.second.now some)) c.put_both.ensures.ok
+
+pub returns-clause-fitting : goal.returns-clause-fitting
+returns-clause-fitting c =
+    let both : c.as_bytes.result.now ++ c.as_bytes-2.result.now ≡ c.args.first.now ++ c.args.second.now = ap₂ (λ (xs ys : List ℕ). xs ++ ys) c.as_bytes.ensures.value c.as_bytes-2.ensures.value in
+    then_ok c.put_both.result (λ small.
+    (IsUtf8-append c.args.first.now c.args.second.now c.utf8.first c.utf8.second, subst (λ (bs : List ℕ). length bs < 2 ^ 64) both small)) c.put_both.ensures.fitting

@@ -4,7 +4,7 @@ use Rattle.csi_machine.proofs.FindingLemmas.{found_as}
 use Rattle.csi_machine.proofs.calls.plan_of.Goals as goal
 
 pub returns-in-Delete-clause-finds : goal.returns-in-Delete-clause-finds
-returns-in-Delete-clause-finds g c = found_as (λ s p so. so ∙ ap (plan c.args.config.now s) (sym c.in-Delete.is)) c.plan-in-Delete.ensures.finds
+returns-in-Delete-clause-finds g c = found_as (λ s p so. so ∙ ap (plan c.args.config.now s) (sym c.in-Delete.is)) c.plan.ensures.finds
 
 pub returns-in-Modify-clause-finds : goal.returns-in-Modify-clause-finds
 returns-in-Modify-clause-finds g c = found_as (λ s p so. so ∙ ap (plan c.args.config.now s) (sym c.in-Modify.is)) c.plan-in-Modify.ensures.finds

@@ -14,4 +14,4 @@ returns-in-Some-clause-bounded c =
     let r = c.args.request.now in
     let sized : Some c.in-Some.bytes ≡ size c.args.config.now.sizes r.range = search rules in
     let good = c.sizes_whole.ensures in
-    if_ok (λ p e. subst (λ (x : Plan). IfSome x.change IsBounded) (sym (e ∙ ap (place rooms c.args.next r) sized)) (fresh_bounded c.args.config.now rooms c.args.next r good.default good.limit)) c.place.result c.place.ensures
+    if_ok (λ creation e. subst (λ (x : Plan). IfSome x.change IsBounded) (sym (e ∙ ap (place rooms c.args.next r) sized)) (fresh_bounded c.args.config.now rooms c.args.next r good.default good.limit)) c.place.result c.place.ensures

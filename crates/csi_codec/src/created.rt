@@ -1,0 +1,76 @@
+//! The response of CreateVolume, written by parts that are lent.
+
+ghost use Rattle.std.specs.Prelude.{◌≡◌, ◌++◌, OnOk, Some};
+ghost use Rattle.csi_types.specs.declared.responses.Response.TheVariants as response;
+ghost use Rattle.pbwire.specs.Writing.{spellings};
+ghost use Rattle.csi_codec.specs.Canon.{row_fields, messages_row};
+ghost use Rattle.csi_codec.specs.Created.{created_volume, topology_of};
+ghost use Rattle.csi_codec.specs.Kept.{Keeps};
+ghost use Rattle.csi_codec.specs.Methods.{response_bytes, FitsResponse};
+ghost use Rattle.csi_codec.specs.messages.Topology.{canon_map, FitsTerms};
+
+use crate::writing::{Written, put_joined, put_message, put_signed, put_single};
+use csi_types::Map;
+use std::alloc::AllocError;
+
+/// A volume that was made, or that stands as it is asked for, of which nothing is copied (CSI specification,
+/// `CreateVolumeResponse.volume`).
+#[derive(Drop)]
+pub struct CreatedVolume<'a> {
+    /// The size in bytes, `capacity_bytes`.
+    pub bytes: i64,
+    /// How the volume's id begins.
+    pub prefix: &'a str,
+    /// How it ends.
+    pub suffix: &'a str,
+    /// The one key of its context, `volume_context`.
+    pub key: &'a str,
+    /// What the context has under that key.
+    pub value: &'a str,
+    /// The segments of its topology, `accessible_topology`; where there are none it has no topology.
+    pub segments: &'a Map,
+}
+
+// Appends the topology of these segments, if there is one.
+#[tactic(auto, unfolding(crate::specs::Canon::row_fields))]
+fn put_topology(out: &mut Vec<u8>, segments: &Map) -> Result<(), AllocError>
+    ensures ok { OnOk result (out.new.items ≡ out.old.items ++ spellings (row_fields (messages_row canon_map 5 (topology_of segments.now)))) }
+    ensures fitting { OnOk result (FitsTerms (topology_of segments.now)) }
+    ensures kept { Keeps out.old.items out.new.items }
+{
+    if segments.is_empty() {
+        return Ok(());
+    }
+    put_message(out, 5, segments)
+}
+
+impl Written for CreatedVolume<'_> {
+    ghost use Rattle.csi_codec.specs.messages.Volume.{canon_volume, FitsVolume};
+    ghost use Rattle.csi_codec.specs.Created.{created_volume};
+
+    ghost canon = { λ v. canon_volume (created_volume v) };
+
+    ghost fits = { λ v. FitsVolume (created_volume v) };
+
+    fn write(&self, out: &mut Vec<u8>) -> Result<(), AllocError> {
+        put_signed(out, 1, self.bytes)?;
+        put_joined(out, 2, self.prefix, self.suffix)?;
+        put_single(out, 3, self.key, self.value)?;
+        put_topology(out, self.segments)?;
+        Ok(())
+    }
+}
+
+/// Appends the response of CreateVolume that has this volume.
+///
+/// # Errors
+///
+/// Where memory is refused a part of it may stand behind what the vector had.
+#[tactic(auto, unfolding(crate::specs::Canon::row_fields, crate::specs::Methods::response_bytes, crate::specs::Methods::FitsResponse))]
+pub fn encode_created(volume: &CreatedVolume, out: &mut Vec<u8>) -> Result<(), AllocError>
+    ensures ok { OnOk result (out.new.items ≡ out.old.items ++ response_bytes (response.Create (Some (created_volume volume.now)))) }
+    ensures fitting { OnOk result (FitsResponse (response.Create (Some (created_volume volume.now)))) }
+    ensures kept { Keeps out.old.items out.new.items }
+{
+    put_message(out, 1, volume)
+}

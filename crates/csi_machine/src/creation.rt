@@ -1,0 +1,75 @@
+//! What a create comes to. Its response is written from the volume, and not made first.
+
+ghost use Rattle.std.specs.Prelude.{Some};
+ghost use Rattle.csi_types.specs.declared.responses.Response.TheVariants as response;
+ghost use Rattle.csi_codec.specs.Methods.{response_bytes};
+ghost use Rattle.csi_machine.specs.Creation.{plan_of};
+ghost use Rattle.csi_machine.specs.Info.{info_at};
+ghost use Rattle.csi_machine.specs.Verdicts.{within, Appended, IsTold};
+
+use crate::body::{Verdict, limit_body};
+use crate::ids::ID_PREFIX;
+use crate::info::{CONTEXT_KEY, signed};
+use crate::outcome::Outcome;
+use csi_codec::{CreatedVolume, encode_created};
+use csi_keeper::{Change, Keeper, StoreFault, Volume};
+use csi_types::{Map, Reason};
+use itoa::Buffer;
+use std::alloc::{AllocError, Global};
+
+/// What a create comes to. Beside a volume stand the segments of its pool.
+#[derive(Drop)]
+pub(crate) enum Creation<'a> {
+    /// It is refused.
+    Refused(Reason),
+    /// The volume stands, as the request asks.
+    Standing(Volume, &'a Map),
+    /// The volume is made.
+    Made(Volume, &'a Map),
+}
+
+// Appends the response that has this volume, whose pool has these segments, or refuses it where no reply holds it.
+fn append_created(volume: &Volume, segments: &Map, out: &mut Vec<u8>) -> Result<Verdict, AllocError>
+    ensures appended { Appended out.old.items out.new.items result }
+    ensures told { IsTold (within (response_bytes (response.Create (Some (info_at segments.now volume.now))))) out.old.items out.new.items result }
+{
+    let from = out.len();
+    let mut buffer = Buffer::new();
+    let created = CreatedVolume {
+        bytes: signed(volume.bytes),
+        prefix: ID_PREFIX,
+        suffix: buffer.format(volume.number),
+        key: CONTEXT_KEY,
+        value: volume.pool.as_str(),
+        segments,
+    };
+    if let Err(refused) = encode_created(&created, out) {
+        out.truncate(from);
+        return Err(refused);
+    }
+    Ok(limit_body(out, from))
+}
+
+impl Outcome for Creation<'_> {
+    ghost plan = { plan_of };
+
+    fn append(&self, out: &mut Vec<u8>) -> Result<Verdict, AllocError> {
+        match self {
+            Creation::Refused(reason) => Ok(Verdict::Refused(*reason)),
+            Creation::Standing(volume, segments) | Creation::Made(volume, segments) => {
+                append_created(volume, segments, out)
+            }
+        }
+    }
+
+    fn carry_out<K: Keeper>(self, alloc: Global, keeper: &mut K) -> Result<Verdict, StoreFault> {
+        match self {
+            Creation::Refused(reason) => Ok(Verdict::Refused(reason)),
+            Creation::Standing(..) => Ok(Verdict::Done),
+            Creation::Made(volume, _) => {
+                keeper.apply_owned(alloc, Change::AddVolume(volume))?;
+                Ok(Verdict::Done)
+            }
+        }
+    }
+}

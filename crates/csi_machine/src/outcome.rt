@@ -1,0 +1,50 @@
+//! What a request comes to: a body or a refusal, and the one change that is made behind the body.
+
+ghost use Rattle.std.specs.Prelude.{◌≡◌, ◌≤◌, ◌++◌, length, IfOk, OnOk, OnErr, IfSome};
+ghost use Rattle.frames_core.specs.declared.limits.TheConstants.{MAX_BODY_BYTES};
+ghost use Rattle.csi_keeper.specs.State.{IsBounded};
+ghost use Rattle.csi_machine.specs.Answering.{Carries, body_of};
+ghost use Rattle.csi_machine.specs.Step.{by_verdict, limited};
+ghost use Rattle.csi_machine.specs.declared.plan.Plan.{Plan as AnyPlan};
+
+use crate::body::{Verdict, append_body};
+use crate::plan::Plan;
+use csi_keeper::{Keeper, StoreFault};
+use std::alloc::{AllocError, Global};
+
+/// What is done about a request, as a plan says it.
+pub(crate) trait Outcome: Drop {
+    /// The plan.
+    ghost plan: { Self → AnyPlan };
+
+    /// Appends the body of the plan's response. A body that no reply holds is a refusal, and then the plan makes no change.
+    fn append(&self, out: &mut Vec<u8>) -> Result<Verdict, AllocError>
+        ensures value { IfOk result (λ v. limited (plan self.now) ≡ by_verdict (plan self.now) v) }
+        ensures body { OnOk result (out.new.items ≡ out.old.items ++ body_of (limited (plan self.now)).outcome) }
+        ensures small { OnOk result (length (body_of (limited (plan self.now)).outcome) ≤ MAX_BODY_BYTES) }
+        ensures err { OnErr result (out.new.items ≡ out.old.items) };
+
+    /// Makes the plan's change, if it has one, and gives its verdict.
+    fn carry_out<K: Keeper>(self, alloc: Global, keeper: &mut K) -> Result<Verdict, StoreFault>
+        requires { IfSome (plan self).change IsBounded }
+        ensures { Carries (plan self) (K.model keeper.old) (K.model keeper.new) result };
+}
+
+impl Outcome for Plan {
+    ghost plan = { λ p. p };
+
+    fn append(&self, out: &mut Vec<u8>) -> Result<Verdict, AllocError> {
+        match &self.outcome {
+            Ok(response) => append_body(response.get(), out),
+            Err(reason) => Ok(Verdict::Refused(*reason)),
+        }
+    }
+
+    fn carry_out<K: Keeper>(self, alloc: Global, keeper: &mut K) -> Result<Verdict, StoreFault> {
+        let (verdict, change) = self.into_parts();
+        if let Some(change) = change {
+            keeper.apply_owned(alloc, change.into_value())?;
+        }
+        Ok(verdict)
+    }
+}
