@@ -52,9 +52,9 @@ pub joined_row : (k : ℕ) (first second : List ℕ) → 1 ≤ length first → 
 unfolding row_fields
 joined_row k first second some = sym (ap (λ (ps : Payloads). spellings (payload_fields k ps)) (present_both first second some) ∙ append-nil (spelling (record { number = k; part = Payload (first ++ second) })))
 
-pub no_bytes : (bytes : List ℕ) → (length bytes == 0) ≡ true → bytes ≡ []
-no_bytes [] none = refl
-no_bytes (b ∷ bytes) none = let zero : length (b ∷ bytes) ≡ 0 = eqb-true (length (b ∷ bytes)) 0 none in absurd (omega (arith, zero))
+pub no_items : {X : Type 0} (xs : List X) → (length xs == 0) ≡ true → xs ≡ []
+no_items [] none = refl
+no_items (x ∷ xs) none = let zero : length (x ∷ xs) ≡ 0 = eqb-true (length (x ∷ xs)) 0 none in absurd (omega (arith, zero))
 
 pub some_bytes : (bytes : List ℕ) → (length bytes == 0) ≡ false → 1 ≤ length bytes
 some_bytes [] some = absurd (cc (some))

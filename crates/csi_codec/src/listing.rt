@@ -1,14 +1,18 @@
 //! Entries of a listing, written by parts that are lent.
 
 ghost use Rattle.std.specs.Prelude.{◌≡◌, ◌++◌, ◌∷◌, [], OnOk};
+ghost use Rattle.pbwire.specs.Writing.{spellings};
 ghost use Rattle.csi_types.specs.declared.responses.Response.TheVariants as response;
+ghost use Rattle.csi_codec.specs.Canon.{bytes_of, payload_fields, FitsInner, FitsTexts};
 ghost use Rattle.csi_codec.specs.Kept.{Keeps};
 ghost use Rattle.csi_codec.specs.Listing.{listed_entry};
 ghost use Rattle.csi_codec.specs.Methods.{response_bytes, FitsResponse};
+ghost use Rattle.csi_codec.specs.messages.Volume.{canon_nodes};
 
 use crate::placement::{Placement, put_placement};
 use crate::writing::{Written, put_joined, put_message, put_signed};
 use csi_types::{Items, Text};
+use pbwire::put_bytes;
 use std::alloc::AllocError;
 
 // A volume of a pool.
@@ -34,6 +38,18 @@ impl Written for PlacedVolume<'_> {
         put_joined(out, 2, self.prefix, self.suffix)?;
         put_placement(out, self.placement)
     }
+}
+
+// Appends the status, which most volumes have without nodes.
+fn put_status(out: &mut Vec<u8>, nodes: &Items<Text>) -> Result<(), AllocError>
+    ensures ok { OnOk result (out.new.items ≡ out.old.items ++ spellings (payload_fields 2 (bytes_of (canon_nodes nodes.now) ∷ []))) }
+    ensures fitting { OnOk result (FitsInner FitsTexts canon_nodes nodes.now) }
+    ensures kept { Keeps out.old.items out.new.items }
+{
+    if nodes.is_empty() {
+        return put_bytes(out, 2, &[]);
+    }
+    put_message(out, 2, nodes)
 }
 
 /// An entry of a listing, of which nothing is copied (CSI specification, `ListVolumesResponse.Entry`).
@@ -67,7 +83,7 @@ impl Written for ListedEntry<'_> {
             placement: self.placement,
         };
         put_message(out, 1, &volume)?;
-        put_message(out, 2, self.nodes)
+        put_status(out, self.nodes)
     }
 }
 

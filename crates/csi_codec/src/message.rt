@@ -135,6 +135,7 @@ pub fn read<M: Message>(alloc: Global, bytes: &[u8]) -> Result<M, AllocError>
 }
 
 /// What the bytes mean. Faults are looked for first, so want of memory is answered only where they mean a value.
+#[inline(always)]
 pub fn decode_message<M: Message>(alloc: Global, bytes: &[u8]) -> Result<M, DecodeFault>
     ensures ok { IfOk result (Means (GoodField (Good M.schema)) (value_of M.of) bytes.now) }
     ensures err { IfErr result (Refuses (GoodField (Good M.schema)) bytes.now) }

@@ -70,27 +70,6 @@ pub fn put_text(out: &mut Vec<u8>, number: u32, text: &Text) -> Result<(), Alloc
     put_str(out, number, text.as_str())
 }
 
-fn append_both(out: &mut Vec<u8>, first: &[u8], second: &[u8]) -> Result<(), AllocError>
-    ensures ok { OnOk result (out.new.items ≡ out.old.items ++ (first.now ++ second.now)) }
-    ensures kept { Keeps out.old.items out.new.items }
-{
-    out.extend_from_slice(first)?;
-    out.extend_from_slice(second)
-}
-
-fn put_both(out: &mut Vec<u8>, number: u32, first: &[u8], second: &[u8]) -> Result<(), AllocError>
-    requires { (1 ≤ number) × (number < 2 ^ 29) }
-    ensures ok { OnOk result (out.new.items ≡ out.old.items ++ spelling (record { number = number; part = Payload (first.now ++ second.now) })) }
-    ensures fitting { OnOk result (length (first.now ++ second.now) < 2 ^ 64) }
-    ensures kept { Keeps out.old.items out.new.items }
-{
-    closed();
-    put_bytes(out, number, &[])?;
-    let from = out.len();
-    append_both(out, first, second)?;
-    close_bytes(out, from)
-}
-
 /// Appends a text in two parts, unless both are empty.
 pub fn put_joined(
     out: &mut Vec<u8>,
@@ -106,7 +85,7 @@ pub fn put_joined(
     if first.is_empty() {
         return put_str(out, number, second);
     }
-    put_both(out, number, first.as_bytes(), second.as_bytes())
+    pbwire::put_joined(out, number, first.as_bytes(), second.as_bytes())
 }
 
 /// Appends texts, also empty ones.

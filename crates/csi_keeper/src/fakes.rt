@@ -208,4 +208,13 @@ impl Keeper for FusedMem {
         }
         self.keeper.apply(alloc, change)
     }
+
+    fn apply_owned(&mut self, alloc: Global, change: Change) -> Result<(), StoreFault>
+        requires { IsBounded change }
+        ensures applies { Applies (fused_model self.old) (fused_model self.new) change result }
+        ensures turn { Burns self.old self.new result }
+        ensures stops { result ≡ Err Refused → IsTrue (is_shut self.new) }
+    {
+        self.apply(alloc, &change)
+    }
 }

@@ -21,6 +21,7 @@ pub struct Listed {
 }
 
 /// What is told of a volume that is published at these nodes.
+#[inline(always)]
 pub(crate) fn listed_at(
     alloc: Global,
     volume: &Volume,

@@ -22,6 +22,7 @@ use std::alloc::Global;
 
 // Appends the body of a plan's response, and makes its change then: a body for which memory is
 // refused leaves the State, and a fault of the keeper takes the body back.
+#[inline(always)]
 fn finish<K: Keeper, P: Outcome>(
     alloc: Global,
     keeper: &mut K,
@@ -65,6 +66,7 @@ fn append_planned<K: Keeper>(
 }
 
 // Answers a create, whose response is written from the volume.
+#[inline(always)]
 fn append_creation<K: Keeper>(
     alloc: Global,
     config: &Config,
@@ -91,6 +93,7 @@ fn append_creation<K: Keeper>(
 ///
 /// What the keeper answers, or want of memory for the body. The State is as before, and so is
 /// `out`, as it is after anything but [`Verdict::Done`]; a stop may then leave the change made.
+#[inline(always)]
 pub fn append_answer<K: Keeper>(
     alloc: Global,
     config: &Config,

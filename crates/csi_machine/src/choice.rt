@@ -32,6 +32,7 @@ impl Room<'_> {
 
 /// The pools in the order of the configuration, and what is used of each.
 #[tactic(auto, using(csi_keeper::specs::facts::Reads::quiet_same, csi_keeper::specs::facts::Reads::quiet_then))]
+#[inline(always)]
 pub(crate) fn read_rooms<'a, K: Keeper>(
     alloc: Global,
     config: &'a Config,

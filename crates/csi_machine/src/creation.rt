@@ -29,6 +29,7 @@ pub(crate) enum Creation<'a> {
 }
 
 // Appends the response that has this volume, whose pool has these segments, or refuses it where no reply holds it.
+#[inline(always)]
 fn append_created(volume: &Volume, segments: &Map, out: &mut Vec<u8>) -> Result<Verdict, AllocError>
     ensures appended { Appended out.old.items out.new.items result }
     ensures told { IsTold (within (response_bytes (response.Create (Some (info_at segments.now volume.now))))) out.old.items out.new.items result }
@@ -53,6 +54,7 @@ fn append_created(volume: &Volume, segments: &Map, out: &mut Vec<u8>) -> Result<
 impl Outcome for Creation<'_> {
     ghost plan = { plan_of };
 
+    #[inline(always)]
     fn append(&self, out: &mut Vec<u8>) -> Result<Verdict, AllocError> {
         match self {
             Creation::Refused(reason) => Ok(Verdict::Refused(*reason)),
@@ -62,6 +64,7 @@ impl Outcome for Creation<'_> {
         }
     }
 
+    #[inline(always)]
     fn carry_out<K: Keeper>(self, alloc: Global, keeper: &mut K) -> Result<Verdict, StoreFault> {
         match self {
             Creation::Refused(reason) => Ok(Verdict::Refused(reason)),

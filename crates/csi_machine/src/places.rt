@@ -36,5 +36,7 @@ pub(crate) fn place_of(alloc: Global, config: &Config, pool: &Text) -> Result<Pl
 pub(crate) fn place_named<'a>(places: &'a [Place], pool: &Text) -> Option<&'a Place>
     ensures { option_copied result ≡ find (λ place. same_text place.pool pool.now) places.now }
 {
-    places.iter().find(|place| place.pool == *pool)
+    places
+        .iter()
+        .find(|place| place.pool.as_str() == pool.as_str())
 }

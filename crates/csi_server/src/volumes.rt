@@ -38,6 +38,7 @@ fn answer_of(verdict: Result<Verdict, StoreFault>) -> Answer
 }
 
 // Answers a request that passes the checks.
+#[inline(always)]
 fn answer_request<K: Keeper>(
     alloc: Global,
     config: &Config,

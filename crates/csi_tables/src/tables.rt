@@ -173,4 +173,13 @@ impl<S: Alter> Keeper for Tables<S> {
         let answer = make(alloc, &mut self.conn, &mut self.totals, change);
         self.health.end_change(answer)
     }
+
+    fn apply_owned(&mut self, alloc: Global, change: Change) -> Result<(), StoreFault>
+        requires { IsBounded change }
+        ensures applies { Applies (tables_model S.Store self.old) (tables_model S.Store self.new) change result }
+        ensures stops { OnErr result (IsTrue self.new.health.is_down) }
+        ensures refused { TablesRefuses S.Store self.old self.new (refuses_change S.Store self.old change) result }
+    {
+        self.apply(alloc, &change)
+    }
 }

@@ -6,7 +6,7 @@ use crate::text::Text;
 use crate::volume::{Confirmed, Entry, VolumeInfo};
 
 /// The response of a call, by its method (CSI specification, 'RPC Interface').
-#[derive(Debug, PartialEq, Eq)]
+#[derive(Debug, PartialEq, Eq, Drop)]
 pub enum Response {
     /// `GetPluginInfoResponse`.
     PluginInfo {
@@ -54,36 +54,4 @@ pub enum Response {
     },
     /// `ControllerModifyVolumeResponse`, without fields.
     Modify,
-}
-
-impl Drop for Response {
-    #[inline(always)]
-    fn drop(self) {
-        match self {
-            Response::PluginInfo {
-                name: _name,
-                version: _version,
-            } => {}
-            Response::PluginCapabilities(_types) => {}
-            Response::Probe(_) => {}
-            Response::ControllerCapabilities(_types) => {}
-            Response::Create(_volume) => {}
-            Response::Delete => {}
-            Response::Publish(_context) => {}
-            Response::Unpublish => {}
-            Response::Validate {
-                confirmed: _confirmed,
-                message: _message,
-            } => {}
-            Response::List {
-                entries: _entries,
-                token: _token,
-            } => {}
-            Response::Capacity {
-                available: _,
-                maximum: _,
-            } => {}
-            Response::Modify => {}
-        }
-    }
 }

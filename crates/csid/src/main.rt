@@ -8,6 +8,7 @@ mod content;
 mod copy;
 mod failure;
 mod group;
+mod keeping;
 pub mod laws;
 mod log;
 mod memory;

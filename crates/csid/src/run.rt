@@ -7,17 +7,15 @@ use crate::check::{check_config, check_tables};
 use crate::command::{Piped, Serving, Task, asked, command, odd_number, odd_store};
 use crate::config::configuration;
 use crate::failure::{Failure, Peer, outcome};
+use crate::keeping::{OverKeeper, Place, over_keeper};
 use crate::say::say;
 use crate::socket::{listen, serve_all};
-use crate::tables::{Blank, OverTables, check_standing, of_reading, over_tables, survey};
+use crate::tables::{Blank, check_standing, survey};
 use clap::ArgMatches;
 use command_line::{ArgumentsFault, arguments, matches};
 use csi_config::Config;
 use csi_keeper::{Keeper, MemKeeper};
 use csi_server::serve;
-use csi_tables::Tables;
-use csi_through::{NotCopied, Through};
-use sqlite::{Alter, Connection};
 use std::alloc::Global;
 use std::mem::forget;
 
@@ -61,39 +59,19 @@ fn ended(
 struct Piping<'a> {
     rt: &'a HostRuntime,
     config: &'a Config,
-    path: &'a str,
-    is_low_memory: bool,
     served: Result<(), Failure>,
 }
 
-impl Piping<'_> {
-    // Reads are those of the file.
-    fn run_over_file<S: Alter + Drop>(&mut self, mut tables: Tables<S>) -> Connection<S> {
-        self.served = serve_pipe(self.rt, self.config, &mut tables);
-        tables.into_connection()
+impl OverKeeper for Piping<'_> {
+    fn serve<K: Keeper>(&mut self, keeper: &mut K) {
+        self.served = serve_pipe(self.rt, self.config, keeper);
     }
 
-    // Reads are those of memory.
-    fn run_over_memory<S: Alter + Drop>(&mut self, tables: Tables<S>) -> Connection<S> {
-        match Through::over(self.rt.alloc(), tables) {
-            Ok(mut keeper) => {
-                self.served = serve_pipe(self.rt, self.config, &mut keeper);
-                keeper.into_log().into_keeper().into_connection()
-            }
-            Err(NotCopied { fault, keeper }) => {
-                self.served = Err(of_reading(self.rt.alloc(), self.path, fault));
-                keeper.into_connection()
-            }
-        }
-    }
-}
+    // The replies have told of each refusal.
+    fn tell(&mut self, _is_down: bool, _refusals: u64, _what: &str) {}
 
-impl OverTables for Piping<'_> {
-    fn run<S: Alter + Drop>(&mut self, tables: Tables<S>) -> Connection<S> {
-        if self.is_low_memory {
-            return self.run_over_file(tables);
-        }
-        self.run_over_memory(tables)
+    fn fail(&mut self, failure: Failure) {
+        self.served = Err(failure);
     }
 }
 
@@ -104,15 +82,17 @@ fn pipe_over_tables(
     path: &str,
     pipe: &Piped<'_>,
 ) -> Result<(), Failure> {
+    let place = Place {
+        path,
+        blank: Blank::refused_if(pipe.is_existing, Blank::Make),
+        is_low_memory: pipe.is_low_memory,
+    };
     let mut piping = Piping {
         rt,
         config,
-        path,
-        is_low_memory: pipe.is_low_memory,
         served: Ok(()),
     };
-    let blank = Blank::refused_if(pipe.is_existing, Blank::Make);
-    let closed = over_tables(rt, path, config, blank, &mut piping);
+    let closed = over_keeper(rt, config, &place, &mut piping);
     ended(rt, piping.served, closed)
 }
 

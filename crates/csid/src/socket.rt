@@ -6,19 +6,17 @@ ghost use Rattle.csid.specs.Statuses.{IsOrNoMemory};
 use crate::command::Serving;
 use crate::failure::{Failure, Peer, outcome};
 use crate::group::group_number;
+use crate::keeping::{IS_BEHIND, OverKeeper, Place, over_keeper};
 use crate::log::{OpenLog, open_log};
 use crate::peer::{Guarded, Patient, Watched, has_gone, settle};
 use crate::pending::{Pending, Start};
 use crate::run::FIRST_NUMBER;
 use crate::say::{say, say_of};
-use crate::tables::{Blank, OverTables, of_reading, over_tables};
+use crate::tables::Blank;
 use crate::waiting::Waiting;
 use csi_config::Config;
 use csi_keeper::{Keeper, MemKeeper};
 use csi_server::{RunEnd, serve};
-use csi_tables::Tables;
-use csi_through::{NotCopied, Through};
-use sqlite::{Alter, Connection};
 use std::alloc::Global;
 use std::fs::{self, Permissions};
 use std::io::{self, ErrorKind};
@@ -29,9 +27,6 @@ use std::os::unix::net::UnixListener;
 const OWNER: u32 = 0o600;
 
 const OWNER_AND_GROUP: u32 = 0o660;
-
-const IS_BEHIND: &str =
-    "there was no memory for a change that was made; from then on the connection was told that the store refused its calls";
 
 // Why the socket failed.
 fn of_socket(alloc: Global, path: &str, error: &io::Error) -> Failure
@@ -147,52 +142,20 @@ struct Answering<'a> {
     rt: &'a HostRuntime,
     config: &'a Config,
     path: &'a str,
-    is_low_memory: bool,
     peer: &'a Pending,
 }
 
-impl Answering<'_> {
-    // Reads are those of the file.
-    fn run_over_file<S: Alter + Drop>(&self, mut tables: Tables<S>) -> Connection<S> {
-        serve_one(self.rt, self.config, &mut tables, self.peer, None);
-        tell_refusals(
-            self.rt,
-            self.path,
-            tables.is_down(),
-            tables.refusals(),
-            "the database refused a read",
-        );
-        tables.into_connection()
+impl OverKeeper for Answering<'_> {
+    fn serve<K: Keeper>(&mut self, keeper: &mut K) {
+        serve_one(self.rt, self.config, keeper, self.peer, None);
     }
 
-    // Reads are those of memory.
-    fn run_over_memory<S: Alter + Drop>(&self, tables: Tables<S>) -> Connection<S> {
-        match Through::over(self.rt.alloc(), tables) {
-            Ok(mut keeper) => {
-                serve_one(self.rt, self.config, &mut keeper, self.peer, None);
-                tell_refusals(
-                    self.rt,
-                    self.path,
-                    keeper.is_down(),
-                    keeper.refusals(),
-                    IS_BEHIND,
-                );
-                keeper.into_log().into_keeper().into_connection()
-            }
-            Err(NotCopied { fault, keeper }) => {
-                say(self.rt, &of_reading(self.rt.alloc(), self.path, fault));
-                keeper.into_connection()
-            }
-        }
+    fn tell(&mut self, is_down: bool, refusals: u64, what: &str) {
+        tell_refusals(self.rt, self.path, is_down, refusals, what);
     }
-}
 
-impl OverTables for Answering<'_> {
-    fn run<S: Alter + Drop>(&mut self, tables: Tables<S>) -> Connection<S> {
-        if self.is_low_memory {
-            return self.run_over_file(tables);
-        }
-        self.run_over_memory(tables)
+    fn fail(&mut self, failure: Failure) {
+        say(self.rt, &failure);
     }
 }
 
@@ -203,15 +166,18 @@ fn answer_over_tables(
     serving: &Serving<'_>,
     peer: &Pending,
 ) -> Result<(), Failure> {
-    let blank = Blank::refused_if(serving.is_existing, Blank::MakeAndSay);
+    let place = Place {
+        path: serving.tables,
+        blank: Blank::refused_if(serving.is_existing, Blank::MakeAndSay),
+        is_low_memory: serving.is_low_memory,
+    };
     let mut answering = Answering {
         rt,
         config,
         path: serving.tables,
-        is_low_memory: serving.is_low_memory,
         peer,
     };
-    over_tables(rt, serving.tables, config, blank, &mut answering)
+    over_keeper(rt, config, &place, &mut answering)
 }
 
 // Answers the calls of one connection over the tables, which are opened for it; where they cannot be,

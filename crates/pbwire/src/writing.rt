@@ -147,6 +147,66 @@ pub fn close_bytes(out: &mut Vec<u8>, from: usize) -> Result<(), AllocError>
     Ok(())
 }
 
+// Less than 128 bytes in two parts, behind their head: the vector grows at most once.
+fn append_short_joined(
+    out: &mut Vec<u8>,
+    head: &[u8],
+    first: &[u8],
+    second: &[u8],
+) -> Result<(), AllocError>
+    requires { length head.now + length first.now + length second.now < 256 }
+    ensures ok { OnOk result (out.new.items ≡ out.old.items ++ (head.now ++ (first.now ++ second.now))) }
+    ensures err { OnErr result (out.new.items ≡ out.old.items) }
+{
+    out.reserve(head.len() + first.len() + second.len())?;
+    out.extend_from_slice(head)?;
+    out.extend_from_slice(first)?;
+    out.extend_from_slice(second)
+}
+
+// As `put_joined`, but what is written before an `Err` stays.
+fn append_joined(
+    out: &mut Vec<u8>,
+    number: u32,
+    first: &[u8],
+    second: &[u8],
+) -> Result<(), AllocError>
+    requires { (1 ≤ number) × (number < 2 ^ 29) }
+    ensures ok { OnOk result (out.new.items ≡ out.old.items ++ spelling (record { number = number; part = Payload (first.now ++ second.now) })) }
+    ensures err { OnErr result (take (length out.old.items) out.new.items ≡ out.old.items) }
+{
+    put_bytes(out, number, &[])?;
+    let from = out.len();
+    out.extend_from_slice(first)?;
+    out.extend_from_slice(second)?;
+    close_bytes(out, from)
+}
+
+/// Appends a field that holds bytes in two parts, one behind the other (wire type 2). After an `Err` the vector is as
+/// it was.
+pub fn put_joined(
+    out: &mut Vec<u8>,
+    number: u32,
+    first: &[u8],
+    second: &[u8],
+) -> Result<(), AllocError>
+    requires { (1 ≤ number) × (number < 2 ^ 29) }
+    ensures ok { OnOk result (out.new.items ≡ out.old.items ++ spelling (record { number = number; part = Payload (first.now ++ second.now) })) }
+    ensures err { OnErr result (out.new.items ≡ out.old.items) }
+{
+    if first.len() < 64 && second.len() < 64 {
+        if let Some(head) = short_head(number, first.len() + second.len()) {
+            return append_short_joined(out, &head, first, second);
+        }
+    }
+    let from = out.len();
+    let joined = append_joined(out, number, first, second);
+    if joined.is_err() {
+        out.truncate(from);
+    }
+    joined
+}
+
 // An entry of less than 128 bytes after its head: the vector grows at most once, and nothing moves.
 fn append_short_entry(
     out: &mut Vec<u8>,

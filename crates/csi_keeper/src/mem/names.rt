@@ -35,6 +35,7 @@ fn key_of(name: Text) -> (u64, Text)
 }
 
 /// A copy of the volume of a name, by an index that may be out of date.
+#[inline(always)]
 pub(crate) fn volume_named(
     alloc: Global,
     names: &BTreeMap<(u64, Text), u64>,

@@ -58,6 +58,7 @@ impl<'a> Walk<'a> {
     }
 
     /// The nodes of the attachments of a number, in byte order.
+    #[inline(always)]
     pub(crate) fn nodes_of(
         &mut self,
         alloc: Global,

@@ -83,6 +83,7 @@ fn put_placed(row: &Listed, place: &Place, out: &mut Vec<u8>) -> Result<(), Allo
 }
 
 // Appends the entry of a volume. The place of the first volume of a pool is kept for the others.
+#[inline(always)]
 fn put_row(
     alloc: Global,
     config: &Config,
@@ -104,6 +105,7 @@ fn put_row(
     Ok(())
 }
 
+#[inline(always)]
 fn put_rows(
     alloc: Global,
     config: &Config,
@@ -121,6 +123,7 @@ fn put_rows(
 }
 
 // Appends the body of a page. Where memory is refused a part of it may stand there.
+#[inline(always)]
 fn put_page(
     alloc: Global,
     config: &Config,
@@ -137,6 +140,7 @@ fn put_page(
 }
 
 // Appends the body of a page, or refuses one that no reply holds.
+#[inline(always)]
 fn append_rows(
     alloc: Global,
     config: &Config,
@@ -155,6 +159,7 @@ fn append_rows(
     Ok(limit_body(out, from))
 }
 
+#[inline(always)]
 fn append_after<K: Keeper>(
     alloc: Global,
     config: &Config,
@@ -176,6 +181,7 @@ fn append_after<K: Keeper>(
 
 /// Appends the body of a page, or refuses its token. A page has at most 100 entries; its token is the number of its last
 /// volume, which need not stand any more when the next page is asked for.
+#[inline(always)]
 pub(crate) fn append_page<K: Keeper>(
     alloc: Global,
     config: &Config,

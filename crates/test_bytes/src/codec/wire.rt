@@ -5,8 +5,8 @@ ghost use Rattle.std.specs.Prelude.{◌≤◌, ◌<◌, ◌^◌};
 use crate::shown::displayed;
 use crate::words::first_word;
 use pbwire::{
-    Field, Fields, Value, WireFault, WireWhy, close_bytes, put_bytes, put_entry, put_map,
-    put_varint,
+    Field, Fields, Value, WireFault, WireWhy, close_bytes, put_bytes, put_entry, put_joined,
+    put_map, put_varint,
 };
 use std::alloc::Global;
 use test_kit::{RowFault, bytes_of, bytes_text, number_of, put_part};
@@ -108,6 +108,10 @@ fn put_field(alloc: Global, out: &mut Vec<u8>, field: &str) -> Result<(), RowFau
         "entry" => {
             let (key, value) = entry_of(alloc, value)?;
             put_entry(out, number, &key, &value)?;
+        }
+        "joined" => {
+            let (first, second) = entry_of(alloc, value)?;
+            put_joined(out, number, &first, &second)?;
         }
         "map" => put_entries(alloc, out, number, value)?,
         _ => return Err(RowFault::NotRow),
