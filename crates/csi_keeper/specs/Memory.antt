@@ -1,6 +1,7 @@
 -- What rows in memory stand for.
-use Rattle.std.specs.Prelude.{◌≡◌, ℕ, ◌+◌, ◌-◌, ◌*◌, ◌%◌, ◌<◌, ◌≤◌, ◌^◌, ◌==◌, ◌&&◌, Bool, List, [], ◌∷◌, Option, Some, None, is_some, map, filter, length, min, take, if◌then◌else◌}
+use Rattle.std.specs.Prelude.{◌≡◌, ℕ, ◌+◌, ◌-◌, ◌*◌, ◌<◌, ◌≤◌, ◌^◌, ◌==◌, ◌&&◌, Bool, List, [], ◌∷◌, Option, Some, None, is_some, map, filter, length, take, drop, nat_lt, if◌then◌else◌}
 use Rattle.std.specs.BTreeMap.{is_at}
+use Rattle.std.specs.Int.{from_be_bytes, w32, w64}
 use Rattle.std.specs.FinMap.{FinMap, get, len, empty, remove, entries, from_entries}
 use Rattle.std.specs.Map.{lookup}
 use Rattle.std.specs.Ordering.{nat_cmp, ordering_then}
@@ -31,14 +32,16 @@ abbrev pub at_number : FinMap nat_cmp Volume → Text → Option ℕ → Option 
 at_number volumes name None = None
 at_number volumes name (Some n) = if_named name (get volumes n)
 
--- these bytes behind a number, as digits
-abbrev pub packed : ℕ → List ℕ → ℕ
-packed n [] = n
-packed n (b ∷ bs) = packed (((n * 256) % 2 ^ 64 + b) % 2 ^ 64) bs
+-- a number by which most names are told apart: the first eight bytes, or of a shorter name the first four and the last four
+unfoldable pub first_number : List ℕ → ℕ
+first_number name =
+    if nat_lt (length name) 4 then 0
+    else if nat_lt (length name) 8 then from_be_bytes w32 (take 4 name) * 2 ^ 32 + from_be_bytes w32 (drop (length name - 4) name)
+    else from_be_bytes w64 (take 8 name)
 
--- the first eight bytes of a name as a number, which tell most names apart, and the name
+-- a name behind its number
 abbrev pub name_key : Text → Place
-name_key name = (packed 0 (take (min (length name) 8) name), name)
+name_key name = (first_number name, name)
 
 -- the volume of a name, by an index that may be out of date
 abbrev pub named_by : List (Place × ℕ) → FinMap nat_cmp Volume → Text → Option Volume

@@ -186,7 +186,6 @@ impl Keeper for MemKeeper {
     }
 
     #[tactic(auto, using(crate::specs::facts::Reads::quiet_same, crate::proofs::NamesLemmas::named_kept))]
-    #[inline(always)]
     fn by_name(&mut self, alloc: Global, name: &str) -> Result<Option<Volume>, StoreFault> {
         let name = copy_text(alloc, name)?;
         Ok(volume_named(alloc, &self.names, &self.volumes, name)?)

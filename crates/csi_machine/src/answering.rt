@@ -66,7 +66,6 @@ fn append_planned<K: Keeper>(
 }
 
 // Answers a create, whose response is written from the volume.
-#[inline(always)]
 fn append_creation<K: Keeper>(
     alloc: Global,
     config: &Config,

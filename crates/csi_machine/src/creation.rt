@@ -29,7 +29,6 @@ pub(crate) enum Creation<'a> {
 }
 
 // Appends the response that has this volume, whose pool has these segments, or refuses it where no reply holds it.
-#[inline(always)]
 fn append_created(volume: &Volume, segments: &Map, out: &mut Vec<u8>) -> Result<Verdict, AllocError>
     ensures appended { Appended out.old.items out.new.items result }
     ensures told { IsTold (within (response_bytes (response.Create (Some (info_at segments.now volume.now))))) out.old.items out.new.items result }

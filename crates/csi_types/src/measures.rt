@@ -5,8 +5,7 @@ ghost use Rattle.csi_types.specs.Checks.{map_bytes};
 
 use crate::map::Map;
 
-/// The bytes of all keys and values of a map, as far as a number of 64 bits counts.
-pub fn map_bytes(map: &Map) -> usize
+fn entries_bytes(map: &Map) -> usize
     ensures { result ≡ min (map_bytes map.now) (2 ^ 64 - 1) }
 {
     let mut bytes: usize = 0;
@@ -14,4 +13,16 @@ pub fn map_bytes(map: &Map) -> usize
         bytes = bytes.saturating_add(key.len()).saturating_add(value.len());
     }
     bytes
+}
+
+/// The bytes of all keys and values of a map, as far as a number of 64 bits counts.
+#[inline]
+pub fn map_bytes(map: &Map) -> usize
+    ensures { result ≡ min (map_bytes map.now) (2 ^ 64 - 1) }
+{
+    // Most maps have no entry.
+    if map.is_empty() {
+        return 0;
+    }
+    entries_bytes(map)
 }

@@ -1,7 +1,8 @@
 //! The wire format of Protocol Buffers: a message's bytes read as fields, and fields written as bytes.
 //!
-//! [`Fields`] goes over a message from the left and lends each payload out of it, without memory. [`put_varint`], [`put_bytes`] and
-//! [`put_entry`] append one field in its shortest spelling, and [`put_map`] one for each entry of a map, or leave the vector as it was.
+//! [`Fields`] goes over a message from the left and lends each payload out of it, without memory. [`put_varint`], [`put_bytes`],
+//! [`put_joined`] (bytes in two parts) and [`put_entry`] append one field in its shortest spelling, and [`put_map`] one for each entry of a map, or leave
+//! the vector as it was.
 //! [`close_bytes`] ends a field whose payload was appended behind it, so an embedded message is written in place, with no buffer of its own.
 //!
 //! `specs/Wire.antt` spells varints, fields and lists of fields, after the Protocol Buffers encoding guide; `specs/Reading.antt` is the field at the

@@ -147,7 +147,7 @@ pub fn close_bytes(out: &mut Vec<u8>, from: usize) -> Result<(), AllocError>
     Ok(())
 }
 
-// Less than 128 bytes in two parts, behind their head: the vector grows at most once.
+// Two parts behind their head, of less than 256 bytes together: the vector grows at most once.
 fn append_short_joined(
     out: &mut Vec<u8>,
     head: &[u8],

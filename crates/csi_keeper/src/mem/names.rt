@@ -4,7 +4,7 @@ ghost use Rattle.std.specs.BTreeMap.{is_at};
 ghost use Rattle.std.specs.Map.{lookup};
 ghost use Rattle.std.specs.Prelude.{◌≡◌, Some, None, List, ℕ, IfOk, OnOk, OnErr, if◌then◌else◌};
 ghost use Rattle.csi_types.specs.Maps.{same_text};
-ghost use Rattle.csi_keeper.specs.Memory.{volumes_of, name_key, named_by, packed};
+ghost use Rattle.csi_keeper.specs.Memory.{volumes_of, name_key, named_by, first_number};
 ghost use Rattle.csi_keeper.specs.State.{place_cmp};
 
 use crate::mem::rows::volume_at;
@@ -13,29 +13,29 @@ use csi_types::{Text, copy_text};
 use std::alloc::{AllocError, Global};
 use std::collections::BTreeMap;
 
-// So many bytes of a name are compared as a number, before the name is.
-const FIRST_BYTES: usize = 8;
-
-fn packed(bytes: &[u8]) -> u64
-    ensures { result ≡ packed 0 bytes.now }
+// Names are compared by it before they are compared as texts. It may be any function of a name.
+#[tactic(auto, unfolding(crate::specs::Memory::first_number))]
+fn first_number(name: &[u8]) -> u64
+    ensures { result ≡ first_number name.now }
 {
-    let mut number: u64 = 0;
-    for byte in bytes {
-        number = number.wrapping_mul(256).wrapping_add(u64::from(*byte));
+    if let Some(first) = name.first_chunk::<8>() {
+        return u64::from_be_bytes(*first);
     }
-    number
+    match (name.first_chunk::<4>(), name.last_chunk::<4>()) {
+        (Some(first), Some(last)) => {
+            (u64::from(u32::from_be_bytes(*first)) << 32) + u64::from(u32::from_be_bytes(*last))
+        }
+        _ => 0,
+    }
 }
 
 fn key_of(name: Text) -> (u64, Text)
     ensures { result ≡ name_key name }
 {
-    let bytes = name.as_bytes();
-    let first = packed(&bytes[..bytes.len().min(FIRST_BYTES)]);
-    (first, name)
+    (first_number(name.as_bytes()), name)
 }
 
 /// A copy of the volume of a name, by an index that may be out of date.
-#[inline(always)]
 pub(crate) fn volume_named(
     alloc: Global,
     names: &BTreeMap<(u64, Text), u64>,

@@ -85,7 +85,6 @@ fn made(
     })
 }
 
-#[inline(always)]
 fn place_in<'a>(
     alloc: Global,
     request: &CreateVolume,
@@ -102,7 +101,6 @@ fn place_in<'a>(
     Ok(Creation::Made(volume, &pool.segments))
 }
 
-#[inline(always)]
 fn place<'a>(
     alloc: Global,
     rooms: &[Room<'a>],
@@ -124,7 +122,6 @@ fn place<'a>(
 
 // What is done where no volume of the name stands.
 #[tactic(auto, using(crate::proofs::CreateLemmas::fresh_bounded))]
-#[inline(always)]
 fn fresh<'a>(
     alloc: Global,
     config: &Config,
@@ -142,7 +139,6 @@ fn fresh<'a>(
     }
 }
 
-#[inline(always)]
 fn create_fresh<'a, K: Keeper>(
     alloc: Global,
     config: &'a Config,
@@ -163,7 +159,6 @@ fn create_fresh<'a, K: Keeper>(
 /// A volume of the name is answered again if it is as the request asks, and refused otherwise.
 /// Without one a volume is made in the chosen pool, unless the size is out of range, there are too
 /// many volumes, the numbers are used up, or no pool has room, which are asked in this order.
-#[inline(always)]
 pub(crate) fn create<'a, K: Keeper>(
     alloc: Global,
     config: &'a Config,

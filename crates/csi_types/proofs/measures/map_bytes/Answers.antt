@@ -1,10 +1,10 @@
-use Rattle.std.proofs.Common.{◌^◌, ◌-◌, ◌+◌, ◌∙◌, ap, min, length, sum_by, rules}
-use Rattle.std.specs.FinMap.{entries}
-use Rattle.std.specs.Map.Iter.{deref_pair}
-use Rattle.std.proofs.lemmas.Map.Iter.{iter_end}
+use Rattle.std.proofs.Common.{rules, ◌≡◌, ◌^◌, ◌-◌, ◌+◌, ◌∙◌, min, sym, ap, length, sum_by}
+use Rattle.std.specs.FinMap.{entries, len, len-entries}
+use Rattle.std.proofs.lemmas.List.{nil_from_length}
 use Rattle.csi_types.proofs.measures.map_bytes.Goals as goal
 
-pub returns : goal.returns
-returns c =
-    let all = (iter_end deref_pair (entries c.args.map.now) c.loop-key.yielded _ _ _ c.next.result (search rules) c.loop-key.yielded_by c.in-None.is c.next.ensures.steps).0 in
-    c.loop-key.invariant ∙ ap (λ es. min (sum_by (λ e. length e.0 + length e.1) es) (2 ^ 64 - 1)) all
+pub returns-then-is_empty : goal.returns-then-is_empty
+returns-then-is_empty c =
+    let m = c.args.map.now in
+    let none : len m ≡ 0 = search rules in
+    ap (λ es. min (sum_by (λ e. length e.0 + length e.1) es) (2 ^ 64 - 1)) (sym (nil_from_length (entries m) (sym (len-entries m) ∙ none)))

@@ -1,6 +1,6 @@
 use Rattle.std.proofs.Common.{◌≡◌, ◌^◌, ◌-◌, ◌+◌, min, length, sum_by, map}
 use Rattle.std.specs.Map.Iter.{deref_pair}
-use Rattle.csi_types.proofs.measures.map_bytes.Given as goal
+use Rattle.csi_types.proofs.measures.entries_bytes.Given as goal
 
 abbrev pub invariant-loop-key : goal.invariant-loop-key
 invariant-loop-key l =
