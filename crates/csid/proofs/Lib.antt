@@ -1,1 +1,2 @@
+mod MakingLemmas
 mod ServedLemmas

@@ -1,3 +1,4 @@
+pub mod Making
 pub mod Served
 pub mod Starting
 pub mod Statuses

@@ -11,6 +11,7 @@ mod group;
 mod keeping;
 pub mod laws;
 mod log;
+mod making;
 mod memory;
 mod peer;
 mod pending;

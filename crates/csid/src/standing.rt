@@ -1,12 +1,8 @@
-//! A file of tables before it is opened: whether it stands, and how it is made.
+//! A file of tables before it is opened: whether it stands.
 
-use std::fs::{self, File, OpenOptions, Permissions};
+use std::fs::{self, File};
 use std::io::{self, ErrorKind, Read};
-use std::os::unix::fs::{OpenOptionsExt, PermissionsExt};
 use thiserror::Error;
-
-// Its owner alone may read and write a file that is made.
-const OWNER: u32 = 0o600;
 
 // The header of SQLite's file, and behind it how the first page begins: its kind, and where the number of its cells is.
 const HEADER_BYTES: usize = 105;
@@ -29,27 +25,6 @@ pub(crate) enum Fault {
     /// It has no tables.
     #[error("it has no tables, and none are made")]
     Blank,
-}
-
-// Whether SQLite takes a path for the name of something else than a file, which the opening refuses.
-fn names_no_file(path: &str) -> bool {
-    path == ":memory:" || path.starts_with("file:")
-}
-
-/// Makes a file that is missing, for its owner alone, whatever the process's mask is. Where it cannot be made, the opening says why.
-pub(crate) fn make_private(rt: &HostRuntime, path: &str) {
-    if names_no_file(path) || !matches!(fs::exists(rt, path), Ok(false)) {
-        return;
-    }
-    let made = OpenOptions::new()
-        .read(true)
-        .write(true)
-        .create_new(true)
-        .mode(OWNER)
-        .open(rt, path);
-    if let Ok(file) = made {
-        let _ = file.set_permissions(Permissions::from_mode(OWNER));
-    }
 }
 
 // Whether the first bytes of a file are those of one without tables: its first page is a leaf of no cells.

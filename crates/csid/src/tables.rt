@@ -5,8 +5,9 @@ ghost use Rattle.csid.specs.Statuses.{IsOrNoMemory};
 
 use crate::content::{Content, read_content};
 use crate::failure::Failure;
+use crate::making::prepare_new;
 use crate::say::{say, say_of};
-use crate::standing::{Fault, fault_of_standing, make_private};
+use crate::standing::{Fault, fault_of_standing};
 use csi_adoption::{AdoptError, AdoptFault, adopt};
 use csi_config::Config;
 use csi_keeper::StoreFault;
@@ -72,7 +73,7 @@ fn prepare(rt: &HostRuntime, path: &str, blank: Blank) -> Result<(), Failure>
     match blank {
         Blank::Refuse => check_standing(rt, path),
         Blank::Make | Blank::MakeAndSay => {
-            make_private(rt, path);
+            prepare_new(rt, path);
             Ok(())
         }
     }
