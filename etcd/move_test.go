@@ -1,8 +1,16 @@
 package main
 
 import (
+	"errors"
+	"io"
 	"strings"
+	"sync/atomic"
 	"testing"
+	"time"
+
+	"google.golang.org/grpc"
+	"google.golang.org/grpc/codes"
+	"google.golang.org/grpc/status"
 )
 
 const (
@@ -105,5 +113,67 @@ func TestStatements(t *testing.T) {
 		if got := row.row.statement(); got != row.want {
 			t.Errorf("%s, wanted %s", got, row.want)
 		}
+	}
+}
+
+// A transaction of an import goes to etcd once, and where its outcome is not known the line does not say that nothing was written.
+func TestImportNotKnown(t *testing.T) {
+	server := &moody{errors: []error{status.Error(codes.Canceled, "any")}}
+	rows, _, err := readLines(strings.NewReader(volumeLine+metaLine), sampleKeys)
+	if err != nil {
+		t.Fatal(err)
+	}
+	i := &importing{client: server.start(t, grpc.WithChainUnaryInterceptor(sendOnce)), keys: sampleKeys, timeout: 5 * time.Second}
+	err = i.write(rows)
+	if came := atomic.LoadInt32(&server.came); came != 1 || err == nil {
+		t.Fatalf("it came %d times, %v", came, err)
+	}
+	why := err.Error()
+	if !strings.HasPrefix(why, "it is not known whether it was made: ") {
+		t.Errorf("%v", err)
+	}
+	ends := []struct {
+		err     error
+		written int
+		want    string
+	}{
+		{err, 0, why + "; 0 of 2 rows were written before: take away what stands there, and begin anew"},
+		{err, 1, why + "; 1 of 2 rows were written before: take away what stands there, and begin anew"},
+		{errors.New("a"), 0, "a; nothing was written"},
+		{errors.New("a"), 1, "a; 1 of 2 rows were written: take them away, and begin anew"},
+	}
+	for _, row := range ends {
+		i.written = row.written
+		if got := i.stopped(row.err, 2); got.Error() != row.want {
+			t.Errorf("%v, wanted %s", got, row.want)
+		}
+	}
+}
+
+// Rows are exported once each, all at the revision of the first answer, whatever is written meanwhile; and where that was compacted, no more of them.
+func TestExportedOnce(t *testing.T) {
+	const count = 1000
+	server := &written{rows: map[string]string{sampleKeys.meta(): `{"format_no":2,"next_number":1001}`}}
+	for n := uint64(1); n <= count; n++ {
+		server.rows[sampleKeys.volume(n)] = string(volume{name: "a", pool: "p"}.spelled())
+		server.rows[sampleKeys.attachment(n, "n")] = string(attachment{}.spelled())
+	}
+	r := &reading{client: startServer(t, server, 1), timeout: 5 * time.Second}
+	var out strings.Builder
+	found, err := r.print(sampleKeys, &out)
+	if err != nil || r.revision != firstRevision || found.String() != "volumes 1000, attachments 1000, next number 1001, format 2" {
+		t.Errorf("at revision %d: %v, %v", r.revision, found, err)
+	}
+	seen := map[string]bool{}
+	for _, line := range strings.Split(out.String(), "\n") {
+		if seen[line] {
+			t.Fatalf("twice: %s", line)
+		}
+		seen[line] = true
+	}
+	server.wantsOneRevision(t)
+	server.isCompacted = true
+	if _, err := r.print(sampleKeys, io.Discard); err != errCompacted {
+		t.Errorf("compacted: %v", err)
 	}
 }

@@ -22,6 +22,8 @@ func TestOptions(t *testing.T) {
 	moving.listen, moving.isExport = "", true
 	making := plain
 	making.listen, making.isNew = "", true
+	named := plain
+	named.name, named.id, named.lease = "0"+strings.Repeat(".-", 30)+"Az", strings.Repeat("a", 128), 2
 	rows := []struct {
 		words string
 		want  options
@@ -29,6 +31,7 @@ func TestOptions(t *testing.T) {
 		{"--export --name a", moving},
 		{"--new --name a", making},
 		{"--name a --listen s", plain},
+		{"--name " + named.name + " --listen s --lease 2 --id " + named.id, named},
 		{"--name example.fomaheti --listen s --endpoints https://a:1,https://b:2 --cacert ca --cert c --key k --user u:p:q --timeout 1s --lease 600 --id me --revision r --accept-older --existing", full},
 	}
 	for _, row := range rows {
@@ -50,6 +53,7 @@ func TestBadOptions(t *testing.T) {
 		{"--export --import --name a", "--import: not with --export"},
 		{"--export --new --name a", "--new: not with --export"}, {"--new --name a --existing", "--existing: not with --new"},
 		{"--export --name a --listen s", "--listen: not with --export"}, {"--import --name a --lease 10", "--lease: not with --import"},
+		{"--import --name a --id b", "--id: not with --import"}, {"--export --name a --revision r", "--revision: not with --export"},
 		{"--import --name a --accept-older", "--accept-older: not with --import"}, {"--import --name a x", `a word that is not known: "x"`},
 		{"--export --name a --timeout 0s", "--timeout: 0s is not above 0"},
 		{good + "x", `a word that is not known: "x"`},
@@ -57,6 +61,7 @@ func TestBadOptions(t *testing.T) {
 		{good + "--endpoints a:1,", "--endpoints: one of them is empty"},
 		{good + "--lease 1", "--lease: 1 is not 2 to 600"}, {good + "--lease 601", "--lease: 601 is not 2 to 600"},
 		{good + "--timeout 0s", "--timeout: 0s is not above 0"},
+		{good + "--id " + strings.Repeat("a", 129), `--id: "` + strings.Repeat("a", 129) + `" is not at most 128 characters of ASCII that can be shown`},
 		{good + "--id é", `--id: "é" is not at most 128 characters of ASCII that can be shown`},
 		{good + "--cert c", "--cert, --key: one of the two is missing"}, {good + "--key k", "--cert, --key: one of the two is missing"},
 		{good + "--user u", "--password-file: the password of --user is missing"},

@@ -75,6 +75,9 @@ func startServer(t *testing.T, kv pb.KVServer, members int, options ...grpc.Dial
 	}
 	server := grpc.NewServer()
 	pb.RegisterKVServer(server, kv)
+	if lender, is := kv.(pb.LeaseServer); is {
+		pb.RegisterLeaseServer(server, lender)
+	}
 	go server.Serve(listener)
 	t.Cleanup(server.Stop)
 	var endpoints []string

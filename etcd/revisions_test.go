@@ -116,6 +116,36 @@ func TestBadRevisionFile(t *testing.T) {
 	}
 }
 
+// A file that could not be written is written later, also where nothing was answered meanwhile; and it is replaced as a whole, so that a stop leaves the
+// old one or the new one.
+func TestSaveAgain(t *testing.T) {
+	folder := filepath.Join(t.TempDir(), "none")
+	r := &revisions{path: filepath.Join(folder, "revision")}
+	r.answered(7)
+	if r.save() == nil {
+		t.Fatal("it was written without its folder")
+	}
+	if err := os.Mkdir(folder, 0o700); err != nil {
+		t.Fatal(err)
+	}
+	if err := r.save(); err != nil {
+		t.Fatal(err)
+	}
+	old := r.path + ".old"
+	if err := os.Link(r.path, old); err != nil {
+		t.Fatal(err)
+	}
+	r.answered(8)
+	if err := r.save(); err != nil {
+		t.Fatal(err)
+	}
+	for path, want := range map[string]string{old: "7\n", r.path: "8\n"} {
+		if text, err := os.ReadFile(path); err != nil || string(text) != want {
+			t.Errorf("%s has %q, %v", path, text, err)
+		}
+	}
+}
+
 // The file is written at the end, and a failure is told once.
 func TestKeepRevisions(t *testing.T) {
 	folder := filepath.Join(t.TempDir(), "none")

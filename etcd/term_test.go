@@ -3,6 +3,8 @@ package main
 import (
 	"context"
 	"errors"
+	"fmt"
+	"reflect"
 	"sync"
 	"testing"
 	"time"
@@ -23,6 +25,8 @@ type scripted struct {
 	came    int
 	// The revision at which any key was put that is read.
 	put int64
+	// What each transaction supposes of the key of the lock.
+	held []string
 }
 
 // answer is an error, or whether a transaction was made, at a revision, and what was read where it was not.
@@ -33,9 +37,19 @@ type answer struct {
 	read     []*mvccpb.KeyValue
 }
 
-func (s *scripted) Txn(context.Context, *pb.TxnRequest) (*pb.TxnResponse, error) {
+func (s *scripted) Txn(_ context.Context, asked *pb.TxnRequest) (*pb.TxnResponse, error) {
 	s.mutex.Lock()
 	defer s.mutex.Unlock()
+	supposed := "nothing"
+	if len(asked.Compare) > 0 && string(asked.Compare[0].Key) == "k" && asked.Compare[0].Result == pb.Compare_EQUAL {
+		switch revision := asked.Compare[0].TargetUnion.(type) {
+		case *pb.Compare_CreateRevision:
+			supposed = fmt.Sprint("made at ", revision.CreateRevision)
+		case *pb.Compare_ModRevision:
+			supposed = fmt.Sprint("put at ", revision.ModRevision)
+		}
+	}
+	s.held = append(s.held, supposed)
 	said := s.answers[s.came]
 	s.came++
 	if said.err != nil {
@@ -131,6 +145,9 @@ func TestFence(t *testing.T) {
 	if err := held.commit(context.Background(), change); err != nil || held.isOpen || held.put != 150 || held.revisions.least() != 151 {
 		t.Errorf("%v, open %v, put at %d, answered %d", err, held.isOpen, held.put, held.revisions.least())
 	}
+	if want := []string{"put at 10", "made at 10", "made at 10", "made at 10", "put at 150"}; !reflect.DeepEqual(server.held, want) {
+		t.Errorf("supposed of the lock: %q, wanted %q", server.held, want)
+	}
 	lost := &scripted{answers: []answer{{err: rpctypes.ErrGRPCTimeout}, {is: false, revision: 150}}}
 	held = lost.begin(t)
 	held.commit(context.Background(), change)
@@ -150,5 +167,61 @@ func TestOlder(t *testing.T) {
 	var why refusal
 	if err := held.commit(context.Background(), change); err == nil || errors.As(err, &why) || held.ctx.Err() == nil {
 		t.Errorf("%v, %v", err, held.ctx.Err())
+	}
+}
+
+// A walk begins with a look that supposes the lock, behind a fence where one is due: what another program that leads has changed is not read as the newest.
+func TestLook(t *testing.T) {
+	server := &scripted{answers: []answer{{err: rpctypes.ErrGRPCTimeout}, {is: true, revision: 150}, {revision: 151, read: []*mvccpb.KeyValue{nil}}}}
+	held := server.begin(t)
+	held.commit(context.Background(), &detach{7, "n"})
+	if _, _, err := newWalk(context.Background(), held); err == nil || err.Error() != "this program does not lead any more: its key of the lock is gone" || held.ctx.Err() == nil {
+		t.Errorf("without the key: %v", err)
+	}
+	if want := []string{"put at 10", "made at 10", "put at 150"}; !reflect.DeepEqual(server.held, want) {
+		t.Errorf("supposed of the lock: %q, wanted %q", server.held, want)
+	}
+}
+
+// hasty is an etcd at revision 200 that answers when another answer, of revision 300, has come meanwhile.
+type hasty struct {
+	pb.KVServer
+	revisions *revisions
+}
+
+func (h *hasty) Range(context.Context, *pb.RangeRequest) (*pb.RangeResponse, error) {
+	h.revisions.answered(300)
+	return &pb.RangeResponse{Header: &pb.ResponseHeader{Revision: 200}}, nil
+}
+
+func (h *hasty) Txn(context.Context, *pb.TxnRequest) (*pb.TxnResponse, error) {
+	h.revisions.answered(300)
+	return &pb.TxnResponse{Header: &pb.ResponseHeader{Revision: 200}, Succeeded: true}, nil
+}
+
+// What was asked for before another answer came may be older than that, and is no older snapshot: who looks after the lock asks beside the calls.
+func TestAskedBefore(t *testing.T) {
+	ctx := context.Background()
+	asks := map[string]func(t *term) error{
+		"who waits for the lock": func(t *term) error {
+			queue, err := t.queue()
+			if err == nil {
+				err = t.revisions.check(queue.least, queue.revision)
+			}
+			return err
+		},
+		"a reading": func(t *term) error { _, err := t.get(ctx, "a"); return err },
+		"a look":    func(t *term) error { _, err := t.look(ctx); return err },
+		"a change":  func(t *term) error { return t.commit(ctx, &detach{7, "n"}) },
+		"a fence":   func(t *term) error { t.isOpen = true; return t.fence(ctx) },
+	}
+	server := &hasty{}
+	client := startServer(t, server, 1)
+	for name, ask := range asks {
+		server.revisions = &revisions{}
+		held := &term{client: client, keys: sampleKeys, lease: &lease{}, revisions: server.revisions, timeout: 5 * time.Second, ctx: ctx, end: func() {}, key: "k"}
+		if err := ask(held); err != nil {
+			t.Errorf("%s: %v", name, err)
+		}
 	}
 }

@@ -308,7 +308,14 @@ func TestOlderSnapshot(t *testing.T) {
 	member.Restore(t, snapshot)
 	member.Start(t)
 	cluster.Answers(t)
+	// Also where another one has the lock when it asks, and has raised the revision when it gives the lock back.
+	cluster.Ctl(t, "put", name+"/lock/other", "other")
 	second := start(t, cluster.Endpoints(), "--lease", "3", "--timeout", "1s", "--revision", file)
+	second.says(t, "waits for the lock, which other holds")
+	for revision(t, client) < answered+10 {
+		cluster.Ctl(t, "put", "other", "x")
+	}
+	cluster.Ctl(t, "del", name+"/lock/other")
 	refused(second)
 	second.Kill()
 	third := start(t, cluster.Endpoints(), "--lease", "3", "--timeout", "1s", "--revision", file, "--accept-older")

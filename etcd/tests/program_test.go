@@ -118,18 +118,22 @@ func TestEndWithoutEtcd(t *testing.T) {
 		time.Sleep(200 * time.Millisecond)
 		begin := time.Now()
 		p.Terminate(t)
-		want, limit := 0, 3*time.Second
+		wanted, limit := 0, 3*time.Second
 		if isTwice {
 			time.Sleep(100 * time.Millisecond)
 			p.Terminate(t)
-			want, limit = 1, 500*time.Millisecond
+			wanted, limit = 1, 500*time.Millisecond
 		}
 		status := p.Status(t)
-		if took := time.Since(begin); status != want || took > limit || (!isTwice && took < 500*time.Millisecond) {
+		if took := time.Since(begin); status != wanted || took > limit || (!isTwice && took < 500*time.Millisecond) {
 			t.Errorf("twice %v: %d behind %v: %s", isTwice, status, took, p.Log)
 		}
 		if _, err := os.Lstat(p.Socket); err == nil {
 			t.Errorf("twice %v: the socket stands", isTwice)
+		}
+		want := map[bool]string{false: commitPath + ": it is not known whether it was made: ", true: "ended, and cut off what was under way\n"}[isTwice]
+		if !strings.Contains(p.Log.String(), "csid-etcd: "+want) {
+			t.Errorf("twice %v: the log has %q, wanted %q", isTwice, p.Log, want)
 		}
 		between.letGo()
 		cluster.Ctl(t, "del", "--prefix", name+"/lock/")

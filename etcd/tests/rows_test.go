@@ -30,6 +30,7 @@ func TestRows(t *testing.T) {
 	l.wants(t, readPath, "0a00", codes.OK, "0a04 0802 1001 2200")
 	has(t, cluster, name+"/meta", `{"format_no":2,"next_number":1}`)
 	l.wants(t, makePath, "", codes.FailedPrecondition, "meta is there already")
+	p.says(t, "csid-etcd: "+makePath+` 9 "meta is there already"`+"\n")
 
 	l.commits(t, addVolumeWith(1, "pvc-1", 1048576, "ssd", block, "\x22\x06\x0a\x01k\x12\x01v\x42\x06\x0a\x01k\x12\x01v"))
 	l.commits(t, addVolumeWith(2, "a\"<é>\n", 2097152, "", "", ""))

@@ -108,7 +108,11 @@ func TestTLS(t *testing.T) {
 	l.commits(t, addVolume(1, "a"))
 	plain := start(t, strings.ReplaceAll(cluster.Endpoints(), "https://", ""), append(words, "--timeout", "1s")...)
 	plain.says(t, "csid-etcd: waits for the lock, which ")
-	for name, words := range map[string][]string{"no certificate": words[:2], "another authority": newAuthority(t).client(t, "csid")} {
+	others := newAuthority(t)
+	for name, words := range map[string][]string{
+		"no certificate": words[:2], "another authority": others.client(t, "csid"),
+		"an etcd of another authority": append([]string{"--cacert", others.path("ca.pem")}, words[2:]...),
+	} {
 		other := start(t, cluster.Endpoints(), append(words, "--timeout", "1s")...)
 		other.says(t, "csid-etcd: no lock: ")
 		dialled := other.dial(t)

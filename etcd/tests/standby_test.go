@@ -167,22 +167,41 @@ func TestStopped(t *testing.T) {
 	}
 }
 
-// The lock is given back at an end, also while a change is under way; and a second signal ends the program at once.
+// The lock is given back at an end by either signal, and the file of the revision has what was answered last.
 func TestEnd(t *testing.T) {
 	t.Parallel()
-	cluster, p, l := begun(t)
-	for i := uint64(1); i <= 20; i++ {
-		l.commits(t, addVolume(i, fmt.Sprintf("a%d", i)))
-	}
-	p.Terminate(t)
-	if status := p.Status(t); status != 0 {
-		t.Errorf("it ended with %d: %s", status, p.Log)
-	}
-	if got := cluster.Ctl(t, "get", "--prefix", name+"/lock/"); got != "" {
-		t.Errorf("the lock: %s", got)
-	}
-	if leases := strings.TrimSpace(cluster.Ctl(t, "lease", "list")); leases != "found 0 leases" {
-		t.Errorf("leases: %s", leases)
+	cluster := clusters.Start(t, 1)
+	client, file := cluster.Client(t), filepath.Join(processes.Folder(t), "revision")
+	next := uint64(1)
+	for _, signal := range []syscall.Signal{syscall.SIGTERM, syscall.SIGINT} {
+		p := start(t, cluster.Endpoints(), "--revision", file).leads(t)
+		l := p.dial(t)
+		if next == 1 {
+			l.wants(t, makePath, "", codes.OK, "")
+		}
+		for i := 0; i < 20; i++ {
+			l.commits(t, addVolume(next, fmt.Sprintf("a%d", next)))
+			next++
+		}
+		answered := revision(t, client)
+		if err := p.Process.Process.Signal(signal); err != nil {
+			t.Fatal(err)
+		}
+		if status := p.Status(t); status != 0 {
+			t.Errorf("%v: it ended with %d: %s", signal, status, p.Log)
+		}
+		if got := cluster.Ctl(t, "get", "--prefix", name+"/lock/"); got != "" {
+			t.Errorf("%v: the lock: %s", signal, got)
+		}
+		if leases := strings.TrimSpace(cluster.Ctl(t, "lease", "list")); leases != "found 0 leases" {
+			t.Errorf("%v: leases: %s", signal, leases)
+		}
+		if _, err := os.Lstat(p.Socket); err == nil {
+			t.Errorf("%v: the socket stands", signal)
+		}
+		if text, err := os.ReadFile(file); err != nil || string(text) != fmt.Sprintf("%d\n", answered) {
+			t.Errorf("%v: the file has %q, %v, wanted %d", signal, text, err, answered)
+		}
 	}
 }
 

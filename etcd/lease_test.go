@@ -1,0 +1,113 @@
+package main
+
+import (
+	"context"
+	"testing"
+	"time"
+
+	pb "go.etcd.io/etcd/etcdserver/etcdserverpb"
+)
+
+// lender is an etcd that gives a lease, and keeps it.
+type lender struct {
+	pb.KVServer
+	pb.LeaseServer
+	// How long the lease is told to be, in seconds, and how long each answer takes.
+	length int64
+	late   time.Duration
+	// When each request came; and how many of one stream are answered.
+	came     chan time.Time
+	answered int
+}
+
+func (l *lender) LeaseGrant(context.Context, *pb.LeaseGrantRequest) (*pb.LeaseGrantResponse, error) {
+	l.came <- time.Now()
+	time.Sleep(l.late)
+	return &pb.LeaseGrantResponse{Header: &pb.ResponseHeader{Revision: 7}, ID: 1, TTL: l.length}, nil
+}
+
+func (l *lender) LeaseKeepAlive(stream pb.Lease_LeaseKeepAliveServer) error {
+	for answered := 0; ; answered++ {
+		asked, err := stream.Recv()
+		if err != nil {
+			return err
+		}
+		l.came <- time.Now()
+		time.Sleep(l.late)
+		if answered < l.answered {
+			if err := stream.Send(&pb.LeaseKeepAliveResponse{ID: asked.ID, TTL: l.length}); err != nil {
+				return err
+			}
+		}
+	}
+}
+
+// A lease counts from when etcd was asked for it, and to keep it: etcd counts from when that came. An answer that waited does not make it longer.
+func TestLeaseCounts(t *testing.T) {
+	server := &lender{length: 600, late: 50 * time.Millisecond, came: make(chan time.Time, 99), answered: 1}
+	client := startServer(t, server, 1)
+	l, revision, err := grantLease(context.Background(), client, 600)
+	if err != nil || revision != 7 || l.length != 600*time.Second || !l.isAlive() {
+		t.Fatalf("%+v, %d, %v", l, revision, err)
+	}
+	if latest := (<-server.came).Add(l.length); l.until.After(latest) {
+		t.Errorf("it counts from %v behind the request", l.until.Sub(latest))
+	}
+	l.until = time.Now().Add(time.Minute)
+	ctx, cancel := context.WithCancel(context.Background())
+	ended := make(chan error, 1)
+	go func() { ended <- l.keep(ctx) }()
+	latest := (<-server.came).Add(l.length)
+	for end := time.Now().Add(10 * time.Second); l.left() <= time.Minute; time.Sleep(time.Millisecond) {
+		if time.Now().After(end) {
+			t.Fatal("it was not kept")
+		}
+	}
+	cancel()
+	<-ended
+	if l.until.After(latest) {
+		t.Errorf("kept, it counts from %v behind the request", l.until.Sub(latest))
+	}
+}
+
+// A lease that etcd does not know any more, or that no answer kept in time, is over.
+func TestLeaseOver(t *testing.T) {
+	rows := []struct {
+		name   string
+		server *lender
+		left   time.Duration
+	}{
+		{"not known", &lender{length: 0, answered: 1}, time.Minute},
+		{"not answered", &lender{length: 60}, 50 * time.Millisecond},
+	}
+	for _, row := range rows {
+		row.server.came = make(chan time.Time, 99)
+		ctx, cancel := context.WithTimeout(context.Background(), 10*time.Second)
+		l := &lease{client: startServer(t, row.server, 1), length: time.Minute, until: time.Now().Add(row.left)}
+		if err := l.keep(ctx); err != errLeaseOver {
+			t.Errorf("%s: %v", row.name, err)
+		}
+		cancel()
+	}
+}
+
+// A stream on which an answer is late is given up for another one, also where it had answers before.
+func TestLateLease(t *testing.T) {
+	for _, answered := range []int{0, 1} {
+		server := &lender{length: 1, came: make(chan time.Time, 99), answered: answered}
+		l := &lease{client: startServer(t, server, 1), length: 80 * time.Millisecond, until: time.Now()}
+		ctx, cancel := context.WithCancel(context.Background())
+		ended := make(chan error, 1)
+		go func() { ended <- l.renew(ctx) }()
+		// Of one stream come those that are answered, and the one that is not.
+		for i := 0; i < answered+2; i++ {
+			select {
+			case <-server.came:
+			case <-time.After(10 * time.Second):
+				t.Fatalf("behind %d answers: %d requests", answered, i)
+			}
+		}
+		cancel()
+		<-ended
+	}
+}

@@ -1,0 +1,136 @@
+package main
+
+import (
+	"bytes"
+	"context"
+	"sort"
+	"sync"
+	"testing"
+	"time"
+
+	"go.etcd.io/etcd/etcdserver/api/v3rpc/rpctypes"
+	pb "go.etcd.io/etcd/etcdserver/etcdserverpb"
+	"go.etcd.io/etcd/mvcc/mvccpb"
+
+	"fomaheti/frames"
+)
+
+// firstRevision is that of the first answer of an etcd that is written to all the time.
+const firstRevision = 100
+
+// written is an etcd that answers readings of its rows, and is at another revision each time.
+type written struct {
+	pb.KVServer
+	rows map[string]string
+	// Whether what it had at a revision that is asked for was compacted.
+	isCompacted bool
+	mutex       sync.Mutex
+	// The revisions that were asked for, 0 for the newest.
+	asked []int64
+}
+
+func (w *written) Range(_ context.Context, asked *pb.RangeRequest) (*pb.RangeResponse, error) {
+	if w.isCompacted && asked.Revision != 0 {
+		return nil, rpctypes.ErrGRPCCompacted
+	}
+	w.mutex.Lock()
+	w.asked = append(w.asked, asked.Revision)
+	header := &pb.ResponseHeader{Revision: firstRevision - 1 + int64(len(w.asked))}
+	w.mutex.Unlock()
+	return w.read(asked, header), nil
+}
+
+// Txn makes the readings of a transaction, whatever it supposes.
+func (w *written) Txn(_ context.Context, asked *pb.TxnRequest) (*pb.TxnResponse, error) {
+	done := &pb.TxnResponse{Header: &pb.ResponseHeader{Revision: firstRevision}, Succeeded: true}
+	for _, part := range asked.Success {
+		read := w.read(part.GetRequestRange(), done.Header)
+		done.Responses = append(done.Responses, &pb.ResponseOp{Response: &pb.ResponseOp_ResponseRange{ResponseRange: read}})
+	}
+	return done, nil
+}
+
+func (w *written) read(asked *pb.RangeRequest, header *pb.ResponseHeader) *pb.RangeResponse {
+	var keys []string
+	for key := range w.rows {
+		if key == string(asked.Key) || (key > string(asked.Key) && key < string(asked.RangeEnd)) {
+			keys = append(keys, key)
+		}
+	}
+	sort.Strings(keys)
+	read := &pb.RangeResponse{Header: header}
+	if asked.Limit > 0 && int64(len(keys)) > asked.Limit {
+		keys, read.More = keys[:asked.Limit], true
+	}
+	for _, key := range keys {
+		read.Kvs = append(read.Kvs, &mvccpb.KeyValue{Key: []byte(key), Value: []byte(w.rows[key])})
+	}
+	return read
+}
+
+// wantsOneRevision wants that the first reading was one of the newest, and each one behind it of the revision of its answer.
+func (w *written) wantsOneRevision(t *testing.T) {
+	t.Helper()
+	for i, revision := range w.asked {
+		if (i == 0 && revision != 0 && revision != firstRevision) || (i > 0 && revision != firstRevision) {
+			t.Errorf("reading %d was of revision %d", i, revision)
+		}
+	}
+	if len(w.asked) < 3 {
+		t.Errorf("%d readings", len(w.asked))
+	}
+}
+
+// sized is a volume whose field in a page has so many bytes.
+func sized(t *testing.T, number uint64, size int) volume {
+	t.Helper()
+	row := volume{number: number, name: "a", pool: "p"}
+	row.caps = make([]byte, size-64)
+	row.caps = append(row.caps, make([]byte, size-len(appendBytes(nil, row.field(), row.message())))...)
+	if got := len(appendBytes(nil, row.field(), row.message())); got != size {
+		t.Fatalf("a row of %d bytes has %d", size, got)
+	}
+	return row
+}
+
+// Pages of long rows have all of them once, in order and at one revision, and none is longer than a frame can be, also where rows would fill one to its
+// last byte. What was read counts as answered.
+func TestPages(t *testing.T) {
+	for _, size := range []int{1 << 19, 1 << 20} {
+		server := &written{rows: map[string]string{sampleKeys.meta(): string(firstMeta.spelled())}}
+		var want []byte
+		want = appendBytes(want, 1, firstMeta.message())
+		for n := uint64(1); n <= uint64(5<<20/size); n++ {
+			row := sized(t, n, size)
+			server.rows[sampleKeys.volume(n)] = string(row.spelled())
+			want = appendBytes(want, row.field(), row.message())
+		}
+		last := attachment{1, "n", nil, false}
+		server.rows[sampleKeys.attachment(1, "n")] = string(last.spelled())
+		want = appendBytes(want, last.field(), last.message())
+		ctx := context.Background()
+		held := &term{client: startServer(t, server, 1), keys: sampleKeys, lease: &lease{}, revisions: &revisions{}, timeout: 10 * time.Second, ctx: ctx, key: "k"}
+		c := &connection{}
+		var got, token []byte
+		for isFirst := true; isFirst || len(token) > 0; isFirst = false {
+			page, err := c.read(ctx, held, appendBytes(nil, 1, token))
+			if err != nil || len(page) > frames.MaxBodyBytes {
+				t.Fatalf("rows of %d bytes: a page of %d, %v", size, len(page), err)
+			}
+			if held.revisions.least() != firstRevision {
+				t.Errorf("rows of %d bytes: answered %d", size, held.revisions.least())
+			}
+			// What has to be said for the next page stands behind the rows.
+			token = c.walk.token
+			behind := appendBytes(nil, 4, token)
+			if !bytes.HasSuffix(page, behind) {
+				t.Fatalf("rows of %d bytes: a page without its token", size)
+			}
+			got = append(got, bytes.TrimSuffix(page, behind)...)
+		}
+		if !bytes.Equal(got, want) {
+			t.Errorf("rows of %d bytes: all pages have %d, wanted %d", size, len(got), len(want))
+		}
+		server.wantsOneRevision(t)
+	}
+}
