@@ -2,9 +2,12 @@ package main
 
 import (
 	"bufio"
+	"context"
 	"net"
 	"testing"
 	"time"
+
+	"google.golang.org/grpc/codes"
 
 	"fomaheti/frames"
 )
@@ -35,5 +38,27 @@ func TestReplyNotTaken(t *testing.T) {
 	reply, err := frames.ReadReply(bufio.NewReader(second))
 	if took := time.Since(begin); err != nil || reply.Text != "waiting" || took > replyTime/2 {
 		t.Errorf("%v, %v, behind %v", reply, err, took)
+	}
+}
+
+// A term that is over by the clock, or was ended, answers nothing, also where nobody has noticed yet; and one that is there answers.
+func TestTermOver(t *testing.T) {
+	ctx, cancel := context.WithCancel(context.Background())
+	held := &term{lease: &lease{until: time.Now().Add(time.Hour)}, ctx: ctx, end: cancel}
+	state := &leadership{}
+	state.set(held, refusal{})
+	s := &server{state: state, say: t.Logf}
+	asks := func() (frames.Reply, error) { return s.answer(&connection{}, frames.Request{Path: leadPath}) }
+	if reply, err := asks(); err != nil || reply.Code != codes.OK {
+		t.Errorf("it leads: %v, %v", reply, err)
+	}
+	held.lease.until = time.Now()
+	if reply, err := asks(); err != errOver {
+		t.Errorf("its lease is over: %v, %v", reply, err)
+	}
+	held.lease.until = time.Now().Add(time.Hour)
+	held.end()
+	if reply, err := asks(); err != errOver {
+		t.Errorf("it was ended: %v, %v", reply, err)
 	}
 }

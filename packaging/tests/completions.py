@@ -5,7 +5,7 @@ import subprocess
 import tempfile
 
 from sources import TOP, read
-from tests.helps import COMMON, options_of
+from tests.helps import COMMON, options_of, values_of
 
 # Completes the last of the words that it is given behind the file of completions.
 COMPLETE = """
@@ -90,10 +90,21 @@ def option_rows(programs):
             yield "the options of %s %s" % (name, command), sorted(set(offered(words, TOP)[0]) - COMMON), sorted(options)
 
 
+def value_rows(programs):
+    """Behind an option that has a value the value comes, and no option; behind one of a file or a socket, files do."""
+    with tempfile.TemporaryDirectory() as folder:
+        open(os.path.join(folder, "volumes.db"), "x").close()
+        for name, program in programs.items():
+            for command, values in values_of(name, program).items():
+                words = [name, *([command] if command else [])]
+                found = {option: (offered([*words, option, "--"], folder)[0], "volumes.db" in offered([*words, option, "v"], folder)[0]) for option in values}
+                yield "behind the options of %s %s" % (name, command), found, {option: ([], value in ("FILE", "PATH")) for option, value in values.items()}
+
+
 def method_rows():
     lists = re.findall(r"^\| `/csi\.v1\.\w+/M` \| (.*) \|$", read("docs", "PROTOCOL.md"), re.M)
     yield "the methods", sorted(offered(["csictl", "call", "--method", ""], TOP)[0]), sorted(", ".join(lists).split(", "))
 
 
 def parts(programs):
-    return [word_rows(), option_rows(programs), method_rows()]
+    return [word_rows(), option_rows(programs), value_rows(programs), method_rows()]

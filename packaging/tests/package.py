@@ -138,6 +138,21 @@ def content_rows(programs, package):
     yield "what is listed and is not there", sorted(set(wanted) - set(listed)), []
 
 
+def control_rows(programs, package):
+    """What the package needs: the libraries that the programs are linked to, and what the maintainer scripts call. Its checksums are those of its files."""
+    linked = {os.path.realpath(it) for name in ("csid", "csictl") for it in re.findall(r"(/\S+) \(0x", run("ldd", programs[name])[1])}
+    libraries = {line.split(":")[0] for line in run("dpkg-query", "--search", *linked)[1].splitlines()}
+    needed = run("dpkg-deb", "--field", package, "Depends")[1].strip().split(", ")
+    yield "what the package needs", {" | ".join(re.sub(r" \(.*\)$", "", it) for it in one.split(" | ")) for one in needed}, libraries | {
+        "init-system-helpers", "systemd | systemd-standalone-sysusers | systemd-sysusers"}
+    with tempfile.TemporaryDirectory() as tree:
+        run("dpkg-deb", "--raw-extract", package, tree)
+        files = [os.path.relpath(os.path.join(at, it), tree) for at, _, names in os.walk(tree) for it in names]
+        yield "its checksums", run("md5sum", "--check", "--quiet", "--strict", "DEBIAN/md5sums", cwd=tree), (0, "", "")
+        listed = [line[34:] for line in read(tree, "DEBIAN", "md5sums").splitlines()]
+        yield "the files that have them", sorted(listed), sorted(it for it in files if not it.startswith("DEBIAN/"))
+
+
 def lintian_rows(package):
     need("lintian")
     status, out, _ = run("lintian", "--allow-root", "--fail-on", "error", package)
@@ -234,4 +249,4 @@ def install_rows(programs, package):
 
 
 def parts(programs, package):
-    return [content_rows(programs, package), lintian_rows(package), install_rows(programs, package)]
+    return [content_rows(programs, package), control_rows(programs, package), lintian_rows(package), install_rows(programs, package)]

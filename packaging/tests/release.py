@@ -24,13 +24,19 @@ REFUSED = [
     ([CSID, CSICTL, FRONT], "crates.txt", BUILD % (CSID, "./build")),
     ([CSID, CSICTL, FRONT], "front/main.go", BUILD % (FRONT, "front/build")),
     ([CSID, CSICTL, FRONT], "go/src/fomaheti/frames/replies.go", BUILD % (FRONT, "front/build")),
+    ([CSID, CSICTL, FRONT], "front/build", BUILD % (FRONT, "front/build")),
+    ([CSID, CSICTL, FRONT], "front/go", BUILD % (FRONT, "front/build")),
     ([CSID, CSICTL, FRONT], "VERSION", BUILD % (FRONT, "front/build")),
 ]
-# The same of csid-etcd, where the sources of etcd's client are here.
+# The same of csid-etcd, where the sources of etcd's client are here. The front was built again behind what is newer.
 REFUSED_ETCD = [
     ([CSID, CSICTL, FRONT], None, BUILD % (ETCD, "etcd/build")),
     ([CSID, CSICTL, FRONT, ETCD], "etcd/import.go", BUILD % (ETCD, "etcd/build")),
+    ([CSID, CSICTL, FRONT, ETCD], "etcd/build", BUILD % (ETCD, "etcd/build")),
     ([CSID, CSICTL, FRONT, ETCD], "etcd/go", BUILD % (ETCD, "etcd/build")),
+    ([CSID, CSICTL, FRONT, ETCD], "go/src/fomaheti/frames/requests.go", BUILD % (ETCD, "etcd/build")),
+    ([CSID, CSICTL, FRONT, ETCD], "front/go", BUILD % (ETCD, "etcd/build")),
+    ([CSID, CSICTL, FRONT, ETCD], "VERSION", BUILD % (ETCD, "etcd/build")),
 ]
 
 
@@ -50,7 +56,17 @@ def checksum(path):
 
 def folder_rows(folder, name, package):
     yield "the files", sorted(os.listdir(folder)), sorted(["SHA256SUMS", name + ".tar.gz", name + ".spdx.json", package])
-    yield "their checksums", run("sha256sum", "--check", "--quiet", "SHA256SUMS", cwd=folder), (0, "", "")
+    yield "their checksums", run("sha256sum", "--check", "--quiet", "--strict", "SHA256SUMS", cwd=folder), (0, "", "")
+    with open(os.path.join(folder, "SHA256SUMS"), encoding="utf-8") as file:
+        listed = [line.split()[1] for line in file]
+    yield "whose checksums there are", sorted(listed), sorted(set(os.listdir(folder)) - {"SHA256SUMS"})
+
+
+def files_of(programs):
+    """What a release has beside licences: the programs, their pages of manual and completions, and what is committed of README.md, docs/ and deploy/."""
+    committed = output("git", "-C", TOP, "ls-files", "README.md", "VERSION", "docs", "deploy").split("\n")
+    pages = [it + ".1" for it in programs] + ["csid-config.5", "csid-protocol.7"]
+    return [it.replace("csid-front", "front") for it in programs] + committed + ["man/" + it for it in pages] + ["completions/" + it for it in programs] + ["csid.spdx.json"]
 
 
 def archive_rows(path, name, programs):
@@ -65,10 +81,20 @@ def archive_rows(path, name, programs):
         for program, built in programs.items():
             held = archive.extractfile("%s/%s" % (name, program.replace("csid-front", "front"))).read()
             yield program, hashlib.sha256(held).hexdigest(), checksum(built)
-        wanted = ["README.md", "docs/DEPLOY.md", "deploy/csid.service", "man/csid.1", "completions/csid", "licences/clap/LICENSE-MIT", "csid.spdx.json"]
-        yield "what else is there", [it for it in wanted if "%s/%s" % (name, it) not in names], []
+        files = {it.name.partition("/")[2] for it in members if it.isfile() and not it.name.startswith(name + "/licences/")}
+        yield "the files but for licences", sorted(files), sorted(files_of(programs))
+        yield "a licence", "%s/licences/clap/LICENSE-MIT" % name in names, True
         of_etcd = ["csid-etcd", "man/csid-etcd.1", "completions/csid-etcd", "licences/golang-etcd-server-dev/copyright"]
         yield "what is there of csid-etcd", [it for it in of_etcd if "%s/%s" % (name, it) in names], of_etcd if "csid-etcd" in programs else []
+
+
+def licence_rows(folder, name):
+    """Of each part whose licence is known its text is there."""
+    with open(os.path.join(folder, name + ".spdx.json"), encoding="utf-8") as file:
+        parts = [it["name"] for it in json.load(file)["packages"] if it["primaryPackagePurpose"] == "LIBRARY" and it["licenseDeclared"] != "NOASSERTION"]
+    with tarfile.open(os.path.join(folder, name + ".tar.gz")) as archive:
+        held = {it.name.split("/")[2] for it in archive.getmembers() if it.isfile() and it.name.startswith(name + "/licences/")}
+    yield "parts without the text of their licence", sorted(set(parts) - held), []
 
 
 def list_rows(path, programs):
@@ -94,7 +120,7 @@ def list_rows(path, programs):
     yield "what relations name", named, {it["SPDXID"] for it in made["packages"]} | {"SPDXRef-DOCUMENT"}
     found = {(it["spdxElementId"], it["relatedSpdxElement"]) for it in made["relationships"] if it["relationshipType"] == "DEPENDS_ON"}
     for one, other, stands in [("csid", "sqlite", True), ("csid", "serde-json", False), ("csictl", "serde-json", True), ("csictl", "sqlite", False), ("clap", "strsim", True),
-                               ("csid-etcd", "golang-etcd-server-dev", "csid-etcd" in programs), ("csid-front", "golang-etcd-server-dev", False)]:
+                               ("csid-etcd", "golang-etcd-server-dev", "csid-etcd" in programs), ("csid-front", "golang-etcd-server-dev", False), ("csid-front", "golang-google-grpc-dev", True)]:
         yield "%s stands on %s" % (one, other), ("SPDXRef-" + one, "SPDXRef-" + other) in found, stands
 
 
@@ -121,22 +147,23 @@ def refusal_rows(is_etcd):
         clone(top)
         for words in (["x"], ["--out"], ["--check", "x"], ["--out", "a", "b"]):
             yield "./release " + " ".join(words), run("./release", *words, cwd=top), (2, "", USAGE)
-        for programs, newer, wanted in REFUSED + (REFUSED_ETCD if is_etcd else []):
+        rows = [(*row, []) for row in REFUSED] + [(*row, [FRONT]) for row in REFUSED_ETCD if is_etcd]
+        for programs, newer, wanted, again in rows:
             for path in (CSID, CSICTL, FRONT, ETCD):
                 shutil.rmtree(os.path.join(top, os.path.dirname(path)), ignore_errors=True)
-            yield "with %s, and %s newer" % (programs, newer), refused(top, programs, newer), (1, "", wanted)
+            yield "with %s, and %s newer" % (programs, newer), refused(top, programs, newer, again), (1, "", wanted)
         with open(os.path.join(top, "README.md"), "a") as file:
             file.write("\n")
-        yield "with a file that was changed", refused(top, all_programs, None), (1, "", "release: files differ from the last commit: commit them first\n")
+        yield "with a file that was changed", refused(top, all_programs, None, []), (1, "", "release: files differ from the last commit: commit them first\n")
     for name in ("licences", "spdx"):
         words = [sys.executable, os.path.join(TOP, "packaging", name), *["/nowhere"] * (3 if name == "spdx" else 1)]
         yield name + " without the kit", run(*words, env={"PATH": "/nowhere", "SOURCE_DATE_EPOCH": "0"}), (1, "", NO_KIT % name)
 
 
-def refused(top, programs, newer):
-    """What ./release ends with where these programs were built, and one source was changed behind that."""
+def refused(top, programs, newer, again):
+    """What ./release ends with where these programs were built, one source was changed behind that, and some programs were built again."""
     for path in programs:
-        touch(os.path.join(top, path), 1 << 30)
+        touch(os.path.join(top, path), (1 << 30) + (2 if path in again else 0))
     if newer:
         touch(os.path.join(top, newer), (1 << 30) + 1)
     done = run("./release", cwd=top)
@@ -145,12 +172,35 @@ def refused(top, programs, newer):
     return done
 
 
+# Programs in the place of those of packaging/ in a clone: what they do is of no account here.
+PLAYED = {"licences": "mkdir -p ${*: -1}", "deb": 'echo >"$2/csid_$(cat VERSION)_$(dpkg --print-architecture).deb"', "test": ""}
+
+
+def difference_rows(is_etcd):
+    """A check makes two releases, and says so where they differ by their place, their time zone or their mask, or in anything else."""
+    said = "release: two releases of the same programs differ\n"
+    with tempfile.TemporaryDirectory() as folder:
+        top = os.path.join(folder, "csid")
+        clone(top)
+        for path in [CSID, CSICTL, FRONT] + ([ETCD] if is_etcd else []):
+            touch(os.path.join(top, path), 1 << 30)
+        for what, wanted in [("echo the same", (0, "")), ('echo "$1"', (1, said)), ('echo "${TZ-}"', (1, said)), ("umask", (1, said)), ("mktemp -u", (1, said))]:
+            for name, text in {**PLAYED, "spdx": what}.items():
+                with open(os.path.join(top, "packaging", name), "w", encoding="utf-8") as file:
+                    file.write("#!/usr/bin/env bash\nset -eu\ncd \"$(dirname \"$0\")/..\"\n%s\n" % text)
+            status, _, error = run("./release", "--check", cwd=top)
+            # Without the sources of etcd's client there is a line on that.
+            yield "a check of releases that have what %r gives" % what, (status, "".join(it for it in error.splitlines(True) if "NOT in it" not in it)), wanted
+
+
 def parts(programs, folder):
     architecture = output("dpkg", "--print-architecture")
     name = "csid-%s-%s" % (version(), architecture)
     return [
         folder_rows(folder, name, "csid_%s_%s.deb" % (version(), architecture)),
         archive_rows(os.path.join(folder, name + ".tar.gz"), name, programs),
+        licence_rows(folder, name),
         list_rows(os.path.join(folder, name + ".spdx.json"), programs),
         refusal_rows("csid-etcd" in programs),
+        difference_rows("csid-etcd" in programs),
     ]
