@@ -2,10 +2,15 @@ package main
 
 import (
 	"context"
+	"reflect"
 	"testing"
 	"time"
 
+	"go.etcd.io/etcd/clientv3"
+	"go.etcd.io/etcd/etcdserver/api/v3rpc/rpctypes"
 	pb "go.etcd.io/etcd/etcdserver/etcdserverpb"
+	"google.golang.org/grpc/codes"
+	"google.golang.org/grpc/status"
 )
 
 // lender is an etcd that gives a lease, and keeps it.
@@ -18,6 +23,17 @@ type lender struct {
 	// When each request came; and how many of one stream are answered.
 	came     chan time.Time
 	answered int
+	// What an end of a lease is answered, where it is an error; and those that were ended.
+	refusals map[int64]error
+	ended    []int64
+}
+
+func (l *lender) LeaseRevoke(_ context.Context, asked *pb.LeaseRevokeRequest) (*pb.LeaseRevokeResponse, error) {
+	if err := l.refusals[asked.ID]; err != nil {
+		return nil, err
+	}
+	l.ended = append(l.ended, asked.ID)
+	return &pb.LeaseRevokeResponse{Header: &pb.ResponseHeader{}}, nil
 }
 
 func (l *lender) LeaseGrant(context.Context, *pb.LeaseGrantRequest) (*pb.LeaseGrantResponse, error) {
@@ -109,5 +125,21 @@ func TestLateLease(t *testing.T) {
 		}
 		cancel()
 		<-ended
+	}
+}
+
+// A lease that etcd could not end is ended the next time; one that etcd does not know has ended.
+func TestGiveBack(t *testing.T) {
+	server := &lender{refusals: map[int64]error{1: status.Error(codes.Internal, "any"), 3: rpctypes.ErrGRPCLeaseNotFound}}
+	client := startServer(t, server, 1)
+	c := &candidate{asked: options{timeout: 5 * time.Second}, leases: []clientv3.LeaseID{1, 2, 3}}
+	c.giveBack(client)
+	if want := []clientv3.LeaseID{1}; !reflect.DeepEqual(c.leases, want) || !reflect.DeepEqual(server.ended, []int64{2}) {
+		t.Errorf("%v are left, and %v were ended", c.leases, server.ended)
+	}
+	server.refusals = nil
+	c.giveBack(client)
+	if len(c.leases) > 0 || !reflect.DeepEqual(server.ended, []int64{2, 1}) {
+		t.Errorf("the next time: %v are left, and %v were ended", c.leases, server.ended)
 	}
 }

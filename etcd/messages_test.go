@@ -31,6 +31,8 @@ func TestReadChange(t *testing.T) {
 		{"2a04 0807 7801", &detachAll{7}},
 		{"2a04 0807 0a00", &detachAll{7}},
 		{"1001 2a02 0807", &detachAll{7}},
+		{"7d01020304 2a07 0807 0d01020304", &detachAll{7}},
+		{"2a0b 0807 090102030405060708 790102030405060708", &detachAll{7}},
 	}
 	for _, row := range rows {
 		got, err := readChange(fromHex(t, row.message))

@@ -156,12 +156,14 @@ func TestExportedOnce(t *testing.T) {
 	server := &written{rows: map[string]string{sampleKeys.meta(): `{"format_no":2,"next_number":1001}`}}
 	for n := uint64(1); n <= count; n++ {
 		server.rows[sampleKeys.volume(n)] = string(volume{name: "a", pool: "p"}.spelled())
-		server.rows[sampleKeys.attachment(n, "n")] = string(attachment{}.spelled())
+	}
+	for _, row := range closest() {
+		server.rows[sampleKeys.attachment(row.number, row.node)] = string(row.spelled())
 	}
 	r := &reading{client: startServer(t, server, 1), timeout: 5 * time.Second}
 	var out strings.Builder
 	found, err := r.print(sampleKeys, &out)
-	if err != nil || r.revision != firstRevision || found.String() != "volumes 1000, attachments 1000, next number 1001, format 2" {
+	if err != nil || r.revision != firstRevision || found.String() != "volumes 1000, attachments 100, next number 1001, format 2" {
 		t.Errorf("at revision %d: %v, %v", r.revision, found, err)
 	}
 	seen := map[string]bool{}

@@ -3,10 +3,13 @@ package main
 import (
 	"bufio"
 	"context"
+	"errors"
 	"net"
+	"syscall"
 	"testing"
 	"time"
 
+	pb "go.etcd.io/etcd/etcdserver/etcdserverpb"
 	"google.golang.org/grpc/codes"
 
 	"fomaheti/frames"
@@ -60,5 +63,115 @@ func TestTermOver(t *testing.T) {
 	held.end()
 	if reply, err := asks(); err != errOver {
 		t.Errorf("it was ended: %v, %v", reply, err)
+	}
+}
+
+// unready is a listener that fails so often.
+type unready struct {
+	net.Listener
+	failures []error
+}
+
+func (l *unready) Accept() (net.Conn, error) {
+	failure := l.failures[0]
+	l.failures = l.failures[1:]
+	return nil, failure
+}
+
+// Where there are no files left for a connection the next one is taken once there are; any other failure is told.
+func TestAccept(t *testing.T) {
+	full := &net.OpError{Op: "accept", Err: syscall.EMFILE}
+	rows := []struct {
+		failures []error
+		want     string
+	}{
+		{[]error{full, full, net.ErrClosed}, ""},
+		{[]error{&net.OpError{Op: "accept", Err: net.ErrClosed}}, ""},
+		{[]error{full, errors.New("any")}, "taking connections: any"},
+	}
+	for _, row := range rows {
+		listener := &unready{failures: row.failures}
+		err := (&server{}).accept(listener)
+		if (err == nil) != (row.want == "") || (err != nil && err.Error() != row.want) || len(listener.failures) > 0 {
+			t.Errorf("%v: %v", row.failures, err)
+		}
+	}
+}
+
+// busy is an etcd whose second reading waits until it is let go. It tells of that one, and of each change.
+type busy struct {
+	written
+	letGo chan struct{}
+	came  chan string
+}
+
+func (b *busy) Range(ctx context.Context, asked *pb.RangeRequest) (*pb.RangeResponse, error) {
+	read, err := b.written.Range(ctx, asked)
+	if len(b.asked) == 2 {
+		b.came <- "a reading"
+		<-b.letGo
+	}
+	return read, err
+}
+
+func (b *busy) Txn(ctx context.Context, asked *pb.TxnRequest) (*pb.TxnResponse, error) {
+	if asked.Success[0].GetRequestDeleteRange() != nil {
+		b.came <- "a change"
+	}
+	return b.written.Txn(ctx, asked)
+}
+
+// A change waits until no rows are read ahead, also those that another connection has asked for: the calls of a term come one after the other.
+func TestReadAhead(t *testing.T) {
+	for _, isAnother := range []bool{false, true} {
+		etcd := &busy{written: written{rows: map[string]string{}}, letGo: make(chan struct{}), came: make(chan string, 9)}
+		for n := uint64(1); n <= 4; n++ {
+			etcd.rows[sampleKeys.volume(n)] = string(sized(t, n, 1<<20).spelled())
+		}
+		ctx, cancel := context.WithCancel(context.Background())
+		t.Cleanup(cancel)
+		held := &term{client: startServer(t, etcd, 1), keys: sampleKeys, lease: &lease{until: time.Now().Add(time.Hour)}, revisions: &revisions{}, timeout: time.Minute,
+			ctx: ctx, end: cancel, key: "k"}
+		s := &server{state: &leadership{term: held}, say: t.Logf}
+		connect := func() net.Conn {
+			own, other := net.Pipe()
+			t.Cleanup(func() { own.Close() })
+			s.take(other)
+			return own
+		}
+		call := func(conn net.Conn, path string, message []byte) (frames.Reply, error) {
+			conn.SetDeadline(time.Now().Add(20 * time.Second))
+			if _, err := conn.Write(append(frames.RequestHead(path, len(message)), message...)); err != nil {
+				return frames.Reply{}, err
+			}
+			return frames.ReadReply(bufio.NewReader(conn))
+		}
+		conn := connect()
+		if reply, err := call(conn, readPath, nil); err != nil || reply.Code != codes.OK {
+			t.Fatalf("%v, %v", reply, err)
+		}
+		if came := <-etcd.came; came != "a reading" {
+			t.Fatalf("%s came", came)
+		}
+		if isAnother {
+			conn = connect()
+		}
+		ended := make(chan error, 1)
+		go func() {
+			reply, err := call(conn, commitPath, fromHex(t, "2205 0807 12016e"))
+			if err == nil && reply.Code != codes.OK {
+				err = errors.New(reply.Text)
+			}
+			ended <- err
+		}()
+		select {
+		case came := <-etcd.came:
+			t.Errorf("another connection %v: %s came while rows were read", isAnother, came)
+		case <-time.After(50 * time.Millisecond):
+		}
+		close(etcd.letGo)
+		if err := <-ended; err != nil {
+			t.Errorf("another connection %v: %v", isAnother, err)
+		}
 	}
 }

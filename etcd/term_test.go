@@ -225,3 +225,25 @@ func TestAskedBefore(t *testing.T) {
 		}
 	}
 }
+
+// All tries of a request together take no longer than one may take; and what has another error than that it took too long is not tried again.
+func TestTries(t *testing.T) {
+	rows := []struct {
+		members, count int
+		err            error
+	}{{1, 1, context.DeadlineExceeded}, {2, 3, context.DeadlineExceeded}, {2, 1, rpctypes.ErrLeaderChanged}, {2, 1, nil}}
+	for _, row := range rows {
+		client := startServer(t, &moody{}, row.members)
+		var all time.Duration
+		count := 0
+		err := tries(context.Background(), client, time.Minute, func(ctx context.Context) error {
+			deadline, _ := ctx.Deadline()
+			all += time.Until(deadline)
+			count++
+			return row.err
+		})
+		if err != row.err || count != row.count || all > time.Minute {
+			t.Errorf("%d members, %v: %v behind %d tries that may take %v", row.members, row.err, err, count, all)
+		}
+	}
+}

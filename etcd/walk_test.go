@@ -4,6 +4,7 @@ import (
 	"bytes"
 	"context"
 	"sort"
+	"strings"
 	"sync"
 	"testing"
 	"time"
@@ -44,7 +45,11 @@ func (w *written) Range(_ context.Context, asked *pb.RangeRequest) (*pb.RangeRes
 func (w *written) Txn(_ context.Context, asked *pb.TxnRequest) (*pb.TxnResponse, error) {
 	done := &pb.TxnResponse{Header: &pb.ResponseHeader{Revision: firstRevision}, Succeeded: true}
 	for _, part := range asked.Success {
-		read := w.read(part.GetRequestRange(), done.Header)
+		reading := part.GetRequestRange()
+		if reading == nil {
+			continue
+		}
+		read := w.read(reading, done.Header)
 		done.Responses = append(done.Responses, &pb.ResponseOp{Response: &pb.ResponseOp_ResponseRange{ResponseRange: read}})
 	}
 	return done, nil
@@ -93,21 +98,30 @@ func sized(t *testing.T, number uint64, size int) volume {
 	return row
 }
 
+// closest is attachments whose keys have none between them: wherever a reading ends, the next key has a row.
+func closest() (rows []attachment) {
+	for count := 0; count < 100; count++ {
+		rows = append(rows, attachment{1, "n" + strings.Repeat("\x00", count), nil, false})
+	}
+	return rows
+}
+
 // Pages of long rows have all of them once, in order and at one revision, and none is longer than a frame can be, also where rows would fill one to its
 // last byte. What was read counts as answered.
 func TestPages(t *testing.T) {
-	for _, size := range []int{1 << 19, 1 << 20} {
+	for size, count := range map[int]uint64{1 << 19: 10, 1 << 20: 8} {
 		server := &written{rows: map[string]string{sampleKeys.meta(): string(firstMeta.spelled())}}
 		var want []byte
 		want = appendBytes(want, 1, firstMeta.message())
-		for n := uint64(1); n <= uint64(5<<20/size); n++ {
+		for n := uint64(1); n <= count; n++ {
 			row := sized(t, n, size)
 			server.rows[sampleKeys.volume(n)] = string(row.spelled())
 			want = appendBytes(want, row.field(), row.message())
 		}
-		last := attachment{1, "n", nil, false}
-		server.rows[sampleKeys.attachment(1, "n")] = string(last.spelled())
-		want = appendBytes(want, last.field(), last.message())
+		for _, row := range closest() {
+			server.rows[sampleKeys.attachment(row.number, row.node)] = string(row.spelled())
+			want = appendBytes(want, row.field(), row.message())
+		}
 		ctx := context.Background()
 		held := &term{client: startServer(t, server, 1), keys: sampleKeys, lease: &lease{}, revisions: &revisions{}, timeout: 10 * time.Second, ctx: ctx, key: "k"}
 		c := &connection{}

@@ -140,6 +140,8 @@ func TestMoves(t *testing.T) {
 		"volumes/00000000000000000002":       `its value is not spelled {"name":TEXT,"bytes":NUMBER,"pool":TEXT,"caps":HEX,"params":HEX}`,
 		"attachments/00000000000000000001/o": `its value is not spelled {"cap":HEX,"readonly":0 or 1}`,
 		"volumes/2":                          "its key has no number of 20 digits",
+		"lock":                               "no row has such a key",
+		"lock0":                              "no row has such a key",
 		"more":                               "no row has such a key",
 	} {
 		put(t, client, name+"/"+key, " {}")
