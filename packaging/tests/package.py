@@ -141,7 +141,9 @@ def content_rows(programs, package):
 def control_rows(programs, package):
     """What the package needs: the libraries that the programs are linked to, and what the maintainer scripts call. Its checksums are those of its files."""
     linked = {os.path.realpath(it) for name in ("csid", "csictl") for it in re.findall(r"(/\S+) \(0x", run("ldd", programs[name])[1])}
-    libraries = {line.split(":")[0] for line in run("dpkg-query", "--search", *linked)[1].splitlines()}
+    # Where /lib is a link to /usr/lib, dpkg knows a library by the one name or the other.
+    named = linked | {it.removeprefix("/usr") for it in linked}
+    libraries = {line.split(":")[0] for line in run("dpkg-query", "--search", *named)[1].splitlines()}
     needed = run("dpkg-deb", "--field", package, "Depends")[1].strip().split(", ")
     yield "what the package needs", {" | ".join(re.sub(r" \(.*\)$", "", it) for it in one.split(" | ")) for one in needed}, libraries | {
         "init-system-helpers", "systemd | systemd-standalone-sysusers | systemd-sysusers"}
