@@ -3,14 +3,18 @@ package main
 import (
 	"bufio"
 	"context"
+	"errors"
 	"io"
 	"net"
+	"os"
 	"sync"
 	"sync/atomic"
 	"testing"
 	"time"
 
 	"google.golang.org/grpc/codes"
+
+	"fomaheti/frames"
 )
 
 // The frame of a call to /a/b without a message has so many bytes.
@@ -135,6 +139,119 @@ func TestLateReplyThatNeverComes(t *testing.T) {
 	}
 }
 
+// So does one that was given up while csid read nothing of it.
+func TestCallThatIsNeverRead(t *testing.T) {
+	listener, path := listening(t)
+	unread := make(chan net.Conn, 1)
+	go func() {
+		for {
+			conn, err := listener.Accept()
+			if err != nil {
+				return
+			}
+			select {
+			case unread <- conn:
+			default:
+				go answering(notFound)(conn)
+			}
+		}
+	}()
+	b := newBackend(path, 100*time.Millisecond)
+	ctx, cancel := context.WithTimeout(context.Background(), 20*time.Millisecond)
+	defer cancel()
+	b.call(ctx, "/a/b", make([]byte, frames.MaxMessageBytes))
+	if _, err := b.call(soon(t), "/a/b", nil); err == nil || err.Error() != "an earlier call was given up, and no reply to it came within 100ms" {
+		t.Errorf("a call that came before: %v", err)
+	}
+	wants(t, b, codes.NotFound)
+	(<-unread).Close()
+}
+
+// The pause grows as well with each connection that cannot be made, and a call that came before is told of that one.
+func TestConnectionsThatCannotBeMade(t *testing.T) {
+	_, path := listening(t)
+	b := newBackend(path+".absent", time.Minute)
+	came := time.Now()
+	for _, want := range []time.Duration{200 * time.Millisecond, 400 * time.Millisecond} {
+		if _, err := b.call(soon(t), "/a/b", nil); !errors.Is(err, os.ErrNotExist) || b.pace.pause != want {
+			t.Errorf("%v, and a pause of %v", err, b.pace.pause)
+		}
+	}
+	b.path = path
+	if _, err := b.ready(soon(t), came); !errors.Is(err, os.ErrNotExist) {
+		t.Errorf("a call that came before: %v", err)
+	}
+}
+
+// A late reply shows as any other that csid lives.
+func TestLateReplyIsASignOfLife(t *testing.T) {
+	gone := make(chan struct{})
+	path, _ := csid(t, func(conn net.Conn) {
+		if isCalled(conn) {
+			<-gone
+			conn.Write(notFound)
+		}
+		isCalled(conn)
+	})
+	b := newBackend(path, time.Minute)
+	ctx, cancel := context.WithTimeout(context.Background(), 20*time.Millisecond)
+	defer cancel()
+	b.call(ctx, "/a/b", nil)
+	before := b.life.silence()
+	close(gone)
+	if err := b.takeTurn(soon(t)); err != nil {
+		t.Fatal(err)
+	}
+	if b.life.silence() >= before {
+		t.Error("csid did not show that it lives")
+	}
+}
+
+// A call that nobody else waits beside is sent, however near its deadline is.
+func TestLoneCallWithAShortDeadline(t *testing.T) {
+	path, _ := csid(t, answering(notFound))
+	b := newBackend(path, time.Minute)
+	b.usual = time.Hour
+	wants(t, b, codes.NotFound)
+}
+
+// A reply ends what a failure began: the pause is the least one again, and a call that came before both is told of neither.
+func TestReplyBehindAFailure(t *testing.T) {
+	path, _ := csid(t, answering([]byte{13, 0, 0, 0, 0, 0, 0, 0}))
+	b := newBackend(path, time.Minute)
+	came := time.Now()
+	b.failed(errUnanswered)
+	wants(t, b, codes.Internal)
+	if b.pace.pause != leastPause {
+		t.Errorf("a pause of %v", b.pace.pause)
+	}
+	if _, err := b.ready(soon(t), came); err != nil {
+		t.Errorf("a call that came before: %v", err)
+	}
+}
+
+// A connection that gave a reply, and is closed unanswered later, costs the call that was on its way, and neither a pause nor the calls that wait.
+func TestConnectionThatEndsBehindAReply(t *testing.T) {
+	path, _ := csid(t, func(conn net.Conn) {
+		if isCalled(conn) {
+			conn.Write(notFound)
+		}
+		isCalled(conn)
+	})
+	b := newBackend(path, time.Minute)
+	came := time.Now()
+	wants(t, b, codes.NotFound)
+	if _, err := b.call(soon(t), "/a/b", nil); err != errUnanswered {
+		t.Errorf("the call that was on its way: %v", err)
+	}
+	if b.pace.pause != leastPause {
+		t.Errorf("a pause of %v", b.pace.pause)
+	}
+	if _, err := b.ready(soon(t), came); err != nil {
+		t.Errorf("a call that waited: %v", err)
+	}
+}
+
 // Behind status 13 the next call has another connection.
 func TestRefusedChange(t *testing.T) {
 	path, connections := csid(t, func(conn net.Conn) {
@@ -207,10 +324,13 @@ func TestPauses(t *testing.T) {
 	for i := 0; i < 10; i++ {
 		p.failed()
 	}
-	if p.pause != greatestPause {
+	if p.pause != time.Second {
 		t.Errorf("behind many failures: %v", p.pause)
 	}
 	p.served()
+	if p.pause != 100*time.Millisecond {
+		t.Errorf("the pause behind a reply: %v", p.pause)
+	}
 	time.Sleep(leastPause)
 	if got := wait(); got != 0 {
 		t.Errorf("behind a reply: %v", got)

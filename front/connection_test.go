@@ -46,12 +46,16 @@ func pair(t *testing.T) (*connection, net.Conn) {
 }
 
 func TestQuietConnection(t *testing.T) {
-	conn, _ := pair(t)
+	conn, other := pair(t)
 	conn.SetDeadline(time.Unix(0, 1))
 	if !conn.isQuiet() {
 		t.Error("a connection on which nothing came, though its last call ended by its deadline, is not quiet")
 	}
-	conn, other := pair(t)
+	go answering(notFound)(other)
+	if got := conn.exchange("/a/b", nil); got.err != nil {
+		t.Errorf("the deadline of the last call is one of the next: %v", got)
+	}
+	conn, other = pair(t)
 	other.Write([]byte{0})
 	if conn.isQuiet() {
 		t.Error("a byte came unasked")

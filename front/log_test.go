@@ -12,8 +12,11 @@ import (
 	"google.golang.org/grpc/status"
 )
 
-// Each line in both formats. A number of JSON is a float64 to encoding/json.
+// Each line in both formats, with its time in UTC wherever that is. A number of JSON is a float64 to encoding/json.
 func TestLines(t *testing.T) {
+	local := time.Local
+	time.Local = time.FixedZone("", 3600)
+	defer func() { time.Local = local }()
 	type fields = map[string]interface{}
 	rows := []struct {
 		tell func(*logger)
@@ -53,9 +56,19 @@ func TestLines(t *testing.T) {
 			fields{"level": "warn", "message": "call refused", "path": "/a/b", "code": 9.0, "text": "volume is in use", "milliseconds": 1.0},
 		},
 		{
+			func(l *logger) { l.refuses("/a/b", status.New(codes.Unavailable, "\"a\"\n"), 0) },
+			"front: /a/b 14 \"\\\"a\\\"\\n\" 0 ms\n",
+			fields{"level": "warn", "message": "call refused", "path": "/a/b", "code": 14.0, "text": "\"a\"\n", "milliseconds": 0.0},
+		},
+		{
 			func(l *logger) { l.refuses("/a\n", status.New(codes.Unimplemented, ""), 0) },
 			"front: \"/a\\n\" 12 \"\" 0 ms\n",
 			fields{"level": "warn", "message": "call refused", "path": `"/a\n"`, "code": 12.0, "text": "", "milliseconds": 0.0},
+		},
+		{
+			func(l *logger) { l.refuses("/"+strings.Repeat("a", 200), status.New(codes.Unimplemented, ""), 0) },
+			"front: \"/" + strings.Repeat("a", 127) + "\" 12 \"\" 0 ms\n",
+			fields{"level": "warn", "message": "call refused", "path": `"/` + strings.Repeat("a", 127) + `"`, "code": 12.0, "text": "", "milliseconds": 0.0},
 		},
 		{
 			func(l *logger) { l.Write([]byte("http: it <broke>\n")) },
@@ -76,7 +89,7 @@ func TestLines(t *testing.T) {
 			t.Fatalf("%q: %v", object.String(), err)
 		}
 		said, _ := got["time"].(string)
-		if at, err := time.Parse(time.RFC3339, said); err != nil || at.Before(begin) || at.After(time.Now()) {
+		if at, err := time.Parse(time.RFC3339, said); err != nil || !strings.HasSuffix(said, "Z") || at.Before(begin) || at.After(time.Now()) {
 			t.Errorf("the time %q, %v", said, err)
 		}
 		delete(got, "time")

@@ -69,6 +69,32 @@ func TestMessagesThatAreLate(t *testing.T) {
 	}
 }
 
+// A message is late once it took 5 seconds, or none came for a second, and only where calls wait. The first that waits begins that second.
+func TestLateness(t *testing.T) {
+	rows := []struct {
+		waiting      int
+		began, still time.Duration
+		want         bool
+	}{
+		{0, time.Minute, time.Minute, false}, {1, 6 * time.Second, 0, true}, {1, 4 * time.Second, 0, false}, {1, 0, 2 * time.Second, true},
+	}
+	for _, row := range rows {
+		m := newMessages(10)
+		m.waiting, m.stillSince = row.waiting, time.Now().Add(-row.still)
+		if m.isLate(time.Now().Add(-row.began)) != row.want {
+			t.Errorf("%+v: not %v", row, row.want)
+		}
+	}
+	m := newMessages(10)
+	m.waits(1)
+	since := m.stillSince
+	m.waits(1)
+	m.waits(-1)
+	if m.stillSince != since {
+		t.Error("a further call that waits begins the second anew")
+	}
+}
+
 // The call that waits is the one beyond those that are received.
 func TestCallsThatWaitForAPlace(t *testing.T) {
 	m := newMessages(10)

@@ -34,6 +34,7 @@ func TestOptions(t *testing.T) {
 	}{
 		{"--csid c --listen l", "", with(20*time.Second, time.Minute, 64)},
 		{"-csid=c -listen=l -grace=1m -late=30s -waiting=1", "", with(time.Minute, 30*time.Second, 1)},
+		{"--csid c --listen l --grace 0s --late 0s --waiting 1048576", "", with(0, 0, 1048576)},
 		{"--csid c", "unix:///run/csi.sock", elsewhere},
 		{"--csid c", "/run/csi.sock", elsewhere},
 		{"--csid unix:c", "unix:l", with(20*time.Second, time.Minute, 64)},

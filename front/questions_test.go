@@ -39,6 +39,7 @@ func replying(t *testing.T, frame string) *handler {
 func TestReadiness(t *testing.T) {
 	rows := []struct{ name, frame, want string }{
 		{"ready", "00 0000 00 00000004 0a020801", ""},
+		{"ready, by another number than 1", "00 0000 00 00000004 0a020802", ""},
 		{"nothing is said", "00 0000 00 00000000", ""},
 		{"an unknown field before it", "00 0000 00 00000006 1001 0a020801", ""},
 		{"not ready", "00 0000 00 00000004 0a020800", "rpc error: code = Unavailable desc = csid is not ready"},

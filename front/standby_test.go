@@ -82,6 +82,38 @@ func TestWatchOverClosedConnections(t *testing.T) {
 	}
 }
 
+// A front that stood still itself, so that it heard nothing for longer than the bound, asks before it believes that csid does.
+func TestWatchBehindAStandstill(t *testing.T) {
+	const limit = time.Minute
+	h := replying(t, "00 0000 00 00000000")
+	over := make(chan error, 1)
+	go func() { over <- h.watch(limit) }()
+	for h.backend.life.silence() > limit {
+		select {
+		case err := <-over:
+			t.Fatal(err)
+		case <-time.After(time.Millisecond):
+		}
+	}
+}
+
+// While the front waits it asks once a second, however soon it is answered.
+func TestPauseWhileItWaits(t *testing.T) {
+	asked := int32(0)
+	path, _ := csid(t, func(conn net.Conn) {
+		for answerOnce(conn, fromHex(t, "00 0000 00 00000004 0a020800")) {
+			atomic.AddInt32(&asked, 1)
+		}
+	})
+	ctx, cancel := context.WithTimeout(context.Background(), 300*time.Millisecond)
+	defer cancel()
+	begin := time.Now()
+	inFront(path).await(ctx)
+	if most := 1 + int32(time.Since(begin)/time.Second); asked < 1 || asked > most {
+		t.Errorf("asked %d times within %v", asked, time.Since(begin))
+	}
+}
+
 // answerOnce reads a Probe, and answers it.
 func answerOnce(conn net.Conn, reply []byte) bool {
 	head := make([]byte, 2+len(probe)+1+4)

@@ -9,6 +9,7 @@ import (
 
 	"google.golang.org/grpc"
 	"google.golang.org/grpc/codes"
+	"google.golang.org/grpc/encoding/gzip"
 
 	"./processes"
 )
@@ -226,6 +227,17 @@ func TestWhatNoFrameCanHave(t *testing.T) {
 	csid.sees(t)
 	front.wants(t, longest, strings.Repeat("00", 1048576), ok(ready))
 	csid.sees(t, longest+" "+strings.Repeat("00", 1048576))
+}
+
+// A compressed message is refused by gRPC, so none can grow as it is read.
+func TestCompressedMessage(t *testing.T) {
+	t.Parallel()
+	csid, front := behindFront(t)
+	var body []byte
+	if err := front.Invoke(soon(t, processes.Patience), "/a/b", make([]byte, 1000), &body, grpc.UseCompressor(gzip.Name)); grpc.Code(err) != codes.Unimplemented {
+		t.Errorf("%v, wanted UNIMPLEMENTED", err)
+	}
+	csid.sees(t)
 }
 
 // A unary call has one message.

@@ -58,14 +58,14 @@ func TestHealth(t *testing.T) {
 	}
 }
 
-// A csid that stands still does not serve, and that is told within a short time.
+// A csid that stands still does not serve, and that is told within a short time, but not before 5 seconds.
 func TestHealthWhileCsidStandsStill(t *testing.T) {
 	t.Parallel()
 	csid := startFake(t, step{mute: true})
 	health := newHealth(t, processes.StartFront(t, csid.socket, "--health").Socket)
 	begin := time.Now()
 	health.wants(t, "", grpc_health_v1.HealthCheckResponse_NOT_SERVING, codes.OK)
-	if spent := time.Since(begin); spent > processes.Patience/2 {
+	if spent := time.Since(begin); spent < 5*time.Second || spent > processes.Patience/2 {
 		t.Errorf("it took %v", spent)
 	}
 }

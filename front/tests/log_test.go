@@ -74,6 +74,17 @@ func TestLogInJSON(t *testing.T) {
 	}
 }
 
+// What the HTTP server of --metrics says by itself is a line as any other.
+func TestLogOfTheHTTPServer(t *testing.T) {
+	t.Parallel()
+	process, monitor := watched(t, startFake(t).socket)
+	get(t, monitor+"/else?a;b")
+	processes.Eventually(t, "a second line", func() bool { return strings.Count(process.Log.String(), "\n") == 2 })
+	if said := process.Log.String(); !strings.Contains(said, "\nfront: http: URL query contains semicolon") {
+		t.Errorf("logged %q", said)
+	}
+}
+
 // Why a front does not start is a line in JSON once its arguments are read; what is wrong with these is text.
 func TestStartsThatFailInJSON(t *testing.T) {
 	t.Parallel()

@@ -90,42 +90,50 @@ func TestManyGreatMessages(t *testing.T) {
 }
 
 // Callers that never send their messages, as many as a client can have, hold up the others for a while at most, and take no room. Those that nobody
-// waits behind are served themselves once they do.
+// waits behind are served themselves once they send them.
 func TestMessagesThatNeverCome(t *testing.T) {
 	t.Parallel()
 	const calls, places = 256, 16
 	csid := startFake(t)
 	process := processes.StartFront(t, csid.socket)
 	silent := newClient(t, process.Socket)
-	var streams []grpc.ClientStream
-	for call := 0; call < calls; call++ {
-		stream, err := silent.NewStream(soon(t, 3*processes.Patience), &grpc.StreamDesc{ClientStreams: true}, "/a/silent")
-		if err != nil {
-			t.Fatal(err)
+	begins := func(count int) (streams []grpc.ClientStream) {
+		for call := 0; call < count; call++ {
+			stream, err := silent.NewStream(soon(t, 3*processes.Patience), &grpc.StreamDesc{ClientStreams: true}, "/a/silent")
+			if err != nil {
+				t.Fatal(err)
+			}
+			if err := stream.SendMsg([]byte{1}); err != nil {
+				t.Fatal(err)
+			}
+			streams = append(streams, stream)
 		}
-		if err := stream.SendMsg([]byte{1}); err != nil {
-			t.Fatal(err)
-		}
-		streams = append(streams, stream)
+		time.Sleep(200 * time.Millisecond)
+		return streams
 	}
-	time.Sleep(200 * time.Millisecond)
+	streams := begins(calls)
 	begin := time.Now()
 	newClient(t, process.Socket).wants(t, probe, "", ok(ready))
 	if spent := time.Since(begin); spent < 200*time.Millisecond || spent > processes.Patience/4 {
 		t.Errorf("served after %v", spent)
 	}
-	served := 0
-	for _, stream := range streams {
-		var body []byte
-		stream.CloseSend()
-		if err := stream.RecvMsg(&body); err == nil {
-			served++
-		} else if status.Code(err) != codes.Unavailable || !strings.Contains(err.Error(), "the message did not come in time, and other calls wait") {
-			t.Error(err)
+	ends := func(streams []grpc.ClientStream) (served int) {
+		for _, stream := range streams {
+			var body []byte
+			stream.CloseSend()
+			if err := stream.RecvMsg(&body); err == nil {
+				served++
+			} else if status.Code(err) != codes.Unavailable || !strings.Contains(err.Error(), "the message did not come in time, and other calls wait") {
+				t.Error(err)
+			}
 		}
+		return served
 	}
-	if served == 0 || served >= places {
-		t.Errorf("%d were served", served)
+	if served := ends(streams); served >= places {
+		t.Errorf("%d of those that others wait behind were served", served)
+	}
+	if served := ends(begins(places)); served != places {
+		t.Errorf("%d of those that nobody waits behind were served", served)
 	}
 }
 
@@ -174,6 +182,25 @@ func TestHeadersThatAreTooLong(t *testing.T) {
 	csid.sees(t, "/a/short ", "/a/then ")
 }
 
+// How many calls a client may have, what of a message it may send before that is received, and how long its headers may be, is told as it connects.
+func TestBoundsOfAClient(t *testing.T) {
+	t.Parallel()
+	conn, framer := speak(t, processes.StartFront(t, startFake(t).socket).Socket)
+	defer conn.Close()
+	frame, err := framer.ReadFrame()
+	settings, is := frame.(*http2.SettingsFrame)
+	if err != nil || !is {
+		t.Fatalf("%v, %v", frame, err)
+	}
+	for setting, want := range map[http2.SettingID]uint32{
+		http2.SettingMaxConcurrentStreams: 256, http2.SettingInitialWindowSize: 64 << 10, http2.SettingMaxHeaderListSize: 16 << 10,
+	} {
+		if got, is := settings.Value(setting); !is || got != want {
+			t.Errorf("%v is %d, wanted %d", setting, got, want)
+		}
+	}
+}
+
 // Of calls with long headers, as no client of gRPC sends them, nothing is kept.
 func TestManyLongHeaders(t *testing.T) {
 	t.Parallel()
@@ -203,7 +230,7 @@ func speak(t *testing.T, socket string) (net.Conn, *http2.Framer) {
 	if _, err := conn.Write([]byte(http2.ClientPreface)); err != nil {
 		t.Fatal(err)
 	}
-	framer := http2.NewFramer(conn, nil)
+	framer := http2.NewFramer(conn, conn)
 	framer.WriteSettings()
 	return conn, framer
 }

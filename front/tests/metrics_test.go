@@ -168,6 +168,8 @@ func TestMetricsBeforeAnyCall(t *testing.T) {
 			t.Errorf("%s is %q", name, got[name])
 		}
 	}
+	// Without --standby it is not told: the alerts count the fronts that have it.
+	wantsSeries(t, got, "csid_front_standing_by", nil)
 }
 
 // The version is told, and what Go and the process take.
@@ -242,9 +244,18 @@ func TestMetricsWhileCsidStandsStill(t *testing.T) {
 	bucket := func(bound string) string {
 		return series(t, monitor)[`csid_front_call_duration_seconds_bucket{method="`+probe+`",le="`+bound+`"}`]
 	}
-	if short, long := bucket("2.5"), bucket("60"); short != "0" || long != "3" {
-		t.Errorf("%s calls took 2.5 seconds at most, %s took 60", short, long)
+	if least, short, long := bucket("0.001"), bucket("2.5"), bucket("60"); least != "0" || short != "0" || long != "3" {
+		t.Errorf("%s calls took a millisecond at most, %s took 2.5 seconds, %s took 60", least, short, long)
 	}
+}
+
+// A capacity that is not told in time is left out, and the scrape is answered all the same.
+func TestMetricsWithoutACapacityInTime(t *testing.T) {
+	t.Parallel()
+	_, monitor := watched(t, startFake(t, step{write: okFrame(ready)}, step{mute: true}).socket)
+	got := series(t, monitor)
+	wantsSeries(t, got, "csid_front_csid_up", map[string]string{"csid_front_csid_up": "1"})
+	wantsSeries(t, got, "csid_front_available_capacity_bytes", nil)
 }
 
 // While csid stands still, scrapes beyond the fourth are turned away.

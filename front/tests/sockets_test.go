@@ -6,6 +6,7 @@ import (
 	"os/exec"
 	"path/filepath"
 	"strings"
+	"syscall"
 	"testing"
 	"time"
 
@@ -157,10 +158,34 @@ func TestTermBehindAnotherFront(t *testing.T) {
 	newClient(t, second.Socket).wants(t, probe, "", ok(ready))
 }
 
+// Either signal ends a front on which no call runs.
 func TestTermWithoutACall(t *testing.T) {
 	t.Parallel()
-	csid := startFake(t)
-	process := processes.StartFront(t, csid.socket)
+	for _, asked := range []os.Signal{syscall.SIGTERM, syscall.SIGINT} {
+		csid := startFake(t)
+		process := processes.StartFront(t, csid.socket)
+		newClient(t, process.Socket).wants(t, probe, "", ok(ready))
+		if err := process.Process.Signal(asked); err != nil {
+			t.Fatal(err)
+		}
+		if status := process.Status(t); status != 0 || process.Log.String() != "" {
+			t.Errorf("%v: status %d, logged %q", asked, status, process.Log)
+		}
+		if _, err := os.Lstat(process.Socket); !os.IsNotExist(err) {
+			t.Errorf("%v: the socket: %v", asked, err)
+		}
+	}
+}
+
+// A client that never says anything has no call, so it cuts none off, and does not use up the grace.
+func TestTermWithAClientThatSaysNothing(t *testing.T) {
+	t.Parallel()
+	process := processes.StartFront(t, startFake(t).socket, "--grace", "1h")
+	silent, err := net.Dial("unix", process.Socket)
+	if err != nil {
+		t.Fatal(err)
+	}
+	defer silent.Close()
 	newClient(t, process.Socket).wants(t, probe, "", ok(ready))
 	process.Terminate(t)
 	if status := process.Status(t); status != 0 || process.Log.String() != "" {
@@ -225,5 +250,14 @@ func TestVersion(t *testing.T) {
 		if err != nil || string(said) != name+" "+string(number) {
 			t.Errorf("%s said %q, %v", name, said, err)
 		}
+	}
+}
+
+// Who asks for help is shown it, and that is no fault.
+func TestHelp(t *testing.T) {
+	t.Parallel()
+	said, err := exec.Command(processes.FrontProgram(t), "--help").Output()
+	if err != nil || !strings.Contains(string(said), "\nusage: front --csid PATH ") {
+		t.Errorf("said %q, %v", said, err)
 	}
 }

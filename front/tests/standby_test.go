@@ -107,6 +107,27 @@ func TestTermWhileItWaits(t *testing.T) {
 	}
 }
 
+// A front whose socket, or whose address of metrics, is another one's ends as it does without --standby, and says why.
+func TestStandbyThatFindsAnother(t *testing.T) {
+	t.Parallel()
+	csid := startFake(t)
+	other, monitor := watched(t, csid.socket)
+	address := strings.TrimPrefix(monitor, "http://")
+	rows := []struct{ words, line string }{
+		{"--listen " + other.Socket, "front: " + other.Socket + ": somebody answers on it already"},
+		{"--listen " + other.Socket + ".new --metrics " + address, "front: --metrics: listen tcp " + address + ": bind: address already in use"},
+	}
+	for _, row := range rows {
+		words := append([]string{"--csid", csid.socket, "--standby", "1m"}, strings.Fields(row.words)...)
+		front := processes.Start(t, "", exec.Command(processes.FrontProgram(t), words...))
+		if status := front.Status(t); status != 7 {
+			t.Errorf("%s: status %d", row.words, status)
+		}
+		says(t, front, row.line)
+	}
+	newClient(t, other.Socket).wants(t, probe, "", ok(ready))
+}
+
 // Where csid closes each connection for so long, the front ends, and its socket is gone. A connection that is closed is no sign of life.
 func TestStandbyEnds(t *testing.T) {
 	t.Parallel()

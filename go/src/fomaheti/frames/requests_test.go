@@ -26,6 +26,20 @@ func TestGoodRequests(t *testing.T) {
 	}
 }
 
+// The greatest parts of a call are read, and a place behind them counts all of their bytes.
+func TestGreatestRequest(t *testing.T) {
+	want := Request{strings.Repeat("~", 128), make([]byte, 1048576)}
+	frame := append(RequestHead(want.Path, len(want.Message)), want.Message...)
+	requests := NewRequests(bytes.NewReader(append(frame, 0, 0)))
+	got, err := requests.Next()
+	if err != nil || got.Path != want.Path || !bytes.Equal(got.Message, want.Message) {
+		t.Errorf("%.10s, %d bytes, %v", got.Path, len(got.Message), err)
+	}
+	if _, err := requests.Next(); err != (Fault{"bad path length", 2 + 128 + 1 + 4 + 1048576}) {
+		t.Errorf("the fault behind it: %v", err)
+	}
+}
+
 // slowReader gives one byte a read.
 type slowReader struct{ io.Reader }
 

@@ -1,6 +1,7 @@
 package sockets
 
 import (
+	"net"
 	"os"
 	"path/filepath"
 	"testing"
@@ -30,6 +31,27 @@ func TestListenWaitsForTheFolder(t *testing.T) {
 	folder.Close()
 	if listener := <-made; listener != nil {
 		listener.Close()
+	}
+}
+
+// A socket of which a connection does not tell that nobody answers stays: here one of datagrams, that is in use.
+func TestSocketOfAnotherKindStays(t *testing.T) {
+	path := filepath.Join(t.TempDir(), "csi.sock")
+	other, err := net.ListenUnixgram("unixgram", &net.UnixAddr{Name: path, Net: "unixgram"})
+	if err != nil {
+		t.Fatal(err)
+	}
+	defer other.Close()
+	before, err := os.Lstat(path)
+	if err != nil {
+		t.Fatal(err)
+	}
+	if socket, err := Listen(path); err == nil {
+		socket.Close()
+		t.Error("a socket was made in its place")
+	}
+	if after, err := os.Lstat(path); err != nil || !os.SameFile(before, after) {
+		t.Errorf("%v, %v", after, err)
 	}
 }
 
