@@ -82,6 +82,25 @@ func TestEndedContext(t *testing.T) {
 	}
 }
 
+// Nor is a call sent whose context ended before its turn, also where a connection is there.
+func TestEndedContextOverAConnection(t *testing.T) {
+	path, _ := csid(t, answering(notFound))
+	b := newBackend(path, time.Minute)
+	wants(t, b, codes.NotFound)
+	ctx, cancel := context.WithCancel(context.Background())
+	cancel()
+	before := b.life.shown
+	// Each one has its turn at once, or is over at once: by chance.
+	for call := 0; call < 50; call++ {
+		if _, err := b.call(ctx, "/a/b", nil); err != context.Canceled {
+			t.Errorf("%v", err)
+		}
+	}
+	if err := b.takeTurn(soon(t)); err != nil || b.life.shown != before {
+		t.Errorf("%v, and a reply came: %v", err, b.life.shown != before)
+	}
+}
+
 // A late reply, also one that comes in parts, is no reply of the next call, and its connection stays.
 func TestLateReply(t *testing.T) {
 	gone := make(chan struct{}, 1)

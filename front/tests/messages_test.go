@@ -51,6 +51,34 @@ func TestMessagesThatWait(t *testing.T) {
 	}
 }
 
+// The room of a call is there again however it ended: refused, lost or given up.
+func TestRoomBehindCallsThatFail(t *testing.T) {
+	t.Parallel()
+	let := make(chan struct{})
+	csid := startFake(t, step{write: refusalFrame(9, "volume is in use")}, step{close: true}, step{wait: let, write: okFrame("01")})
+	process := processes.StartFront(t, csid.socket, "--waiting", "1")
+	front := newClient(t, process.Socket)
+	message := make([]byte, 1048576)
+	for _, code := range []codes.Code{codes.FailedPrecondition, codes.Unavailable} {
+		if got := front.send(soon(t, processes.Patience), "/a/b", message); got.code != code || strings.Contains(got.text, "all calls that wait") {
+			t.Errorf("%v, wanted %v", got, code)
+		}
+	}
+	ctx, cancel := context.WithCancel(context.Background())
+	go func() {
+		csid.called(t, 3)
+		cancel()
+	}()
+	if got := front.send(ctx, "/a/b", message); got.code != codes.Canceled {
+		t.Errorf("%v, wanted CANCELLED", got)
+	}
+	processes.Eventually(t, "the call in the log", func() bool { return gaveUp(process, "/a/b") })
+	close(let)
+	if got := front.send(soon(t, processes.Patience), "/a/b", message); got != ok(ready) {
+		t.Errorf("%v", got)
+	}
+}
+
 // Many clients with many great messages take no more memory than the bound and what gRPC has on the way.
 func TestManyGreatMessages(t *testing.T) {
 	t.Parallel()

@@ -88,10 +88,12 @@ func TestReplyWritten(t *testing.T) {
 		{Reply{codes.OK, "", []byte{0x0a, 2, 8, 1}}, "00 0000 00 00000004 0a020801"},
 		{Reply{codes.FailedPrecondition, " !}~", nil}, "09 0004 20217d7e 00 00000000"},
 		{Reply{codes.OK, "", make([]byte, 258)}, "00 0000 00 00000102" + strings.Repeat("00", 258)},
+		{Reply{codes.OK, "", make([]byte, 4194304)}, "00 0000 00 00400000" + strings.Repeat("00", 4194304)},
+		{Reply{codes.Internal, strings.Repeat("a", 1024), nil}, "0d 0400" + strings.Repeat("61", 1024) + "00 00000000"},
 	}
 	for _, row := range rows {
 		if got := row.reply.Append(nil); !bytes.Equal(got, fromHex(t, row.want)) {
-			t.Errorf("%x, wanted %s", got, row.want)
+			t.Errorf("%.40x, wanted %.80s", got, row.want)
 		}
 	}
 }
