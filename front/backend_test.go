@@ -337,8 +337,12 @@ func TestPauses(t *testing.T) {
 		t.Errorf("the first: %v", got)
 	}
 	p.failed()
+	begin := time.Now()
 	if got := wait(); got < 150*time.Millisecond {
 		t.Errorf("behind a failure: %v", got)
+	}
+	if got := p.last.Sub(begin); got < 150*time.Millisecond {
+		t.Errorf("the next pause begins %v behind the beginning of this one", got)
 	}
 	for i := 0; i < 10; i++ {
 		p.failed()
