@@ -2,6 +2,7 @@ package main
 
 import (
 	"context"
+	"io"
 	"net"
 	"net/http"
 	"net/http/httptest"
@@ -94,6 +95,18 @@ func TestWatchBehindAStandstill(t *testing.T) {
 			t.Fatal(err)
 		case <-time.After(time.Millisecond):
 		}
+	}
+}
+
+// A Probe has what is left of the bound, and no more.
+func TestTimeOfAProbe(t *testing.T) {
+	const limit, left = 5 * time.Second, 500 * time.Millisecond
+	path, _ := csid(t, func(conn net.Conn) { io.Copy(io.Discard, conn) })
+	h := inFront(path)
+	begin := time.Now()
+	h.backend.life.shown = begin.Add(left - limit)
+	if err := h.watch(limit); err == nil || time.Since(begin) < left || time.Since(begin) > limit-left {
+		t.Errorf("%v after %v", err, time.Since(begin))
 	}
 }
 
