@@ -162,6 +162,7 @@ func TestLateReplyThatNeverComes(t *testing.T) {
 func TestCallThatIsNeverRead(t *testing.T) {
 	listener, path := listening(t)
 	unread := make(chan net.Conn, 1)
+	ctx, cancel := context.WithCancel(context.Background())
 	go func() {
 		for {
 			conn, err := listener.Accept()
@@ -170,18 +171,20 @@ func TestCallThatIsNeverRead(t *testing.T) {
 			}
 			select {
 			case unread <- conn:
+				cancel()
 			default:
 				go answering(notFound)(conn)
 			}
 		}
 	}()
 	b := newBackend(path, 100*time.Millisecond)
-	ctx, cancel := context.WithTimeout(context.Background(), 20*time.Millisecond)
-	defer cancel()
-	b.call(ctx, "/a/b", make([]byte, frames.MaxMessageBytes))
-	if _, err := b.call(soon(t), "/a/b", nil); err == nil || err.Error() != "an earlier call was given up, and no reply to it came within 100ms" {
-		t.Errorf("a call that came before: %v", err)
+	if _, err := b.call(ctx, "/a/b", make([]byte, frames.MaxMessageBytes)); err != context.Canceled {
+		t.Errorf("%v", err)
 	}
+	if err := b.takeTurn(soon(t)); err != nil {
+		t.Fatalf("it still has the turn: %v", err)
+	}
+	<-b.turn
 	wants(t, b, codes.NotFound)
 	(<-unread).Close()
 }
@@ -205,17 +208,19 @@ func TestConnectionsThatCannotBeMade(t *testing.T) {
 // A late reply shows as any other that csid lives.
 func TestLateReplyIsASignOfLife(t *testing.T) {
 	gone := make(chan struct{})
+	ctx, cancel := context.WithCancel(context.Background())
 	path, _ := csid(t, func(conn net.Conn) {
 		if isCalled(conn) {
+			cancel()
 			<-gone
 			conn.Write(notFound)
 		}
 		isCalled(conn)
 	})
 	b := newBackend(path, time.Minute)
-	ctx, cancel := context.WithTimeout(context.Background(), 20*time.Millisecond)
-	defer cancel()
-	b.call(ctx, "/a/b", nil)
+	if _, err := b.call(ctx, "/a/b", nil); err != context.Canceled {
+		t.Errorf("%v", err)
+	}
 	before := b.life.silence()
 	close(gone)
 	if err := b.takeTurn(soon(t)); err != nil {

@@ -113,17 +113,18 @@ func TestTimeOfAProbe(t *testing.T) {
 // While the front waits it asks once a second, however soon it is answered.
 func TestPauseWhileItWaits(t *testing.T) {
 	asked := int32(0)
+	ctx, cancel := context.WithCancel(context.Background())
 	path, _ := csid(t, func(conn net.Conn) {
 		for answerOnce(conn, fromHex(t, "00 0000 00 00000004 0a020800")) {
-			atomic.AddInt32(&asked, 1)
+			if atomic.AddInt32(&asked, 1) == 1 {
+				time.AfterFunc(200*time.Millisecond, cancel)
+			}
 		}
 	})
-	ctx, cancel := context.WithTimeout(context.Background(), 300*time.Millisecond)
-	defer cancel()
 	begin := time.Now()
 	inFront(path).await(ctx)
-	if most := 1 + int32(time.Since(begin)/time.Second); asked < 1 || asked > most {
-		t.Errorf("asked %d times within %v", asked, time.Since(begin))
+	if got, most := atomic.LoadInt32(&asked), 1+int32(time.Since(begin)/time.Second); got > most {
+		t.Errorf("asked %d times within %v", got, time.Since(begin))
 	}
 }
 
