@@ -8,7 +8,7 @@ import (
 	"time"
 )
 
-// Of two processes that start together the second looks at the socket only when the first has made it.
+// Of two processes that start together the second looks at the socket only when the first has made it, and one that ends looks only when the second has.
 func TestListenWaitsForTheFolder(t *testing.T) {
 	path := filepath.Join(t.TempDir(), "csi.sock")
 	folder, err := lockedFolder(path)
@@ -29,9 +29,25 @@ func TestListenWaitsForTheFolder(t *testing.T) {
 	case <-time.After(50 * time.Millisecond):
 	}
 	folder.Close()
-	if listener := <-made; listener != nil {
-		listener.Close()
+	listener := <-made
+	if listener == nil {
+		return
 	}
+	if folder, err = lockedFolder(path); err != nil {
+		t.Fatal(err)
+	}
+	ended := make(chan struct{})
+	go func() {
+		listener.Close()
+		close(ended)
+	}()
+	select {
+	case <-ended:
+		t.Error("the folder is locked, and a socket was removed")
+	case <-time.After(50 * time.Millisecond):
+	}
+	folder.Close()
+	<-ended
 }
 
 // A socket of which a connection does not tell that nobody answers stays: here one of datagrams, that is in use.
