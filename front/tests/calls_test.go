@@ -119,7 +119,7 @@ func TestLateReplyThatIsWrong(t *testing.T) {
 func TestLateReplyThatNeverComes(t *testing.T) {
 	t.Parallel()
 	csid := startFake(t, step{write: okFrame("")}, step{mute: true})
-	front := newClient(t, processes.StartFront(t, csid.socket, "--late", "500ms").Socket)
+	front := newClient(t, processes.StartFront(t, csid.socket, "--late", "500ms", "--grace", "1h").Socket)
 	front.wants(t, "/a/b", "", ok(""))
 	for call := 0; call < 3; call++ {
 		if got := front.send(soon(t, 100*time.Millisecond), "/a/c", nil); got.code != codes.DeadlineExceeded {
