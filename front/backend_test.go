@@ -239,6 +239,17 @@ func TestLoneCallWithAShortDeadline(t *testing.T) {
 	wants(t, b, codes.NotFound)
 }
 
+// holdsUpNobody looks that the pause is the least one, and that a call that came so early is told of no failure.
+func holdsUpNobody(t *testing.T, b *backend, came time.Time) {
+	t.Helper()
+	if b.pace.pause != leastPause {
+		t.Errorf("a pause of %v", b.pace.pause)
+	}
+	if _, err := b.ready(soon(t), came); err != nil {
+		t.Errorf("a call that came before: %v", err)
+	}
+}
+
 // A reply ends what a failure began: the pause is the least one again, and a call that came before both is told of neither.
 func TestReplyBehindAFailure(t *testing.T) {
 	path, _ := csid(t, answering([]byte{13, 0, 0, 0, 0, 0, 0, 0}))
@@ -246,12 +257,7 @@ func TestReplyBehindAFailure(t *testing.T) {
 	came := time.Now()
 	b.failed(errUnanswered)
 	wants(t, b, codes.Internal)
-	if b.pace.pause != leastPause {
-		t.Errorf("a pause of %v", b.pace.pause)
-	}
-	if _, err := b.ready(soon(t), came); err != nil {
-		t.Errorf("a call that came before: %v", err)
-	}
+	holdsUpNobody(t, b, came)
 }
 
 // A connection that gave a reply, and is closed unanswered later, costs the call that was on its way, and neither a pause nor the calls that wait.
@@ -268,12 +274,7 @@ func TestConnectionThatEndsBehindAReply(t *testing.T) {
 	if _, err := b.call(soon(t), "/a/b", nil); err != errUnanswered {
 		t.Errorf("the call that was on its way: %v", err)
 	}
-	if b.pace.pause != leastPause {
-		t.Errorf("a pause of %v", b.pace.pause)
-	}
-	if _, err := b.ready(soon(t), came); err != nil {
-		t.Errorf("a call that waited: %v", err)
-	}
+	holdsUpNobody(t, b, came)
 }
 
 // Behind status 13 the next call has another connection.
