@@ -8,9 +8,8 @@ use Rattle.sqlite.specs.Tree.{Trees}
 use Rattle.sqlite_catalog.specs.Listing.{IsSound}
 use Rattle.csi_config.specs.declared.config.Config.{Config}
 use Rattle.csi_keeper.specs.Invariant.{IsInvariant}
-use Rattle.csi_keeper.specs.State.{State}
+use Rattle.csi_keeper.specs.State.{State, first_state}
 use Rattle.csi_keeper.specs.declared.totals.Totals.{Totals}
-use Rattle.csi_keeper.specs.Memory.{first_state}
 use Rattle.csi_schema.specs.Making.{MakesTables}
 use Rattle.csi_schema.specs.Tables.{no_schema, schema}
 use Rattle.csi_schema.specs.Transactions.{LeavesFrom}

@@ -9,8 +9,7 @@ use Rattle.sqlite.specs.Tree.{Trees}
 use Rattle.sqlite_catalog.specs.Listing.{IsSound}
 use Rattle.csi_config.specs.declared.config.Config.{Config}
 use Rattle.csi_keeper.specs.Invariant.{IsInvariant}
-use Rattle.csi_keeper.specs.Memory.{first_state}
-use Rattle.csi_keeper.specs.State.{State, sizes}
+use Rattle.csi_keeper.specs.State.{State, sizes, first_state}
 use Rattle.csi_keeper.specs.Totals.{the_total, AreTotals}
 use Rattle.csi_keeper.specs.declared.totals.Totals.{Totals}
 use Rattle.csi_schema.specs.Making.{MakesTables}

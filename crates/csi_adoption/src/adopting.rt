@@ -9,8 +9,7 @@ ghost use Rattle.csi_transactions.specs.Rows.{Changes, IsUndone, Leaves, SetsFor
 ghost use Rattle.sqlite.specs.Tree.{Trees};
 ghost use Rattle.sqlite_catalog.specs.Listing.{IsSound};
 ghost use Rattle.csi_keeper.specs.Invariant.{IsInvariant};
-ghost use Rattle.csi_keeper.specs.Memory.{first_state};
-ghost use Rattle.csi_keeper.specs.State.{State};
+ghost use Rattle.csi_keeper.specs.State.{State, first_state};
 ghost use Rattle.csi_tables.specs.Holding.{IsEitherRows};
 ghost use Rattle.csi_adoption.specs.Adopting.{FoundState, IsAdopted, IsFound, IsNotRefused, IsTaken, IsUnadopted, LeavesLatest};
 ghost use Rattle.csi_adoption.specs.Scanning.{Scans};

@@ -1,7 +1,7 @@
 //! What a reply says, as lines.
 
 ghost use Rattle.std.specs.Prelude.{◌≡◌, ◌++◌, ℕ, IfErr, IfOk, OnOk, Some, Err, codes, decimal};
-ghost use Rattle.csi_codec.specs.declared.message.DecodeFault.TheVariants.{Malformed};
+ghost use Rattle.pbmessage.specs.declared.message.DecodeFault.TheVariants.{Malformed};
 ghost use Rattle.csi_types.specs.Codes.{name_of, number_of};
 ghost use Rattle.csi_types.specs.declared.code.Code.{Code};
 ghost use Rattle.frames_core.specs.Envelope.{reply_bytes_of};
@@ -10,10 +10,11 @@ ghost use Rattle.csi_client.specs.Replies.{content, first_line, body_lines};
 ghost use Rattle.csi_client.specs.Showing.{IsBad, IsBadAt};
 
 use crate::lines::put_lines;
-use csi_codec::{DecodeFault, decode_response};
+use csi_codec::decode_response;
 use csi_types::{Code, Method, Response};
 use frames_core::Reply;
 use itoa::Buffer;
+use pbmessage::DecodeFault;
 use std::alloc::{AllocError, Global};
 
 fn put_status(out: &mut Vec<u8>, status: u8) -> Result<(), AllocError>

@@ -2,7 +2,7 @@
 
 ghost use Rattle.std.specs.Prelude.{◌≡◌, ◌<◌, ◌+◌, ◌^◌, ◌++◌, ◌||◌, ⊤, ℕ, List, Option, Err, OnOk, length};
 ghost use Rattle.std.specs.Io.KnownBytes.{Appends};
-ghost use Rattle.csi_codec.specs.declared.message.DecodeFault.TheVariants.{Malformed};
+ghost use Rattle.pbmessage.specs.declared.message.DecodeFault.TheVariants.{Malformed};
 ghost use Rattle.csi_types.specs.Codes.{number_of};
 ghost use Rattle.csi_types.specs.declared.code.Code.{Code};
 ghost use Rattle.csi_types.specs.declared.code.Code.TheVariants as Code;
@@ -12,9 +12,9 @@ ghost use Rattle.csi_client.specs.Showing.{IsBad, is_refusal, Ended, Shows};
 ghost use Rattle.csi_client.specs.Live.{ShowsOne, end_of, IsReady, Live, Steps, AdvancesBy, IsAllFed};
 
 use crate::replies::{put_body_lines, put_reply_line};
-use csi_codec::DecodeFault;
 use csi_types::Method;
 use frames_core::{Reply, ReplyFault, ReplyFramer};
+use pbmessage::DecodeFault;
 use std::alloc::Global;
 use std::io::{self, Read, Write};
 

@@ -3,13 +3,13 @@ use Rattle.std.proofs.Common.{◌≡◌, ℤ, true, Option, refl}
 use Rattle.csi_types.specs.declared.capability.Access.{Access}
 use Rattle.csi_types.specs.declared.capability.Access.TheVariants as variants
 use Rattle.csi_types.specs.declared.capability.Capability.{Capability}
-use Rattle.csi_codec.specs.Schema.{Good}
-use Rattle.csi_codec.specs.Canon.{rises, FitsI32, FitsOption}
+use Rattle.pbmessage.specs.Schema.{Good}
+use Rattle.pbmessage.specs.Canon.{rises, FitsI32, FitsOption}
 use Rattle.csi_codec.specs.messages.Single.{canon_number}
 use Rattle.csi_codec.specs.messages.Capability.{mount_in, mount_schema, canon_mount, FitsMount, capability_in, capability_schema, canon_capability, FitsAccess, FitsCapability}
-use Rattle.csi_codec.proofs.LowerLaws.{SpellingLaws}
-use Rattle.csi_codec.proofs.CanonLemmas.{rows_again, RoundTrip}
-use Rattle.csi_codec.proofs.SlotLemmas.{Law, text_fit, text_again, inner_fit, inner_again, option_fit, option_again, presence_fit}
+use Rattle.pbmessage.specs.facts.Laws.{SpellingLaws}
+use Rattle.pbmessage.specs.facts.Rows.{rows_again, RoundTrip}
+use Rattle.pbmessage.specs.facts.Parts.{Law, text_fit, text_again, inner_fit, inner_again, option_fit, option_again, presence_fit}
 use Rattle.csi_codec.proofs.SingleLemmas.{enum_value_law}
 
 pub mount_law : SpellingLaws → Law (Good mount_schema) mount_in canon_mount FitsMount

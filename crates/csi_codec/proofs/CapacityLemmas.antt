@@ -1,10 +1,10 @@
 -- The spelling of a capacity range means it.
 use Rattle.std.proofs.Common.{refl}
-use Rattle.csi_codec.specs.Schema.{AnyPayload, Good}
+use Rattle.pbmessage.specs.Schema.{AnyPayload, Good}
 use Rattle.csi_codec.specs.messages.Capacity.{range_in, canon_range, FitsRange}
-use Rattle.csi_codec.proofs.LowerLaws.{SpellingLaws}
-use Rattle.csi_codec.proofs.CanonLemmas.{rows_again}
-use Rattle.csi_codec.proofs.SlotLemmas.{Law, long_fit, long_again}
+use Rattle.pbmessage.specs.facts.Laws.{SpellingLaws}
+use Rattle.pbmessage.specs.facts.Rows.{rows_again}
+use Rattle.pbmessage.specs.facts.Parts.{Law, long_fit, long_again}
 
 pub range_law : SpellingLaws → Law (Good AnyPayload) range_in canon_range FitsRange
 range_law l = record { laws = l; again = λ r f. rows_again l (Good AnyPayload) range_in (canon_range r) r refl ((tt, long_fit r.required f.0), long_fit r.limit f.1) (λ i. record { required = long_again r.required f.0 i; limit = long_again r.limit f.1 i }) }

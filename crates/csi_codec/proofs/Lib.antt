@@ -1,13 +1,5 @@
-pub mod LowerLaws
-pub mod MessageLemmas
 pub mod ReadingLemmas
-pub mod ViewLemmas
-pub mod OffsetLemmas
-pub mod WritingLemmas
-pub mod EntryLemmas
-pub mod CanonLemmas
-pub mod SlotLemmas
-pub mod FieldLemmas
+pub mod MountLemmas
 pub mod SingleLemmas
 pub mod CapacityLemmas
 pub mod CapabilityLemmas

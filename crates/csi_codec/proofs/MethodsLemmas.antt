@@ -1,11 +1,11 @@
 -- The spelling of each request and each response means it.
 use Rattle.std.proofs.Common.{true, refl, ◌≡◌}
-use Rattle.csi_codec.specs.Schema.{AnyPayload, Good}
-use Rattle.csi_codec.specs.Canon.{Start, rises}
+use Rattle.pbmessage.specs.Schema.{AnyPayload, Good}
+use Rattle.pbmessage.specs.Canon.{Start, rises}
 use Rattle.csi_codec.specs.messages.Volume.{volume_schema}
-use Rattle.csi_codec.proofs.LowerLaws.{SpellingLaws}
-use Rattle.csi_codec.proofs.CanonLemmas.{rows_again}
-use Rattle.csi_codec.proofs.SlotLemmas.{mapped}
+use Rattle.pbmessage.specs.facts.Laws.{SpellingLaws}
+use Rattle.pbmessage.specs.facts.Rows.{rows_again}
+use Rattle.pbmessage.specs.facts.Parts.{mapped}
 use Rattle.csi_types.specs.declared.requests.Request.{Request}
 use Rattle.csi_types.specs.declared.requests.Request.TheVariants as request
 use Rattle.csi_types.specs.declared.method.Method.TheVariants as method

@@ -1,9 +1,9 @@
 -- The spelling of the requests on publications means it.
 use Rattle.std.proofs.Common.{refl}
-use Rattle.csi_codec.specs.Schema.{Good}
-use Rattle.csi_codec.proofs.LowerLaws.{SpellingLaws}
-use Rattle.csi_codec.proofs.CanonLemmas.{rows_again}
-use Rattle.csi_codec.proofs.SlotLemmas.{Law, text_fit, text_again, flag_fit, flag_again, option_fit, option_again, map_fit, map_again}
+use Rattle.pbmessage.specs.Schema.{Good}
+use Rattle.pbmessage.specs.facts.Laws.{SpellingLaws}
+use Rattle.pbmessage.specs.facts.Rows.{rows_again}
+use Rattle.pbmessage.specs.facts.Parts.{Law, text_fit, text_again, flag_fit, flag_again, option_fit, option_again, map_fit, map_again}
 use Rattle.csi_codec.specs.messages.PublishRequests.{publish_in, publish_schema, canon_publish, FitsPublish, unpublish_in, unpublish_schema, canon_unpublish, FitsUnpublish}
 use Rattle.csi_codec.proofs.CapabilityLemmas.{capability_law}
 

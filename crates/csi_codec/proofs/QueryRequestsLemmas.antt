@@ -1,9 +1,9 @@
 -- The spelling of the requests that ask means it.
 use Rattle.std.proofs.Common.{refl}
-use Rattle.csi_codec.specs.Schema.{Good}
-use Rattle.csi_codec.proofs.LowerLaws.{SpellingLaws}
-use Rattle.csi_codec.proofs.CanonLemmas.{rows_again}
-use Rattle.csi_codec.proofs.SlotLemmas.{Law, text_fit, text_again, enum_fit, enum_again, option_fit, option_again, messages_fit, messages_again, map_fit, map_again}
+use Rattle.pbmessage.specs.Schema.{Good}
+use Rattle.pbmessage.specs.facts.Laws.{SpellingLaws}
+use Rattle.pbmessage.specs.facts.Rows.{rows_again}
+use Rattle.pbmessage.specs.facts.Parts.{Law, text_fit, text_again, enum_fit, enum_again, option_fit, option_again, messages_fit, messages_again, map_fit, map_again}
 use Rattle.csi_codec.specs.messages.QueryRequests.{validate_in, validate_schema, canon_validate, FitsValidate, list_in, list_schema, canon_list, FitsList, capacity_in, capacity_schema, canon_capacity, FitsCapacity}
 use Rattle.csi_codec.proofs.CapabilityLemmas.{capability_law}
 use Rattle.csi_codec.proofs.TopologyLemmas.{map_law}

@@ -4,24 +4,24 @@ use Rattle.std.specs.Prelude.{IsUtf8, MatchBool, MatchResult, IfOk, IfErr}
 use Rattle.std.specs.List.{AllByRecursion}
 use Rattle.std.specs.Str.{is_utf8}
 use Rattle.std.proofs.lemmas.Bool.{eqb-true, eqb-false}
+use Rattle.std.proofs.lemmas.List.{nil_from_length}
 use Rattle.std.proofs.lemmas.Str.{IsUtf8-from_is_utf8, is_utf8-from_IsUtf8}
 use Rattle.pbwire.specs.Wire.{WireField, AreFields, Part, Number, Eight, Payload, Four}
 use Rattle.pbwire.specs.Reading.{field_at}
 use Rattle.csi_types.specs.declared.method.Method.TheVariants as method
 use Rattle.csi_types.specs.declared.requests.CreateVolume.{CreateVolume}
 use Rattle.csi_types.specs.declared.requests.Request.TheVariants as request
-use Rattle.csi_codec.specs.declared.message.DecodeFault.{DecodeFault}
-use Rattle.csi_codec.specs.declared.message.DecodeFault.TheVariants as fault
-use Rattle.csi_codec.specs.Fields.{AreGood, IsRefusedAt, Means, Refuses}
-use Rattle.csi_codec.proofs.LowerLaws.{FieldLaws}
-use Rattle.csi_codec.specs.Views.{Views, value_of}
-use Rattle.csi_codec.specs.Schema.{Schema, AnyPayload, TextAt, MessageAt, Good, GoodField}
+use Rattle.pbmessage.specs.declared.message.DecodeFault.{DecodeFault}
+use Rattle.pbmessage.specs.declared.message.DecodeFault.TheVariants as fault
+use Rattle.pbmessage.specs.Fields.{AreGood, IsRefusedAt, Means, Refuses}
+use Rattle.pbmessage.specs.facts.Laws.{FieldLaws}
+use Rattle.pbmessage.specs.Views.{Views, value_of}
+use Rattle.pbmessage.specs.Schema.{Schema, AnyPayload, TextAt, MessageAt, Good, GoodField}
 use Rattle.csi_codec.specs.Reading.{Scan, scan_from, scan, is_whole, passes_field, passes, value_or_offset, read_message, as_create, Decodes}
 use Rattle.csi_codec.specs.Methods.{request_schema, request_in}
 use Rattle.csi_codec.specs.messages.VolumeRequests.{create_schema, create_in}
-use Rattle.csi_codec.proofs.FieldLemmas.{Reads, Read, same_read, nothing_read, read_are, one_value}
-use Rattle.csi_codec.proofs.MessageLemmas.{nil_long}
-use Rattle.csi_codec.proofs.OffsetLemmas.{Stops, not_both, refused, same_offset}
+use Rattle.pbmessage.specs.facts.Fields.{Reads, Read, same_read, nothing_read, read_are, one_value}
+use Rattle.pbmessage.specs.facts.Offsets.{Stops, not_both, refused, same_offset}
 
 -- the test answers the question
 abbrev Answers : Bool → Type 0 → Type 0
@@ -39,7 +39,7 @@ ended good bytes none = record { reads = refl; each = tt; within = omega arith; 
 
 scan_is : FieldLaws → (good : WireField → Type 0) (test : WireField → Bool) → ((e : WireField) → Answers (test e) (good e)) → (k : ℕ) (bytes : List ℕ) → length bytes ≤ k → Scanned good bytes (scan test k bytes)
 unfolding scan
-scan_is l good test decides zero bytes le = ended good bytes (λ e mid is g. nothing_read bytes (e, mid) (nil_long bytes (omega arith)) is)
+scan_is l good test decides zero bytes le = ended good bytes (λ e mid is g. nothing_read bytes (e, mid) (nil_from_length bytes (omega arith)) is)
 scan_is l good test decides (suc k) bytes le = by (λ rest le. scan_is l good test decides k rest le) (field_at bytes) refl
   where
     goes_on : ((rest : List ℕ) → length rest ≤ k → Scanned good rest (scan test k rest)) → (e : WireField) (rest : List ℕ) → field_at bytes ≡ Ok (e, rest) → (b : Bool) → test e ≡ b
@@ -60,7 +60,7 @@ scan_is l good test decides (suc k) bytes le = by (λ rest le. scan_is l good te
 -- ---- what was scanned
 
 are_all : FieldLaws → (good : WireField → Type 0) (bytes : List ℕ) (s : Scan) → Scanned good bytes s → is_whole s ≡ true → AreFields s.0 bytes
-are_all l good bytes s is e = read_are l s.0 bytes (ends_at s.0 bytes s.1 (nil_long s.1 (eqb-true _ _ e)) is.reads)
+are_all l good bytes s is e = read_are l s.0 bytes (ends_at s.0 bytes s.1 (nil_from_length s.1 (eqb-true _ _ e)) is.reads)
   where
     ends_at : (es : List WireField) (bytes rest : List ℕ) → rest ≡ [] → Reads es bytes rest → Reads es bytes []
     ends_at [] bytes rest none r = r ∙ none

@@ -1,9 +1,9 @@
 -- The spelling of responses of several fields means it.
 use Rattle.std.proofs.Common.{refl}
-use Rattle.csi_codec.specs.Schema.{Good}
-use Rattle.csi_codec.proofs.LowerLaws.{SpellingLaws}
-use Rattle.csi_codec.proofs.CanonLemmas.{rows_again}
-use Rattle.csi_codec.proofs.SlotLemmas.{Law, text_fit, text_again, long_fit, long_again, option_fit, option_again, messages_fit, messages_again}
+use Rattle.pbmessage.specs.Schema.{Good}
+use Rattle.pbmessage.specs.facts.Laws.{SpellingLaws}
+use Rattle.pbmessage.specs.facts.Rows.{rows_again}
+use Rattle.pbmessage.specs.facts.Parts.{Law, text_fit, text_again, long_fit, long_again, option_fit, option_again, messages_fit, messages_again}
 use Rattle.csi_codec.specs.messages.ResponseParts.{info_in, info_schema, canon_info, FitsInfo, validation_in, validation_schema, canon_validation, FitsValidation, listing_in, listing_schema, canon_listing, FitsListing, free_in, free_schema, canon_free, FitsFree}
 use Rattle.csi_codec.proofs.SingleLemmas.{int64_value_law}
 use Rattle.csi_codec.proofs.VolumeLemmas.{entry_law, confirmed_law}

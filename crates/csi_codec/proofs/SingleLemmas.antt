@@ -1,12 +1,12 @@
 -- The spelling of messages of one field means it.
 use Rattle.std.proofs.Common.{refl}
-use Rattle.csi_codec.specs.Schema.{Schema, AnyPayload, Good}
-use Rattle.csi_codec.specs.Views.{Views}
-use Rattle.csi_codec.specs.Canon.{Rows, FitsI64, FitsI32, FitsOption}
+use Rattle.pbmessage.specs.Schema.{Schema, AnyPayload, Good}
+use Rattle.pbmessage.specs.Views.{Views}
+use Rattle.pbmessage.specs.Canon.{Rows, FitsI64, FitsI32, FitsOption}
 use Rattle.csi_codec.specs.messages.Single.{bool_value_in, canon_bool_value, FitsBoolValue, int64_value_in, enum_value_in, canon_number, only_in, only_schema, canon_only, types_in, types_schema, canon_types, FitsTypes}
-use Rattle.csi_codec.proofs.LowerLaws.{SpellingLaws}
-use Rattle.csi_codec.proofs.CanonLemmas.{rows_again}
-use Rattle.csi_codec.proofs.SlotLemmas.{Law, long_fit, long_again, enum_fit, enum_again, flag_fit, flag_again, option_fit, option_again, messages_fit, messages_again}
+use Rattle.pbmessage.specs.facts.Laws.{SpellingLaws}
+use Rattle.pbmessage.specs.facts.Rows.{rows_again}
+use Rattle.pbmessage.specs.facts.Parts.{Law, long_fit, long_again, enum_fit, enum_again, flag_fit, flag_again, option_fit, option_again, messages_fit, messages_again}
 
 pub bool_value_law : SpellingLaws → Law (Good AnyPayload) bool_value_in canon_bool_value FitsBoolValue
 bool_value_law l = record { laws = l; again = λ b f. rows_again l (Good AnyPayload) bool_value_in (canon_bool_value b) b refl (tt, flag_fit b) (flag_again b) }

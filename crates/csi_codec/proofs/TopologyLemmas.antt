@@ -1,11 +1,11 @@
 -- The spelling of topologies means it.
 use Rattle.std.proofs.Common.{refl}
-use Rattle.csi_codec.specs.Schema.{Good}
-use Rattle.csi_codec.specs.Canon.{FitsMap}
+use Rattle.pbmessage.specs.Schema.{Good}
+use Rattle.pbmessage.specs.Canon.{FitsMap}
 use Rattle.csi_codec.specs.messages.Topology.{map_in, map_schema, canon_map, requirement_in, requirement_schema, canon_requirement, FitsRequirement}
-use Rattle.csi_codec.proofs.LowerLaws.{SpellingLaws}
-use Rattle.csi_codec.proofs.CanonLemmas.{rows_again}
-use Rattle.csi_codec.proofs.SlotLemmas.{Law, messages_fit, messages_again, map_fit, map_again}
+use Rattle.pbmessage.specs.facts.Laws.{SpellingLaws}
+use Rattle.pbmessage.specs.facts.Rows.{rows_again}
+use Rattle.pbmessage.specs.facts.Parts.{Law, messages_fit, messages_again, map_fit, map_again}
 
 pub map_law : SpellingLaws → Law (Good map_schema) map_in canon_map FitsMap
 map_law l = record { laws = l; again = λ m f. rows_again l (Good map_schema) map_in (canon_map m) m refl (tt, map_fit l m f) (map_again l m f) }

@@ -1,11 +1,11 @@
 -- The spelling of a volume, and of what responses say of volumes means it.
 use Rattle.std.proofs.Common.{refl}
-use Rattle.csi_codec.specs.Schema.{Good}
-use Rattle.csi_codec.specs.Canon.{FitsTexts}
+use Rattle.pbmessage.specs.Schema.{Good}
+use Rattle.pbmessage.specs.Canon.{FitsTexts}
 use Rattle.csi_codec.specs.messages.Volume.{volume_in, volume_schema, canon_volume, FitsVolume, nodes_in, nodes_schema, canon_nodes, entry_in, entry_schema, canon_entry, FitsEntry, confirmed_in, confirmed_schema, canon_confirmed, FitsConfirmed}
-use Rattle.csi_codec.proofs.LowerLaws.{SpellingLaws}
-use Rattle.csi_codec.proofs.CanonLemmas.{rows_again}
-use Rattle.csi_codec.proofs.SlotLemmas.{Law, text_fit, text_again, long_fit, long_again, option_fit, option_again, messages_fit, messages_again, map_fit, map_again}
+use Rattle.pbmessage.specs.facts.Laws.{SpellingLaws}
+use Rattle.pbmessage.specs.facts.Rows.{rows_again}
+use Rattle.pbmessage.specs.facts.Parts.{Law, text_fit, text_again, long_fit, long_again, option_fit, option_again, messages_fit, messages_again, map_fit, map_again}
 use Rattle.csi_codec.proofs.CapabilityLemmas.{capability_law}
 use Rattle.csi_codec.proofs.TopologyLemmas.{map_law}
 

@@ -1,9 +1,9 @@
 -- The spelling of the requests on volumes means it.
 use Rattle.std.proofs.Common.{refl}
-use Rattle.csi_codec.specs.Schema.{Good}
-use Rattle.csi_codec.proofs.LowerLaws.{SpellingLaws}
-use Rattle.csi_codec.proofs.CanonLemmas.{rows_again}
-use Rattle.csi_codec.proofs.SlotLemmas.{Law, text_fit, text_again, option_fit, option_again, messages_fit, messages_again, presence_fit, map_fit, map_again, presence_again}
+use Rattle.pbmessage.specs.Schema.{Good}
+use Rattle.pbmessage.specs.facts.Laws.{SpellingLaws}
+use Rattle.pbmessage.specs.facts.Rows.{rows_again}
+use Rattle.pbmessage.specs.facts.Parts.{Law, text_fit, text_again, option_fit, option_again, messages_fit, messages_again, presence_fit, map_fit, map_again, presence_again}
 use Rattle.csi_codec.specs.messages.VolumeRequests.{create_in, create_schema, canon_create, FitsCreate, delete_in, delete_schema, canon_delete, FitsDelete, modify_in, modify_schema, canon_modify, FitsModify}
 use Rattle.csi_codec.proofs.CapacityLemmas.{range_law}
 use Rattle.csi_codec.proofs.CapabilityLemmas.{capability_law}

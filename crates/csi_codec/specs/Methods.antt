@@ -6,12 +6,12 @@ use Rattle.csi_types.specs.declared.requests.Request.{Request}
 use Rattle.csi_types.specs.declared.requests.Request.TheVariants as request
 use Rattle.csi_types.specs.declared.responses.Response.{Response}
 use Rattle.csi_types.specs.declared.responses.Response.TheVariants as response
-use Rattle.csi_codec.specs.Fields.{AreGood, IsRefusedAt, Means}
-use Rattle.csi_codec.specs.declared.message.DecodeFault.{DecodeFault}
-use Rattle.csi_codec.specs.declared.message.DecodeFault.TheVariants as fault
-use Rattle.csi_codec.specs.Views.{Views, value_of}
-use Rattle.csi_codec.specs.Schema.{Schema, AnyPayload, Good, GoodField}
-use Rattle.csi_codec.specs.Canon.{Rows, bytes_of, Start, FitsMap, FitsOption}
+use Rattle.pbmessage.specs.Fields.{AreGood, IsRefusedAt, Means}
+use Rattle.pbmessage.specs.declared.message.DecodeFault.{DecodeFault}
+use Rattle.pbmessage.specs.declared.message.DecodeFault.TheVariants as fault
+use Rattle.pbmessage.specs.Views.{Views, value_of}
+use Rattle.pbmessage.specs.Schema.{Schema, AnyPayload, Good, GoodField}
+use Rattle.pbmessage.specs.Canon.{Rows, bytes_of, Start, FitsMap, FitsOption}
 use Rattle.csi_codec.specs.messages.Single.{bool_value_in, canon_bool_value, FitsBoolValue, only_schema, only_in, canon_only, types_in, types_schema, canon_types, FitsTypes}
 use Rattle.csi_codec.specs.messages.Topology.{map_in, map_schema, canon_map}
 use Rattle.csi_codec.specs.messages.Volume.{volume_in, volume_schema, canon_volume, FitsVolume}

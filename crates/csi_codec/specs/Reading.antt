@@ -12,10 +12,10 @@ use Rattle.csi_types.specs.declared.responses.Response.{Response}
 use Rattle.pbwire.specs.declared.field.WireWhy.{WireWhy}
 use Rattle.pbwire.specs.Wire.{WireField}
 use Rattle.pbwire.specs.Reading.{field_at}
-use Rattle.csi_codec.specs.declared.message.DecodeFault.{DecodeFault}
-use Rattle.csi_codec.specs.declared.message.DecodeFault.TheVariants as fault
-use Rattle.csi_codec.specs.Views.{Views, payload, value_of}
-use Rattle.csi_codec.specs.Schema.{Schema, AnyPayload, TextAt, MessageAt}
+use Rattle.pbmessage.specs.declared.message.DecodeFault.{DecodeFault}
+use Rattle.pbmessage.specs.declared.message.DecodeFault.TheVariants as fault
+use Rattle.pbmessage.specs.Views.{Views, payload, value_of}
+use Rattle.pbmessage.specs.Schema.{Schema, AnyPayload, TextAt, MessageAt}
 use Rattle.csi_codec.specs.Methods.{request_schema, request_in, MeansRequest, IsNoRequest, response_schema, response_in, MeansResponse, IsNoResponse}
 
 -- ---- the prefix of fields that pass a test

@@ -3,14 +3,15 @@
 ghost use Rattle.std.specs.Prelude.{◌≡◌, ◌++◌, OnOk, Some};
 ghost use Rattle.csi_types.specs.declared.responses.Response.TheVariants as response;
 ghost use Rattle.pbwire.specs.Writing.{spellings};
-ghost use Rattle.csi_codec.specs.Canon.{row_fields, messages_row};
+ghost use Rattle.pbmessage.specs.Canon.{row_fields, messages_row};
 ghost use Rattle.csi_codec.specs.Created.{created_volume, topology_of};
-ghost use Rattle.csi_codec.specs.Kept.{Keeps};
+ghost use Rattle.pbmessage.specs.Kept.{Keeps};
 ghost use Rattle.csi_codec.specs.Methods.{response_bytes, FitsResponse};
 ghost use Rattle.csi_codec.specs.messages.Topology.{canon_map, FitsTerms};
 
-use crate::writing::{Written, put_joined, put_message, put_signed, put_single};
+use crate::messages::Csi;
 use csi_types::Map;
+use pbmessage::{Written, put_joined, put_message, put_signed, put_single};
 use std::alloc::AllocError;
 
 /// A volume that was made, or that stands as it is asked for, of which nothing is copied (CSI specification,
@@ -32,7 +33,7 @@ pub struct CreatedVolume<'a> {
 }
 
 // Appends the topology of these segments, if there is one.
-#[tactic(auto, unfolding(crate::specs::Canon::row_fields))]
+#[tactic(auto, unfolding(pbmessage::specs::Canon::row_fields))]
 fn put_topology(out: &mut Vec<u8>, segments: &Map) -> Result<(), AllocError>
     ensures ok { OnOk result (out.new.items ≡ out.old.items ++ spellings (row_fields (messages_row canon_map 5 (topology_of segments.now)))) }
     ensures fitting { OnOk result (FitsTerms (topology_of segments.now)) }
@@ -44,7 +45,7 @@ fn put_topology(out: &mut Vec<u8>, segments: &Map) -> Result<(), AllocError>
     put_message(out, 5, segments)
 }
 
-impl Written for CreatedVolume<'_> {
+impl Written<Csi> for CreatedVolume<'_> {
     ghost use Rattle.csi_codec.specs.messages.Volume.{canon_volume, FitsVolume};
     ghost use Rattle.csi_codec.specs.Created.{created_volume};
 
@@ -66,7 +67,7 @@ impl Written for CreatedVolume<'_> {
 /// # Errors
 ///
 /// Where memory is refused a part of it may stand behind what the vector had.
-#[tactic(auto, unfolding(crate::specs::Canon::row_fields, crate::specs::Methods::response_bytes, crate::specs::Methods::FitsResponse))]
+#[tactic(auto, unfolding(pbmessage::specs::Canon::row_fields, crate::specs::Methods::response_bytes, crate::specs::Methods::FitsResponse))]
 pub fn encode_created(volume: &CreatedVolume, out: &mut Vec<u8>) -> Result<(), AllocError>
     ensures ok { OnOk result (out.new.items ≡ out.old.items ++ response_bytes (response.Create (Some (created_volume volume.now)))) }
     ensures fitting { OnOk result (FitsResponse (response.Create (Some (created_volume volume.now)))) }

@@ -1,7 +1,6 @@
 //! Laws of the definitions that the contracts cite.
 
 ghost use Rattle.std.specs.Prelude.{◌≡◌, ℕ, ℤ, Bool, List, Option, Ok, Err, IsTrue};
-ghost use Rattle.pbwire.specs.Wire.{WireField, AreFields};
 ghost use Rattle.csi_types.specs.declared.method.Method.{Method};
 ghost use Rattle.csi_types.specs.declared.requests.Request.{Request};
 ghost use Rattle.csi_types.specs.declared.capacity.CapacityRange.{CapacityRange};
@@ -13,13 +12,12 @@ ghost use Rattle.csi_types.specs.declared.volume.Entry.{Entry};
 ghost use Rattle.csi_types.specs.declared.volume.Confirmed.{Confirmed};
 ghost use Rattle.csi_types.specs.declared.responses.Response.{Response};
 ghost use Rattle.csi_types.specs.Maps.{TextMap};
-ghost use Rattle.csi_codec.specs.Canon.{rises, canon_map_entry};
+ghost use Rattle.pbmessage.specs.Canon.{rises, canon_map_entry};
 ghost use Rattle.csi_codec.specs.messages.Single.{canon_bool_value, canon_number, canon_only};
 ghost use Rattle.csi_codec.specs.messages.Capacity.{canon_range};
 ghost use Rattle.csi_codec.specs.messages.Capability.{canon_mount, canon_capability};
 ghost use Rattle.csi_codec.specs.messages.Topology.{canon_map, canon_requirement};
 ghost use Rattle.csi_codec.specs.messages.Volume.{canon_volume, canon_nodes, canon_entry, canon_confirmed};
-ghost use Rattle.csi_codec.specs.Fields.{fields_of};
 ghost use Rattle.csi_codec.specs.Methods.{request_method, canon_request, request_bytes, FitsRequest, MeansRequest, IsGoodRequest, IsNoRequest, response_method, canon_response, response_bytes, FitsResponse, MeansResponse, IsGoodResponse, IsNoResponse};
 ghost use Rattle.csi_codec.specs.Reading.{read_request, IsRead, read_response, IsReadResponse};
 
@@ -35,14 +33,6 @@ pub fn round_trip()
     spelled();
     written();
     map_entries();
-}
-
-/// The fields of a payload are those that its bytes spell (Protocol Buffers encoding guide, 'Message Structure').
-#[inline(always)]
-pub fn fields()
-    ensures { (bytes : List ℕ) (es : List WireField) → AreFields es bytes → fields_of bytes ≡ es }
-{
-    spelled();
 }
 
 /// Bytes mean at most one request of a method, and at most one response.

@@ -1,10 +1,8 @@
 //! Messages of the Container Storage Interface to and from bytes (Protocol Buffers, proto3).
 //!
-//! What bytes mean is a function of *views*: what stands under each field number of a list of fields, as the last text, all payloads, the
-//! joined fields of an embedded message, the last entry of each key, the member of a oneof. A message is three short definitions: which view
-//! gives each part of its value, its *schema* (under which numbers stand texts and embedded messages), and how the value is written. They stand in
-//! `specs/messages/`, the code in `src/messages/` and the round trips in `proofs/`, a file a subject under one name. The trait `Message` carries the
-//! reading of any message and the trait `Written` its writing.
+//! Each message is three short definitions over `pbmessage`, which reads and writes messages of any type: which view gives each part of its
+//! value, its schema, and how the value is written. They stand in `specs/messages/`, the code in `src/messages/` and the round trips in `proofs/`,
+//! a file a subject under one name.
 //!
 //! `MeansRequest` and `IsNoRequest` say what bytes mean with no order of reading; `specs/Reading.antt` says it as a function, for layers above that
 //! have to compute with it, and the law [`laws::reading`] ties the two. Reading takes two passes: one looks for faults and takes no memory, so a malformed
@@ -22,17 +20,15 @@
 mod created;
 pub mod laws;
 mod listing;
-mod message;
 mod messages;
 mod placement;
+mod published;
 mod requests;
 mod responses;
-mod slots;
-mod writing;
 
 pub use created::{CreatedVolume, encode_created};
 pub use listing::{ListedEntry, encode_entry};
-pub use message::{DecodeFault, MALFORMED_MESSAGE};
 pub use placement::Placement;
+pub use published::encode_published;
 pub use requests::{decode, decode_create, encode_create, encode_request};
 pub use responses::{decode_response, encode_response};

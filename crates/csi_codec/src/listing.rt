@@ -3,15 +3,16 @@
 ghost use Rattle.std.specs.Prelude.{◌≡◌, ◌++◌, ◌∷◌, [], OnOk};
 ghost use Rattle.pbwire.specs.Writing.{spellings};
 ghost use Rattle.csi_types.specs.declared.responses.Response.TheVariants as response;
-ghost use Rattle.csi_codec.specs.Canon.{bytes_of, payload_fields, FitsInner, FitsTexts};
-ghost use Rattle.csi_codec.specs.Kept.{Keeps};
+ghost use Rattle.pbmessage.specs.Canon.{bytes_of, payload_fields, FitsInner, FitsTexts};
+ghost use Rattle.pbmessage.specs.Kept.{Keeps};
 ghost use Rattle.csi_codec.specs.Listing.{listed_entry};
 ghost use Rattle.csi_codec.specs.Methods.{response_bytes, FitsResponse};
 ghost use Rattle.csi_codec.specs.messages.Volume.{canon_nodes};
 
+use crate::messages::Csi;
 use crate::placement::{Placement, put_placement};
-use crate::writing::{Written, put_joined, put_message, put_signed};
 use csi_types::{Items, Text};
+use pbmessage::{Written, put_joined, put_message, put_signed};
 use pbwire::put_bytes;
 use std::alloc::AllocError;
 
@@ -24,7 +25,7 @@ struct PlacedVolume<'a> {
     placement: &'a Placement,
 }
 
-impl Written for PlacedVolume<'_> {
+impl Written<Csi> for PlacedVolume<'_> {
     ghost use Rattle.std.specs.Prelude.{◌++◌};
     ghost use Rattle.csi_codec.specs.messages.Volume.{canon_volume, FitsVolume};
     ghost use Rattle.csi_codec.specs.Listing.{placed_volume};
@@ -67,7 +68,7 @@ pub struct ListedEntry<'a> {
     pub nodes: &'a Items<Text>,
 }
 
-impl Written for ListedEntry<'_> {
+impl Written<Csi> for ListedEntry<'_> {
     ghost use Rattle.csi_codec.specs.messages.Volume.{canon_entry, FitsEntry};
     ghost use Rattle.csi_codec.specs.Listing.{listed_entry};
 

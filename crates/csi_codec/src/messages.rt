@@ -4,3 +4,7 @@ pub mod requests;
 pub mod responses;
 pub mod values;
 pub mod volumes;
+
+/// The package `csi.v1`, whose messages these are. Their values are types of another crate, so the traits ask for a type of this one.
+#[derive(Clone, Copy)]
+pub struct Csi;

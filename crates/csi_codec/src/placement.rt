@@ -2,12 +2,12 @@
 
 ghost use Rattle.std.specs.Prelude.{◌≡◌, ◌++◌, IfOk, OnOk, OnErr};
 ghost use Rattle.std.proofs.Props.{props};
-ghost use Rattle.csi_codec.specs.Canon.{FitsMap};
+ghost use Rattle.pbmessage.specs.Canon.{FitsMap};
 ghost use Rattle.csi_codec.specs.messages.Topology.{FitsTerms};
 ghost use Rattle.csi_codec.specs.messages.Volume.{placement_bytes};
 
-use crate::writing::{put_map, put_messages};
 use csi_types::{Items, Map};
+use pbmessage::{put_map, put_messages};
 use std::alloc::{AllocError, Global};
 
 /// What is answered alike of each volume of a pool, with its spelling: a listing of many volumes spells it once (CSI

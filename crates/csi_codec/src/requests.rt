@@ -1,16 +1,16 @@
 //! Requests by their method.
 
 ghost use Rattle.std.specs.Prelude.{◌≡◌, ◌++◌, OnOk, OnErr, IfOk, IfErr};
-ghost use Rattle.csi_codec.specs.Kept.{Keeps};
+ghost use Rattle.pbmessage.specs.Kept.{Keeps};
 ghost use Rattle.csi_codec.specs.Methods.{RefusesRequest, MeansRequest, request_bytes, FitsRequest};
 ghost use Rattle.csi_codec.specs.Reading.{read_request, as_create, Decodes};
 ghost use Rattle.csi_types.specs.declared.method.Method.TheVariants.{CreateVolume as Creating};
 ghost use Rattle.csi_types.specs.declared.requests.Request.TheVariants.{Create};
 
-use crate::message::{DecodeFault, decode_boxed, decode_message};
+use crate::messages::Csi;
 use crate::messages::values::NoFields;
-use crate::writing::{Written, whole_or_none};
 use csi_types::{CreateVolume, Method, Request};
+use pbmessage::{DecodeFault, Written, decode_boxed, decode_message, whole_or_none};
 use pbwire::laws::spelled;
 use std::alloc::{AllocError, Global};
 
@@ -42,7 +42,7 @@ pub fn decode_create(alloc: Global, bytes: &[u8]) -> Result<CreateVolume, Decode
     ensures { Decodes (read_request Creating bytes.now) (as_create result) }
 {
     spelled();
-    decode_message::<CreateVolume>(alloc, bytes)
+    decode_message::<Csi, CreateVolume>(alloc, bytes)
 }
 
 #[tactic(auto, unfolding(crate::specs::Methods::MeansRequest, crate::specs::Methods::IsNoRequest, crate::specs::Methods::IsGoodRequest))]

@@ -1,18 +1,17 @@
 //! Responses by their method.
 
 ghost use Rattle.std.specs.Prelude.{◌≡◌, ◌++◌, OnOk, OnErr, IfOk, IfErr};
-ghost use Rattle.csi_codec.specs.Kept.{Keeps};
+ghost use Rattle.pbmessage.specs.Kept.{Keeps};
 ghost use Rattle.csi_codec.specs.Methods.{RefusesResponse, MeansResponse, response_bytes, FitsResponse};
 ghost use Rattle.csi_codec.specs.Reading.{read_response, Decodes};
 
-use crate::message::{DecodeFault, decode_message};
 use crate::messages::responses::{
     FreeCapacity, Listing, PluginInfo, Validation, put_free_capacity, put_listing, put_plugin_info,
     put_validation,
 };
 use crate::messages::values::NoFields;
-use crate::writing::{Written, whole_or_none};
 use csi_types::{Method, Response};
+use pbmessage::{DecodeFault, Written, decode_message, whole_or_none};
 use pbwire::laws::spelled;
 use std::alloc::{AllocError, Global};
 

@@ -11,11 +11,12 @@ ghost use Rattle.csi_scans.specs.Failing.{FailsForMemory};
 ghost use Rattle.csi_constraints.specs.Values.{if_passes};
 ghost use Rattle.csi_constraints.specs.Coding.{are_keys, are_params, is_small, each_key, is_before, key_in, keys_in, message_in, only, params_in, rise};
 
-use csi_codec::{DecodeFault, decode_create};
+use csi_codec::decode_create;
 use csi_keeper::{CapKey, cap_key, supported};
 use csi_schema::FIRST_FORMAT;
 use csi_tables::{write_caps, write_params};
 use csi_types::{Capability, CreateVolume, Items, MAX_MAP_BYTES, Map, map_bytes};
+use pbmessage::DecodeFault;
 use sqlite::{Error, ErrorCode};
 use std::alloc::{AllocError, Global};
 use std::cmp::Ordering;

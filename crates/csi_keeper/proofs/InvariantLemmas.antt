@@ -8,8 +8,7 @@ use Rattle.csi_config.specs.declared.config.Config.{Config}
 use Rattle.csi_keeper.specs.declared.volume.Attachment.{Attachment}
 use Rattle.csi_keeper.specs.declared.volume.Volume.{Volume}
 use Rattle.csi_keeper.specs.Invariant.{IsInvariant}
-use Rattle.csi_keeper.specs.Memory.{first_state}
-use Rattle.csi_keeper.specs.State.{Place, place_cmp}
+use Rattle.csi_keeper.specs.State.{Place, place_cmp, first_state}
 use Rattle.csi_keeper.specs.facts.Finite.{none_listed, none_some}
 use Rattle.csi_keeper.specs.facts.Sums.{in_order}
 

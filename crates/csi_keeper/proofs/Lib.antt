@@ -1,11 +1,3 @@
-mod ChangeLemmas
-mod DetachLemmas
 mod InvariantLemmas
-mod KeptLemmas
 mod ListedLemmas
-mod ListingLemmas
-mod NamesLemmas
-mod ReadLemmas
-mod SpotLemmas
-mod TreeLemmas
-mod WalkLemmas
+mod TotalsLemmas

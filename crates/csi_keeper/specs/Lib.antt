@@ -1,17 +1,12 @@
 pub mod Capability
 pub mod Coexistence
-pub mod Fakes
-pub mod Holding
 pub mod Invariant
 pub mod Keeper
 pub mod Listing
 pub mod Lookup
-pub mod Memory
 pub mod Model
 pub mod Order
-pub mod Restoring
 pub mod State
 pub mod Texts
 pub mod Totals
-pub mod Walking
 pub mod facts

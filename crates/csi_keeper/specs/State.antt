@@ -2,7 +2,7 @@
 use Rattle.std.specs.Prelude.{◌≡◌, ℕ, ◌+◌, ◌-◌, ◌^◌, ◌<◌, ◌≤◌, ◌==◌, not, min, nat_lt, List, [], Option, None, Some, IsSome, map, filter, find, take, sum, length, bytes_eq, ⊤}
 use Rattle.std.specs.declared.cmp.Ordering.{Ordering}
 use Rattle.std.specs.Ordering.{nat_cmp, ordering_then}
-use Rattle.std.specs.FinMap.{FinMap, get, insert, remove, entries, values, retain_keys}
+use Rattle.std.specs.FinMap.{FinMap, get, empty, insert, remove, entries, values, retain_keys}
 use Rattle.csi_types.specs.Checks.{map_bytes}
 use Rattle.csi_types.specs.Maps.{TextMap}
 use Rattle.csi_types.specs.declared.limits.TheConstants.{MAX_MAP_BYTES}
@@ -26,6 +26,10 @@ pub record State : Type 0 where
   pub next : ℕ
   pub volumes : FinMap nat_cmp Volume
   pub attachments : FinMap place_cmp Attachment
+
+-- no volumes, and the first number
+abbrev pub first_state : ℕ → State
+first_state first = record { next = first; volumes = empty; attachments = empty }
 
 -- the volumes, in rising order of their numbers
 abbrev pub standing : State → List Volume

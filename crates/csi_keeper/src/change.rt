@@ -45,7 +45,7 @@ impl Drop for Change {
 
 impl Change {
     /// The volume that is added. Any other change comes back.
-    pub(crate) fn into_added(self) -> Result<Volume, Change>
+    pub fn into_added(self) -> Result<Volume, Change>
         ensures added { IfOk result (λ volume. self ≡ AddVolume volume) }
         ensures other { IfErr result (λ change. change ≡ self) }
     {

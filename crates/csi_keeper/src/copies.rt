@@ -22,7 +22,7 @@ pub fn copy_key(alloc: Global, key: &CapKey) -> Result<CapKey, AllocError>
 }
 
 /// Keys equal to these.
-pub(crate) fn copy_keys(alloc: Global, keys: &Items<CapKey>) -> Result<Items<CapKey>, AllocError>
+pub fn copy_keys(alloc: Global, keys: &Items<CapKey>) -> Result<Items<CapKey>, AllocError>
     ensures { IfOk result (λ copy. copy ≡ keys.now) }
 {
     let mut copy = Items::new(alloc);
@@ -33,7 +33,7 @@ pub(crate) fn copy_keys(alloc: Global, keys: &Items<CapKey>) -> Result<Items<Cap
 }
 
 /// A volume equal to this one.
-pub(crate) fn copy_volume(alloc: Global, volume: &Volume) -> Result<Volume, AllocError>
+pub fn copy_volume(alloc: Global, volume: &Volume) -> Result<Volume, AllocError>
     ensures { IfOk result (λ copy. copy ≡ volume.now) }
 {
     Ok(Volume {
@@ -48,10 +48,7 @@ pub(crate) fn copy_volume(alloc: Global, volume: &Volume) -> Result<Volume, Allo
 }
 
 /// An attachment equal to this one.
-pub(crate) fn copy_attachment(
-    alloc: Global,
-    attachment: &Attachment,
-) -> Result<Attachment, AllocError>
+pub fn copy_attachment(alloc: Global, attachment: &Attachment) -> Result<Attachment, AllocError>
     ensures { IfOk result (λ copy. copy ≡ attachment.now) }
 {
     Ok(Attachment {

@@ -2,11 +2,13 @@
 
 ghost use Rattle.std.specs.Prelude.{◌≡◌};
 ghost use Rattle.std.specs.FinMap.{get};
+ghost use Rattle.std.specs.Option.{option_map};
 ghost use Rattle.csi_keeper.specs.State.{State, IsBounded, named, used, sizes, attached, attached_at, page, published_of_page};
 ghost use Rattle.csi_keeper.specs.Listing.{listing};
 ghost use Rattle.csi_keeper.specs.Keeper.{Applies, Reads};
 ghost use Rattle.csi_keeper.specs.Model.{Model};
 
+use crate::capability::CapKey;
 use crate::change::{Change, StoreFault, Usage};
 use crate::listed::{Listed, listed_each};
 use crate::volume::{Attachment, Volume};
@@ -48,6 +50,17 @@ pub trait Keeper {
     /// The volume of a number; `None` where none stands.
     fn by_number(&mut self, alloc: Global, number: u64) -> Result<Option<Volume>, StoreFault>
         ensures { Reads (model self.old) (model self.new) result (λ s v. v ≡ get s.volumes number) };
+
+    /// The capability keys of the volume of a number; `None` where none stands. It costs no more than `by_number`, and less where a
+    /// keeper need not copy the rest of the volume.
+    fn caps_of(&mut self, alloc: Global, number: u64) -> Result<Option<Items<CapKey>>, StoreFault>
+        ensures { Reads (model self.old) (model self.new) result (λ s keys. keys ≡ option_map (λ v. v.caps) (get s.volumes number)) }
+    {
+        match self.by_number(alloc, number)? {
+            Some(volume) => Ok(Some(volume.caps)),
+            None => Ok(None),
+        }
+    }
 
     /// The attachments of the volume of a number, in byte order of their nodes' ids.
     fn attachments(&mut self, alloc: Global, number: u64) -> Result<Items<Attachment>, StoreFault>

@@ -4,7 +4,7 @@
 ghost use Rattle.std.specs.Prelude.{◌≡◌, ◌≤◌, ℕ};
 ghost use Rattle.csi_keeper.specs.Coexistence.{coexist};
 ghost use Rattle.csi_keeper.specs.Invariant.{IsInvariant};
-ghost use Rattle.csi_keeper.specs.Memory.{first_state};
+ghost use Rattle.csi_keeper.specs.State.{first_state};
 ghost use Rattle.csi_keeper.specs.declared.volume.Attachment.{Attachment};
 ghost use Rattle.csi_types.specs.declared.limits.TheConstants.{MAX_NUMBER};
 

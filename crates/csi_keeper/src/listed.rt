@@ -22,11 +22,7 @@ pub struct Listed {
 
 /// What is told of a volume that is published at these nodes.
 #[inline(always)]
-pub(crate) fn listed_at(
-    alloc: Global,
-    volume: &Volume,
-    nodes: Items<Text>,
-) -> Result<Listed, AllocError>
+pub fn listed_at(alloc: Global, volume: &Volume, nodes: Items<Text>) -> Result<Listed, AllocError>
     ensures { IfOk result (λ told. told ≡ listed_at volume.now nodes) }
 {
     Ok(Listed {

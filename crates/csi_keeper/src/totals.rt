@@ -61,7 +61,7 @@ impl Totals {
     }
 
     /// Sets the total of a pool; the other pools stay. Where memory is refused each total stays.
-    #[tactic(auto, using(crate::proofs::TreeLemmas::total_set))]
+    #[tactic(auto, using(crate::proofs::TotalsLemmas::total_set))]
     pub fn set(&mut self, pool: Text, total: Total) -> Result<(), AllocError>
         ensures set { OnOk result ((q : List ℕ) → total_of self.new q ≡ (if same_text pool q then total else total_of self.old q)) }
         ensures same { OnErr result ((q : List ℕ) → total_of self.new q ≡ total_of self.old q) }
@@ -73,7 +73,7 @@ impl Totals {
     /// Counts a volume of this many bytes in a pool; the other pools stay. Where memory is refused
     /// each total stays. Nothing is said where the pool has 2^64 - 1 volumes already, or the sum
     /// would pass the greatest `u128`.
-    #[tactic(auto, using(crate::proofs::TreeLemmas::total_set))]
+    #[tactic(auto, using(crate::proofs::TotalsLemmas::total_set))]
     pub fn add(&mut self, pool: Text, bytes: u64) -> Result<(), AllocError>
         ensures counted { OnOk result (HasRoom (total_of self.old pool) bytes → (q : List ℕ)
             → total_of self.new q ≡ (if same_text pool q then more (total_of self.old pool) bytes else total_of self.old q)) }
@@ -94,7 +94,7 @@ impl Totals {
     }
 
     /// Takes the memory that [`count`](Totals::count) wants for a pool. Each total stays.
-    #[tactic(auto, using(crate::proofs::TreeLemmas::same_set, crate::proofs::TreeLemmas::is_set))]
+    #[tactic(auto, using(crate::proofs::TotalsLemmas::same_set, crate::proofs::TotalsLemmas::is_set))]
     pub fn reserve(&mut self, pool: Text) -> Result<(), AllocError>
         ensures reserved { OnOk result (IsReserved self.new pool) }
         ensures same { (q : List ℕ) → total_of self.new q ≡ total_of self.old q }
@@ -106,7 +106,7 @@ impl Totals {
 
     /// Counts a volume of this many bytes in a pool that is reserved; the other pools stay. It takes
     /// no memory. Nothing is said where [`has_room`](Totals::has_room) is false.
-    #[tactic(auto, using(crate::proofs::TreeLemmas::total_set))]
+    #[tactic(auto, using(crate::proofs::TotalsLemmas::total_set))]
     pub fn count(&mut self, pool: &Text, bytes: u64)
         requires { IsReserved self.old pool.now }
         ensures { HasRoom (total_of self.old pool.now) bytes → (q : List ℕ)
@@ -119,7 +119,7 @@ impl Totals {
 
     /// Takes a volume of this many bytes out of a pool's total; the other pools stay. It takes no
     /// memory. Neither part goes below 0.
-    #[tactic(auto, using(crate::proofs::TreeLemmas::total_set))]
+    #[tactic(auto, using(crate::proofs::TotalsLemmas::total_set))]
     pub fn remove(&mut self, pool: &Text, bytes: u64)
         ensures { (q : List ℕ) → total_of self.new q ≡ (if same_text pool.now q then less (total_of self.old pool.now) bytes else total_of self.old q) }
     {

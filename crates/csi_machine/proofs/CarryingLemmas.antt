@@ -1,5 +1,5 @@
 -- A change that a keeper refuses leaves a plan that was not carried out.
-use Rattle.std.proofs.Common.{◌≡◌, ◌∙◌, ◌⊎◌, inl, inr, ap, sym, subst, refl, Bool, true, false, Option, Some, Result, Ok, Err, IfSome, IsSome}
+use Rattle.std.proofs.Common.{◌≡◌, ◌∙◌, ◌⊎◌, inl, inr, ap, sym, subst, refl, Bool, true, false, Option, Some, Result, Err, IfSome, IsSome}
 use Rattle.csi_keeper.specs.Keeper.{Applies}
 use Rattle.csi_keeper.specs.Model.{Model}
 use Rattle.csi_keeper.specs.State.{State, Allows, changed}

@@ -1,12 +1,14 @@
 -- What is found by reads, one after the other.
-use Rattle.std.proofs.Common.{◌≡◌, ◌∙◌, sym, arith, subst, Bool, Result, Ok}
+use Rattle.std.proofs.Common.{◌≡◌, ◌∙◌, sym, arith, subst, refl, ap, ℕ, List, Bool, Option, None, Some, Result, Ok}
 use Rattle.csi_keeper.specs.Keeper.{Reads, count_after}
 use Rattle.csi_keeper.specs.Model.{Model}
 use Rattle.csi_keeper.specs.State.{State}
 use Rattle.csi_keeper.specs.declared.change.StoreFault.{StoreFault}
 use Rattle.csi_keeper.specs.facts.Reads.{if_ok, quiet_then}
 use Rattle.csi_machine.specs.Down.{TellsDown}
-use Rattle.csi_machine.specs.Finding.{Finds}
+use Rattle.csi_keeper.specs.declared.capability.CapKey.{CapKey}
+use Rattle.csi_keeper.specs.declared.volume.Volume.{Volume}
+use Rattle.csi_machine.specs.Finding.{Finds, keys_found}
 
 -- what is told of a keeper that is down, where an answer tells more
 told_more : {X : Type 0} {P Q : X → Type 0} {is_down : Bool} (result : Result X StoreFault) → ((x : X) → P x → Q x) → TellsDown is_down P result → TellsDown is_down Q result
@@ -54,3 +56,16 @@ read_found {a = a} read = record {
   count = read.count;
   down = record { down = λ e. absurd (cc); refused = λ e. absurd (cc); unasked = λ is s. absurd (let no = read.down.1 is in cc (no)) };
 }
+
+-- no keys, no volume
+pub none_found : (o : Option (ℕ × Volume)) → keys_found o ≡ None → o ≡ None
+none_found None none = refl
+none_found (Some found) none = absurd (cc)
+
+-- what is said of the keys that are found of a volume
+pub keys_so : {Y : Type 0} (f : Option (ℕ × Volume) → Y) (g : ℕ → List CapKey → Y) (o : Option (ℕ × Volume)) (n : ℕ) (keys : List CapKey) → ((m : ℕ) (v : Volume) → f (Some (m, v)) ≡ g m v.caps) → Some (n, keys) ≡ keys_found o → g n keys ≡ f o
+keys_so f g None n keys so is = absurd (cc)
+keys_so {Y} f g (Some found) n keys so is = ap (λ (e : ℕ × List CapKey). g e.0 e.1) (same (n, keys) (found.0, found.1.caps) is) ∙ sym (so found.0 found.1)
+  where
+    same : (x y : ℕ × List CapKey) → Some x ≡ Some y → x ≡ y
+    same x y e = cc

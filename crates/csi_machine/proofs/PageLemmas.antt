@@ -5,7 +5,7 @@ use lib.Pointwise.{bytes_decides}
 use Rattle.csi_types.specs.Maps.{same_text}
 use Rattle.csi_types.specs.declared.responses.Response.TheVariants as response
 use Rattle.csi_types.specs.declared.volume.Entry.{Entry}
-use Rattle.csi_codec.specs.Kept.{Keeps}
+use Rattle.pbmessage.specs.Kept.{Keeps}
 use Rattle.csi_codec.specs.Methods.{response_bytes}
 use Rattle.csi_codec.specs.facts.Listing.{listing_more, listing_none, listing_token}
 use Rattle.csi_keeper.specs.Listing.{listed_of, listing}

@@ -1,9 +1,10 @@
 -- What reads of a keeper find, one after the other, and the volume that a request names.
-use Rattle.std.specs.Prelude.{◌≡◌, ℕ, Option, None, Some, Result, IfOk}
+use Rattle.std.specs.Prelude.{◌≡◌, ℕ, List, Option, None, Some, Result, IfOk}
 use Rattle.std.specs.FinMap.{get}
 use Rattle.csi_keeper.specs.Keeper.{IsQuiet, Tells, count_after}
 use Rattle.csi_keeper.specs.Model.{Model}
 use Rattle.csi_keeper.specs.State.{State}
+use Rattle.csi_keeper.specs.declared.capability.CapKey.{CapKey}
 use Rattle.csi_keeper.specs.declared.change.StoreFault.{StoreFault}
 use Rattle.csi_keeper.specs.declared.volume.Volume.{Volume}
 use Rattle.csi_machine.specs.Down.{TellsDown}
@@ -25,3 +26,11 @@ numbered n (Some v) = Some (n, v)
 abbrev pub volume_at : State → Option ℕ → Option (ℕ × Volume)
 volume_at s None = None
 volume_at s (Some n) = numbered n (get s.volumes n)
+
+-- of a volume that was found its number and its capability keys
+abbrev pub keys_found : Option (ℕ × Volume) → Option (ℕ × List CapKey)
+keys_found None = None
+keys_found (Some found) = Some (found.0, found.1.caps)
+
+abbrev pub caps_at : State → Option ℕ → Option (ℕ × List CapKey)
+caps_at s o = keys_found (volume_at s o)

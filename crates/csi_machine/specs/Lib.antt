@@ -1,3 +1,4 @@
+pub mod Response
 pub mod calls
 pub mod Answering
 pub mod Choice

@@ -2,7 +2,8 @@
 //!
 //! A request is answered by its *plan*: a response or a refusal, and at most one change. `calls/` has a file a request: its plan (`planned.rt`), by reads of the
 //! keeper and by the rules in `capability.rt`, `size.rt`, `topology.rt`, `choice.rt`, `ids.rt`, `finding.rt` and `info.rt`, each beside its definitions in `specs/`.
-//! `answering.rt` makes of a plan an answer (`outcome.rt`): it appends the body (`body.rt`), makes the change, and cuts the body off again where that fails.
+//! `answering.rt` makes of a plan an answer (`outcome.rt`): it appends the body of its response (`response.rt`, `body.rt`), makes the change, and cuts the body
+//! off again where that fails.
 //! Three requests are answered with what their plans say, and no plan is made of them: Probe; ListVolumes, whose page is written as it is read
 //! (`calls/listing.rt`, `places.rt`); and CreateVolume, whose response is written from the volume (`creation.rt`).
 //! That each plan is sound is proved over the definitions, in `proofs/CreateLemmas.antt` and its like, and put together in `proofs/AnsweringLemmas.antt`.
@@ -31,6 +32,7 @@ mod outcome;
 mod places;
 mod plan;
 mod planned;
+mod response;
 mod size;
 mod topology;
 

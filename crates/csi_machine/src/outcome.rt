@@ -7,7 +7,7 @@ ghost use Rattle.csi_machine.specs.Answering.{Carries, body_of};
 ghost use Rattle.csi_machine.specs.Step.{by_verdict, limited};
 ghost use Rattle.csi_machine.specs.declared.plan.Plan.{Plan as AnyPlan};
 
-use crate::body::{Verdict, append_body};
+use crate::body::Verdict;
 use crate::plan::Plan;
 use csi_keeper::{Keeper, StoreFault};
 use std::alloc::{AllocError, Global};
@@ -35,7 +35,7 @@ impl Outcome for Plan {
 
     fn append(&self, out: &mut Vec<u8>) -> Result<Verdict, AllocError> {
         match &self.outcome {
-            Ok(response) => append_body(response.get(), out),
+            Ok(answer) => answer.append(out),
             Err(reason) => Ok(Verdict::Refused(*reason)),
         }
     }

@@ -5,6 +5,7 @@ ghost use Rattle.csi_machine.specs.Answering.{verdict_of};
 ghost use Rattle.csi_machine.specs.Plan.{make, refuse, respond};
 
 use crate::body::Verdict;
+use crate::response::Answer;
 use csi_keeper::Change;
 use csi_types::{Boxed, Reason, Response};
 use std::alloc::{AllocError, Global};
@@ -13,7 +14,7 @@ use std::alloc::{AllocError, Global};
 #[derive(Debug)]
 pub struct Plan {
     /// The response, or the reason for which the request is refused and changes nothing.
-    pub outcome: Result<Boxed<Response>, Reason>,
+    pub outcome: Result<Answer, Reason>,
     /// What changes, if anything.
     pub change: Option<Boxed<Change>>,
 }
@@ -29,7 +30,7 @@ impl Drop for Plan {
     }
 }
 
-fn verdict_of(outcome: &Result<Boxed<Response>, Reason>) -> Verdict
+fn verdict_of(outcome: &Result<Answer, Reason>) -> Verdict
     ensures { result ≡ verdict_of outcome.now }
 {
     match outcome {
@@ -58,23 +59,40 @@ pub(crate) fn refuse(reason: Reason) -> Plan
     }
 }
 
-/// A response behind a change.
-pub(crate) fn make(alloc: Global, response: Response, change: Change) -> Result<Plan, AllocError>
-    ensures { IfOk result (λ plan. plan ≡ make response change) }
+/// A response behind a change. Who calls it knows which change it is, so it is not moved whole.
+#[inline(always)]
+pub(crate) fn make_told(alloc: Global, answer: Answer, change: Change) -> Result<Plan, AllocError>
+    ensures { IfOk result (λ plan. plan ≡ make answer change) }
 {
     let change = Boxed::new(alloc, change)?;
     Ok(Plan {
-        outcome: Ok(Boxed::new(alloc, response)?),
+        outcome: Ok(answer),
         change: Some(change),
     })
 }
 
+/// The same of a response that is to be kept.
+#[inline(always)]
+pub(crate) fn make(alloc: Global, response: Response, change: Change) -> Result<Plan, AllocError>
+    ensures { IfOk result (λ plan. plan ≡ make response change) }
+{
+    make_told(alloc, Answer::of(alloc, response)?, change)
+}
+
 /// A response that changes nothing.
+pub(crate) fn tell(answer: Answer) -> Plan
+    ensures { result ≡ respond answer }
+{
+    Plan {
+        outcome: Ok(answer),
+        change: None,
+    }
+}
+
+/// The same of a response that is to be kept.
+#[inline(always)]
 pub(crate) fn respond(alloc: Global, response: Response) -> Result<Plan, AllocError>
     ensures { IfOk result (λ plan. plan ≡ respond response) }
 {
-    Ok(Plan {
-        outcome: Ok(Boxed::new(alloc, response)?),
-        change: None,
-    })
+    Ok(tell(Answer::of(alloc, response)?))
 }

@@ -2,7 +2,7 @@
 #![tactic(auto)]
 
 use csi_config::Config;
-use csi_keeper::MemKeeper;
+use csi_memory::MemKeeper;
 use csi_server::{RunEnd, serve};
 use std::alloc::AllocError;
 use std::process::ExitCode;

@@ -9,8 +9,9 @@ ghost use Rattle.csi_server.specs.Requests.{IsUnread};
 
 use crate::refused::{Answer, Refusal};
 use csi_checks::check;
-use csi_codec::{DecodeFault, decode};
+use csi_codec::decode;
 use csi_types::{Method, Reason, Request};
+use pbmessage::DecodeFault;
 use std::alloc::Global;
 
 /// The request that a message means, if its arguments pass the checks.

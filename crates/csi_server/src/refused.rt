@@ -4,9 +4,9 @@ ghost use Rattle.std.specs.Prelude.{◌≡◌, ◌≤◌, List, ℕ, All, codes,
 ghost use Rattle.frames_core.specs.Envelope.{IsReply, IsTextByte, reply as reply_frame};
 ghost use Rattle.csi_server.specs.Service.{refused_by};
 
-use csi_codec::MALFORMED_MESSAGE;
 use csi_types::{Code, Reason};
 use frames_core::{FixedFrame, refusal_frame, text_and_number};
+use pbmessage::MALFORMED_MESSAGE;
 
 /// Why a call is not done.
 #[derive(Clone, Copy, Debug, PartialEq, Eq)]

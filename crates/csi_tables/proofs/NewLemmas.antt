@@ -10,8 +10,7 @@ use Rattle.sqlite.specs.Order.{Row}
 use Rattle.sqlite.specs.State.{HasCleanDisk, Survives}
 use Rattle.sqlite.specs.Store.{Ghosts}
 use Rattle.sqlite.specs.Tree.{Trees}
-use Rattle.csi_keeper.specs.Memory.{first_state}
-use Rattle.csi_keeper.specs.State.{Place, place_cmp}
+use Rattle.csi_keeper.specs.State.{Place, place_cmp, first_state}
 use Rattle.csi_keeper.specs.Texts.{Text}
 use Rattle.csi_keeper.specs.Totals.{AreTotals, total_of, the_total, zero_total}
 use Rattle.csi_keeper.specs.declared.totals.Totals.{Totals}

@@ -3,8 +3,8 @@ use Rattle.std.specs.Prelude.{◌≡◌, ◌≢◌, ◌↔◌, IsTrue, OnErr, Re
 use Rattle.sqlite.specs.declared.error.Error.{Error}
 use Rattle.sqlite.specs.declared.error.Error.TheVariants.{SqliteFailure}
 use Rattle.sqlite.specs.declared.error.ErrorCode.TheVariants.{OutOfMemory}
-use Rattle.csi_codec.specs.declared.message.DecodeFault.{DecodeFault}
-use Rattle.csi_codec.specs.declared.message.DecodeFault.TheVariants as decoding
+use Rattle.pbmessage.specs.declared.message.DecodeFault.{DecodeFault}
+use Rattle.pbmessage.specs.declared.message.DecodeFault.TheVariants as decoding
 use Rattle.csi_keeper.specs.Keeper.{count_after}
 use Rattle.csi_keeper.specs.declared.change.StoreFault.{StoreFault}
 use Rattle.csi_keeper.specs.declared.change.StoreFault.TheVariants as store

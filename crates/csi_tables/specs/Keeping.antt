@@ -2,9 +2,8 @@
 use Rattle.std.specs.Prelude.{◌≡◌, ℕ, ◌≤◌, Bool, false, Result}
 use Rattle.sqlite.specs.Held.{Held, state}
 use Rattle.sqlite.specs.Store.{Ghosts}
-use Rattle.csi_keeper.specs.Memory.{first_state}
 use Rattle.csi_keeper.specs.Model.{Model}
-use Rattle.csi_keeper.specs.State.{State}
+use Rattle.csi_keeper.specs.State.{State, first_state}
 use Rattle.csi_keeper.specs.declared.change.Change.{Change}
 use Rattle.csi_keeper.specs.declared.change.StoreFault.{StoreFault}
 use Rattle.csi_keeper.specs.declared.change.StoreFault.TheVariants.{Refused}

@@ -4,7 +4,7 @@ ghost use Rattle.std.specs.Prelude.{◌≡◌};
 ghost use Rattle.csi_tables.specs.Answers.{of_database, of_decoder};
 ghost use Rattle.csi_tables.specs.declared.fault.Fault.TheVariants.{NoMemory};
 
-use csi_codec::DecodeFault;
+use pbmessage::DecodeFault;
 use sqlite::{Error, ErrorCode};
 use std::alloc::{AllocError, AllocFailed};
 

@@ -2,12 +2,13 @@
 
 ghost use Rattle.std.specs.Prelude.{◌≡◌, false, IsTrue, OnErr};
 ghost use Rattle.std.specs.FinMap.{get};
+ghost use Rattle.std.specs.Option.{option_map};
 ghost use Rattle.csi_keeper.specs.State.{IsBounded, attached, attached_at, named, page, published_of_page, sizes};
 
 use crate::changes::{NUMBERS, make};
 use crate::health::Health;
 use crate::read;
-use csi_keeper::{Attachment, Change, Keeper, StoreFault, Totals, Usage, Volume};
+use csi_keeper::{Attachment, CapKey, Change, Keeper, StoreFault, Totals, Usage, Volume};
 use csi_types::{Items, Text};
 use sqlite::{Alter, Connection};
 use std::alloc::Global;
@@ -95,6 +96,16 @@ impl<S: Alter> Keeper for Tables<S> {
         }
         let answer = read::by_number(alloc, &mut self.conn, number);
         self.health.end(answer)
+    }
+
+    fn caps_of(&mut self, alloc: Global, number: u64) -> Result<Option<Items<CapKey>>, StoreFault>
+        ensures reads { Reads (tables_model S.Store self.old) (tables_model S.Store self.new) result (λ s keys. keys ≡ option_map (λ v. v.caps) (get s.volumes number)) }
+        ensures refused { TablesRefuses S.Store self.old self.new ⊥ result }
+    {
+        match self.by_number(alloc, number)? {
+            Some(volume) => Ok(Some(volume.caps)),
+            None => Ok(None),
+        }
     }
 
     fn attachments(&mut self, alloc: Global, number: u64) -> Result<Items<Attachment>, StoreFault>

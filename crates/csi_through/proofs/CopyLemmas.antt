@@ -12,9 +12,8 @@ use lib.Pointwise.{bytes_decides}
 use Rattle.csi_types.specs.Maps.{same_text}
 use Rattle.csi_config.specs.declared.config.Config.{Config}
 use Rattle.csi_keeper.specs.Invariant.{IsInvariant}
-use Rattle.csi_keeper.specs.Memory.{first_state}
-use Rattle.csi_keeper.specs.Restoring.{CanRestore, from_number, restored}
-use Rattle.csi_keeper.specs.State.{State, Place, place_cmp, attached, beyond, changed, named, page, published, Allows}
+use Rattle.csi_memory.specs.Restoring.{CanRestore, from_number, restored}
+use Rattle.csi_keeper.specs.State.{State, Place, place_cmp, attached, beyond, changed, named, page, published, Allows, first_state}
 use Rattle.csi_keeper.specs.Texts.{Text}
 use Rattle.csi_keeper.specs.declared.change.Change.TheVariants.{Attach}
 use Rattle.csi_keeper.specs.declared.volume.Attachment.{Attachment}

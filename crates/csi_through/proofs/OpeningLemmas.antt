@@ -1,10 +1,10 @@
 -- What a keeper over a memory and a log has at first.
 use Rattle.std.proofs.Common.{◌≡◌, ap, arith, sym, subst, false}
-use Rattle.csi_keeper.specs.Holding.{Holds, mem_model}
+use Rattle.csi_memory.specs.Holding.{Holds, mem_model}
 use Rattle.csi_keeper.specs.Keeper.{IsQuiet}
 use Rattle.csi_keeper.specs.Model.{Model}
 use Rattle.csi_keeper.specs.State.{State}
-use Rattle.csi_keeper.specs.declared.mem.MemKeeper.{MemKeeper}
+use Rattle.csi_memory.specs.declared.mem.MemKeeper.{MemKeeper}
 use Rattle.csi_through.specs.Copying.{IsCopy}
 use Rattle.csi_through.specs.Through.{Opens, through_model}
 use Rattle.csi_through.specs.declared.log.Logged.{Logged}

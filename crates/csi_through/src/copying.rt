@@ -2,13 +2,14 @@
 
 ghost use Rattle.std.specs.Prelude.{◌≡◌, ◌<◌, ◌+◌, ℕ, [], false, length, get_or, IfOk, OnOk};
 ghost use Rattle.csi_config.specs.declared.config.Config.{Config};
-ghost use Rattle.csi_keeper.specs.Holding.{Holds};
+ghost use Rattle.csi_memory.specs.Holding.{Holds};
 ghost use Rattle.csi_keeper.specs.Invariant.{IsInvariant};
 ghost use Rattle.csi_keeper.specs.Keeper.{IsQuiet};
 ghost use Rattle.csi_keeper.specs.State.{State, attached};
 ghost use Rattle.csi_through.specs.Copying.{AllowsEach, AreNext, CopiesAll, CopiesTo, IsCopy, IsNext, attached_each, last_number, up_to};
 
-use csi_keeper::{Attachment, Change, Keeper, MemKeeper, StoreFault, Volume};
+use csi_keeper::{Attachment, Change, Keeper, StoreFault, Volume};
+use csi_memory::MemKeeper;
 use csi_types::{Items, MAX_NUMBER, MAX_POOL_BYTES, Text};
 use std::alloc::Global;
 

@@ -1,7 +1,7 @@
 //! A keeper over a memory and a log.
 
 ghost use Rattle.std.specs.Prelude.{◌≡◌, true, false, IfErr, IfOk, IsTrue, OnErr};
-ghost use Rattle.csi_keeper.specs.Holding.{mem_model};
+ghost use Rattle.csi_memory.specs.Holding.{mem_model};
 ghost use Rattle.csi_keeper.specs.Keeper.{Applies, IsQuiet};
 ghost use Rattle.csi_keeper.specs.State.{IsBounded};
 ghost use Rattle.csi_through.specs.Copying.{IsCopy};
@@ -10,7 +10,8 @@ ghost use Rattle.csi_through.specs.Through.{Opens, through_model};
 use crate::copying::copy_of;
 use crate::health::Health;
 use crate::log::{Log, Logged};
-use csi_keeper::{Attachment, Change, Keeper, Listed, MemKeeper, StoreFault, Usage, Volume};
+use csi_keeper::{Attachment, CapKey, Change, Keeper, Listed, StoreFault, Usage, Volume};
+use csi_memory::MemKeeper;
 use csi_types::{Items, Text};
 use std::alloc::Global;
 
@@ -162,6 +163,12 @@ impl<M: Keeper, D: Log> Keeper for Through<M, D> {
     fn by_number(&mut self, alloc: Global, number: u64) -> Result<Option<Volume>, StoreFault> {
         self.health.begin()?;
         let answer = self.memory.by_number(alloc, number);
+        self.health.end(answer)
+    }
+
+    fn caps_of(&mut self, alloc: Global, number: u64) -> Result<Option<Items<CapKey>>, StoreFault> {
+        self.health.begin()?;
+        let answer = self.memory.caps_of(alloc, number);
         self.health.end(answer)
     }
 

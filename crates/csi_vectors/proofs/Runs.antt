@@ -2,8 +2,7 @@
 use Rattle.std.proofs.Common.{◌≡◌, ℕ, List, [], ◌++◌, Option, Some, None, inl, inr, ◌∙◌, refl, subst}
 use Rattle.csi_config.specs.declared.config.Config.{Config}
 use Rattle.csi_keeper.specs.Model.{Model}
-use Rattle.csi_keeper.specs.State.{State}
-use Rattle.csi_keeper.specs.Memory.{first_state}
+use Rattle.csi_keeper.specs.State.{State, first_state}
 use Rattle.csi_server.specs.declared.end.RunEnd.{RunEnd}
 use Rattle.csi_server.specs.declared.end.RunEnd.TheVariants.{Done, Malformed, ReadFailed, TurnsSpent, WriteFailed, NoMemory}
 use Rattle.csi_server.specs.Serving.{Ended, Serves}

@@ -1,7 +1,7 @@
 -- What a new server writes for a stream of calls.
 use Rattle.std.specs.Prelude.{ℕ, ◌≡◌, ◌⊎◌, List, [], ◌++◌}
 use Rattle.csi_config.specs.declared.config.Config.{Config}
-use Rattle.csi_keeper.specs.Memory.{first_state}
+use Rattle.csi_keeper.specs.State.{first_state}
 use Rattle.frames_core.specs.declared.fault.FrameFault.{FrameFault}
 use Rattle.frames_core.specs.Envelope.{CallBytes}
 use Rattle.frames_core.specs.Stream.{Stream, Clean}

@@ -5,8 +5,8 @@ ghost use Rattle.csi_vectors.specs.Judging.{IsWhole, IsWritten};
 
 use crate::vector::Vector;
 use csi_config::Config;
-use csi_keeper::MemKeeper;
 use csi_keeper::laws::first;
+use csi_memory::MemKeeper;
 use csi_server::{RunEnd, serve};
 use std::alloc::{AllocError, Global};
 

@@ -3,9 +3,10 @@
 use crate::failure::{Ended, Failure};
 use crate::json;
 use csi_client::{put_body_lines, put_reply_line};
-use csi_codec::{DecodeFault, decode_response};
+use csi_codec::decode_response;
 use csi_types::{Entry, Items, Method, Response, Text, copy_text};
 use frames_core::Reply;
+use pbmessage::DecodeFault;
 use serde_json::Value;
 use std::alloc::{AllocError, Global};
 use std::io::Write;

@@ -58,19 +58,19 @@ impl<T: OverKeeper> Keeping<'_, T> {
         tables.into_connection()
     }
 
-    // Reads are those of memory.
-    fn run_over_memory<S: Alter + Drop>(&mut self, tables: Tables<S>) -> Connection<S> {
-        match Through::over(self.rt.alloc(), tables) {
+    // Reads are those of memory, into which all is copied. It does not know what the keeper is, and nor does its proof.
+    fn run_over_copy<K: Keeper + Drop>(&mut self, keeper: K) -> K {
+        match Through::over(self.rt.alloc(), keeper) {
             Ok(mut keeper) => {
                 self.task.serve(&mut keeper);
                 self.task
                     .tell(keeper.is_down(), keeper.refusals(), IS_BEHIND);
-                keeper.into_log().into_keeper().into_connection()
+                keeper.into_log().into_keeper()
             }
             Err(NotCopied { fault, keeper }) => {
                 self.task
                     .fail(of_reading(self.rt.alloc(), self.place.path, fault));
-                keeper.into_connection()
+                keeper
             }
         }
     }
@@ -81,7 +81,7 @@ impl<T: OverKeeper> OverTables for Keeping<'_, T> {
         if self.place.is_low_memory {
             return self.run_over_file(tables);
         }
-        self.run_over_memory(tables)
+        self.run_over_copy(tables).into_connection()
     }
 }
 

@@ -1,8 +1,8 @@
 //! How a file of tables is made, before it is opened.
 
-ghost use Rattle.std.specs.Prelude.{◌≡◌, ◌⊎◌, ◌==◌, length, IfOk, IsTrue};
+ghost use Rattle.std.specs.Prelude.{◌≡◌, ◌⊎◌, ◌==◌, ℕ, List, length, IfOk, IsTrue};
 ghost use Rattle.std.specs.List.{list_all};
-ghost use Rattle.csid.specs.Making.{AreZero};
+ghost use Rattle.csid.specs.Making.{AreZero, AsBefore};
 
 use sqlite::Files;
 use sqlite_disk::Disk;
@@ -74,7 +74,7 @@ fn begins_zero<D: Disk>(file: &mut D, room: &mut [u8]) -> io::Result<bool>
     requires { IsTrue (D.Disk.is_usable file.old) }
     ensures usable { IsTrue (D.Disk.is_usable file.new) }
     ensures clean { IsTrue (D.Disk.is_clean file.new) → IsTrue (D.Disk.is_clean file.old) }
-    ensures seen { D.Disk.seen file.new ≡ D.Disk.seen file.old }
+    ensures read { AsBefore D.Disk.seen D.Disk.may_leave file.old file.new }
     ensures zero { IfOk result (λ is. IsTrue is → IsTrue (D.Disk.is_clean file.new) → length room.old ≡ length (D.Disk.seen file.old) → AreZero (D.Disk.seen file.old)) }
 {
     file.read_at(0, room)?;
@@ -86,7 +86,7 @@ fn are_zero<D: Disk>(alloc: Global, file: &mut D, len: usize) -> io::Result<bool
     requires { IsTrue (D.Disk.is_usable file.old) }
     ensures usable { IsTrue (D.Disk.is_usable file.new) }
     ensures clean { IsTrue (D.Disk.is_clean file.new) → IsTrue (D.Disk.is_clean file.old) }
-    ensures seen { D.Disk.seen file.new ≡ D.Disk.seen file.old }
+    ensures read { AsBefore D.Disk.seen D.Disk.may_leave file.old file.new }
     ensures zero { IfOk result (λ is. IsTrue is → IsTrue (D.Disk.is_clean file.new) → len ≡ length (D.Disk.seen file.old) → AreZero (D.Disk.seen file.old)) }
 {
     let mut bytes = vec![in alloc; 0; len]?;
@@ -101,7 +101,8 @@ fn are_zero<D: Disk>(alloc: Global, file: &mut D, len: usize) -> io::Result<bool
 pub(crate) fn lay_out<D: Disk>(alloc: Global, files: &mut Files<D>) -> io::Result<()>
     requires log { IsTrue (D.Disk.is_usable files.old.log) }
     requires db { IsTrue (D.Disk.is_usable files.old.db) }
-    ensures kept { IsTrue (D.Disk.is_clean files.new.db) → (D.Disk.seen files.new.db ≡ D.Disk.seen files.old.db) ⊎ AreZero (D.Disk.seen files.old.db) }
+    ensures log { AsBefore D.Disk.seen D.Disk.may_leave files.old.log files.new.log }
+    ensures kept { IsTrue (D.Disk.is_clean files.new.db) → AsBefore D.Disk.seen D.Disk.may_leave files.old.db files.new.db ⊎ AreZero (D.Disk.seen files.old.db) }
 {
     let len = files.db.len()?;
     if len > PAGE_BYTES || files.log.len()? > 0 || !are_zero(alloc, &mut files.db, len)? {

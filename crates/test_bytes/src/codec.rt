@@ -5,12 +5,13 @@ mod wire;
 use crate::shown::{displayed, in_rust};
 use crate::words::{first_word, named};
 use csi_checks::check;
-use csi_codec::{DecodeFault, decode, decode_response, encode_request, encode_response};
+use csi_codec::{decode, decode_response, encode_request, encode_response};
 use csi_types::{
     MAX_MAP_BYTES, MAX_MOUNT_FLAGS_BYTES, MAX_NODE_ID_BYTES, MAX_NODES, MAX_NUMBER,
     MAX_PAGE_ENTRIES, MAX_POOL_BYTES, MAX_POOLS, MAX_SEGMENTS, MAX_TEXT_BYTES, MAX_VOLUMES, Method,
     Request, Response,
 };
+use pbmessage::DecodeFault;
 use std::alloc::Global;
 use test_kit::{RowFault, bytes_of, bytes_text};
 use wire::{fields_answer, prefixes_answer, write_answer};

@@ -3,7 +3,7 @@
 use crate::types::{MEBIBYTE, nodes_of, one_pool, plugin_of};
 use crate::words::{first_word, named};
 use csi_config::{Config, Sizes};
-use csi_keeper::MemKeeper;
+use csi_memory::MemKeeper;
 use csi_types::{Map, Method};
 use std::alloc::{AllocError, Global};
 use test_kit::{Answer, AnswerRow, Reply, RowFault, bytes_counted, bytes_of, number_of, reply_to};

@@ -3,11 +3,12 @@
 use crate::fault::RowFault;
 use crate::parts::bytes_text;
 use csi_checks::check;
-use csi_codec::{DecodeFault, decode, decode_response};
+use csi_codec::{decode, decode_response};
 use csi_config::Config;
 use csi_keeper::{Keeper, StoreFault};
 use csi_machine::{Verdict, answer};
 use csi_types::{Entry, Method, Reason, Request, Response};
+use pbmessage::DecodeFault;
 use std::alloc::Global;
 use std::fmt::Write;
 

@@ -6,7 +6,7 @@ use Rattle.pbwire.specs.Wire.{WireField, Payload}
 use Rattle.pbwire.specs.Writing.{spelling, spellings}
 use Rattle.csi_types.specs.declared.responses.Response.TheVariants as response
 use Rattle.csi_types.specs.declared.volume.Entry.{Entry}
-use Rattle.csi_codec.specs.Canon.{bytes_of, payload_fields, spelled, present, row_fields}
+use Rattle.pbmessage.specs.Canon.{bytes_of, payload_fields, spelled, present, row_fields}
 use Rattle.csi_codec.specs.Methods.{response_bytes}
 use Rattle.csi_codec.specs.messages.Volume.{canon_entry}
 

@@ -5,9 +5,9 @@ use Rattle.csi_types.specs.declared.capability.Mount.{Mount}
 use Rattle.csi_types.specs.declared.capability.Access.{Access}
 use Rattle.csi_types.specs.declared.capability.Access.TheVariants as variants
 use Rattle.csi_types.specs.declared.capability.Capability.{Capability}
-use Rattle.csi_codec.specs.Views.{Payloads, Views, text, joined, inner, one_of, value_of}
-use Rattle.csi_codec.specs.Schema.{Schema, AnyPayload, TextAt, MessageAt}
-use Rattle.csi_codec.specs.Canon.{Rows, Start, ◌▸◌, Strings, bytes_of, text_row, texts_row, option_row, FitsText, FitsTexts, FitsI32, FitsInner, FitsOption, FitsMessages}
+use Rattle.pbmessage.specs.Views.{Payloads, Views, text, joined, inner, one_of, value_of}
+use Rattle.pbmessage.specs.Schema.{Schema, AnyPayload, TextAt, MessageAt}
+use Rattle.pbmessage.specs.Canon.{Rows, Start, ◌▸◌, Strings, bytes_of, text_row, texts_row, option_row, FitsText, FitsTexts, FitsI32, FitsInner, FitsOption, FitsMessages}
 use Rattle.csi_codec.specs.messages.Single.{enum_value_in, canon_number}
 
 -- ---- VolumeCapability.MountVolume { fs_type 1, mount_flags 2, volume_mount_group 3 }

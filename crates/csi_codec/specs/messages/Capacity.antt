@@ -1,8 +1,8 @@
 -- `CapacityRange` (CSI specification, csi.proto): what the fields mean, under which
 -- numbers stand texts and embedded messages, and how a value is written.
 use Rattle.csi_types.specs.declared.capacity.CapacityRange.{CapacityRange}
-use Rattle.csi_codec.specs.Views.{Views, i64}
-use Rattle.csi_codec.specs.Canon.{Rows, Start, ◌▸◌, signed_row, FitsI64}
+use Rattle.pbmessage.specs.Views.{Views, i64}
+use Rattle.pbmessage.specs.Canon.{Rows, Start, ◌▸◌, signed_row, FitsI64}
 
 -- ---- CapacityRange { required_bytes 1, limit_bytes 2 }
 

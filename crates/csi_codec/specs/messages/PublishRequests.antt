@@ -1,8 +1,8 @@
 -- `ControllerPublishVolumeRequest` and `ControllerUnpublishVolumeRequest` (CSI specification, csi.proto): what the fields mean, under which
 -- numbers stand texts and embedded messages, and how a value is written.
-use Rattle.csi_codec.specs.Views.{Views, text, flag, inner, text_map, value_of}
-use Rattle.csi_codec.specs.Schema.{Schema, AnyPayload, TextAt, MessageAt, map_entry_schema}
-use Rattle.csi_codec.specs.Canon.{Rows, Start, ◌▸◌, text_row, flag_row, option_row, map_row, FitsText, FitsOption, FitsMap}
+use Rattle.pbmessage.specs.Views.{Views, text, flag, inner, text_map, value_of}
+use Rattle.pbmessage.specs.Schema.{Schema, AnyPayload, TextAt, MessageAt, map_entry_schema}
+use Rattle.pbmessage.specs.Canon.{Rows, Start, ◌▸◌, text_row, flag_row, option_row, map_row, FitsText, FitsOption, FitsMap}
 use Rattle.csi_types.specs.declared.requests.Publish.{Publish}
 use Rattle.csi_types.specs.declared.requests.Unpublish.{Unpublish}
 use Rattle.csi_codec.specs.messages.Capability.{capability_in, capability_schema, canon_capability, FitsCapability}

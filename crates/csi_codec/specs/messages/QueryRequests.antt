@@ -1,8 +1,8 @@
 -- `ValidateVolumeCapabilitiesRequest`, `ListVolumesRequest` and `GetCapacityRequest` (CSI specification, csi.proto): what the fields mean, under which
 -- numbers stand texts and embedded messages, and how a value is written.
-use Rattle.csi_codec.specs.Views.{Views, text, i32, inner, messages, text_map, value_of}
-use Rattle.csi_codec.specs.Schema.{Schema, AnyPayload, TextAt, MessageAt, map_entry_schema}
-use Rattle.csi_codec.specs.Canon.{Rows, Start, ◌▸◌, text_row, signed_row, option_row, messages_row, map_row, FitsText, FitsI32, FitsOption, FitsMap}
+use Rattle.pbmessage.specs.Views.{Views, text, i32, inner, messages, text_map, value_of}
+use Rattle.pbmessage.specs.Schema.{Schema, AnyPayload, TextAt, MessageAt, map_entry_schema}
+use Rattle.pbmessage.specs.Canon.{Rows, Start, ◌▸◌, text_row, signed_row, option_row, messages_row, map_row, FitsText, FitsI32, FitsOption, FitsMap}
 use Rattle.csi_types.specs.declared.requests.Validate.{Validate}
 use Rattle.csi_types.specs.declared.requests.ListVolumes.{ListVolumes}
 use Rattle.csi_types.specs.declared.requests.GetCapacity.{GetCapacity}

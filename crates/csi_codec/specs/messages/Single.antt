@@ -2,9 +2,9 @@
 -- numbers stand texts and embedded messages, and how a value is written.
 use Rattle.std.specs.Prelude.{ℤ, Bool, List, Option}
 use Rattle.csi_codec.specs.declared.messages.values.NoFields.{NoFields}
-use Rattle.csi_codec.specs.Views.{Views, i64, i32, flag, inner, messages, value_of}
-use Rattle.csi_codec.specs.Schema.{Schema, AnyPayload, MessageAt}
-use Rattle.csi_codec.specs.Canon.{Rows, Start, ◌▸◌, signed_row, flag_row, option_row, messages_row, FitsI32, FitsOption, FitsMessages}
+use Rattle.pbmessage.specs.Views.{Views, i64, i32, flag, inner, messages, value_of}
+use Rattle.pbmessage.specs.Schema.{Schema, AnyPayload, MessageAt}
+use Rattle.pbmessage.specs.Canon.{Rows, Start, ◌▸◌, signed_row, flag_row, option_row, messages_row, FitsI32, FitsOption, FitsMessages}
 
 -- ---- messages without known fields
 

@@ -3,9 +3,9 @@
 use Rattle.std.specs.Prelude.{List}
 use Rattle.csi_types.specs.declared.topology.Requirement.{Requirement}
 use Rattle.csi_types.specs.Maps.{TextMap}
-use Rattle.csi_codec.specs.Views.{Views, messages, text_map, value_of}
-use Rattle.csi_codec.specs.Schema.{Schema, AnyPayload, MessageAt, map_entry_schema}
-use Rattle.csi_codec.specs.Canon.{Rows, Start, ◌▸◌, messages_row, map_row, FitsMessages, FitsMap}
+use Rattle.pbmessage.specs.Views.{Views, messages, text_map, value_of}
+use Rattle.pbmessage.specs.Schema.{Schema, AnyPayload, MessageAt, map_entry_schema}
+use Rattle.pbmessage.specs.Canon.{Rows, Start, ◌▸◌, messages_row, map_row, FitsMessages, FitsMap}
 
 -- ---- Topology { segments 1 }, and of the same form ControllerPublishVolumeResponse { publish_context 1 }
 

@@ -5,9 +5,9 @@ use Rattle.csi_types.specs.declared.volume.VolumeInfo.{VolumeInfo}
 use Rattle.csi_types.specs.declared.volume.Entry.{Entry}
 use Rattle.csi_types.specs.declared.volume.Confirmed.{Confirmed}
 use Rattle.csi_types.specs.Maps.{TextMap}
-use Rattle.csi_codec.specs.Views.{Views, text, i64, inner, messages, text_map, value_of}
-use Rattle.csi_codec.specs.Schema.{Schema, AnyPayload, TextAt, MessageAt, map_entry_schema}
-use Rattle.csi_codec.specs.Canon.{Rows, Start, ◌▸◌, bytes_of, text_row, texts_row, signed_row, option_row, messages_row, map_row, FitsText, FitsTexts, FitsI64, FitsOption, FitsMap}
+use Rattle.pbmessage.specs.Views.{Views, text, i64, inner, messages, text_map, value_of}
+use Rattle.pbmessage.specs.Schema.{Schema, AnyPayload, TextAt, MessageAt, map_entry_schema}
+use Rattle.pbmessage.specs.Canon.{Rows, Start, ◌▸◌, bytes_of, text_row, texts_row, signed_row, option_row, messages_row, map_row, FitsText, FitsTexts, FitsI64, FitsOption, FitsMap}
 use Rattle.csi_codec.specs.messages.Capability.{capability_in, capability_schema, canon_capability, FitsCapabilities}
 use Rattle.csi_codec.specs.messages.Topology.{map_in, map_schema, canon_map, FitsTerms}
 

@@ -1,8 +1,8 @@
 -- `CreateVolumeRequest`, `DeleteVolumeRequest` and `ControllerModifyVolumeRequest` (CSI specification, csi.proto): what
 -- the fields mean, under which numbers stand texts and embedded messages, and how a value is written.
-use Rattle.csi_codec.specs.Views.{Views, text, inner, messages, text_map, value_of, is_present}
-use Rattle.csi_codec.specs.Schema.{Schema, AnyPayload, TextAt, MessageAt, map_entry_schema}
-use Rattle.csi_codec.specs.Canon.{Rows, Start, ◌▸◌, text_row, option_row, messages_row, map_row, FitsText, FitsOption, FitsMap, presence_row}
+use Rattle.pbmessage.specs.Views.{Views, text, inner, messages, text_map, value_of, is_present}
+use Rattle.pbmessage.specs.Schema.{Schema, AnyPayload, TextAt, MessageAt, map_entry_schema}
+use Rattle.pbmessage.specs.Canon.{Rows, Start, ◌▸◌, text_row, option_row, messages_row, map_row, FitsText, FitsOption, FitsMap, presence_row}
 use Rattle.csi_types.specs.declared.requests.CreateVolume.{CreateVolume}
 use Rattle.csi_types.specs.declared.requests.DeleteVolume.{DeleteVolume}
 use Rattle.csi_types.specs.declared.requests.Modify.{Modify}

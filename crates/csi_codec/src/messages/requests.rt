@@ -4,20 +4,20 @@ ghost use Rattle.csi_codec.specs.messages.VolumeRequests.{create_in, create_sche
 ghost use Rattle.csi_codec.specs.messages.PublishRequests.{publish_in, publish_schema, canon_publish, FitsPublish, unpublish_in, unpublish_schema, canon_unpublish, FitsUnpublish};
 ghost use Rattle.csi_codec.specs.messages.QueryRequests.{validate_in, validate_schema, canon_validate, FitsValidate, list_in, list_schema, canon_list, FitsList, capacity_in, capacity_schema, canon_capacity, FitsCapacity};
 
-use crate::message::Message;
-use crate::messages::values::{MapEntry, NoFields, low_half};
-use crate::slots::{is_message, is_text, merge_entry, merge_message, push_message, set_text};
-use crate::writing::{
-    Written, put_flag, put_map, put_messages, put_option, put_presence, put_signed, put_text,
-};
+use crate::messages::Csi;
+use crate::messages::values::{NoFields, low_half};
 use csi_types::{
     Capability, CapacityRange, CreateVolume, DeleteVolume, GetCapacity, Items, ListVolumes, Map,
     Modify, Publish, Requirement, Text, Unpublish, Validate,
 };
+use pbmessage::{
+    Message, Written, is_entry, is_message, is_text, merge_entry, merge_message, push_message,
+    put_flag, put_map, put_messages, put_option, put_presence, put_signed, put_text, set_text,
+};
 use std::alloc::{AllocError, Global};
 
-#[tactic(auto, using(crate::proofs::ViewLemmas::last_after, crate::proofs::ViewLemmas::present_after))]
-impl Message for CreateVolume {
+#[tactic(auto, using(pbmessage::specs::facts::Views::last_after, pbmessage::specs::facts::Views::present_after))]
+impl Message<Csi> for CreateVolume {
     ghost schema = { create_schema };
 
     ghost of = { create_in };
@@ -38,11 +38,11 @@ impl Message for CreateVolume {
     fn is_good(number: u32, payload: &[u8]) -> bool {
         match number {
             1 => is_text(payload),
-            2 => is_message::<CapacityRange>(payload),
-            3 => is_message::<Capability>(payload),
-            4 | 5 | 8 => is_message::<MapEntry>(payload),
-            6 => is_message::<NoFields>(payload),
-            7 => is_message::<Requirement>(payload),
+            2 => is_message::<Csi, CapacityRange>(payload),
+            3 => is_message::<Csi, Capability>(payload),
+            4 | 5 | 8 => is_entry(payload),
+            6 => is_message::<Csi, NoFields>(payload),
+            7 => is_message::<Csi, Requirement>(payload),
             _ => true,
         }
     }
@@ -70,7 +70,7 @@ impl Message for CreateVolume {
     }
 }
 
-impl Written for CreateVolume {
+impl Written<Csi> for CreateVolume {
     ghost canon = { canon_create };
 
     ghost fits = { FitsCreate };
@@ -88,8 +88,8 @@ impl Written for CreateVolume {
     }
 }
 
-#[tactic(auto, using(crate::proofs::ViewLemmas::last_after))]
-impl Message for DeleteVolume {
+#[tactic(auto, using(pbmessage::specs::facts::Views::last_after))]
+impl Message<Csi> for DeleteVolume {
     ghost schema = { delete_schema };
 
     ghost of = { delete_in };
@@ -104,7 +104,7 @@ impl Message for DeleteVolume {
     fn is_good(number: u32, payload: &[u8]) -> bool {
         match number {
             1 => is_text(payload),
-            2 => is_message::<MapEntry>(payload),
+            2 => is_entry(payload),
             _ => true,
         }
     }
@@ -126,7 +126,7 @@ impl Message for DeleteVolume {
     }
 }
 
-impl Written for DeleteVolume {
+impl Written<Csi> for DeleteVolume {
     ghost canon = { canon_delete };
 
     ghost fits = { FitsDelete };
@@ -138,8 +138,8 @@ impl Written for DeleteVolume {
     }
 }
 
-#[tactic(auto, using(crate::proofs::ViewLemmas::last_after))]
-impl Message for Modify {
+#[tactic(auto, using(pbmessage::specs::facts::Views::last_after))]
+impl Message<Csi> for Modify {
     ghost schema = { modify_schema };
 
     ghost of = { modify_in };
@@ -155,7 +155,7 @@ impl Message for Modify {
     fn is_good(number: u32, payload: &[u8]) -> bool {
         match number {
             1 => is_text(payload),
-            2 | 3 => is_message::<MapEntry>(payload),
+            2 | 3 => is_entry(payload),
             _ => true,
         }
     }
@@ -178,7 +178,7 @@ impl Message for Modify {
     }
 }
 
-impl Written for Modify {
+impl Written<Csi> for Modify {
     ghost canon = { canon_modify };
 
     ghost fits = { FitsModify };
@@ -191,8 +191,8 @@ impl Written for Modify {
     }
 }
 
-#[tactic(auto, using(crate::proofs::ViewLemmas::last_after))]
-impl Message for Publish {
+#[tactic(auto, using(pbmessage::specs::facts::Views::last_after))]
+impl Message<Csi> for Publish {
     ghost schema = { publish_schema };
 
     ghost of = { publish_in };
@@ -211,8 +211,8 @@ impl Message for Publish {
     fn is_good(number: u32, payload: &[u8]) -> bool {
         match number {
             1 | 2 => is_text(payload),
-            3 => is_message::<Capability>(payload),
-            5 | 6 => is_message::<MapEntry>(payload),
+            3 => is_message::<Csi, Capability>(payload),
+            5 | 6 => is_entry(payload),
             _ => true,
         }
     }
@@ -241,7 +241,7 @@ impl Message for Publish {
     }
 }
 
-impl Written for Publish {
+impl Written<Csi> for Publish {
     ghost canon = { canon_publish };
 
     ghost fits = { FitsPublish };
@@ -257,8 +257,8 @@ impl Written for Publish {
     }
 }
 
-#[tactic(auto, using(crate::proofs::ViewLemmas::last_after))]
-impl Message for Unpublish {
+#[tactic(auto, using(pbmessage::specs::facts::Views::last_after))]
+impl Message<Csi> for Unpublish {
     ghost schema = { unpublish_schema };
 
     ghost of = { unpublish_in };
@@ -274,7 +274,7 @@ impl Message for Unpublish {
     fn is_good(number: u32, payload: &[u8]) -> bool {
         match number {
             1 | 2 => is_text(payload),
-            3 => is_message::<MapEntry>(payload),
+            3 => is_entry(payload),
             _ => true,
         }
     }
@@ -297,7 +297,7 @@ impl Message for Unpublish {
     }
 }
 
-impl Written for Unpublish {
+impl Written<Csi> for Unpublish {
     ghost canon = { canon_unpublish };
 
     ghost fits = { FitsUnpublish };
@@ -310,8 +310,8 @@ impl Written for Unpublish {
     }
 }
 
-#[tactic(auto, using(crate::proofs::ViewLemmas::last_after))]
-impl Message for Validate {
+#[tactic(auto, using(pbmessage::specs::facts::Views::last_after))]
+impl Message<Csi> for Validate {
     ghost schema = { validate_schema };
 
     ghost of = { validate_in };
@@ -329,8 +329,8 @@ impl Message for Validate {
     fn is_good(number: u32, payload: &[u8]) -> bool {
         match number {
             1 => is_text(payload),
-            2 | 4 | 5 => is_message::<MapEntry>(payload),
-            3 => is_message::<Capability>(payload),
+            2 | 4 | 5 => is_entry(payload),
+            3 => is_message::<Csi, Capability>(payload),
             _ => true,
         }
     }
@@ -355,7 +355,7 @@ impl Message for Validate {
     }
 }
 
-impl Written for Validate {
+impl Written<Csi> for Validate {
     ghost canon = { canon_validate };
 
     ghost fits = { FitsValidate };
@@ -370,8 +370,8 @@ impl Written for Validate {
     }
 }
 
-#[tactic(auto, using(crate::proofs::ViewLemmas::last_after, crate::proofs::ViewLemmas::signed_kept_32))]
-impl Message for ListVolumes {
+#[tactic(auto, using(pbmessage::specs::facts::Views::last_after, pbmessage::specs::facts::Views::signed_kept_32))]
+impl Message<Csi> for ListVolumes {
     ghost schema = { list_schema };
 
     ghost of = { list_in };
@@ -410,7 +410,7 @@ impl Message for ListVolumes {
     }
 }
 
-impl Written for ListVolumes {
+impl Written<Csi> for ListVolumes {
     ghost canon = { canon_list };
 
     ghost fits = { FitsList };
@@ -422,7 +422,7 @@ impl Written for ListVolumes {
     }
 }
 
-impl Message for GetCapacity {
+impl Message<Csi> for GetCapacity {
     ghost schema = { capacity_schema };
 
     ghost of = { capacity_in };
@@ -437,9 +437,9 @@ impl Message for GetCapacity {
 
     fn is_good(number: u32, payload: &[u8]) -> bool {
         match number {
-            1 => is_message::<Capability>(payload),
-            2 => is_message::<MapEntry>(payload),
-            3 => is_message::<Map>(payload),
+            1 => is_message::<Csi, Capability>(payload),
+            2 => is_entry(payload),
+            3 => is_message::<Csi, Map>(payload),
             _ => true,
         }
     }
@@ -462,7 +462,7 @@ impl Message for GetCapacity {
     }
 }
 
-impl Written for GetCapacity {
+impl Written<Csi> for GetCapacity {
     ghost canon = { canon_capacity };
 
     ghost fits = { FitsCapacity };

@@ -1,15 +1,17 @@
 //! Responses of several fields: as they are read, and how their parts are written.
 
 ghost use Rattle.std.specs.Prelude.{◌≡◌, ◌++◌, OnOk};
-ghost use Rattle.csi_codec.specs.Canon.{bytes_of};
-ghost use Rattle.csi_codec.specs.Kept.{Keeps};
+ghost use Rattle.pbmessage.specs.Canon.{bytes_of};
+ghost use Rattle.pbmessage.specs.Kept.{Keeps};
 ghost use Rattle.csi_codec.specs.messages.ResponseParts.{info_in, info_schema, canon_info, FitsInfo, validation_in, validation_schema, canon_validation, FitsValidation, listing_in, listing_schema, canon_listing, FitsListing, free_in, free_schema, canon_free, FitsFree};
 
-use crate::message::Message;
+use crate::messages::Csi;
 use crate::messages::values::Int64Value;
-use crate::slots::{is_message, is_text, merge_message, push_message, set_text};
-use crate::writing::{put_messages, put_option, put_signed, put_text};
 use csi_types::{Confirmed, Entry, Items, Text};
+use pbmessage::{
+    Message, is_message, is_text, merge_message, push_message, put_messages, put_option,
+    put_signed, put_text, set_text,
+};
 use std::alloc::{AllocError, Global};
 
 /// `GetPluginInfoResponse`.
@@ -40,8 +42,8 @@ pub struct FreeCapacity {
     pub maximum: Option<i64>,
 }
 
-#[tactic(auto, using(crate::proofs::ViewLemmas::last_after))]
-impl Message for PluginInfo {
+#[tactic(auto, using(pbmessage::specs::facts::Views::last_after))]
+impl Message<Csi> for PluginInfo {
     ghost schema = { info_schema };
 
     ghost of = { info_in };
@@ -77,8 +79,8 @@ impl Message for PluginInfo {
     }
 }
 
-#[tactic(auto, using(crate::proofs::ViewLemmas::last_after))]
-impl Message for Validation {
+#[tactic(auto, using(pbmessage::specs::facts::Views::last_after))]
+impl Message<Csi> for Validation {
     ghost schema = { validation_schema };
 
     ghost of = { validation_in };
@@ -92,7 +94,7 @@ impl Message for Validation {
 
     fn is_good(number: u32, payload: &[u8]) -> bool {
         match number {
-            1 => is_message::<Confirmed>(payload),
+            1 => is_message::<Csi, Confirmed>(payload),
             2 => is_text(payload),
             _ => true,
         }
@@ -115,8 +117,8 @@ impl Message for Validation {
     }
 }
 
-#[tactic(auto, using(crate::proofs::ViewLemmas::last_after))]
-impl Message for Listing {
+#[tactic(auto, using(pbmessage::specs::facts::Views::last_after))]
+impl Message<Csi> for Listing {
     ghost schema = { listing_schema };
 
     ghost of = { listing_in };
@@ -130,7 +132,7 @@ impl Message for Listing {
 
     fn is_good(number: u32, payload: &[u8]) -> bool {
         match number {
-            1 => is_message::<Entry>(payload),
+            1 => is_message::<Csi, Entry>(payload),
             2 => is_text(payload),
             _ => true,
         }
@@ -153,8 +155,8 @@ impl Message for Listing {
     }
 }
 
-#[tactic(auto, using(crate::proofs::ViewLemmas::last_after, crate::proofs::ViewLemmas::signed_kept))]
-impl Message for FreeCapacity {
+#[tactic(auto, using(pbmessage::specs::facts::Views::last_after, pbmessage::specs::facts::Views::signed_kept))]
+impl Message<Csi> for FreeCapacity {
     ghost schema = { free_schema };
 
     ghost of = { free_in };
@@ -168,7 +170,7 @@ impl Message for FreeCapacity {
 
     fn is_good(number: u32, payload: &[u8]) -> bool {
         match number {
-            2 => is_message::<Int64Value>(payload),
+            2 => is_message::<Csi, Int64Value>(payload),
             _ => true,
         }
     }

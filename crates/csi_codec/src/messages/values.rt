@@ -2,23 +2,25 @@
 
 ghost use Rattle.std.specs.Prelude.{◌≡◌, ◌%◌, ◌^◌};
 ghost use Rattle.std.specs.Int.{cast_signed, w32};
-ghost use Rattle.csi_codec.specs.Schema.{AnyPayload, map_entry_schema};
-ghost use Rattle.csi_codec.specs.Views.{map_entry_in};
+ghost use Rattle.pbmessage.specs.Schema.{AnyPayload, map_entry_schema};
+ghost use Rattle.pbmessage.specs.Views.{map_entry_in};
 ghost use Rattle.csi_codec.specs.messages.Single.{nothing_in, bool_value_in, canon_bool_value, FitsBoolValue, int64_value_in, enum_value_in, canon_number, only_in, only_schema, canon_only, types_in, types_schema, canon_types, FitsTypes};
-ghost use Rattle.csi_codec.specs.Canon.{FitsI64, FitsI32, FitsOption, FitsMap};
+ghost use Rattle.pbmessage.specs.Canon.{FitsI64, FitsI32, FitsOption, FitsMap};
 ghost use Rattle.csi_codec.specs.messages.Topology.{map_in, map_schema, canon_map};
 
-use crate::message::Message;
-use crate::slots::{is_message, is_text, merge_entry, merge_message, push_message, set_text};
-use crate::writing::{Written, put_flag, put_map, put_messages, put_option, put_signed};
+use crate::messages::Csi;
 use csi_types::{Items, Map, Text};
+use pbmessage::{
+    Message, Written, is_entry, is_message, is_text, merge_entry, merge_message, push_message,
+    put_flag, put_map, put_messages, put_option, put_signed, set_text,
+};
 use std::alloc::{AllocError, Global};
 
 /// A message without known fields: its fields are looked through and skipped.
 #[derive(Clone, Copy)]
 pub struct NoFields;
 
-impl Message for NoFields {
+impl Message<Csi> for NoFields {
     ghost schema = { AnyPayload };
 
     ghost of = { nothing_in };
@@ -46,8 +48,8 @@ impl Message for NoFields {
 /// `google.protobuf.BoolValue`: `value`, field 1.
 pub type BoolValue = bool;
 
-#[tactic(auto, using(crate::proofs::ViewLemmas::last_after))]
-impl Message for BoolValue {
+#[tactic(auto, using(pbmessage::specs::facts::Views::last_after))]
+impl Message<Csi> for BoolValue {
     ghost schema = { AnyPayload };
 
     ghost of = { bool_value_in };
@@ -79,8 +81,8 @@ impl Message for BoolValue {
 /// `google.protobuf.Int64Value`: `value`, field 1.
 pub type Int64Value = i64;
 
-#[tactic(auto, using(crate::proofs::ViewLemmas::last_after, crate::proofs::ViewLemmas::signed_kept))]
-impl Message for Int64Value {
+#[tactic(auto, using(pbmessage::specs::facts::Views::last_after, pbmessage::specs::facts::Views::signed_kept))]
+impl Message<Csi> for Int64Value {
     ghost schema = { AnyPayload };
 
     ghost of = { int64_value_in };
@@ -112,8 +114,8 @@ impl Message for Int64Value {
 /// A message of one enum, field 1: `AccessMode`, `PluginCapability.Service` or `ControllerServiceCapability.RPC`.
 pub type EnumValue = i32;
 
-#[tactic(auto, using(crate::proofs::ViewLemmas::last_after, crate::proofs::ViewLemmas::signed_kept_32))]
-impl Message for EnumValue {
+#[tactic(auto, using(pbmessage::specs::facts::Views::last_after, pbmessage::specs::facts::Views::signed_kept_32))]
+impl Message<Csi> for EnumValue {
     ghost schema = { AnyPayload };
 
     ghost of = { enum_value_in };
@@ -142,45 +144,8 @@ impl Message for EnumValue {
     }
 }
 
-/// An entry of a map of texts: key 1 and value 2 (Protocol Buffers encoding guide, 'Maps').
-pub type MapEntry = (Text, Text);
-
-#[tactic(auto, using(crate::proofs::ViewLemmas::last_after))]
-impl Message for MapEntry {
-    ghost schema = { map_entry_schema };
-
-    ghost of = { map_entry_in };
-
-    fn empty(alloc: Global) -> MapEntry {
-        (Text::new(alloc), Text::new(alloc))
-    }
-
-    fn is_good(number: u32, payload: &[u8]) -> bool {
-        match number {
-            1 | 2 => is_text(payload),
-            _ => true,
-        }
-    }
-
-    fn merge_number(&mut self, _number: u32, _value: u64) {}
-
-    fn merge_payload(
-        &mut self,
-        _alloc: Global,
-        number: u32,
-        payload: &[u8],
-    ) -> Result<(), AllocError> {
-        match number {
-            1 => set_text(&mut self.0, payload)?,
-            2 => set_text(&mut self.1, payload)?,
-            _ => {}
-        }
-        Ok(())
-    }
-}
-
 /// A message of one embedded message, field 1.
-impl<M: Message> Message for Option<M> {
+impl<M: Message<Csi>> Message<Csi> for Option<M> {
     ghost schema = { only_schema M.schema };
 
     ghost of = { only_in M.of };
@@ -191,7 +156,7 @@ impl<M: Message> Message for Option<M> {
 
     fn is_good(number: u32, payload: &[u8]) -> bool {
         match number {
-            1 => is_message::<M>(payload),
+            1 => is_message::<Csi, M>(payload),
             _ => true,
         }
     }
@@ -222,7 +187,7 @@ pub fn low_half(value: u64) -> i32
 pub type ServiceCapability = Option<EnumValue>;
 
 /// A message of one list, field 1: the capabilities of a service.
-impl Message for Items<ServiceCapability> {
+impl Message<Csi> for Items<ServiceCapability> {
     ghost schema = { types_schema };
 
     ghost of = { types_in };
@@ -233,7 +198,7 @@ impl Message for Items<ServiceCapability> {
 
     fn is_good(number: u32, payload: &[u8]) -> bool {
         match number {
-            1 => is_message::<ServiceCapability>(payload),
+            1 => is_message::<Csi, ServiceCapability>(payload),
             _ => true,
         }
     }
@@ -254,8 +219,8 @@ impl Message for Items<ServiceCapability> {
     }
 }
 
-#[tactic(auto, using(crate::proofs::WritingLemmas::wrote_two, crate::proofs::WritingLemmas::keeps_on))]
-impl Written for BoolValue {
+#[tactic(auto, using(pbmessage::specs::facts::Writing::wrote_two, pbmessage::specs::facts::Writing::keeps_on))]
+impl Written<Csi> for BoolValue {
     ghost canon = { canon_bool_value };
 
     ghost fits = { FitsBoolValue };
@@ -266,8 +231,8 @@ impl Written for BoolValue {
     }
 }
 
-#[tactic(auto, using(crate::proofs::WritingLemmas::wrote_two, crate::proofs::WritingLemmas::keeps_on))]
-impl Written for Int64Value {
+#[tactic(auto, using(pbmessage::specs::facts::Writing::wrote_two, pbmessage::specs::facts::Writing::keeps_on))]
+impl Written<Csi> for Int64Value {
     ghost canon = { canon_number };
 
     ghost fits = { FitsI64 };
@@ -278,8 +243,8 @@ impl Written for Int64Value {
     }
 }
 
-#[tactic(auto, using(crate::proofs::WritingLemmas::wrote_two, crate::proofs::WritingLemmas::keeps_on))]
-impl Written for EnumValue {
+#[tactic(auto, using(pbmessage::specs::facts::Writing::wrote_two, pbmessage::specs::facts::Writing::keeps_on))]
+impl Written<Csi> for EnumValue {
     ghost canon = { canon_number };
 
     ghost fits = { FitsI32 };
@@ -290,7 +255,7 @@ impl Written for EnumValue {
     }
 }
 
-impl<M: Written> Written for Option<M> {
+impl<M: Written<Csi>> Written<Csi> for Option<M> {
     ghost canon = { canon_only M.canon };
 
     ghost fits = { FitsOption M.fits M.canon };
@@ -301,8 +266,8 @@ impl<M: Written> Written for Option<M> {
     }
 }
 
-#[tactic(auto, using(crate::proofs::WritingLemmas::wrote_two, crate::proofs::WritingLemmas::keeps_on))]
-impl Written for Items<ServiceCapability> {
+#[tactic(auto, using(pbmessage::specs::facts::Writing::wrote_two, pbmessage::specs::facts::Writing::keeps_on))]
+impl Written<Csi> for Items<ServiceCapability> {
     ghost canon = { canon_types };
 
     ghost fits = { FitsTypes };
@@ -314,7 +279,7 @@ impl Written for Items<ServiceCapability> {
 }
 
 /// A message of one map, field 1: the segments of a `Topology`, or the context of a publication.
-impl Message for Map {
+impl Message<Csi> for Map {
     ghost schema = { map_schema };
 
     ghost of = { map_in };
@@ -325,7 +290,7 @@ impl Message for Map {
 
     fn is_good(number: u32, payload: &[u8]) -> bool {
         match number {
-            1 => is_message::<MapEntry>(payload),
+            1 => is_entry(payload),
             _ => true,
         }
     }
@@ -346,8 +311,8 @@ impl Message for Map {
     }
 }
 
-#[tactic(auto, using(crate::proofs::WritingLemmas::wrote_two, crate::proofs::WritingLemmas::keeps_on))]
-impl Written for Map {
+#[tactic(auto, using(pbmessage::specs::facts::Writing::wrote_two, pbmessage::specs::facts::Writing::keeps_on))]
+impl Written<Csi> for Map {
     ghost canon = { canon_map };
 
     ghost fits = { FitsMap };

@@ -3,33 +3,34 @@
 ghost use Rattle.std.specs.Prelude.{◌≡◌, ◌++◌, ◌∷◌, [], ℕ, List, OnOk, IfOk};
 ghost use Rattle.std.specs.Int.{cast_signed};
 ghost use Rattle.csi_types.specs.declared.capability.Access.TheVariants.{Mount as AnyMount};
-ghost use Rattle.csi_codec.specs.Schema.{AnyPayload, GoodField, Good};
+ghost use Rattle.pbmessage.specs.Schema.{AnyPayload, GoodField, Good};
 ghost use Rattle.pbwire.specs.Wire.{WireField};
-ghost use Rattle.csi_codec.specs.Views.{one_of, value_of};
-ghost use Rattle.csi_codec.specs.Canon.{bytes_of, FitsTexts};
-ghost use Rattle.csi_codec.specs.Fields.{AreGood, fields_of};
-ghost use Rattle.csi_codec.specs.Kept.{Keeps};
+ghost use Rattle.pbmessage.specs.Views.{one_of, value_of};
+ghost use Rattle.pbmessage.specs.Canon.{bytes_of, FitsTexts};
+ghost use Rattle.pbmessage.specs.Fields.{AreGood, fields_of};
+ghost use Rattle.pbmessage.specs.Kept.{Keeps};
 ghost use Rattle.csi_codec.specs.messages.Capability.{mount_in, mount_schema, canon_mount, FitsMount, access, canon_access, FitsAccess, capability_in, capability_schema, canon_capability, FitsCapability};
 ghost use Rattle.csi_codec.specs.messages.Capacity.{range_in, canon_range, FitsRange};
 ghost use Rattle.csi_codec.specs.messages.Topology.{requirement_in, requirement_schema, canon_requirement, FitsRequirement};
 ghost use Rattle.csi_codec.specs.messages.Volume.{volume_in, volume_schema, canon_volume, FitsVolume, nodes_in, nodes_schema, canon_nodes, entry_in, entry_schema, canon_entry, FitsEntry, confirmed_in, confirmed_schema, canon_confirmed, FitsConfirmed};
 
-use crate::message::{Message, merge, read};
-use crate::messages::values::{EnumValue, MapEntry, NoFields};
-use crate::slots::{is_message, is_text, merge_entry, merge_message, push_message, set_text, text};
-use crate::writing::{
-    Written, put_map, put_message, put_messages, put_option, put_signed, put_text, put_texts,
-};
+use crate::messages::Csi;
+use crate::messages::values::{EnumValue, NoFields};
 use csi_types::{
     Access, Boxed, Capability, CapacityRange, Confirmed, Entry, Items, Map, Mount, Requirement,
     Text, VolumeInfo,
+};
+use pbmessage::{
+    Message, Written, is_entry, is_message, is_text, merge, merge_entry, merge_message,
+    push_message, put_map, put_message, put_messages, put_option, put_signed, put_text, put_texts,
+    read, set_text, text,
 };
 use pbwire::put_bytes;
 use std::alloc::{AllocError, Global};
 use std::mem::replace;
 
-#[tactic(auto, using(crate::proofs::ViewLemmas::last_after))]
-impl Message for Mount {
+#[tactic(auto, using(pbmessage::specs::facts::Views::last_after))]
+impl Message<Csi> for Mount {
     ghost schema = { mount_schema };
 
     ghost of = { mount_in };
@@ -101,8 +102,8 @@ fn merge_mount(slot: &mut Access, alloc: Global, payload: &[u8]) -> Result<(), A
     }
 }
 
-#[tactic(auto, using(crate::proofs::ViewLemmas::one_of_push))]
-impl Message for Capability {
+#[tactic(auto, using(pbmessage::specs::facts::Views::one_of_push))]
+impl Message<Csi> for Capability {
     ghost schema = { capability_schema };
 
     ghost of = { capability_in };
@@ -116,9 +117,9 @@ impl Message for Capability {
 
     fn is_good(number: u32, payload: &[u8]) -> bool {
         match number {
-            1 => is_message::<NoFields>(payload),
-            2 => is_message::<Mount>(payload),
-            3 => is_message::<EnumValue>(payload),
+            1 => is_message::<Csi, NoFields>(payload),
+            2 => is_message::<Csi, Mount>(payload),
+            3 => is_message::<Csi, EnumValue>(payload),
             _ => true,
         }
     }
@@ -141,7 +142,7 @@ impl Message for Capability {
     }
 }
 
-impl Written for Mount {
+impl Written<Csi> for Mount {
     ghost canon = { canon_mount };
 
     ghost fits = { FitsMount };
@@ -154,7 +155,7 @@ impl Written for Mount {
     }
 }
 
-#[tactic(auto, unfolding(crate::specs::Canon::row_fields))]
+#[tactic(auto, unfolding(pbmessage::specs::Canon::row_fields))]
 fn put_access(out: &mut Vec<u8>, access: &Access) -> Result<(), AllocError>
     ensures ok { OnOk result (out.new.items ≡ out.old.items ++ bytes_of (canon_access access.now)) }
     ensures fitting { OnOk result (FitsAccess access.now) }
@@ -167,7 +168,7 @@ fn put_access(out: &mut Vec<u8>, access: &Access) -> Result<(), AllocError>
     }
 }
 
-impl Written for Capability {
+impl Written<Csi> for Capability {
     ghost canon = { canon_capability };
 
     ghost fits = { FitsCapability };
@@ -179,8 +180,8 @@ impl Written for Capability {
     }
 }
 
-#[tactic(auto, using(crate::proofs::ViewLemmas::last_after, crate::proofs::ViewLemmas::signed_kept))]
-impl Message for CapacityRange {
+#[tactic(auto, using(pbmessage::specs::facts::Views::last_after, pbmessage::specs::facts::Views::signed_kept))]
+impl Message<Csi> for CapacityRange {
     ghost schema = { AnyPayload };
 
     ghost of = { range_in };
@@ -214,7 +215,7 @@ impl Message for CapacityRange {
     }
 }
 
-impl Written for CapacityRange {
+impl Written<Csi> for CapacityRange {
     ghost canon = { canon_range };
 
     ghost fits = { FitsRange };
@@ -226,7 +227,7 @@ impl Written for CapacityRange {
     }
 }
 
-impl Message for Requirement {
+impl Message<Csi> for Requirement {
     ghost schema = { requirement_schema };
 
     ghost of = { requirement_in };
@@ -240,7 +241,7 @@ impl Message for Requirement {
 
     fn is_good(number: u32, payload: &[u8]) -> bool {
         match number {
-            1 | 2 => is_message::<Map>(payload),
+            1 | 2 => is_message::<Csi, Map>(payload),
             _ => true,
         }
     }
@@ -262,7 +263,7 @@ impl Message for Requirement {
     }
 }
 
-impl Written for Requirement {
+impl Written<Csi> for Requirement {
     ghost canon = { canon_requirement };
 
     ghost fits = { FitsRequirement };
@@ -274,8 +275,8 @@ impl Written for Requirement {
     }
 }
 
-#[tactic(auto, using(crate::proofs::ViewLemmas::last_after, crate::proofs::ViewLemmas::signed_kept))]
-impl Message for VolumeInfo {
+#[tactic(auto, using(pbmessage::specs::facts::Views::last_after, pbmessage::specs::facts::Views::signed_kept))]
+impl Message<Csi> for VolumeInfo {
     ghost schema = { volume_schema };
 
     ghost of = { volume_in };
@@ -292,8 +293,8 @@ impl Message for VolumeInfo {
     fn is_good(number: u32, payload: &[u8]) -> bool {
         match number {
             2 => is_text(payload),
-            3 => is_message::<MapEntry>(payload),
-            5 => is_message::<Map>(payload),
+            3 => is_entry(payload),
+            5 => is_message::<Csi, Map>(payload),
             _ => true,
         }
     }
@@ -320,7 +321,7 @@ impl Message for VolumeInfo {
     }
 }
 
-impl Written for VolumeInfo {
+impl Written<Csi> for VolumeInfo {
     ghost canon = { canon_volume };
 
     ghost fits = { FitsVolume };
@@ -337,7 +338,7 @@ impl Written for VolumeInfo {
 /// `ListVolumesResponse.VolumeStatus`: `published_node_ids`, field 1.
 pub type VolumeStatus = Items<Text>;
 
-impl Message for VolumeStatus {
+impl Message<Csi> for VolumeStatus {
     ghost schema = { nodes_schema };
 
     ghost of = { nodes_in };
@@ -369,8 +370,8 @@ impl Message for VolumeStatus {
     }
 }
 
-#[tactic(auto, using(crate::proofs::WritingLemmas::wrote_two, crate::proofs::WritingLemmas::keeps_on))]
-impl Written for VolumeStatus {
+#[tactic(auto, using(pbmessage::specs::facts::Writing::wrote_two, pbmessage::specs::facts::Writing::keeps_on))]
+impl Written<Csi> for VolumeStatus {
     ghost canon = { canon_nodes };
 
     ghost fits = { FitsTexts };
@@ -381,7 +382,7 @@ impl Written for VolumeStatus {
     }
 }
 
-impl Message for Entry {
+impl Message<Csi> for Entry {
     ghost schema = { entry_schema };
 
     ghost of = { entry_in };
@@ -395,8 +396,8 @@ impl Message for Entry {
 
     fn is_good(number: u32, payload: &[u8]) -> bool {
         match number {
-            1 => is_message::<VolumeInfo>(payload),
-            2 => is_message::<VolumeStatus>(payload),
+            1 => is_message::<Csi, VolumeInfo>(payload),
+            2 => is_message::<Csi, VolumeStatus>(payload),
             _ => true,
         }
     }
@@ -418,7 +419,7 @@ impl Message for Entry {
     }
 }
 
-impl Written for Entry {
+impl Written<Csi> for Entry {
     ghost canon = { canon_entry };
 
     ghost fits = { FitsEntry };
@@ -430,7 +431,7 @@ impl Written for Entry {
     }
 }
 
-impl Message for Confirmed {
+impl Message<Csi> for Confirmed {
     ghost schema = { confirmed_schema };
 
     ghost of = { confirmed_in };
@@ -445,8 +446,8 @@ impl Message for Confirmed {
 
     fn is_good(number: u32, payload: &[u8]) -> bool {
         match number {
-            1 | 3 => is_message::<MapEntry>(payload),
-            2 => is_message::<Capability>(payload),
+            1 | 3 => is_entry(payload),
+            2 => is_message::<Csi, Capability>(payload),
             _ => true,
         }
     }
@@ -469,7 +470,7 @@ impl Message for Confirmed {
     }
 }
 
-impl Written for Confirmed {
+impl Written<Csi> for Confirmed {
     ghost canon = { canon_confirmed };
 
     ghost fits = { FitsConfirmed };

@@ -1,8 +1,7 @@
 -- ControllerPublishVolume (CSI specification, 'ControllerPublishVolume').
-use Rattle.std.specs.Prelude.{ℕ, ◌&&◌, not, nat_le, Bool, true, false, List, Option, Some, None, find, length, codes, if◌then◌else◌}
-use Rattle.std.specs.FinMap.{empty, insert}
+use Rattle.std.specs.Prelude.{ℕ, ◌&&◌, not, nat_le, Bool, true, false, List, Option, Some, None, find, length, if◌then◌else◌}
 use Rattle.std.specs.List.{list_any}
-use Rattle.csi_types.specs.Maps.{TextMap, same_text}
+use Rattle.csi_types.specs.Maps.{same_text}
 use Rattle.csi_types.specs.declared.capability.Capability.{Capability}
 use Rattle.csi_types.specs.declared.reason.Reason.TheVariants.{VolumeNotFound, NodeNotFound, PublishedElsewhere, PublishedOtherwise, NodeFull, CapabilityNotOfVolume}
 use Rattle.csi_types.specs.declared.requests.Publish.{Publish}
@@ -20,16 +19,9 @@ use Rattle.csi_keeper.specs.Coexistence.{coexist}
 use Rattle.csi_machine.specs.Finding.{volume_at}
 use Rattle.csi_machine.specs.Ids.{number_of_id}
 use Rattle.csi_machine.specs.Plan.{refuse, respond, make}
+use Rattle.csi_machine.specs.Response.{publication}
 use Rattle.csi_keeper.specs.State.{State, attached, attached_at}
 use Rattle.csi_keeper.specs.Texts.{Text}
-
-abbrev pub flag_text : Bool → Text
-flag_text true = codes "true"
-flag_text false = codes "false"
-
--- the publish_context
-abbrev pub publication : Bool → TextMap
-publication readonly = insert empty (codes "readonly") (flag_text readonly)
 
 abbrev pub is_at : Text → Attachment → Bool
 is_at node a = same_text a.node node
@@ -57,25 +49,25 @@ attach n caps attachments node there mine =
 abbrev pub wanted : Text → Bool → CapKey → Attachment
 wanted node readonly key = record { node = node; cap = key; readonly = readonly }
 
-abbrev pub publish_key : ℕ → Volume → List Attachment → Node → List ℕ → Publish → Option Attachment → CapKey → Plan
-publish_key n v attachments node there r (Some a) key = publish_again key r.readonly a
-publish_key n v attachments node there r None key = attach n v.caps attachments node there (wanted r.node_id r.readonly key)
+abbrev pub publish_key : ℕ → List CapKey → List Attachment → Node → List ℕ → Publish → Option Attachment → CapKey → Plan
+publish_key n caps attachments node there r (Some a) key = publish_again key r.readonly a
+publish_key n caps attachments node there r None key = attach n caps attachments node there (wanted r.node_id r.readonly key)
 
-abbrev pub publish_at : ℕ → Volume → List Attachment → Node → List ℕ → Publish → Option CapKey → Plan
-publish_at n v attachments node there r None = refuse CapabilityNotOfVolume
-publish_at n v attachments node there r (Some key) = publish_key n v attachments node there r (find (is_at r.node_id) attachments) key
+abbrev pub publish_at : ℕ → List CapKey → List Attachment → Node → List ℕ → Publish → Option CapKey → Plan
+publish_at n caps attachments node there r None = refuse CapabilityNotOfVolume
+publish_at n caps attachments node there r (Some key) = publish_key n caps attachments node there r (find (is_at r.node_id) attachments) key
 
 abbrev pub asked_key : Option Capability → Option CapKey
 asked_key None = None
 asked_key (Some c) = key_of c
 
-abbrev pub publish_node : State → ℕ → Volume → Publish → Option Node → Plan
-publish_node s n v r None = refuse NodeNotFound
-publish_node s n v r (Some node) = publish_at n v (attached s n) node (attached_at s r.node_id) r (asked_key r.capability)
+abbrev pub publish_node : State → ℕ → List CapKey → Publish → Option Node → Plan
+publish_node s n caps r None = refuse NodeNotFound
+publish_node s n caps r (Some node) = publish_at n caps (attached s n) node (attached_at s r.node_id) r (asked_key r.capability)
 
 abbrev pub publish_found : Config → State → Publish → Option (ℕ × Volume) → Plan
 publish_found config s r None = refuse VolumeNotFound
-publish_found config s r (Some found) = publish_node s found.0 found.1 r (node_of config r.node_id)
+publish_found config s r (Some found) = publish_node s found.0 found.1.caps r (node_of config r.node_id)
 
 abbrev pub publish : Config → State → Publish → Plan
 publish config s r = publish_found config s r (volume_at s (number_of_id r.volume_id))

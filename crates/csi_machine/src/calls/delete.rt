@@ -4,7 +4,7 @@ ghost use Rattle.std.specs.Prelude.{◌≡◌, IfOk, IfSome};
 ghost use Rattle.csi_keeper.specs.State.{IsBounded};
 ghost use Rattle.csi_machine.specs.calls.Delete.{delete_volume, delete};
 
-use crate::finding::volume_of;
+use crate::finding::caps_of;
 use crate::plan::{Plan, make, refuse, respond};
 use crate::planned::{Planned, Planning};
 use csi_config::Config;
@@ -28,7 +28,7 @@ impl Planned for DeleteVolume {
     ghost planned = { λ config s r. delete s r };
 
     fn plan<K: Keeper>(&self, alloc: Global, _config: &Config, keeper: &mut K) -> Planning {
-        let Some((number, _)) = volume_of(alloc, keeper, &self.volume_id)? else {
+        let Some((number, _)) = caps_of(alloc, keeper, &self.volume_id)? else {
             return Ok(respond(alloc, Response::Delete)?);
         };
         let attachments = keeper.attachments(alloc, number)?;

@@ -1,7 +1,7 @@
 //! ListVolumes (CSI specification, 'ListVolumes'). A page is written as it is read: no response of its entries is made.
 
 ghost use Rattle.std.specs.Prelude.{◌≡◌, ◌++◌, ◌∷◌, [], map, Ok, Some, IfOk, OnOk};
-ghost use Rattle.csi_codec.specs.Kept.{Keeps};
+ghost use Rattle.pbmessage.specs.Kept.{Keeps};
 ghost use Rattle.csi_codec.specs.Methods.{response_bytes};
 ghost use Rattle.csi_types.specs.declared.responses.Response.TheVariants as response;
 ghost use Rattle.csi_config.specs.declared.config.Config.{Config as AnyConfig};

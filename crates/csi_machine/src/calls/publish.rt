@@ -4,39 +4,26 @@ ghost use Rattle.std.specs.Prelude.{◌≡◌, Some, None, IfOk, IfSome, find, n
 ghost use Rattle.std.specs.Option.{option_copied};
 ghost use Rattle.csi_keeper.specs.State.{IsBounded};
 ghost use Rattle.csi_machine.specs.Finding.{Finds};
-ghost use Rattle.csi_machine.specs.calls.Publish.{publication, is_at, publish_again, has_conflict, attach, publish, publish_node, publish_at, publish_key, asked_key};
+ghost use Rattle.csi_machine.specs.calls.Publish.{is_at, publish_again, has_conflict, attach, publish, publish_node, publish_at, publish_key, asked_key};
 ghost use Rattle.csi_keeper.specs.Lookup.{node_of};
 
-use crate::finding::volume_of;
-use crate::plan::{Plan, make, refuse, respond};
+use crate::finding::caps_of;
+use crate::plan::{Plan, make_told, refuse, tell};
 use crate::planned::{Planned, Planning};
+use crate::response::Answer;
 use csi_config::{Config, Node};
-use csi_keeper::{Attachment, CapKey, Change, Keeper, Volume, cap_key, coexist, has_key};
-use csi_types::{Capability, Map, Publish, Reason, Response, Text, copy_text};
+use csi_keeper::{Attachment, CapKey, Change, Keeper, cap_key, coexist, has_key};
+use csi_types::{Capability, Publish, Reason, Text, copy_text};
 use std::alloc::{AllocError, Global};
 
-fn publication(alloc: Global, readonly: bool) -> Result<Map, AllocError>
-    ensures { IfOk result (λ m. m ≡ publication readonly) }
-{
-    let told = if readonly { "true" } else { "false" };
-    let mut context = Map::new(alloc);
-    context.insert(copy_text(alloc, "readonly")?, copy_text(alloc, told)?)?;
-    Ok(context)
-}
-
-fn publish_again(
-    alloc: Global,
-    key: &CapKey,
-    readonly: bool,
-    attachment: &Attachment,
-) -> Result<Plan, AllocError>
-    ensures bounded { IfOk result (λ p. IfSome p.change IsBounded) }
-    ensures value { IfOk result (λ p. p ≡ publish_again key.now readonly attachment.now) }
+fn publish_again(key: &CapKey, readonly: bool, attachment: &Attachment) -> Plan
+    ensures bounded { IfSome result.change IsBounded }
+    ensures value { result ≡ publish_again key.now readonly attachment.now }
 {
     if attachment.cap == *key && attachment.readonly == readonly {
-        return respond(alloc, Response::Publish(publication(alloc, readonly)?));
+        return tell(Answer::published(readonly));
     }
-    Ok(refuse(Reason::PublishedOtherwise))
+    refuse(Reason::PublishedOtherwise)
 }
 
 fn has_conflict(mine: &Attachment, attachments: &[Attachment]) -> bool
@@ -45,11 +32,11 @@ fn has_conflict(mine: &Attachment, attachments: &[Attachment]) -> bool
     attachments.iter().any(|other| !coexist(other, mine))
 }
 
-// A volume that stands, where it is published, and a node with the volumes that are there.
+// A volume that stands, what it may be used as, where it is published, and a node with the volumes that are there.
 #[derive(Clone, Copy)]
 struct Target<'a> {
     number: u64,
-    volume: &'a Volume,
+    caps: &'a [CapKey],
     attachments: &'a [Attachment],
     node: &'a Node,
     there: &'a [u64],
@@ -57,9 +44,9 @@ struct Target<'a> {
 
 fn attach(alloc: Global, target: &Target, mine: Attachment) -> Result<Plan, AllocError>
     ensures bounded { IfOk result (λ p. IfSome p.change IsBounded) }
-    ensures value { IfOk result (λ p. p ≡ attach target.now.number target.now.volume.now.caps target.now.attachments.now target.now.node.now target.now.there.now mine) }
+    ensures value { IfOk result (λ p. p ≡ attach target.now.number target.now.caps.now target.now.attachments.now target.now.node.now target.now.there.now mine) }
 {
-    if !has_key(target.volume.caps.as_slice(), &mine.cap) {
+    if !has_key(target.caps, &mine.cap) {
         return Ok(refuse(Reason::CapabilityNotOfVolume));
     }
     if has_conflict(&mine, target.attachments) {
@@ -68,8 +55,8 @@ fn attach(alloc: Global, target: &Target, mine: Attachment) -> Result<Plan, Allo
     if target.there.len() as u64 >= target.node.max_volumes {
         return Ok(refuse(Reason::NodeFull));
     }
-    let response = Response::Publish(publication(alloc, mine.readonly)?);
-    make(alloc, response, Change::Attach(target.number, mine))
+    let answer = Answer::published(mine.readonly);
+    make_told(alloc, answer, Change::Attach(target.number, mine))
 }
 
 /// The attachment at a node.
@@ -91,10 +78,10 @@ fn publish_key(
     key: CapKey,
 ) -> Result<Plan, AllocError>
     ensures bounded { IfOk result (λ p. IfSome p.change IsBounded) }
-    ensures value { IfOk result (λ p. p ≡ publish_key target.now.number target.now.volume.now target.now.attachments.now target.now.node.now target.now.there.now request.now (find (is_at request.now.node_id) target.now.attachments.now) key) }
+    ensures value { IfOk result (λ p. p ≡ publish_key target.now.number target.now.caps.now target.now.attachments.now target.now.node.now target.now.there.now request.now (find (is_at request.now.node_id) target.now.attachments.now) key) }
 {
     if let Some(attachment) = attachment_at(target.attachments, &request.node_id) {
-        return publish_again(alloc, &key, request.readonly, attachment);
+        return Ok(publish_again(&key, request.readonly, attachment));
     }
     let mine = Attachment {
         node: copy_text(alloc, request.node_id.as_str())?,
@@ -115,7 +102,7 @@ fn asked_key(alloc: Global, capability: &Option<Capability>) -> Result<Option<Ca
 
 fn publish_at(alloc: Global, target: &Target, request: &Publish) -> Result<Plan, AllocError>
     ensures bounded { IfOk result (λ p. IfSome p.change IsBounded) }
-    ensures value { IfOk result (λ p. p ≡ publish_at target.now.number target.now.volume.now target.now.attachments.now target.now.node.now target.now.there.now request.now (asked_key request.now.capability)) }
+    ensures value { IfOk result (λ p. p ≡ publish_at target.now.number target.now.caps.now target.now.attachments.now target.now.node.now target.now.there.now request.now (asked_key request.now.capability)) }
 {
     match asked_key(alloc, &request.capability)? {
         Some(key) => publish_key(alloc, target, request, key),
@@ -134,12 +121,12 @@ fn publish_node<K: Keeper>(
     config: &Config,
     keeper: &mut K,
     number: u64,
-    volume: &Volume,
+    caps: &[CapKey],
     request: &Publish,
 ) -> Planning
     ensures bounded { IfOk result (λ p. IfSome p.change IsBounded) }
     ensures finds { Finds (K.model keeper.old) (K.model keeper.new) result
-        (λ s p. p ≡ publish_node s number volume.now request.now (node_of config.now request.now.node_id)) }
+        (λ s p. p ≡ publish_node s number caps.now request.now (node_of config.now request.now.node_id)) }
 {
     let Some(node) = node_of(config, &request.node_id) else {
         return Ok(refuse(Reason::NodeNotFound));
@@ -148,7 +135,7 @@ fn publish_node<K: Keeper>(
     let there = keeper.attached_at(alloc, request.node_id.as_str())?;
     let target = Target {
         number,
-        volume,
+        caps,
         attachments: attachments.as_slice(),
         node,
         there: there.as_slice(),
@@ -160,9 +147,9 @@ impl Planned for Publish {
     ghost planned = { publish };
 
     fn plan<K: Keeper>(&self, alloc: Global, config: &Config, keeper: &mut K) -> Planning {
-        let Some((number, volume)) = volume_of(alloc, keeper, &self.volume_id)? else {
+        let Some((number, caps)) = caps_of(alloc, keeper, &self.volume_id)? else {
             return Ok(refuse(Reason::VolumeNotFound));
         };
-        publish_node(alloc, config, keeper, number, &volume, self)
+        publish_node(alloc, config, keeper, number, caps.as_slice(), self)
     }
 }

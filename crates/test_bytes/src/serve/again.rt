@@ -4,7 +4,7 @@ use super::compared::{End, Served, Trial, Wanted, compare};
 use super::fakes::{GREATEST_PIECE, Pieces, Takes, Trouble};
 use super::kept::kept;
 use super::trials::Trials;
-use csi_keeper::MemKeeper;
+use csi_memory::MemKeeper;
 use test_kit::RowFault;
 
 impl Trials<'_> {

@@ -1,6 +1,7 @@
 //! What a keeper keeps, as a text.
 
-use csi_keeper::{Keeper, MemKeeper, StoreFault};
+use csi_keeper::{Keeper, StoreFault};
+use csi_memory::MemKeeper;
 use std::alloc::Global;
 use std::fmt::Write;
 use test_kit::RowFault;

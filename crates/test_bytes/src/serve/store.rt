@@ -5,7 +5,7 @@ use super::fakes::{GREATEST_PIECE, Pieces, Takes};
 use super::kept::kept;
 use super::trials::Trials;
 use csi_keeper::Keeper;
-use csi_keeper::fakes::FusedMem;
+use csi_memory::fakes::FusedMem;
 use std::alloc::AllocError;
 use test_kit::RowFault;
 

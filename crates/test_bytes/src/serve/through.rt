@@ -5,8 +5,9 @@ use super::fakes::Takes;
 use super::kept::kept;
 use super::store::{MOST_CALLS, Refused, STORE_REFUSED};
 use super::trials::Trials;
-use csi_keeper::fakes::FusedMem;
-use csi_keeper::{Keeper, MemKeeper};
+use csi_keeper::Keeper;
+use csi_memory::MemKeeper;
+use csi_memory::fakes::FusedMem;
 use csi_through::{Logged, Through};
 use test_kit::RowFault;
 

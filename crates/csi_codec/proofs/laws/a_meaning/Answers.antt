@@ -1,5 +1,5 @@
 use Rattle.std.proofs.Common.{refl}
-use Rattle.csi_codec.specs.Views.{value_of}
+use Rattle.pbmessage.specs.Views.{value_of}
 use Rattle.csi_codec.specs.Methods.{MeansRequest, IsGoodRequest, request_in, MeansResponse, IsGoodResponse, response_in}
 use Rattle.csi_codec.proofs.laws.a_meaning.Goals as goal
 

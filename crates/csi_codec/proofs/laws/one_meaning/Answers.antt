@@ -1,5 +1,5 @@
 use Rattle.csi_codec.specs.Methods.{MeansRequest, MeansResponse}
-use Rattle.csi_codec.proofs.FieldLemmas.{one_value}
+use Rattle.pbmessage.specs.facts.Fields.{one_value}
 use Rattle.csi_codec.proofs.laws.one_meaning.Goals as goal
 
 pub returns-clause-requests : goal.returns-clause-requests

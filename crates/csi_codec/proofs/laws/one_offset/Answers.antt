@@ -1,5 +1,5 @@
 use Rattle.csi_codec.specs.Methods.{IsNoRequest, IsNoResponse}
-use Rattle.csi_codec.proofs.OffsetLemmas.{same_offset}
+use Rattle.pbmessage.specs.facts.Offsets.{same_offset}
 use Rattle.csi_codec.proofs.laws.one_offset.Goals as goal
 
 pub returns-clause-requests : goal.returns-clause-requests

@@ -1,10 +1,10 @@
 use Rattle.std.proofs.Common.{rules, ◌≡◌, ◌++◌, ◌∷◌, ◌∙◌, [], OnOk, ap, append-nil, arith, subst, sym, List, ℕ}
 use Rattle.pbwire.specs.Wire.{Payload}
 use Rattle.pbwire.specs.Writing.{spelling, spellings}
-use Rattle.csi_codec.specs.Canon.{bytes_of, payload_fields, row_fields, FitsInner, FitsTexts}
+use Rattle.pbmessage.specs.Canon.{bytes_of, payload_fields, row_fields, FitsInner, FitsTexts}
 use Rattle.csi_codec.specs.messages.Volume.{canon_nodes}
-use Rattle.csi_codec.proofs.ViewLemmas.{then_ok}
-use Rattle.csi_codec.proofs.WritingLemmas.{no_items}
+use Rattle.pbmessage.specs.facts.Views.{then_ok}
+use Rattle.pbmessage.specs.facts.Writing.{no_items}
 use Rattle.csi_codec.proofs.listing.put_status.Goals as goal
 
 pub returns-then-is_empty-clause-ok : goal.returns-then-is_empty-clause-ok

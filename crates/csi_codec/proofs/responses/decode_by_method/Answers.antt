@@ -3,7 +3,7 @@ use Rattle.std.specs.Prelude.{IfErr}
 use Rattle.csi_types.specs.declared.method.Method.{Method}
 use Rattle.csi_types.specs.declared.responses.Response.TheVariants as response
 use Rattle.csi_codec.specs.Methods.{RefusesResponse, MeansResponse, IsNoResponse, IsGoodResponse}
-use Rattle.csi_codec.proofs.SlotLemmas.{mapped}
+use Rattle.pbmessage.specs.facts.Parts.{mapped}
 use Rattle.csi_codec.proofs.responses.decode_by_method.Goals as goal
 
 pub returns-in_err-decode_message-in-Probe-clause-err : goal.returns-in_err-decode_message-in-Probe-clause-err

@@ -1,4 +1,4 @@
-use Rattle.csi_keeper.specs.Holding.{Holds}
+use Rattle.csi_memory.specs.Holding.{Holds}
 use Rattle.csi_keeper.specs.State.{State}
 use Rattle.csi_through.specs.Copying.{AllowsEach, attached_each}
 use Rattle.csi_through.proofs.copying.attach_each.Given as goal

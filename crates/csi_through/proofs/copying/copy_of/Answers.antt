@@ -1,6 +1,6 @@
 use Rattle.std.proofs.Common.{◌≡◌, ◌+◌, arith, subst}
-use Rattle.csi_keeper.specs.Holding.{Holds}
-use Rattle.csi_keeper.specs.Restoring.{from_number}
+use Rattle.csi_memory.specs.Holding.{Holds}
+use Rattle.csi_memory.specs.Restoring.{from_number}
 use Rattle.csi_through.proofs.CopyLemmas.{begins, whole}
 use Rattle.csi_through.proofs.copying.copy_of.Goals as goal
 

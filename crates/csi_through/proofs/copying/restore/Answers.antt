@@ -1,6 +1,6 @@
 use Rattle.std.proofs.Common.{subst}
 use Rattle.std.proofs.lemmas.Result.{on_ok_weaker}
-use Rattle.csi_keeper.specs.Holding.{Holds}
+use Rattle.csi_memory.specs.Holding.{Holds}
 use Rattle.csi_through.proofs.CopyLemmas.{restores}
 use Rattle.csi_through.proofs.copying.restore.Goals as goal
 

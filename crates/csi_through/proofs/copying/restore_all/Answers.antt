@@ -1,5 +1,5 @@
 use Rattle.std.proofs.Common.{rules, ◌≡◌, ◌<◌, ◌∙◌, ap, arith, subst, sym, map, []}
-use Rattle.csi_keeper.specs.Holding.{Holds}
+use Rattle.csi_memory.specs.Holding.{Holds}
 use Rattle.csi_keeper.specs.State.{page, published, published_of_page}
 use Rattle.csi_keeper.specs.facts.Reads.{quiet_then}
 use Rattle.csi_through.specs.Copying.{AreNext, AreNodes}

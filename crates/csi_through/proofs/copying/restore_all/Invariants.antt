@@ -1,6 +1,6 @@
 use Rattle.std.proofs.Common.{◌≡◌, ◌<◌}
 use Rattle.csi_config.specs.declared.config.Config.{Config}
-use Rattle.csi_keeper.specs.Holding.{Holds}
+use Rattle.csi_memory.specs.Holding.{Holds}
 use Rattle.csi_keeper.specs.Invariant.{IsInvariant}
 use Rattle.csi_keeper.specs.Keeper.{IsQuiet}
 use Rattle.csi_keeper.specs.State.{State}

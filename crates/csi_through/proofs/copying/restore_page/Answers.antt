@@ -1,6 +1,6 @@
 use Rattle.std.proofs.Common.{◌≡◌, ◌∙◌, ◌+◌, ◌++◌, ap, arith, subst, sym, take, get_or, false, [], ◌∷◌}
 use Rattle.std.proofs.lemmas.List.{take_more}
-use Rattle.csi_keeper.specs.Holding.{Holds}
+use Rattle.csi_memory.specs.Holding.{Holds}
 use Rattle.csi_keeper.specs.State.{attached}
 use Rattle.csi_keeper.specs.facts.Reads.{quiet_then}
 use Rattle.csi_through.specs.Copying.{AreNext, last_number, up_to}

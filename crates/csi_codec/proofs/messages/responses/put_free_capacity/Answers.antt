@@ -1,5 +1,5 @@
 use Rattle.std.proofs.Common.{rules}
-use Rattle.csi_codec.proofs.WritingLemmas.{keeps_on, wrote_next, wrote_signed}
+use Rattle.pbmessage.specs.facts.Writing.{keeps_on, wrote_next, wrote_signed}
 use Rattle.csi_codec.proofs.messages.responses.put_free_capacity.Goals as goal
 
 pub returns-in_err-put_option-clause-kept : goal.returns-in_err-put_option-clause-kept

@@ -1,4 +1,4 @@
-use Rattle.csi_codec.proofs.WritingLemmas.{keeps_on, wrote_next}
+use Rattle.pbmessage.specs.facts.Writing.{keeps_on, wrote_next}
 use Rattle.csi_codec.proofs.messages.responses.put_listing.Goals as goal
 
 pub returns-in_err-put_text-clause-kept : goal.returns-in_err-put_text-clause-kept

@@ -1,8 +1,9 @@
 use Rattle.std.proofs.Common.{◌≡◌, ap, ◌∙◌, sym, rules}
 use Rattle.csi_types.specs.declared.capability.Access.TheVariants as variants
-use Rattle.csi_codec.specs.Views.{one_of}
+use Rattle.pbmessage.specs.Views.{one_of}
 use Rattle.csi_codec.specs.messages.Capability.{access}
-use Rattle.csi_codec.proofs.ViewLemmas.{one_of_push, mount_again, mount_first, not_mount, then_ok}
+use Rattle.pbmessage.specs.facts.Views.{one_of_push, then_ok}
+use Rattle.csi_codec.proofs.MountLemmas.{mount_again, mount_first, not_mount}
 use Rattle.csi_codec.proofs.messages.volumes.merge_mount.Goals as goal
 
 pub returns-in_ok-mount-in-Mount : goal.returns-in_ok-mount-in-Mount

@@ -1,5 +1,5 @@
 use Rattle.std.proofs.Common.{◌≡◌, ◌++◌, [], map, take}
-use Rattle.csi_codec.specs.Kept.{Keeps}
+use Rattle.pbmessage.specs.Kept.{Keeps}
 use Rattle.csi_codec.specs.Methods.{response_bytes}
 use Rattle.csi_types.specs.declared.responses.Response.TheVariants as response
 use Rattle.csi_machine.specs.Places.{ArePlaced, entry_at}

@@ -1,4 +1,4 @@
-use Rattle.std.proofs.Common.{rules, ◌≡◌, Err, ap, refl}
+use Rattle.std.proofs.Common.{rules, ap}
 use Rattle.csi_keeper.specs.declared.change.Change.TheVariants.{AddVolume}
 use Rattle.csi_machine.specs.Creation.{plan_of}
 use Rattle.csi_machine.specs.declared.creation.Creation.{Creation}

@@ -1,5 +1,5 @@
 use Rattle.std.proofs.Common.{subst, sym}
-use Rattle.csi_keeper.specs.declared.mem.MemKeeper.{MemKeeper}
+use Rattle.csi_memory.specs.declared.mem.MemKeeper.{MemKeeper}
 use Rattle.csi_through.specs.Copying.{IsCopy}
 use Rattle.csi_through.proofs.through.Through+MemKeeper+D.copied.Goals as goal
 

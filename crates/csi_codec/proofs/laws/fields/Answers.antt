@@ -1,5 +1,0 @@
-use Rattle.csi_codec.proofs.FieldLemmas.{fields_are}
-use Rattle.csi_codec.proofs.laws.fields.Goals as goal
-
-pub returns : goal.returns
-returns c = λ bytes es h. fields_are (record { exactly = c.spelled.ensures.exactly; shorter = c.spelled.ensures.shorter }) es bytes h

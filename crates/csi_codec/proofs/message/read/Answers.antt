@@ -1,6 +1,0 @@
-use Rattle.std.proofs.Common.{ap, ◌∙◌, sym, []}
-use Rattle.csi_codec.proofs.ViewLemmas.{no_entries}
-use Rattle.csi_codec.proofs.message.read.Goals as goal
-
-pub returns : goal.returns
-returns g c = c.in_ok-merge.ensures [] (c.empty-message.ensures ∙ ap g.M.Message.of (sym no_entries))

@@ -1,0 +1,3 @@
+mod ChangeLemmas
+mod DetachLemmas
+mod WalkLemmas

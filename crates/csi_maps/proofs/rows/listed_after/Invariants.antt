@@ -1,0 +1,12 @@
+use Rattle.std.proofs.Common.{◌≡◌, ◌≤◌, map, length}
+use Rattle.std.specs.Map.Iter.{deref_pair}
+use Rattle.csi_maps.specs.Memory.{listed_in}
+use Rattle.csi_maps.specs.Walking.{IsOver}
+use Rattle.csi_maps.proofs.rows.listed_after.Given as goal
+
+abbrev pub invariant-loop-volume : goal.invariant-loop-volume
+invariant-loop-volume l = record {
+  told : l.listed ≡ map (λ e. listed_in l.attachments.entries e.1) (map deref_pair l.yielded);
+  most : length l.listed ≤ l.count;
+  over : IsOver l.attachments.entries l.walk;
+}

@@ -1,0 +1,4 @@
+mod ChangeLemmas
+mod KeptLemmas
+mod NamesLemmas
+mod ReadLemmas

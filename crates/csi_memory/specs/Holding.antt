@@ -1,0 +1,13 @@
+-- What a keeper in memory holds.
+use Rattle.std.specs.Prelude.{false, ⊤}
+use Rattle.csi_memory.specs.declared.mem.MemKeeper.{MemKeeper}
+use Rattle.csi_memory.specs.Kept.{IsKept}
+use Rattle.csi_keeper.specs.Model.{Model}
+use Rattle.csi_keeper.specs.State.{State}
+
+abbrev pub Holds : MemKeeper → State → Type 0
+Holds m s = IsKept m.next m.volumes.entries m.names.entries m.pools m.attachments.entries m.nodes.entries s
+
+-- it is never down, counts no refusal, and a stop leaves nothing of it
+abbrev pub mem_model : MemKeeper → Model State
+mem_model m = record { holds = Holds m; doubt = 0; refusals = 0; survivors = λ s. ⊥; tied = ⊤; is_down = false }

@@ -1,0 +1,4 @@
+pub mod Fakes
+pub mod Holding
+pub mod Kept
+pub mod Restoring

@@ -1,0 +1,18 @@
+//! A keeper of volumes in memory, and one that fails where a test asks for it.
+//!
+//! [`MemKeeper`] has the maps of `csi_maps` and the running totals of pools. `specs/Kept.antt` says for which State rows, indexes and totals stand together,
+//! and `specs/Holding.antt` that a keeper holds it; a change of the rows is tied to the change of the State in the proofs, and each change takes back
+//! what it did where memory is refused. `specs/Restoring.antt` is of volumes that have their numbers already, as those that another keeper had.
+//! [`fakes`] has a keeper that refuses one call, for tests of what stands on keepers.
+//!
+//! ```rust
+//! let mut keeper = MemKeeper::new(alloc, 1)?;
+//! let number = keeper.next_number()?;
+//! keeper.apply(alloc, &Change::AddVolume(volume))?;
+//! ```
+#![tactic(auto)]
+
+pub mod fakes;
+mod mem;
+
+pub use mem::MemKeeper;

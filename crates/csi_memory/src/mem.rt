@@ -1,0 +1,261 @@
+//! A keeper in memory.
+
+ghost use Rattle.std.specs.Prelude.{◌≡◌, ◌≤◌, ◌<◌, ◌^◌, IfOk, OnOk, OnErr};
+ghost use Rattle.csi_keeper.specs.State.{State, Allows, changed, first_state};
+ghost use Rattle.csi_keeper.specs.declared.change.Change.TheVariants.{AddVolume, RemoveVolume, Attach, Detach, DetachAll, SetMutable};
+ghost use Rattle.csi_memory.specs.Holding.{Holds};
+ghost use Rattle.csi_memory.specs.Restoring.{CanRestore, from_number, restored};
+
+use csi_keeper::{
+    Attachment, CapKey, Change, Keeper, Listed, StoreFault, Totals, Usage, Volume, copy_volume,
+};
+use csi_maps::attachments::{attached_to, put_place, take_attachment, take_places};
+use csi_maps::names::{drop_name, set_name, volume_named};
+use csi_maps::nodes::{numbers_at, put_spot};
+use csi_maps::rows::{
+    caps_at, listed_after, nodes_after, put_volume, set_mutable, sizes_of, take_volume, volume_at,
+    volumes_after,
+};
+use csi_types::{Items, Map, Text, copy_map, copy_text};
+use std::alloc::{AllocError, Global};
+use std::collections::BTreeMap;
+
+/// A keeper in memory. It is never down, and refuses nothing but what memory refuses: then it stays
+/// as it was, and goes on. What it keeps ends with it, so there is nothing that a stop leaves.
+///
+/// Each volume is there once. For n volumes and m attachments a volume is found by its number or
+/// name in O(log n), the attachments of a volume in O(log m) and their number, and a page in
+/// O(log n) and its entries, for its nodes O(log m) more and their number; what a pool has used
+/// costs O(log p) for p pools. What is attached at a node costs O(log m) for each of its numbers;
+/// `sizes_in` looks through all volumes. A change costs O(log n + log m), and `DetachAll` the
+/// attachments that it takes away. What is answered is a copy.
+#[derive(Drop)]
+pub struct MemKeeper {
+    next: u64,
+    volumes: BTreeMap<u64, Volume>,
+    // The number of a name's volume, by the first bytes of the name as a number, which are compared fast and tell most names apart, and by
+    // the name. A volume is asked for its name before it is answered.
+    names: BTreeMap<(u64, Text), u64>,
+    pools: Totals,
+    attachments: BTreeMap<(u64, Text), Attachment>,
+    // Where an attachment stands, by node. It is asked for before its number is answered.
+    nodes: BTreeMap<(Text, u64), ()>,
+}
+
+impl MemKeeper {
+    /// A State with no volumes and no attachments, whose first volume gets the number `first`, 1 to
+    /// 2^62.
+    pub fn new(alloc: Global, first: u64) -> Result<MemKeeper, AllocError>
+        requires least { 1 ≤ first }
+        requires most { first ≤ 2 ^ 62 }
+        ensures { IfOk result (λ keeper. Holds keeper (first_state first)) }
+    {
+        Ok(MemKeeper {
+            next: first,
+            volumes: BTreeMap::new(alloc),
+            names: BTreeMap::new(alloc),
+            pools: Totals::new(alloc),
+            attachments: BTreeMap::new(alloc),
+            nodes: BTreeMap::new(alloc),
+        })
+    }
+
+    /// Gives no number below this one, 1 to 2^62, from now on.
+    #[tactic(auto, using(crate::proofs::KeptLemmas::kept_next))]
+    pub fn skip_to(&mut self, number: u64)
+        requires { number ≤ 2 ^ 62 }
+        ensures { (s : State) → Holds self.old s → Holds self.new (from_number s number) }
+    {
+        self.next = self.next.max(number);
+    }
+
+    /// Adds a volume that has its number already, which is the next one or a greater one, while none has its name.
+    /// The next number is the one behind it.
+    ///
+    /// # Errors
+    ///
+    /// Where memory is refused. The volumes stay.
+    pub fn restore(&mut self, alloc: Global, volume: &Volume) -> Result<(), AllocError>
+        requires number { volume.now.number < 2 ^ 62 }
+        requires bytes { volume.now.bytes ≤ 2 ^ 62 }
+        ensures made { OnOk result ((s : State) → Holds self.old s → CanRestore s volume.now → Holds self.new (restored s volume.now)) }
+        ensures same { OnErr result ((s : State) → Holds self.old s → CanRestore s volume.now → Holds self.new (from_number s volume.now.number)) }
+    {
+        self.skip_to(volume.number);
+        self.add(alloc, copy_volume(alloc, volume)?)
+    }
+
+    fn add(&mut self, alloc: Global, volume: Volume) -> Result<(), AllocError>
+        requires number { volume.number < 2 ^ 62 }
+        requires bytes { volume.bytes ≤ 2 ^ 62 }
+        ensures made { OnOk result ((s : State) → Holds self.old s → Allows s (AddVolume volume) → Holds self.new (changed s (AddVolume volume))) }
+        ensures same { OnErr result ((s : State) → Holds self.old s → Allows s (AddVolume volume) → Holds self.new s) }
+    {
+        let (number, bytes) = (volume.number, volume.bytes);
+        let pool = copy_text(alloc, volume.pool.as_str())?;
+        set_name(alloc, &mut self.names, &volume.name, number)?;
+        if let Err(failed) = put_volume(&mut self.volumes, volume) {
+            let (_, volume) = failed.value;
+            drop_name(&mut self.names, volume.name);
+            return Err(AllocError);
+        }
+        if let Err(refused) = self.pools.add(pool, bytes) {
+            if let Some(volume) = take_volume(&mut self.volumes, number) {
+                drop_name(&mut self.names, volume.name);
+            }
+            return Err(refused);
+        }
+        self.next = number + 1;
+        Ok(())
+    }
+
+    fn remove(&mut self, number: u64)
+        ensures { (s : State) → Holds self.old s → Allows s (RemoveVolume number) → Holds self.new (changed s (RemoveVolume number)) }
+    {
+        if let Some(volume) = take_volume(&mut self.volumes, number) {
+            self.pools.remove(&volume.pool, volume.bytes);
+            drop_name(&mut self.names, volume.name);
+        }
+    }
+
+    fn attach(
+        &mut self,
+        alloc: Global,
+        number: u64,
+        attachment: &Attachment,
+    ) -> Result<(), AllocError>
+        ensures made { OnOk result ((s : State) → Holds self.old s → Allows s (Attach number attachment.now)
+            → Holds self.new (changed s (Attach number attachment.now))) }
+        ensures same { OnErr result ((s : State) → Holds self.old s → Allows s (Attach number attachment.now) → Holds self.new s) }
+    {
+        put_spot(alloc, &mut self.nodes, &attachment.node, number)?;
+        put_place(alloc, &mut self.attachments, number, attachment)?;
+        Ok(())
+    }
+
+    fn detach(&mut self, alloc: Global, number: u64, node: &Text) -> Result<(), AllocError>
+        ensures made { OnOk result ((s : State) → Holds self.old s → Allows s (Detach number node.now) → Holds self.new (changed s (Detach number node.now))) }
+        ensures same { OnErr result ((s : State) → Holds self.old s → Allows s (Detach number node.now) → Holds self.new s) }
+    {
+        let place = (number, copy_text(alloc, node.as_str())?);
+        take_attachment(&mut self.attachments, &mut self.nodes, place);
+        Ok(())
+    }
+
+    fn detach_all(&mut self, alloc: Global, number: u64) -> Result<(), AllocError>
+        ensures made { OnOk result ((s : State) → Holds self.old s → Allows s (DetachAll number) → Holds self.new (changed s (DetachAll number))) }
+        ensures same { OnErr result ((s : State) → Holds self.old s → Allows s (DetachAll number) → Holds self.new s) }
+    {
+        take_places(alloc, &mut self.attachments, &mut self.nodes, number)
+    }
+
+    #[tactic(auto, using(crate::proofs::ChangeLemmas::kept_mutable))]
+    fn set_mutable(&mut self, alloc: Global, number: u64, mutable: &Map) -> Result<(), AllocError>
+        ensures made { OnOk result ((s : State) → Holds self.old s → Allows s (SetMutable number mutable.now)
+            → Holds self.new (changed s (SetMutable number mutable.now))) }
+        ensures same { OnErr result ((s : State) → Holds self.old s → Allows s (SetMutable number mutable.now) → Holds self.new s) }
+    {
+        let copy = copy_map(alloc, mutable)?;
+        set_mutable(&mut self.volumes, number, copy);
+        Ok(())
+    }
+}
+
+impl Keeper for MemKeeper {
+    ghost use Rattle.csi_memory.specs.Holding.{mem_model};
+
+    ghost model = { λ keeper. mem_model keeper };
+
+    fn refusals(&self) -> u64 {
+        0
+    }
+
+    #[tactic(auto, using(csi_keeper::specs::facts::Reads::quiet_same, crate::proofs::ReadLemmas::held_next))]
+    fn next_number(&mut self) -> Result<u64, StoreFault> {
+        Ok(self.next)
+    }
+
+    #[tactic(auto, using(csi_keeper::specs::facts::Reads::quiet_same, crate::proofs::NamesLemmas::named_kept))]
+    fn by_name(&mut self, alloc: Global, name: &str) -> Result<Option<Volume>, StoreFault> {
+        let name = copy_text(alloc, name)?;
+        Ok(volume_named(alloc, &self.names, &self.volumes, name)?)
+    }
+
+    #[tactic(auto, using(csi_keeper::specs::facts::Reads::quiet_same, crate::proofs::ReadLemmas::held_number))]
+    fn by_number(&mut self, alloc: Global, number: u64) -> Result<Option<Volume>, StoreFault> {
+        Ok(volume_at(alloc, &self.volumes, number)?)
+    }
+
+    #[tactic(auto, using(csi_keeper::specs::facts::Reads::quiet_same, crate::proofs::ReadLemmas::held_caps))]
+    fn caps_of(&mut self, alloc: Global, number: u64) -> Result<Option<Items<CapKey>>, StoreFault> {
+        Ok(caps_at(alloc, &self.volumes, number)?)
+    }
+
+    #[tactic(auto, using(csi_keeper::specs::facts::Reads::quiet_same, crate::proofs::ReadLemmas::held_places))]
+    fn attachments(&mut self, alloc: Global, number: u64) -> Result<Items<Attachment>, StoreFault> {
+        Ok(attached_to(alloc, &self.attachments, number)?)
+    }
+
+    #[tactic(auto, using(csi_keeper::specs::facts::Reads::quiet_same, crate::proofs::ReadLemmas::held_at))]
+    fn attached_at(&mut self, alloc: Global, node: &str) -> Result<Items<u64>, StoreFault> {
+        Ok(numbers_at(alloc, &self.nodes, &self.attachments, node)?)
+    }
+
+    #[tactic(auto, using(csi_keeper::specs::facts::Reads::quiet_same, crate::proofs::ReadLemmas::held_sizes))]
+    fn sizes_in(&mut self, alloc: Global, pool: &str) -> Result<Items<u64>, StoreFault> {
+        Ok(Items::from_vec(sizes_of(alloc, &self.volumes, pool)?))
+    }
+
+    #[tactic(auto, using(csi_keeper::specs::facts::Reads::quiet_same, crate::proofs::ReadLemmas::held_used))]
+    fn used_in(&mut self, pool: &Text) -> Result<Usage, StoreFault> {
+        Ok(self.pools.usage(pool))
+    }
+
+    #[tactic(auto, using(csi_keeper::specs::facts::Reads::quiet_same, crate::proofs::ReadLemmas::held_page))]
+    fn page(&mut self, alloc: Global, after: u64, count: u32) -> Result<Items<Volume>, StoreFault> {
+        Ok(volumes_after(alloc, &self.volumes, after, count)?)
+    }
+
+    #[tactic(auto, using(csi_keeper::specs::facts::Reads::quiet_same, crate::proofs::ReadLemmas::held_nodes))]
+    fn published_nodes(
+        &mut self,
+        alloc: Global,
+        after: u64,
+        count: u32,
+    ) -> Result<Items<Items<Text>>, StoreFault> {
+        Ok(nodes_after(alloc, &self.volumes, &self.attachments, after, count)?)
+    }
+
+    #[tactic(auto, using(csi_keeper::specs::facts::Reads::quiet_same, crate::proofs::ReadLemmas::held_listing))]
+    fn listing(
+        &mut self,
+        alloc: Global,
+        after: u64,
+        count: u32,
+    ) -> Result<Items<Listed>, StoreFault> {
+        Ok(listed_after(alloc, &self.volumes, &self.attachments, after, count)?)
+    }
+
+    fn apply(&mut self, alloc: Global, change: &Change) -> Result<(), StoreFault> {
+        match change {
+            Change::AddVolume(volume) => self.add(alloc, copy_volume(alloc, volume)?)?,
+            Change::RemoveVolume(number) => self.remove(*number),
+            Change::Attach(number, attachment) => self.attach(alloc, *number, attachment)?,
+            Change::Detach(number, node) => self.detach(alloc, *number, node)?,
+            Change::DetachAll(number) => self.detach_all(alloc, *number)?,
+            Change::SetMutable(number, mutable) => self.set_mutable(alloc, *number, mutable)?,
+        }
+        Ok(())
+    }
+
+    fn apply_owned(&mut self, alloc: Global, change: Change) -> Result<(), StoreFault> {
+        // (any other is not moved)
+        if !matches!(&change, Change::AddVolume(_)) {
+            return self.apply(alloc, &change);
+        }
+        match change.into_added() {
+            Ok(volume) => Ok(self.add(alloc, volume)?),
+            Err(change) => self.apply(alloc, &change),
+        }
+    }
+}

@@ -1,0 +1,32 @@
+-- Which payloads of a message are good, by the numbers of their fields: a text is UTF-8 (Protocol Buffers language
+-- guide, 'Scalar Value Types'), and an embedded message is by itself a list of good fields (encoding guide,
+-- 'Length-Delimited Records').
+use Rattle.std.specs.Prelude.{ℕ, List, IfSome, IsUtf8, MatchBool, ◌==◌}
+use Rattle.pbwire.specs.Wire.{WireField}
+use Rattle.pbmessage.specs.Fields.{AreGood}
+use Rattle.pbmessage.specs.Views.{payload}
+
+-- under which numbers a message has texts and embedded messages, and of which schema these are; a payload under any
+-- other number is good whatever it is
+pub data Schema : Type 0 where
+  AnyPayload : Schema
+  TextAt : ℕ → Schema → Schema
+  MessageAt : ℕ → Schema → Schema → Schema
+
+-- a field is good where its payload is good under its number; without a payload it is always good
+abbrev pub GoodField : (ℕ → List ℕ → Type 0) → WireField → Type 0
+GoodField good e = IfSome (payload e.part) (good e.number)
+
+-- the payload is by itself a list of good fields
+abbrev pub IsGoodMessage : (ℕ → List ℕ → Type 0) → List ℕ → Type 0
+IsGoodMessage good p = AreGood (GoodField good) p
+
+-- the payload is good under the number
+abbrev pub Good : Schema → ℕ → List ℕ → Type 0
+Good AnyPayload k p = Unit {0}
+Good (TextAt n others) k p = MatchBool (k == n) (IsUtf8 p) (Good others k p)
+Good (MessageAt n inner others) k p = MatchBool (k == n) (IsGoodMessage (Good inner) p) (Good others k p)
+
+-- an entry of a map of texts: key 1 and value 2 (encoding guide, 'Maps')
+abbrev pub map_entry_schema : Schema
+map_entry_schema = TextAt 1 (TextAt 2 AnyPayload)

@@ -1,0 +1,35 @@
+//! Messages of any type to and from bytes (Protocol Buffers, proto3).
+//!
+//! What bytes mean is a function of *views*: what stands under each field number of a list of fields, as the last text, all payloads, the
+//! joined fields of an embedded message, the last entry of each key, the member of a oneof. A message is three short definitions: which view
+//! gives each part of its value, its *schema* (under which numbers stand texts and embedded messages), and how the value is written. The trait
+//! [`Message`] carries the reading of any message and the trait [`Written`] its writing. Which messages there are is said by the crate above.
+//!
+//! Reading takes two passes: one looks for faults and takes no memory, so a malformed message is never answered as want of memory; the other
+//! builds. Embedded messages are merged in place and written in place.
+//!
+//! ```rust
+//! match decode_message::<Package, Message>(alloc, bytes) {
+//!     Ok(message) => take(&message),
+//!     Err(DecodeFault::Malformed { at }) => refuse(at),
+//!     Err(DecodeFault::NoMemory) => give_up(),
+//! }
+//! ```
+#![tactic(auto)]
+
+mod entry;
+pub mod laws;
+mod message;
+mod slots;
+mod writing;
+
+pub use message::{
+    DecodeFault, MALFORMED_MESSAGE, Message, decode_boxed, decode_message, first_fault, merge, read,
+};
+pub use slots::{
+    is_entry, is_message, is_text, merge_entry, merge_message, push_message, set_text, text,
+};
+pub use writing::{
+    Written, put_flag, put_joined, put_map, put_message, put_messages, put_option, put_presence,
+    put_signed, put_single, put_text, put_texts, whole_or_none,
+};

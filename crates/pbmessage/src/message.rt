@@ -1,0 +1,168 @@
+//! Reading a message of any type: first a pass that looks for faults and takes no memory, then one that builds.
+
+ghost use Rattle.std.specs.Prelude.{◌≡◌, ◌↔◌, ℕ, List, [], ◌∷◌, ◌++◌, IsTrue, OnOk, IfOk, IfErr, MatchOption};
+ghost use Rattle.pbwire.specs.Wire.{WireField};
+ghost use Rattle.pbwire.specs.Reading.{wire_field_of};
+ghost use Rattle.pbmessage.specs.Schema.{Schema, GoodField, Good};
+ghost use Rattle.pbmessage.specs.Fields.{AreGood, IsRefusedAt, Refuses, Means, fields_of};
+ghost use Rattle.pbmessage.specs.Views.{Views, views, no_views, with_number, with_payload, value_of};
+
+use crate::laws;
+use csi_types::{Boxed, Reason};
+use pbwire::laws::spelled;
+use pbwire::{Field, Fields, Value};
+use std::alloc::{AllocError, Global};
+
+/// A type that is read from the fields of a message.
+///
+/// Its value is a function of what stands under each field number, so to read a message is to take its fields
+/// one after the other. `P` names the package of messages: a type of the crate that says how they are read, which need not be the one
+/// whose types their values are.
+pub trait Message<P>: Drop {
+    /// Under which numbers stand texts and embedded messages.
+    ghost schema: { Schema };
+
+    /// The value, by what stands in the message.
+    ghost of: { Views → Self };
+
+    /// The value of a message without fields. It takes no memory.
+    fn empty(alloc: Global) -> Self
+        ensures { result ≡ of no_views };
+
+    /// Whether this payload is good under this number.
+    fn is_good(number: u32, payload: &[u8]) -> bool
+        ensures { IsTrue result ↔ Good schema number payload.now };
+
+    /// Takes one more varint.
+    fn merge_number(&mut self, number: u32, value: u64)
+        ensures { (v : Views) → self.old ≡ of v → self.new ≡ of (with_number number value v) };
+
+    /// Takes one more payload. Where memory is refused it may have been taken in part.
+    fn merge_payload(
+        &mut self,
+        alloc: Global,
+        number: u32,
+        payload: &[u8],
+    ) -> Result<(), AllocError>
+        requires { Good schema number payload.now }
+        ensures { OnOk result ((v : Views) → self.old ≡ of v → self.new ≡ of (with_payload number payload.now v)) };
+}
+
+/// The text of a malformed message, up to the offset of its field, which follows in decimal.
+pub const MALFORMED_MESSAGE: &str = "malformed message in the field at byte ";
+
+/// Why a message is not read. Want of memory is displayed as [`Reason::OutOfMemory`] is.
+#[derive(Clone, Copy, Debug, PartialEq, Eq, thiserror::Error)]
+pub enum DecodeFault {
+    /// The bytes mean no value: the field at this byte is malformed, holds a text that is not UTF-8, or holds an
+    /// embedded message that is malformed itself. The bytes before it are the longest prefix of the message that
+    /// is a list of good fields.
+    #[error("{}{at}", MALFORMED_MESSAGE)]
+    Malformed {
+        /// The offset of the field, in bytes from the start of the message.
+        at: usize,
+    },
+    /// The bytes mean a value, and there is no memory for it.
+    #[error("{}", Reason::OutOfMemory)]
+    NoMemory,
+}
+
+fn is_good_field<P, M: Message<P>>(field: &Field<'_>) -> bool
+    ensures { IsTrue result ↔ GoodField (Good M.schema) (wire_field_of field.now) }
+{
+    match field.value {
+        Value::Bytes(payload) => M::is_good(field.number, payload),
+        Value::Varint(_) | Value::Fixed64(_) | Value::Fixed32(_) => true,
+    }
+}
+
+fn merge_field<P, M: Message<P>>(
+    message: &mut M,
+    alloc: Global,
+    field: &Field<'_>,
+) -> Result<(), AllocError>
+    requires { GoodField (Good M.schema) (wire_field_of field.now) }
+    ensures { OnOk result ((seen : List WireField) → message.old ≡ value_of M.of seen → message.new ≡ value_of M.of (seen ++ wire_field_of field.now ∷ [])) }
+{
+    match field.value {
+        Value::Varint(number) => message.merge_number(field.number, number),
+        Value::Bytes(payload) => message.merge_payload(alloc, field.number, payload)?,
+        Value::Fixed64(_) | Value::Fixed32(_) => {}
+    }
+    Ok(())
+}
+
+/// The offset at which the bytes stop being a list of good fields, if they do. It takes no memory.
+pub fn first_fault<P, M: Message<P>>(bytes: &[u8]) -> Option<usize>
+    ensures { MatchOption result (AreGood (GoodField (Good M.schema)) bytes.now) (IsRefusedAt (GoodField (Good M.schema)) bytes.now) }
+{
+    spelled();
+    let mut fields = Fields::new(bytes);
+    let mut offset = 0;
+    while let Some(next) = fields.next_field() {
+        let Ok(field) = next else {
+            return Some(offset);
+        };
+        if !is_good_field::<P, M>(&field) {
+            return Some(offset);
+        }
+        offset = fields.at();
+    }
+    None
+}
+
+/// Takes all fields of good bytes. Where memory is refused some may have been taken.
+pub fn merge<P, M: Message<P>>(
+    message: &mut M,
+    alloc: Global,
+    bytes: &[u8],
+) -> Result<(), AllocError>
+    requires { AreGood (GoodField (Good M.schema)) bytes.now }
+    ensures { OnOk result ((seen : List WireField) → message.old ≡ value_of M.of seen → message.new ≡ value_of M.of (seen ++ fields_of bytes.now)) }
+{
+    spelled();
+    let mut fields = Fields::new(bytes);
+    while let Some(next) = fields.next_field() {
+        let Ok(field) = next else { unreachable!() };
+        merge_field(message, alloc, &field)?;
+    }
+    Ok(())
+}
+
+/// What good bytes mean.
+pub fn read<P, M: Message<P>>(alloc: Global, bytes: &[u8]) -> Result<M, AllocError>
+    requires { AreGood (GoodField (Good M.schema)) bytes.now }
+    ensures { IfOk result (λ message. message ≡ value_of M.of (fields_of bytes.now)) }
+{
+    let mut message = M::empty(alloc);
+    merge(&mut message, alloc, bytes)?;
+    Ok(message)
+}
+
+/// What the bytes mean. Faults are looked for first, so want of memory is answered only where they mean a value.
+#[inline(always)]
+pub fn decode_message<P, M: Message<P>>(alloc: Global, bytes: &[u8]) -> Result<M, DecodeFault>
+    ensures ok { IfOk result (Means (GoodField (Good M.schema)) (value_of M.of) bytes.now) }
+    ensures err { IfErr result (Refuses (GoodField (Good M.schema)) bytes.now) }
+{
+    laws::fields();
+    if let Some(at) = first_fault::<P, M>(bytes) {
+        return Err(DecodeFault::Malformed { at });
+    }
+    match read(alloc, bytes) {
+        Ok(message) => Ok(message),
+        Err(_) => Err(DecodeFault::NoMemory),
+    }
+}
+
+/// The same, kept apart.
+pub fn decode_boxed<P, M: Message<P>>(alloc: Global, bytes: &[u8]) -> Result<Boxed<M>, DecodeFault>
+    ensures ok { IfOk result (Means (GoodField (Good M.schema)) (value_of M.of) bytes.now) }
+    ensures err { IfErr result (Refuses (GoodField (Good M.schema)) bytes.now) }
+{
+    let message = decode_message(alloc, bytes)?;
+    let Ok(boxed) = Boxed::new(alloc, message) else {
+        return Err(DecodeFault::NoMemory);
+    };
+    Ok(boxed)
+}

@@ -1,0 +1,232 @@
+//! Writing a message of any type, in its one spelling.
+//!
+//! An embedded message is written in place: an empty field, its fields behind it, and then its length.
+
+ghost use Rattle.std.specs.Prelude.{◌≡◌, ◌++◌, ◌∷◌, [], ◌≤◌, ◌<◌, ◌^◌, List, OnOk, OnErr, option_to_list, length, take};
+ghost use Rattle.std.specs.FinMap.{empty, entries, insert};
+ghost use Rattle.pbwire.specs.Wire.{Payload};
+ghost use Rattle.pbwire.specs.Writing.{spelling, spellings};
+ghost use Rattle.pbmessage.specs.Canon.{Rows, bytes_of, row_fields, payload_fields, text_row, texts_row, signed_row, flag_row, presence_row, option_row, messages_row, map_row, canon_map_entry, FitsText, FitsTexts, FitsI64, FitsInner, FitsOption, FitsMessages, FitsMapEntry, FitsMap};
+ghost use Rattle.pbmessage.specs.Kept.{Keeps};
+
+use csi_types::{Items, Map, Text};
+use pbwire::laws::closed;
+use pbwire::{close_bytes, put_bytes, put_entry, put_varint};
+use std::alloc::AllocError;
+
+/// A message with one spelling, in the package `P` as for [`Message`](crate::Message).
+pub trait Written<P> {
+    /// The fields of the spelling, by their numbers.
+    ghost canon: { Self → Rows };
+
+    /// Which values have a spelling. Every value that is written is one.
+    ghost fits: { Self → Type 0 };
+
+    /// Appends the spelling. Where memory is refused a part of it may stand there.
+    fn write(&self, out: &mut Vec<u8>) -> Result<(), AllocError>
+        ensures ok { OnOk result (out.new.items ≡ out.old.items ++ bytes_of (canon self.now)) }
+        ensures fitting { OnOk result (fits self.now) }
+        ensures kept { Keeps out.old.items out.new.items };
+}
+
+/// Where a spelling was not written whole, takes back what stands behind the first `from` bytes.
+pub fn whole_or_none(
+    out: &mut Vec<u8>,
+    from: usize,
+    written: Result<(), AllocError>,
+) -> Result<(), AllocError>
+    requires { from ≤ length out.old.items }
+    ensures same { result ≡ written }
+    ensures ok { OnOk result (out.new.items ≡ out.old.items) }
+    ensures err { OnErr result (out.new.items ≡ take from out.old.items) }
+{
+    if written.is_err() {
+        out.truncate(from);
+    }
+    written
+}
+
+// Appends a text, unless it is empty.
+#[tactic(auto, unfolding(crate::specs::Canon::row_fields))]
+fn put_str(out: &mut Vec<u8>, number: u32, text: &str) -> Result<(), AllocError>
+    requires { (1 ≤ number) × (number < 2 ^ 29) }
+    ensures ok { OnOk result (out.new.items ≡ out.old.items ++ spellings (row_fields (text_row number text.now))) }
+    ensures fitting { OnOk result (FitsText text.now) }
+    ensures kept { Keeps out.old.items out.new.items }
+{
+    if text.is_empty() {
+        return Ok(());
+    }
+    put_bytes(out, number, text.as_bytes())
+}
+
+/// Appends a text, unless it is empty.
+pub fn put_text(out: &mut Vec<u8>, number: u32, text: &Text) -> Result<(), AllocError>
+    requires { (1 ≤ number) × (number < 2 ^ 29) }
+    ensures ok { OnOk result (out.new.items ≡ out.old.items ++ spellings (row_fields (text_row number text.now))) }
+    ensures fitting { OnOk result (FitsText text.now) }
+    ensures kept { Keeps out.old.items out.new.items }
+{
+    put_str(out, number, text.as_str())
+}
+
+/// Appends a text in two parts, unless both are empty.
+pub fn put_joined(
+    out: &mut Vec<u8>,
+    number: u32,
+    first: &str,
+    second: &str,
+) -> Result<(), AllocError>
+    requires { (1 ≤ number) × (number < 2 ^ 29) }
+    ensures ok { OnOk result (out.new.items ≡ out.old.items ++ spellings (row_fields (text_row number (first.now ++ second.now)))) }
+    ensures fitting { OnOk result (FitsText (first.now ++ second.now)) }
+    ensures kept { Keeps out.old.items out.new.items }
+{
+    if first.is_empty() {
+        return put_str(out, number, second);
+    }
+    pbwire::put_joined(out, number, first.as_bytes(), second.as_bytes())
+}
+
+/// Appends texts, also empty ones.
+#[tactic(auto, unfolding(crate::specs::Canon::row_fields))]
+pub fn put_texts(out: &mut Vec<u8>, number: u32, texts: &Items<Text>) -> Result<(), AllocError>
+    requires { (1 ≤ number) × (number < 2 ^ 29) }
+    ensures ok { OnOk result (out.new.items ≡ out.old.items ++ spellings (row_fields (texts_row number texts.now))) }
+    ensures fitting { OnOk result (FitsTexts texts.now) }
+    ensures kept { Keeps out.old.items out.new.items }
+{
+    for text in texts.as_slice() {
+        put_bytes(out, number, text.as_bytes())?;
+    }
+    Ok(())
+}
+
+/// Appends a signed number, unless it is 0.
+#[tactic(auto, unfolding(crate::specs::Canon::row_fields))]
+pub fn put_signed(out: &mut Vec<u8>, number: u32, value: i64) -> Result<(), AllocError>
+    requires { (1 ≤ number) × (number < 2 ^ 29) }
+    ensures ok { OnOk result (out.new.items ≡ out.old.items ++ spellings (row_fields (signed_row number value))) }
+    ensures kept { Keeps out.old.items out.new.items }
+{
+    if value == 0 {
+        return Ok(());
+    }
+    put_varint(out, number, value.cast_unsigned())
+}
+
+/// Appends a flag, unless it is false.
+#[tactic(auto, unfolding(crate::specs::Canon::row_fields))]
+pub fn put_flag(out: &mut Vec<u8>, number: u32, flag: bool) -> Result<(), AllocError>
+    requires { (1 ≤ number) × (number < 2 ^ 29) }
+    ensures ok { OnOk result (out.new.items ≡ out.old.items ++ spellings (row_fields (flag_row number flag))) }
+    ensures kept { Keeps out.old.items out.new.items }
+{
+    if !flag {
+        return Ok(());
+    }
+    put_varint(out, number, 1)
+}
+
+/// Appends an empty message, if there is one.
+#[tactic(auto, unfolding(crate::specs::Canon::row_fields))]
+pub fn put_presence(out: &mut Vec<u8>, number: u32, present: bool) -> Result<(), AllocError>
+    requires { (1 ≤ number) × (number < 2 ^ 29) }
+    ensures ok { OnOk result (out.new.items ≡ out.old.items ++ spellings (row_fields (presence_row number present))) }
+    ensures kept { Keeps out.old.items out.new.items }
+{
+    if !present {
+        return Ok(());
+    }
+    put_bytes(out, number, &[])
+}
+
+/// Appends a message.
+pub fn put_message<P, M: Written<P>>(
+    out: &mut Vec<u8>,
+    number: u32,
+    message: &M,
+) -> Result<(), AllocError>
+    requires { (1 ≤ number) × (number < 2 ^ 29) }
+    ensures ok { OnOk result (out.new.items ≡ out.old.items ++ spellings (payload_fields number (bytes_of (M.canon message.now) ∷ []))) }
+    ensures fitting { OnOk result (FitsInner M.fits M.canon message.now) }
+    ensures kept { Keeps out.old.items out.new.items }
+{
+    closed();
+    put_bytes(out, number, &[])?;
+    let from = out.len();
+    message.write(out)?;
+    close_bytes(out, from)
+}
+
+/// Appends a message, if there is one.
+#[tactic(auto, unfolding(crate::specs::Canon::row_fields))]
+pub fn put_option<P, M: Written<P>>(
+    out: &mut Vec<u8>,
+    number: u32,
+    message: &Option<M>,
+) -> Result<(), AllocError>
+    requires { (1 ≤ number) × (number < 2 ^ 29) }
+    ensures ok { OnOk result (out.new.items ≡ out.old.items ++ spellings (row_fields (option_row M.canon number message.now))) }
+    ensures fitting { OnOk result (FitsOption M.fits M.canon message.now) }
+    ensures kept { Keeps out.old.items out.new.items }
+{
+    match message {
+        None => Ok(()),
+        Some(message) => put_message(out, number, message),
+    }
+}
+
+/// Appends messages, each as a field of its own.
+#[tactic(auto, unfolding(crate::specs::Canon::row_fields))]
+pub fn put_messages<P, M: Written<P>>(
+    out: &mut Vec<u8>,
+    number: u32,
+    messages: &Items<M>,
+) -> Result<(), AllocError>
+    requires { (1 ≤ number) × (number < 2 ^ 29) }
+    ensures ok { OnOk result (out.new.items ≡ out.old.items ++ spellings (row_fields (messages_row M.canon number messages.now))) }
+    ensures fitting { OnOk result (FitsMessages M.fits M.canon messages.now) }
+    ensures kept { Keeps out.old.items out.new.items }
+{
+    for message in messages.as_slice() {
+        put_message(out, number, message)?;
+    }
+    Ok(())
+}
+
+/// Appends a map, its entries in byte order of their keys.
+#[tactic(auto, unfolding(crate::specs::Canon::row_fields))]
+pub fn put_map(out: &mut Vec<u8>, number: u32, map: &Map) -> Result<(), AllocError>
+    requires { (1 ≤ number) × (number < 2 ^ 29) }
+    ensures ok { OnOk result (out.new.items ≡ out.old.items ++ spellings (row_fields (map_row number map.now))) }
+    ensures fitting { OnOk result (FitsMap map.now) }
+    ensures kept { Keeps out.old.items out.new.items }
+{
+    for (key, value) in map.iter() {
+        put_map_entry(out, number, key.as_str(), value.as_str())?;
+    }
+    Ok(())
+}
+
+/// Appends a map of one entry, which nothing is copied for.
+#[tactic(auto, using(crate::proofs::EntryLemmas::one_entry, crate::proofs::EntryLemmas::one_entry_fits), unfolding(crate::specs::Canon::row_fields))]
+pub fn put_single(out: &mut Vec<u8>, number: u32, key: &str, value: &str) -> Result<(), AllocError>
+    requires { (1 ≤ number) × (number < 2 ^ 29) }
+    ensures ok { OnOk result (out.new.items ≡ out.old.items ++ spellings (row_fields (map_row number (insert empty key.now value.now)))) }
+    ensures fitting { OnOk result (FitsMap (insert empty key.now value.now)) }
+    ensures kept { Keeps out.old.items out.new.items }
+{
+    put_map_entry(out, number, key, value)
+}
+
+// Appends an entry of a map, with both its parts, also empty ones.
+#[tactic(auto, unfolding(crate::specs::Canon::row_fields))]
+fn put_map_entry(out: &mut Vec<u8>, number: u32, key: &str, value: &str) -> Result<(), AllocError>
+    requires { (1 ≤ number) × (number < 2 ^ 29) }
+    ensures ok { OnOk result (out.new.items ≡ out.old.items ++ spellings (payload_fields number (bytes_of (canon_map_entry (key.now, value.now)) ∷ []))) }
+    ensures fitting { OnOk result (FitsInner FitsMapEntry canon_map_entry (key.now, value.now)) }
+    ensures kept { Keeps out.old.items out.new.items }
+{
+    put_entry(out, number, key.as_bytes(), value.as_bytes())
+}
