@@ -24,8 +24,8 @@ use Rattle.csi_keeper.specs.declared.volume.Volume.{Volume}
 use Rattle.csi_keeper.specs.facts.Capability.{had_supported}
 use Rattle.csi_keeper.specs.facts.Finite.{same_some}
 use Rattle.csi_keeper.specs.facts.Orders.{place_exact, place_total}
-use Rattle.csi_transactions.specs.Deletes.{is_same}
-use Rattle.csi_transactions.specs.Rows.{seen_attachment, seen_volume}
+use Rattle.csi_statements.specs.Deletes.{is_same}
+use Rattle.csi_statements.specs.Rows.{seen_attachment, seen_volume}
 use Rattle.csi_scans.specs.Folds.{added_by}
 use Rattle.csi_scans.specs.Scans.{IsInOrder, keyed_attachment, owners, owns, with_owner}
 use Rattle.csi_scans.specs.declared.sums.Weight.TheVariants.{One}

@@ -33,9 +33,9 @@ use Rattle.csi_keeper.specs.declared.capability.Kind.TheVariants.{Block}
 use Rattle.csi_keeper.specs.declared.volume.Attachment.{Attachment}
 use Rattle.csi_keeper.specs.declared.volume.Volume.{Volume}
 use Rattle.csi_schema.specs.Tables.{attachments, schema}
-use Rattle.csi_transactions.specs.Cells.{as_blob}
-use Rattle.csi_transactions.specs.Deletes.{is_same}
-use Rattle.csi_transactions.specs.Rows.{number_value, seen_attachment, seen_volume}
+use Rattle.csi_statements.specs.Cells.{as_blob}
+use Rattle.csi_statements.specs.Deletes.{is_same}
+use Rattle.csi_statements.specs.Rows.{number_value, seen_attachment, seen_volume}
 use Rattle.csi_scans.specs.Folds.{added_by}
 use Rattle.csi_scans.specs.Scans.{keyed_attachment, owners, with_owner}
 use Rattle.csi_scans.specs.declared.sums.Weight.TheVariants.{One}

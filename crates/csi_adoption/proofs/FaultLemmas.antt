@@ -1,9 +1,9 @@
 -- Checks one after the other, each of which ends them by its fault.
-use Rattle.std.proofs.Common.{◌≡◌, ◌∙◌, refl, Bool, true, false, List, [], ◌∷◌, Option, Some, None, Result, Ok, Err, IsErrAnd, ap, cond}
+use Rattle.std.proofs.Common.{◌≡◌, refl, Bool, true, false, List, ◌∷◌, Option, Some, None, Result, Ok, Err, IsErrAnd, ap, cond}
 use Rattle.sqlite.specs.declared.error.Error.{Error}
-use Rattle.csi_adoption.specs.Judging.{Says, failure_of, first_fault, is_failure, is_no_memory, wants_memory}
-use Rattle.csi_adoption.specs.declared.fault.AdoptFault.{AdoptFault}
-use Rattle.csi_adoption.specs.declared.fault.AdoptFault.TheVariants.{Foreign, Newer, Broken, Store, NoMemory}
+use Rattle.csi_judging.specs.Faults.{failure_of, first_fault, is_failure, is_no_memory, wants_memory}
+use Rattle.csi_judging.specs.declared.fault.AdoptFault.{AdoptFault}
+use Rattle.csi_judging.specs.declared.fault.AdoptFault.TheVariants.{Foreign, Newer, Broken, Store, NoMemory}
 
 pub fault_here : (f : Option AdoptFault) (rest : List (Option AdoptFault)) (e : AdoptFault) → f ≡ Some e → first_fault (f ∷ rest) ≡ Some e
 fault_here None rest e is = absurd (cc)
@@ -12,25 +12,6 @@ fault_here (Some x) rest e is = is
 pub fault_later : (f : Option AdoptFault) (rest : List (Option AdoptFault)) → f ≡ None → first_fault (f ∷ rest) ≡ first_fault rest
 fault_later None rest is = refl
 fault_later (Some x) rest is = absurd (cc)
-
-fault_alone : (f : Option AdoptFault) → first_fault (f ∷ []) ≡ f
-fault_alone None = refl
-fault_alone (Some x) = refl
-
-module _ (f : Option AdoptFault) (rest : List (Option AdoptFault)) where
-  -- the check fails
-  pub says_here : (e : AdoptFault) → (is_no_memory e ≡ false → f ≡ Some e) → is_no_memory e ≡ false → first_fault (f ∷ rest) ≡ Some e
-  says_here e says known = fault_here f rest e (says known)
-
-  -- the check passes, and the others answer
-  pub says_later : {X : Type 0} (result : Result X AdoptFault) → f ≡ None → Says (first_fault rest) result → Says (first_fault (f ∷ rest)) result
-  says_later (Ok x) none says = fault_later f rest none ∙ says
-  says_later (Err e) none says = λ known. fault_later f rest none ∙ says known
-
--- the last check answers
-pub says_last : {X : Type 0} (f : Option AdoptFault) (result : Result X AdoptFault) → Says f result → Says (first_fault (f ∷ [])) result
-says_last f (Ok x) says = fault_alone f ∙ says
-says_last f (Err e) says = λ known. fault_alone f ∙ says known
 
 -- what `?` hands on is the fault itself
 pub is_err : {X E : Type 0} (r : Result X E) (x : E) → IsErrAnd r (λ e. e ≡ x) → r ≡ Err x

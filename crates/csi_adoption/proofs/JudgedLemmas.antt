@@ -10,12 +10,14 @@ use Rattle.csi_scans.specs.Scans.{owners}
 use Rattle.csi_constraints.specs.Apart.{apart_named}
 use Rattle.csi_constraints.specs.Joins.{is_owned}
 use Rattle.csi_constraints.specs.declared.named.RowName.{RowName}
-use Rattle.csi_adoption.specs.Judging.{owner_fault as unowned_fault, all_faults, count_faults, failure_of, first_named, is_failure, meta_judged, table_faults, told_attachments, told_volumes, volumes_unless, with_rows, AreJudged, ArePassed, AttachmentsFound, JudgesRows, TablesAreSeen, VolumesFound}
+use Rattle.csi_judging.specs.Faults.{owner_fault as unowned_fault, all_faults, count_faults, failure_of, is_failure, table_faults}
+use Rattle.csi_judging.specs.Seen.{told_attachments, told_volumes, AttachmentsFound, VolumesFound}
+use Rattle.csi_judging.specs.declared.fault.AdoptFault.{AdoptFault}
+use Rattle.csi_judging.specs.declared.seen.VolumesSeen.{VolumesSeen}
+use Rattle.csi_adoption.specs.Judging.{first_named, meta_judged, volumes_unless, with_rows, AreJudged, ArePassed, JudgesRows, TablesAreSeen}
 use Rattle.csi_adoption.specs.declared.adopting.TablesSeen.{TablesSeen}
-use Rattle.csi_adoption.specs.declared.fault.AdoptFault.{AdoptFault}
 use Rattle.csi_adoption.specs.declared.meta.Meta.{Meta}
 use Rattle.csi_adoption.specs.declared.meta.MetaRows.TheVariants as meta
-use Rattle.csi_adoption.specs.declared.volumes.VolumesSeen.{VolumesSeen}
 use Rattle.csi_adoption.proofs.FaultLemmas.{error_fails, fault_here, fault_later}
 
 pub judged_err : (config : Config) (db : Trees) (x : AdoptFault) → (is_failure x ≡ false → AreJudged config db (Some x)) → JudgesRows config db (Err x)

@@ -7,7 +7,6 @@ mod AttachmentPassLemmas
 mod AttachmentRowLemmas
 mod BegunLemmas
 mod FaultLemmas
-mod FullLemmas
 mod JudgedLemmas
 mod JudgingLemmas
 mod ScanLemmas

@@ -12,7 +12,9 @@ use Rattle.csi_constraints.specs.Apart.{apart_named, NoneApart}
 use Rattle.csi_constraints.specs.Joins.{is_owned}
 use Rattle.csi_constraints.specs.declared.named.RowName.{RowName}
 use Rattle.csi_constraints.specs.facts.Aparts.{none_unnamed, unnamed_none}
-use Rattle.csi_adoption.specs.Judging.{all_faults, code_faults, count_faults, first_named, in_attachments, in_volumes, kinds_faults, next_fault, number_faults, owner_fault, size_faults, table_faults, AttachmentsFound, VolumesFound}
+use Rattle.csi_judging.specs.Faults.{all_faults, code_faults, count_faults, kinds_faults, next_fault, number_faults, owner_fault, size_faults, table_faults}
+use Rattle.csi_judging.specs.Seen.{AttachmentsFound, VolumesFound}
+use Rattle.csi_adoption.specs.Judging.{first_named, in_attachments, in_volumes}
 use Rattle.csi_adoption.specs.Passing.{AttachmentsPass, VolumesPass}
 use Rattle.csi_adoption.specs.declared.meta.Meta.{Meta}
 use Rattle.csi_adoption.proofs.JudgingLemmas.{all_roomy, all_unnamed, few_rows, is_next, rows_few, no_next_fault, none_both, none_first, none_full, none_named, unmapped}

@@ -14,11 +14,12 @@ use Rattle.csi_constraints.specs.Kinds.{has_attachment_kinds, has_volume_kinds}
 use Rattle.csi_constraints.specs.Named.{named_out}
 use Rattle.csi_constraints.specs.Volumes.{is_in_pools, is_named, is_numbered, is_sized}
 use Rattle.csi_constraints.specs.declared.named.RowName.{RowName}
-use Rattle.csi_adoption.specs.Judging.{AttachmentsFound, SeesAttachments, SeesVolumes, VolumesFound, first_named, in_attachments, in_volumes, sums_of, told_attachments, told_volumes}
+use Rattle.csi_judging.specs.Seen.{AttachmentsFound, VolumesFound, sums_of, told_attachments, told_volumes}
+use Rattle.csi_judging.specs.declared.seen.AttachmentsSeen.{AttachmentsSeen}
+use Rattle.csi_judging.specs.declared.seen.VolumesSeen.{VolumesSeen}
+use Rattle.csi_adoption.specs.Judging.{SeesAttachments, SeesVolumes, first_named, in_attachments, in_volumes}
 use Rattle.csi_adoption.specs.Scanning.{IsBegun}
 use Rattle.csi_adoption.specs.declared.meta.Meta.{Meta}
-use Rattle.csi_adoption.specs.declared.attachments.AttachmentsSeen.{AttachmentsSeen}
-use Rattle.csi_adoption.specs.declared.volumes.VolumesSeen.{VolumesSeen}
 
 -- ---- one fold
 

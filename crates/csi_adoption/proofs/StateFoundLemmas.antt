@@ -32,17 +32,19 @@ use Rattle.csi_constraints.specs.Coded.{has_cap, has_caps, has_params}
 use Rattle.csi_constraints.specs.Apart.{apart_named}
 use Rattle.csi_constraints.specs.Joins.{is_owned}
 use Rattle.csi_tables.specs.Holding.{IsEitherRows, IsFormat, IsRowsIn, IsRowsOf}
+use Rattle.csi_judging.specs.Faults.{all_faults}
+use Rattle.csi_judging.specs.Seen.{AttachmentsFound, VolumesFound}
+use Rattle.csi_judging.specs.declared.fault.AdoptFault.{AdoptFault}
+use Rattle.csi_judging.specs.declared.fault.AdoptFault.TheVariants.{Foreign, Newer}
+use Rattle.csi_judging.specs.declared.fault.Foreign.TheVariants as foreign
+use Rattle.csi_judging.specs.declared.seen.VolumesSeen.{VolumesSeen}
 use Rattle.csi_adoption.specs.Adopting.{FoundState}
 use Rattle.csi_adoption.specs.Found.{sizes_of, told_total, FoundVolumes}
 use Rattle.csi_adoption.specs.FoundAttachments.{AttachmentsAreFound, AttachmentsDoPass, OwnersDoPass, PlacesDoPass}
-use Rattle.csi_adoption.specs.Judging.{all_faults, first_named, in_attachments, in_volumes, integers_judged, meta_judged, row_judged, total_in, valid_format, valid_next, with_rows, AreJudged, ArePassed, AttachmentsFound, IsMetaFault, VolumesFound}
+use Rattle.csi_adoption.specs.Judging.{first_named, in_attachments, in_volumes, integers_judged, meta_judged, row_judged, total_in, valid_format, valid_next, with_rows, AreJudged, ArePassed, IsMetaFault}
 use Rattle.csi_adoption.specs.Passing.{VolumesAreKnown, VolumesPass}
-use Rattle.csi_adoption.specs.declared.fault.AdoptFault.{AdoptFault}
-use Rattle.csi_adoption.specs.declared.fault.AdoptFault.TheVariants.{Foreign, Newer}
-use Rattle.csi_adoption.specs.declared.fault.Foreign.TheVariants as foreign
 use Rattle.csi_adoption.specs.declared.meta.Meta.{Meta}
 use Rattle.csi_adoption.specs.declared.meta.MetaRows.TheVariants as meta
-use Rattle.csi_adoption.specs.declared.volumes.VolumesSeen.{VolumesSeen}
 use Rattle.csi_adoption.proofs.AttachmentFoundLemmas.{is_attached}
 use Rattle.csi_adoption.proofs.JudgingLemmas.{all_unnamed, is_valid, valid_is}
 use Rattle.csi_adoption.proofs.PassedLemmas.{rows_faultless, rows_pass, IsSmall, RowsPass}

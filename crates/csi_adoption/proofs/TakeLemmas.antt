@@ -14,7 +14,7 @@ use Rattle.csi_keeper.specs.Totals.{AreTotals}
 use Rattle.csi_keeper.specs.declared.totals.Totals.{Totals}
 use Rattle.csi_schema.specs.Tables.{schema}
 use Rattle.csi_schema.specs.declared.formats.TheConstants.{FIRST_FORMAT}
-use Rattle.csi_transactions.specs.Rows.{Changes, Leaves, SetsFormat}
+use Rattle.csi_statements.specs.Rows.{Changes, Leaves, SetsFormat}
 use Rattle.csi_tables.specs.Holding.{IsEitherRows, IsFirstRows, IsRows, IsRowsIn, IsRowsOf}
 use Rattle.csi_adoption.specs.Adopting.{IsFound, IsTaken, LeavesLatest}
 

@@ -17,11 +17,13 @@ use Rattle.csi_schema.specs.Tables.{no_schema, schema}
 use Rattle.csi_tables.specs.Holding.{IsEitherRows, IsFirstRows, IsFormat, IsRows, IsRowsIn, conn_doubt}
 use Rattle.csi_tables.specs.Keeping.{is_down, refusals, tables_model}
 use Rattle.csi_tables.specs.declared.tables.Tables.{Tables}
-use Rattle.csi_adoption.specs.Judging.{is_failure, sums_of, total_in, IsFaultOf}
-use Rattle.csi_adoption.specs.declared.fault.AdoptFault.{AdoptFault}
-use Rattle.csi_adoption.specs.declared.fault.AdoptFault.TheVariants.{Foreign}
-use Rattle.csi_adoption.specs.declared.fault.Foreign.TheVariants as foreign
-use Rattle.csi_adoption.specs.declared.volumes.VolumesSeen.{VolumesSeen}
+use Rattle.csi_judging.specs.Faults.{is_failure}
+use Rattle.csi_judging.specs.Seen.{sums_of}
+use Rattle.csi_judging.specs.declared.fault.AdoptFault.{AdoptFault}
+use Rattle.csi_judging.specs.declared.fault.AdoptFault.TheVariants.{Foreign}
+use Rattle.csi_judging.specs.declared.fault.Foreign.TheVariants as foreign
+use Rattle.csi_judging.specs.declared.seen.VolumesSeen.{VolumesSeen}
+use Rattle.csi_adoption.specs.Judging.{total_in, IsFaultOf}
 
 -- the State of a database: the one whose rows it has, or the first one where it has no table yet
 abbrev pub IsStateOf : Database → State → Type 0

@@ -11,9 +11,9 @@ use Rattle.csi_schema.specs.Tables.{schema}
 use Rattle.csi_tables.specs.Holding.{IsEitherRows}
 use Rattle.csi_tables.specs.Keeping.{connection_of, tables_model}
 use Rattle.csi_tables.specs.declared.tables.Tables.{Tables}
+use Rattle.csi_judging.specs.Faults.{is_failure}
+use Rattle.csi_judging.specs.declared.fault.AdoptFault.{AdoptFault}
 use Rattle.csi_adoption.specs.Adopting.{committed, IsAdopted, IsUnadopted}
-use Rattle.csi_adoption.specs.Judging.{is_failure}
-use Rattle.csi_adoption.specs.declared.fault.AdoptFault.{AdoptFault}
 
 module _ {S : Type 0} (g : Ghosts S) (config : Config) where
   -- whatever adoption answers of the connection: a keeper of the State, and a stop leaves no other; or the database or memory failed

@@ -22,7 +22,7 @@ use Rattle.csi_schema.specs.Tables.{schema}
 use Rattle.csi_scans.specs.Scans.{IsInOrder, keyed_attachment, owners}
 use Rattle.csi_constraints.specs.Apart.{NoneApart}
 use Rattle.csi_constraints.specs.Joins.{is_owned}
-use Rattle.csi_transactions.specs.Rows.{AreKeyed}
+use Rattle.csi_statements.specs.Rows.{AreKeyed}
 use Rattle.csi_tables.specs.Holding.{attachment_entry, volume_entry, IsPlaced, IsRowsOf, IsStored}
 use Rattle.csi_adoption.specs.Passing.{AttachmentsAreKnown, AttachmentsPass}
 

@@ -1,17 +1,12 @@
--- Why tables are not adopted: the first constraint that their rows break, and the row that breaks it.
-use Rattle.std.specs.Prelude.{◌≡◌, ◌≢◌, ◌⊎◌, ℕ, ◌-◌, ◌^◌, min, nat_lt, nat_le, ℤ, pos, negsuc, int_lt, Bool, true, false, not, ◌||◌, if◌then◌else◌, List, [], ◌∷◌, length, map, Option, Some, None, Result, Ok, Err, IfSome, IsPermutation, unwrap_or}
+-- What scans find in rows, and the fault that they have: of the row of meta, and of the first constraint that is broken.
+use Rattle.std.specs.Prelude.{◌≡◌, ◌≢◌, ◌⊎◌, ℕ, ◌-◌, ◌^◌, min, nat_le, ℤ, pos, negsuc, int_lt, Bool, false, not, ◌||◌, if◌then◌else◌, List, [], ◌∷◌, length, map, Option, Some, None, Result, Ok, Err, IfSome, IsPermutation}
 use Rattle.std.specs.List.{AllByRecursion}
-use Rattle.std.specs.Option.{option_map}
 use Rattle.std.specs.Ordering.{int_eq}
 use Rattle.sqlite.specs.Effect.{Database}
 use Rattle.sqlite.specs.Order.{Row, column}
 use Rattle.sqlite.specs.Tree.{Trees}
-use Rattle.sqlite.specs.declared.error.Error.{Error}
-use Rattle.sqlite.specs.declared.error.Error.TheVariants.{SqliteFailure}
-use Rattle.sqlite.specs.declared.error.ErrorCode.TheVariants.{OutOfMemory}
-use Rattle.csi_types.specs.declared.limits.TheConstants.{MAX_NUMBER, MAX_VOLUMES}
+use Rattle.csi_types.specs.declared.limits.TheConstants.{MAX_NUMBER}
 use Rattle.csi_config.specs.declared.config.Config.{Config}
-use Rattle.csi_config.specs.declared.nodes.Node.{Node}
 use Rattle.csi_config.specs.declared.pools.Pool.{Pool}
 use Rattle.csi_types.specs.Maps.{same_text}
 use Rattle.csi_keeper.specs.Totals.{the_total, zero_total}
@@ -21,7 +16,6 @@ use Rattle.csi_schema.specs.Tables.{schema}
 use Rattle.csi_schema.specs.declared.formats.TheConstants.{FIRST_FORMAT, LATEST_FORMAT}
 use Rattle.csi_scans.specs.Folds.{IsRising, as_integer, sum_after}
 use Rattle.csi_scans.specs.Scans.{IsInOrder, keyed_attachment}
-use Rattle.csi_scans.specs.declared.sums.TextSum.{TextSum}
 use Rattle.csi_scans.specs.declared.sums.Weight.TheVariants.{Number, One}
 use Rattle.csi_tables.specs.Encoding.{FitCaps, FitParams}
 use Rattle.csi_constraints.specs.Apart.{apart_named}
@@ -31,23 +25,20 @@ use Rattle.csi_constraints.specs.Joins.{is_owned}
 use Rattle.csi_constraints.specs.Kinds.{has_attachment_kinds, has_volume_kinds}
 use Rattle.csi_constraints.specs.Named.{named_out}
 use Rattle.csi_constraints.specs.Volumes.{is_in_pools, is_named, is_numbered, is_sized}
-use Rattle.csi_constraints.specs.declared.broken.AttachmentConstraint.{AttachmentConstraint}
-use Rattle.csi_constraints.specs.declared.broken.AttachmentConstraint.TheVariants as attachment_constraint
-use Rattle.csi_constraints.specs.declared.broken.BrokenConstraint.TheVariants as broken
-use Rattle.csi_constraints.specs.declared.broken.VolumeConstraint.{VolumeConstraint}
-use Rattle.csi_constraints.specs.declared.broken.VolumeConstraint.TheVariants as volume_constraint
 use Rattle.csi_constraints.specs.declared.named.RowName.{RowName}
+use Rattle.csi_judging.specs.Faults.{all_faults, is_failure, table_faults}
+use Rattle.csi_judging.specs.Seen.{AttachmentsFound, VolumesFound, told_attachments, told_volumes}
+use Rattle.csi_judging.specs.declared.fault.AdoptFault.{AdoptFault}
+use Rattle.csi_judging.specs.declared.fault.AdoptFault.TheVariants.{Foreign, Newer}
+use Rattle.csi_judging.specs.declared.fault.Foreign.TheVariants as foreign
+use Rattle.csi_judging.specs.declared.seen.AttachmentsSeen.{AttachmentsSeen}
+use Rattle.csi_judging.specs.declared.seen.VolumesSeen.{VolumesSeen}
 use Rattle.csi_adoption.specs.Passing.{Seen}
 use Rattle.csi_adoption.specs.declared.adopting.TablesSeen.{TablesSeen}
-use Rattle.csi_adoption.specs.declared.attachments.AttachmentsSeen.{AttachmentsSeen}
-use Rattle.csi_adoption.specs.declared.fault.AdoptFault.{AdoptFault}
-use Rattle.csi_adoption.specs.declared.fault.AdoptFault.TheVariants.{Foreign, Newer, Broken, Store, NoMemory}
-use Rattle.csi_adoption.specs.declared.fault.Foreign.TheVariants as foreign
 use Rattle.csi_adoption.specs.declared.meta.Meta.{Meta}
 use Rattle.csi_adoption.specs.declared.meta.MetaRow.{MetaRow}
 use Rattle.csi_adoption.specs.declared.meta.MetaRows.{MetaRows}
 use Rattle.csi_adoption.specs.declared.meta.MetaRows.TheVariants as meta
-use Rattle.csi_adoption.specs.declared.volumes.VolumesSeen.{VolumesSeen}
 
 -- ---- the row of meta
 
@@ -93,27 +84,11 @@ meta_judged meta.None = no_meta
 meta_judged (meta.One m) = row_judged m.key m.format m.next
 meta_judged meta.Many = no_meta
 
-abbrev pub next_fault : ℕ → Option AdoptFault
-next_fault next = if nat_lt 0 next then None else Some (Broken broken.Next)
-
 -- ---- what the scans show
 
 -- the first row that does not pass, by the integer and the text of two columns
 abbrev pub first_named : ℕ → ℕ → (Row → Bool) → List Row → Option RowName
 first_named number text test rows = named_out number text test None rows
-
--- the first volume that breaks each constraint, the bytes and the number of each pool's volumes, and the number of all
-pub record VolumesFound : Type 0 where
-  pub kinds : Option RowName
-  pub number : Option RowName
-  pub name : Option RowName
-  pub pool : Option RowName
-  pub bytes : Option RowName
-  pub caps : Option RowName
-  pub params : Option RowName
-  pub pool_bytes : List ℕ
-  pub pool_volumes : List ℕ
-  pub rows : ℕ
 
 abbrev pub in_volumes : Config → Meta → List Row → VolumesFound
 in_volumes config m rows = record {
@@ -129,14 +104,6 @@ in_volumes config m rows = record {
   rows = min (length rows) (2 ^ 64 - 1);
 }
 
--- the first attachment that breaks each constraint, and the number of each node's
-pub record AttachmentsFound : Type 0 where
-  pub kinds : Option RowName
-  pub cap : Option RowName
-  pub readonly : Option RowName
-  pub node : Option RowName
-  pub node_volumes : List ℕ
-
 abbrev pub in_attachments : Config → List Row → AttachmentsFound
 in_attachments config rows = record {
   kinds = first_named 0 2 has_attachment_kinds rows;
@@ -145,26 +112,6 @@ in_attachments config rows = record {
   node = first_named 1 2 (is_at_node config.nodes) rows;
   node_volumes = map (λ m. sum_after 2 m.id One 0 rows) config.nodes;
 }
-
-abbrev pub sums_of : List TextSum → List ℕ
-sums_of parts = map (λ t. t.sum) parts
-
-abbrev pub told_volumes : VolumesSeen → VolumesFound
-told_volumes seen = record {
-  kinds = seen.kinds;
-  number = seen.number;
-  name = seen.name;
-  pool = seen.pool;
-  bytes = seen.bytes;
-  caps = seen.caps;
-  params = seen.params;
-  pool_bytes = sums_of seen.pool_bytes.items;
-  pool_volumes = sums_of seen.pool_volumes.items;
-  rows = seen.rows;
-}
-
-abbrev pub told_attachments : AttachmentsSeen → AttachmentsFound
-told_attachments seen = record { kinds = seen.kinds; cap = seen.cap; readonly = seen.readonly; node = seen.node; node_volumes = sums_of seen.node_volumes.items }
 
 -- a scan over rows whose numbers rise; what was read of bytes can be written again
 pub record SeesVolumes (config : Config) (m : Meta) (rows : List Row) (seen : VolumesSeen) : Type 0 where
@@ -179,81 +126,6 @@ pub record SeesAttachments (config : Config) (rows : List Row) (seen : Attachmen
   pub rising : IsRising 0 None rows
   pub cap : seen.cap ≡ None → AllByRecursion (λ r. IfSome (key_at 3 r) (λ key. FitCaps (key ∷ []))) rows
 
--- ---- the fault of a constraint
-
-abbrev pub number_of : RowName → ℤ
-number_of name = unwrap_or name.number (pos 0)
-
-abbrev pub volume_fault : VolumeConstraint → Option RowName → Option AdoptFault
-volume_fault rule found = option_map (λ name. Broken (broken.Volume (number_of name) rule)) found
-
-abbrev pub attachment_fault : AttachmentConstraint → Option RowName → Option AdoptFault
-attachment_fault rule found = option_map (λ name. Broken (broken.Attachment (number_of name) (unwrap_or name.text []) rule)) found
-
-abbrev pub volume_kinds_fault : Option RowName → Option AdoptFault
-volume_kinds_fault found = option_map (λ name. Foreign (foreign.Volume (number_of name))) found
-
-abbrev pub attachment_kinds_fault : Option RowName → Option AdoptFault
-attachment_kinds_fault found = option_map (λ name. Foreign (foreign.Attachment (number_of name))) found
-
--- the first that holds less than the sum beside it
-abbrev pub first_full : {X : Type 0} → (X → ℕ) → List X → List ℕ → Option X
-first_full room [] sums = None
-first_full room (x ∷ xs) [] = None
-first_full room (x ∷ xs) (sum ∷ sums) = if nat_lt (room x) sum then Some x else first_full room xs sums
-
--- the first pool that has fewer bytes than its volumes
-abbrev pub full_pool : List Pool → List ℕ → Option Pool
-full_pool = first_full (λ p. p.bytes)
-
-abbrev pub pool_fault : List Pool → List ℕ → Option AdoptFault
-pool_fault pools sums = option_map (λ p. Broken (broken.Pool p.name)) (full_pool pools sums)
-
--- the first node that has more attachments than it can
-abbrev pub full_node : List Node → List ℕ → Option Node
-full_node = first_full (λ m. m.max_volumes)
-
-abbrev pub node_fault : List Node → List ℕ → Option AdoptFault
-node_fault nodes sums = option_map (λ m. Broken (broken.Node m.id)) (full_node nodes sums)
-
-abbrev pub count_fault : ℕ → Option AdoptFault
-count_fault rows = if nat_lt MAX_VOLUMES rows then Some (Broken broken.TooManyVolumes) else None
-
--- ---- the constraints in their order
-
-abbrev pub first_fault : List (Option AdoptFault) → Option AdoptFault
-first_fault [] = None
-first_fault (None ∷ faults) = first_fault faults
-first_fault (Some fault ∷ faults) = Some fault
-
-abbrev pub kinds_faults : VolumesFound → AttachmentsFound → Option AdoptFault
-kinds_faults volumes attachments = first_fault (volume_kinds_fault volumes.kinds ∷ attachment_kinds_fault attachments.kinds ∷ [])
-
-abbrev pub number_faults : ℕ → VolumesFound → Option AdoptFault
-number_faults next volumes = first_fault (next_fault next ∷ volume_fault volume_constraint.Number volumes.number ∷ volume_fault volume_constraint.Name volumes.name ∷ [])
-
-abbrev pub size_faults : Config → VolumesFound → Option AdoptFault
-size_faults config volumes = first_fault (volume_fault volume_constraint.Pool volumes.pool ∷ volume_fault volume_constraint.Bytes volumes.bytes ∷ pool_fault config.pools volumes.pool_bytes ∷ [])
-
-abbrev pub code_faults : VolumesFound → AttachmentsFound → Option AdoptFault
-code_faults volumes attachments =
-    first_fault (volume_fault volume_constraint.Caps volumes.caps ∷ volume_fault volume_constraint.Params volumes.params ∷ attachment_fault attachment_constraint.Cap attachments.cap ∷ attachment_fault attachment_constraint.Readonly attachments.readonly ∷ attachment_fault attachment_constraint.Node attachments.node ∷ [])
-
--- a volume stands and has the capability
-abbrev pub owner_fault : Option RowName → Option AdoptFault
-owner_fault unowned = attachment_fault attachment_constraint.Owner unowned
-
-abbrev pub count_faults : Config → Option RowName → AttachmentsFound → VolumesFound → Option AdoptFault
-count_faults config apart attachments volumes =
-    first_fault (attachment_fault attachment_constraint.Beside apart ∷ node_fault config.nodes attachments.node_volumes ∷ count_fault volumes.rows ∷ [])
-
--- those that the rows of volumes and of attachments tell by themselves
-abbrev pub table_faults : Config → ℕ → VolumesFound → AttachmentsFound → Option AdoptFault
-table_faults config next volumes attachments = first_fault (kinds_faults volumes attachments ∷ number_faults next volumes ∷ size_faults config volumes ∷ code_faults volumes attachments ∷ [])
-
-abbrev pub all_faults : Config → ℕ → VolumesFound → AttachmentsFound → Option RowName → Option RowName → Option AdoptFault
-all_faults config next volumes attachments unowned apart = first_fault (table_faults config next volumes attachments ∷ owner_fault unowned ∷ count_faults config apart attachments volumes ∷ [])
-
 -- ---- the totals
 
 -- what the pool of a name has; nothing, if there is none
@@ -262,37 +134,6 @@ total_in (p ∷ pools) (n ∷ volumes) (b ∷ bytes) name = if same_text p.name 
 total_in pools volumes bytes name = zero_total
 
 -- ---- what is answered
-
--- the database or memory failed, which says nothing of the rows
-abbrev pub is_failure : AdoptFault → Bool
-is_failure (Foreign what) = false
-is_failure (Newer format) = false
-is_failure (Broken rule) = false
-is_failure (Store error) = true
-is_failure NoMemory = true
-
--- an error of the database that is want of memory
-abbrev pub wants_memory : Error → Bool
-wants_memory (SqliteFailure OutOfMemory) = true
-wants_memory _ = false
-
--- what an error of the database is told as
-abbrev pub failure_of : Error → AdoptFault
-failure_of error = if wants_memory error then NoMemory else Store error
-
--- an answer is the fault if there is one
-abbrev pub Tells : {X : Type 0} → Option AdoptFault → Result X AdoptFault → Type 0
-Tells fault (Ok x) = fault ≡ None
-Tells fault (Err e) = fault ≡ Some e
-
-abbrev pub is_no_memory : AdoptFault → Bool
-is_no_memory NoMemory = true
-is_no_memory _ = false
-
--- and so it is, unless memory was refused
-abbrev pub Says : {X : Type 0} → Option AdoptFault → Result X AdoptFault → Type 0
-Says fault (Ok x) = fault ≡ None
-Says fault (Err e) = is_no_memory e ≡ false → fault ≡ Some e
 
 -- the rows of meta are refused
 abbrev pub IsMetaFault : Trees → AdoptFault → Type 0

@@ -1,41 +1,39 @@
 //! The tables on a connection, judged and taken.
 
-ghost use Rattle.std.specs.Prelude.{◌≡◌, ◌≢◌, ℕ, false, Some, IfErr, IfOk, IsTrue, OnErr, OnOk};
+ghost use Rattle.std.specs.Prelude.{◌≡◌, ◌≢◌, false, Some, IfErr, IfOk, IsTrue, OnErr, OnOk};
 ghost use Rattle.sqlite.specs.Held.{state};
 ghost use Rattle.sqlite.specs.State.{HasCleanDisk, KeepsCommit, Survives};
 ghost use Rattle.csi_schema.specs.Tables.{no_schema, schema as our_schema};
 ghost use Rattle.csi_schema.specs.declared.formats.TheConstants.{FIRST_FORMAT};
-ghost use Rattle.csi_transactions.specs.Rows.{Changes, IsUndone, Leaves, SetsFormat};
+ghost use Rattle.csi_statements.specs.Rows.{Changes, IsUndone, Leaves, SetsFormat};
 ghost use Rattle.sqlite.specs.Tree.{Trees};
 ghost use Rattle.sqlite_catalog.specs.Listing.{IsSound};
 ghost use Rattle.csi_keeper.specs.Invariant.{IsInvariant};
 ghost use Rattle.csi_keeper.specs.State.{State, first_state};
 ghost use Rattle.csi_tables.specs.Holding.{IsEitherRows};
+ghost use Rattle.csi_judging.specs.Faults.{is_failure};
 ghost use Rattle.csi_adoption.specs.Adopting.{FoundState, IsAdopted, IsFound, IsNotRefused, IsTaken, IsUnadopted, LeavesLatest};
 ghost use Rattle.csi_adoption.specs.Scanning.{Scans};
 ghost use Rattle.csi_adoption.specs.declared.meta.Meta.{Meta as Row};
-ghost use Rattle.csi_adoption.specs.Judging.{is_failure, AreJudged, ArePassed, IsFaultOf, IsMetaFault, JudgesBehind, JudgesJoined, JudgesRows, JudgesSeen, SeesRow, Says, TablesAreSeen, Tells, code_faults, count_fault, count_faults, kinds_faults, table_faults, told_attachments, told_volumes};
+ghost use Rattle.csi_adoption.specs.Judging.{AreJudged, ArePassed, IsFaultOf, IsMetaFault, JudgesBehind, JudgesJoined, JudgesRows, JudgesSeen, SeesRow, TablesAreSeen};
 
 use crate::attachment_laws::{attachments_found, attachments_pass, owners_pass, places_pass};
-use crate::attachments::{
-    AttachmentsSeen, check_attachment, check_nodes, see_apart, see_attachments, see_owners,
-};
-use crate::fault::{AdoptFault, Foreign};
+use crate::attachments::{see_apart, see_attachments, see_owners};
 use crate::laws::{meta_pass, totals_found, volumes_found, volumes_pass};
 use crate::meta::{Meta, judge_meta, see_meta};
-use crate::volumes::{
-    VolumesSeen, check_numbers, check_sizes, check_volume, see_volumes, totals_of,
-};
+use crate::volumes::{see_volumes, totals_of};
 use csi_config::Config;
 use csi_config::laws::{node_volumes_few, pool_bytes_whole};
-use csi_constraints::{AttachmentConstraint, BrokenConstraint, RowName, VolumeConstraint};
+use csi_constraints::AttachmentConstraint;
+use csi_judging::{
+    AdoptFault, AttachmentsSeen, Foreign, VolumesSeen, check_attachment, check_counts, check_tables,
+};
 use csi_keeper::Totals;
 use csi_keeper::laws::first;
 use csi_schema::{FIRST_FORMAT, is_our_schema};
 use csi_tables::laws::{latest, one_state};
 use csi_tables::{MakeFault, Tables};
 use csi_transactions::changes::set_format;
-use csi_types::MAX_VOLUMES;
 use sqlite::{Alter, Connection, Error};
 use sqlite_schema::schema::Schema;
 use std::alloc::Global;
@@ -55,74 +53,6 @@ fn is_blank(schema: &Schema) -> bool
     ensures whole { schema.now ≡ no_schema → IsTrue result }
 {
     schema.tables.is_empty() & schema.indexes.is_empty() & schema.views.is_empty()
-}
-
-fn check_kinds(volumes: &VolumesSeen, attachments: &AttachmentsSeen) -> Result<(), AdoptFault>
-    ensures { Tells (kinds_faults (told_volumes volumes.now) (told_attachments attachments.now)) result }
-{
-    if let Some(name) = &volumes.kinds {
-        let number = name.number.unwrap_or(0);
-        return Err(AdoptFault::Foreign(Foreign::Volume { number }));
-    }
-    if let Some(name) = &attachments.kinds {
-        let rowid = name.number.unwrap_or(0);
-        return Err(AdoptFault::Foreign(Foreign::Attachment { rowid }));
-    }
-    Ok(())
-}
-
-fn check_codes(
-    alloc: Global,
-    volumes: &VolumesSeen,
-    attachments: &AttachmentsSeen,
-) -> Result<(), AdoptFault>
-    ensures { Says (code_faults (told_volumes volumes.now) (told_attachments attachments.now)) result }
-{
-    check_volume(&volumes.caps, VolumeConstraint::Caps)?;
-    check_volume(&volumes.params, VolumeConstraint::Params)?;
-    check_attachment(alloc, &attachments.cap, AttachmentConstraint::Cap)?;
-    check_attachment(alloc, &attachments.readonly, AttachmentConstraint::Readonly)?;
-    check_attachment(alloc, &attachments.node, AttachmentConstraint::Node)
-}
-
-// The constraints of one table alone.
-fn check_tables(
-    alloc: Global,
-    config: &Config,
-    next: u64,
-    volumes: &VolumesSeen,
-    attachments: &AttachmentsSeen,
-) -> Result<(), AdoptFault>
-    ensures { Says (table_faults config.now next (told_volumes volumes.now) (told_attachments attachments.now)) result }
-{
-    check_kinds(volumes, attachments)?;
-    check_numbers(next, volumes)?;
-    check_sizes(alloc, config, volumes)?;
-    check_codes(alloc, volumes, attachments)
-}
-
-fn check_count(rows: u64) -> Result<(), AdoptFault>
-    ensures { Tells (count_fault rows) result }
-{
-    if rows > MAX_VOLUMES {
-        return Err(AdoptFault::Broken(BrokenConstraint::TooManyVolumes));
-    }
-    Ok(())
-}
-
-// The constraints of the attachments of a volume and of a node, and of all volumes.
-fn check_counts(
-    alloc: Global,
-    config: &Config,
-    apart: &Option<RowName>,
-    attachments: &AttachmentsSeen,
-    volumes: &VolumesSeen,
-) -> Result<(), AdoptFault>
-    ensures { Says (count_faults config.now apart.now (told_attachments attachments.now) (told_volumes volumes.now)) result }
-{
-    check_attachment(alloc, apart, AttachmentConstraint::Beside)?;
-    check_nodes(alloc, config.nodes(), attachments.node_volumes.as_slice())?;
-    check_count(volumes.rows)
 }
 
 /// What the scans over volumes and attachments show.

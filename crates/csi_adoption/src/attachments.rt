@@ -1,6 +1,6 @@
-//! What scans over attachments show, and the constraints that their rows break.
+//! What scans over attachments show.
 
-ghost use Rattle.std.specs.Prelude.{◌≡◌, ℕ, List, None, IsPermutation, IfOk, true, false, map, option_copied, unwrap_or, []};
+ghost use Rattle.std.specs.Prelude.{◌≡◌, None, IsPermutation, IfOk, true, false, map, []};
 ghost use Rattle.std.specs.List.{AllZip};
 ghost use Rattle.sqlite.specs.Held.{state};
 ghost use Rattle.sqlite.specs.State.{HasCleanDisk};
@@ -10,44 +10,19 @@ ghost use Rattle.csi_scans.specs.Scans.{IsInOrder, keyed_attachment, owners};
 ghost use Rattle.csi_scans.specs.declared.sums.Weight.TheVariants.{One as Ones};
 ghost use Rattle.csi_constraints.specs.Apart.{apart_named};
 ghost use Rattle.csi_constraints.specs.Joins.{is_owned};
-ghost use Rattle.csi_adoption.specs.Judging.{Says, SeesAttachments, attachment_fault, first_named, full_node, node_fault, sums_of};
+ghost use Rattle.csi_adoption.specs.Judging.{SeesAttachments, first_named};
 ghost use Rattle.csi_adoption.specs.Scanning.{IsBegun, Scans, SeenBy};
 
-use crate::fault::AdoptFault;
 use crate::sums::node_sums;
-use csi_config::{Config, Node};
+use csi_config::Config;
 use csi_constraints::{
-    AttachmentConstraint, BrokenConstraint, FirstApart, FirstBroken, FirstUnowned,
-    HasAttachmentKinds, HasCap, HasFlag, IsAtNode, RowName, Sure,
+    FirstApart, FirstBroken, FirstUnowned, HasAttachmentKinds, HasCap, HasFlag, IsAtNode, RowName,
+    Sure,
 };
+use csi_judging::AttachmentsSeen;
 use csi_scans::{Both, Each, Rising, TextSum, scan_attachments, scan_owners, scan_places};
-use csi_types::{Text, copy_text};
 use sqlite::{Alter, Connection, Error, ErrorCode};
 use std::alloc::{AllocError, Global};
-
-/// What a scan over attachments shows, whose rowids rise.
-pub(crate) struct AttachmentsSeen {
-    // The first row that breaks each constraint; of the first constraint it is named by its rowid.
-    pub(crate) kinds: Option<RowName>,
-    pub(crate) cap: Option<RowName>,
-    pub(crate) readonly: Option<RowName>,
-    pub(crate) node: Option<RowName>,
-    // The number of each node's attachments.
-    pub(crate) node_volumes: Vec<TextSum>,
-}
-
-// Written out, so that what drops one has one call for it, and its proof no branch for each of its parts.
-impl Drop for AttachmentsSeen {
-    fn drop(self) {
-        let AttachmentsSeen {
-            kinds: _kinds,
-            cap: _cap,
-            readonly: _readonly,
-            node: _node,
-            node_volumes: _node_volumes,
-        } = self;
-    }
-}
 
 type Kinds = Both<FirstBroken<Sure<HasAttachmentKinds>>, Rising>;
 
@@ -218,60 +193,4 @@ pub(crate) fn see_apart<S: Alter>(
     };
     scan_places(conn, &mut fold)?;
     Ok(fold.found)
-}
-
-// The text that a row is named by, and none where it has no text.
-fn text_of(alloc: Global, text: &Option<Text>) -> Result<Text, AllocError>
-    ensures { IfOk result (λ copy. copy ≡ unwrap_or text.now []) }
-{
-    match text {
-        Some(text) => copy_text(alloc, text.as_str()),
-        None => Ok(Text::new(alloc)),
-    }
-}
-
-/// The fault of an attachment that breaks a constraint.
-pub(crate) fn check_attachment(
-    alloc: Global,
-    found: &Option<RowName>,
-    constraint: AttachmentConstraint,
-) -> Result<(), AdoptFault>
-    ensures { Says (attachment_fault constraint found.now) result }
-{
-    let Some(name) = found else {
-        return Ok(());
-    };
-    Err(AdoptFault::Broken(BrokenConstraint::Attachment {
-        number: name.number.unwrap_or(0),
-        node: text_of(alloc, &name.text)?,
-        constraint,
-    }))
-}
-
-// The first node that has more attachments than it can.
-fn full_node<'a>(nodes: &'a [Node], volumes: &[TextSum]) -> Option<&'a Node>
-    ensures { option_copied result ≡ full_node nodes.now (sums_of volumes.now) }
-{
-    for (node, volumes) in nodes.iter().zip(volumes.iter()) {
-        if volumes.sum > node.max_volumes {
-            return Some(node);
-        }
-    }
-    None
-}
-
-/// The fault of a node that has more attachments than it can.
-pub(crate) fn check_nodes(
-    alloc: Global,
-    nodes: &[Node],
-    volumes: &[TextSum],
-) -> Result<(), AdoptFault>
-    ensures { Says (node_fault nodes.now (sums_of volumes.now)) result }
-{
-    match full_node(nodes, volumes) {
-        Some(node) => Err(AdoptFault::Broken(BrokenConstraint::Node {
-            id: copy_text(alloc, node.id.as_str())?,
-        })),
-        None => Ok(()),
-    }
 }

@@ -4,11 +4,10 @@
 //! configuration, and then tells exactly that State. Else it names the first constraint that is broken, and the row that breaks it, and gives the
 //! connection back with the rows as they were. It scans row after row and keeps none, so its memory does not grow with the tables.
 //!
-//! `specs/Judging.antt` says which fault rows have, by the format and the next number that the row of `meta` tells (`Meta`): what the scans find
-//! (`VolumesFound`, `AttachmentsFound`), the fault of each constraint, and their order. `meta.rt`, `volumes.rt` and `attachments.rt` scan the tables, with a
-//! fold a constraint, all in one scan a table, and check what was found; `sums.rt` begins the sums of pools and nodes. `adopting.rt` puts them in order:
-//! each `check_` answers the first fault of its constraints, so that a `?` behind each makes the first of all. Before the first scan a transaction is
-//! begun and undone, so that what is seen is what was committed. Attachments are scanned with their volumes, and beside one another, only once
+//! `specs/Judging.antt` says which fault rows have, by the format and the next number that the row of `meta` tells (`Meta`): what the scans find in rows
+//! (`in_volumes`, `in_attachments`) has the faults of the crate below, `csi_judging`, in their order. `meta.rt`, `volumes.rt` and `attachments.rt` scan the tables,
+//! with a fold a constraint, all in one scan a table; `sums.rt` begins the sums of pools and nodes. `adopting.rt` scans and has what was seen judged there, by
+//! `check_tables`, `check_attachment` and `check_counts`. Before the first scan a transaction is begun and undone, so that what is seen is what was committed. Attachments are scanned with their volumes, and beside one another, only once
 //! each is known to be at a node of the configuration, so that those of a volume are few. That tables of an earlier format are made ones of the latest is
 //! the last step that can fail.
 //!
@@ -29,11 +28,10 @@
 mod adopting;
 pub mod attachment_laws;
 mod attachments;
-mod fault;
 pub mod laws;
 mod meta;
 mod sums;
 mod volumes;
 
 pub use adopting::{AdoptError, adopt};
-pub use fault::{AdoptFault, Foreign};
+pub use csi_judging::{AdoptFault, Foreign};

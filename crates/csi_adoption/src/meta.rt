@@ -1,23 +1,22 @@
 //! The row of meta.
 
-ghost use Rattle.std.specs.Prelude.{◌≡◌, false, refl, IsPermutation, OnOk, IfOk, map};
+ghost use Rattle.std.specs.Prelude.{◌≡◌, false, refl, IsPermutation, map};
 ghost use Rattle.sqlite.specs.Held.{state};
 ghost use Rattle.sqlite.specs.State.{HasCleanDisk};
 ghost use Rattle.csi_schema.specs.Rows.{seen_meta};
 ghost use Rattle.csi_schema.specs.Tables.{schema as our_schema};
-ghost use Rattle.csi_adoption.specs.Judging.{Tells, integers_judged, meta_judged, next_fault, valid_format, valid_next, with_row, with_rows};
+ghost use Rattle.csi_adoption.specs.Judging.{integers_judged, meta_judged, valid_format, valid_next, with_row, with_rows};
 ghost use Rattle.csi_adoption.specs.Scanning.{Scans, SeenBy};
 ghost use Rattle.csi_adoption.specs.declared.meta.MetaRows.TheVariants as meta;
 
-use crate::fault::{AdoptFault, Foreign};
-use csi_constraints::BrokenConstraint;
+use csi_judging::{AdoptFault, Foreign};
 use csi_scans::{Fold, integer_at, scan_meta};
 use csi_schema::{FIRST_FORMAT, LATEST_FORMAT};
 use csi_types::MAX_NUMBER;
 use sqlite::{Alter, Connection, Error, Row};
 
 /// What the row of meta tells.
-#[derive(Clone, Copy, Debug, PartialEq, Eq)]
+#[derive(Clone, Copy)]
 pub(crate) struct Meta {
     /// The format of the tables, the first or the latest.
     pub(crate) format: u32,
@@ -26,7 +25,7 @@ pub(crate) struct Meta {
 }
 
 /// The integers in a row of meta; `None` where another value stands.
-#[derive(Clone, Copy, Debug, PartialEq, Eq)]
+#[derive(Clone, Copy)]
 pub(crate) struct MetaRow {
     pub(crate) key: Option<i64>,
     pub(crate) format: Option<i64>,
@@ -34,7 +33,7 @@ pub(crate) struct MetaRow {
 }
 
 /// The rows of meta.
-#[derive(Clone, Copy, Debug, PartialEq, Eq)]
+#[derive(Clone, Copy)]
 pub(crate) enum MetaRows {
     None,
     One(MetaRow),
@@ -121,16 +120,6 @@ pub(crate) fn judge_meta(rows: MetaRows) -> Result<Meta, AdoptFault>
         ) => judge_integers(key, format, next),
         _ => Err(AdoptFault::Foreign(Foreign::Meta)),
     }
-}
-
-/// The fault of a next number that is 0, as one stands that is not 1 to 2^62.
-pub(crate) fn check_next(next: u64) -> Result<(), AdoptFault>
-    ensures { Tells (next_fault next) result }
-{
-    if next == 0 {
-        return Err(AdoptFault::Broken(BrokenConstraint::Next));
-    }
-    Ok(())
 }
 
 /// Scans meta.

@@ -1,6 +1,6 @@
-//! What a scan over volumes shows, and the constraints that their rows break.
+//! What a scan over volumes shows.
 
-ghost use Rattle.std.specs.Prelude.{◌≡◌, ℕ, List, None, IfOk, true, false, map, option_copied};
+ghost use Rattle.std.specs.Prelude.{◌≡◌, ℕ, List, None, IfOk, true, false, map};
 ghost use Rattle.sqlite.specs.Held.{state};
 ghost use Rattle.sqlite.specs.State.{HasCleanDisk};
 ghost use Rattle.csi_schema.specs.Rows.{seen_volume};
@@ -9,58 +9,22 @@ ghost use Rattle.std.specs.List.{AllZip};
 ghost use Rattle.csi_scans.specs.Scans.{IsInOrder};
 ghost use Rattle.csi_scans.specs.declared.sums.Weight.TheVariants as weight;
 ghost use Rattle.csi_keeper.specs.Totals.{total_of};
-ghost use Rattle.csi_adoption.specs.Judging.{Says, SeesVolumes, Tells, full_pool, number_faults, pool_fault, size_faults, sums_of, told_volumes, total_in, volume_fault};
+ghost use Rattle.csi_judging.specs.Seen.{sums_of};
+ghost use Rattle.csi_adoption.specs.Judging.{SeesVolumes, total_in};
 ghost use Rattle.csi_adoption.specs.Scanning.{IsBegun, Scans, SeenBy};
 
-use crate::fault::AdoptFault;
-use crate::meta::{Meta, check_next};
+use crate::meta::Meta;
 use crate::sums::pool_sums;
 use csi_config::{Config, Pool};
 use csi_constraints::{
-    BrokenConstraint, FirstBroken, HasCaps, HasParams, HasVolumeKinds, IsInPools, IsNamed,
-    IsNumbered, IsSized, RowName, Sure, VolumeConstraint,
+    FirstBroken, HasCaps, HasParams, HasVolumeKinds, IsInPools, IsNamed, IsNumbered, IsSized, Sure,
 };
+use csi_judging::VolumesSeen;
 use csi_keeper::{Total, Totals};
 use csi_scans::{Both, Each, Rising, RowCount, TextSum, Weight, scan_volumes};
 use csi_types::copy_text;
 use sqlite::{Alter, Connection, Error, ErrorCode};
 use std::alloc::{AllocError, Global};
-
-/// What a scan over volumes shows, whose numbers rise.
-pub(crate) struct VolumesSeen {
-    // The format of the tables, by which the rows were judged.
-    pub(crate) format: u32,
-    // The first row that breaks each constraint.
-    pub(crate) kinds: Option<RowName>,
-    pub(crate) number: Option<RowName>,
-    pub(crate) name: Option<RowName>,
-    pub(crate) pool: Option<RowName>,
-    pub(crate) bytes: Option<RowName>,
-    pub(crate) caps: Option<RowName>,
-    pub(crate) params: Option<RowName>,
-    // The bytes and the number of each pool's volumes, and the number of all.
-    pub(crate) pool_bytes: Vec<TextSum>,
-    pub(crate) pool_volumes: Vec<TextSum>,
-    pub(crate) rows: u64,
-}
-
-impl Drop for VolumesSeen {
-    fn drop(self) {
-        let VolumesSeen {
-            format: _,
-            kinds: _kinds,
-            number: _number,
-            name: _name,
-            pool: _pool,
-            bytes: _bytes,
-            caps: _caps,
-            params: _params,
-            pool_bytes: _pool_bytes,
-            pool_volumes: _pool_volumes,
-            rows: _,
-        } = self;
-    }
-}
 
 type Kinds = Both<FirstBroken<Sure<HasVolumeKinds>>, Rising>;
 
@@ -261,68 +225,6 @@ pub(crate) fn see_volumes<S: Alter>(
         return Err(Error::SqliteFailure(ErrorCode::DatabaseCorrupt));
     }
     Ok(seen)
-}
-
-/// The fault of a volume that breaks a constraint.
-pub(crate) fn check_volume(
-    found: &Option<RowName>,
-    constraint: VolumeConstraint,
-) -> Result<(), AdoptFault>
-    ensures { Tells (volume_fault constraint found.now) result }
-{
-    match found {
-        Some(name) => Err(AdoptFault::Broken(BrokenConstraint::Volume {
-            number: name.number.unwrap_or(0),
-            constraint,
-        })),
-        None => Ok(()),
-    }
-}
-
-// The first pool that has fewer bytes than its volumes.
-fn full_pool<'a>(pools: &'a [Pool], bytes: &[TextSum]) -> Option<&'a Pool>
-    ensures { option_copied result ≡ full_pool pools.now (sums_of bytes.now) }
-{
-    for (pool, bytes) in pools.iter().zip(bytes.iter()) {
-        if bytes.sum > pool.bytes {
-            return Some(pool);
-        }
-    }
-    None
-}
-
-// The fault of a pool that has fewer bytes than its volumes.
-fn check_pools(alloc: Global, pools: &[Pool], bytes: &[TextSum]) -> Result<(), AdoptFault>
-    ensures { Says (pool_fault pools.now (sums_of bytes.now)) result }
-{
-    match full_pool(pools, bytes) {
-        Some(pool) => Err(AdoptFault::Broken(BrokenConstraint::Pool {
-            name: copy_text(alloc, pool.name.as_str())?,
-        })),
-        None => Ok(()),
-    }
-}
-
-/// The fault of the next number, or of a volume's number or name.
-pub(crate) fn check_numbers(next: u64, seen: &VolumesSeen) -> Result<(), AdoptFault>
-    ensures { Tells (number_faults next (told_volumes seen.now)) result }
-{
-    check_next(next)?;
-    check_volume(&seen.number, VolumeConstraint::Number)?;
-    check_volume(&seen.name, VolumeConstraint::Name)
-}
-
-/// The fault of a volume's pool or size, or of a pool.
-pub(crate) fn check_sizes(
-    alloc: Global,
-    config: &Config,
-    seen: &VolumesSeen,
-) -> Result<(), AdoptFault>
-    ensures { Says (size_faults config.now (told_volumes seen.now)) result }
-{
-    check_volume(&seen.pool, VolumeConstraint::Pool)?;
-    check_volume(&seen.bytes, VolumeConstraint::Bytes)?;
-    check_pools(alloc, config.pools(), seen.pool_bytes.as_slice())
 }
 
 /// The total of each pool. Of pools of one name the first counts, so it is set last.

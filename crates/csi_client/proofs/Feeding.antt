@@ -3,13 +3,13 @@ use Rattle.std.proofs.Common.{◌≡◌, ◌≢◌, ℕ, ◌+◌, ◌-◌, ◌�
 use Rattle.std.specs.Prelude.{IfSome, IsSome}
 use Rattle.std.proofs.lemmas.Bool.{cases_lt}
 use Rattle.std.proofs.lemmas.List.{take-append-drop, take_all, length-take}
-use Rattle.frames_core.specs.Envelope.{ReplyBytes, IsReply, reply}
-use Rattle.frames_core.specs.Grammar as grammar
-use Rattle.frames_core.specs.declared.reply_fault.ReplyFault.{ReplyFault}
-use Rattle.frames_core.specs.declared.reply_fault.ReplyWhy.{ReplyWhy}
-use Rattle.frames_core.specs.declared.reply_fault.ReplyWhy.TheVariants.{BadStatus, BadTextLength, BadText, BadFlag, BadBodyLength, EndOfInput}
+use Rattle.envelope.specs.Envelope.{ReplyBytes, IsReply, reply}
+use Rattle.envelope.specs.Grammar as grammar
+use Rattle.envelope.specs.declared.reply_fault.ReplyFault.{ReplyFault}
+use Rattle.envelope.specs.declared.reply_fault.ReplyWhy.{ReplyWhy}
+use Rattle.envelope.specs.declared.reply_fault.ReplyWhy.TheVariants.{BadStatus, BadTextLength, BadText, BadFlag, BadBodyLength, EndOfInput}
 use Rattle.frames_core.specs.Framer.{ReplyFramerState, IsReplyFrame, IsReplySettled, IsReplyBreakOf, IsReplyFaultOf}
-use Rattle.frames_core.specs.ReplyStream.{BreaksFirst, FaultAt, IsUnfinished, BeginsReply}
+use Rattle.envelope.specs.ReplyStream.{BreaksFirst, FaultAt, IsUnfinished, BeginsReply}
 
 -- what a feed of these bytes leaves
 pub record Fed (old new : ReplyFramerState) (rest : List ℕ) (n : ℕ) : Type 0 where

@@ -4,12 +4,12 @@ use Rattle.std.specs.Prelude.{IsErr, IsNone, IfSome}
 use Rattle.std.specs.Io.KnownBytes.{Consumes, IsAtEnd}
 use Rattle.std.proofs.KnownBytes.{Consumes-trans}
 use Rattle.std.proofs.lemmas.List.{take_all}
-use Rattle.frames_core.specs.Envelope.{ReplyBytes, IsReply, reply}
-use Rattle.frames_core.specs.declared.reply_fault.ReplyFault.{ReplyFault}
-use Rattle.frames_core.specs.declared.reply_fault.ReplyWhy.{ReplyWhy}
-use Rattle.frames_core.specs.declared.reply_fault.ReplyWhy.TheVariants.{EndOfInput}
+use Rattle.envelope.specs.Envelope.{ReplyBytes, IsReply, reply}
+use Rattle.envelope.specs.declared.reply_fault.ReplyFault.{ReplyFault}
+use Rattle.envelope.specs.declared.reply_fault.ReplyWhy.{ReplyWhy}
+use Rattle.envelope.specs.declared.reply_fault.ReplyWhy.TheVariants.{EndOfInput}
 use Rattle.frames_core.specs.Framer.{ReplyFramerState, IsReplyFrame, IsReplySettled, IsReplyCutShort, reply_cut_short, reply_start}
-use Rattle.frames_core.specs.ReplyStream.{FaultAt, IsUnfinished, BeginsReply}
+use Rattle.envelope.specs.ReplyStream.{FaultAt, IsUnfinished, BeginsReply}
 use Rattle.csi_client.specs.Receiving.{HasFault, Gathered, Gathers, IsGathering}
 use Rattle.csi_client.proofs.Feeding.{Fed, fault_of, not_at_end, known_break, all_held, took_all, no_some}
 

@@ -10,12 +10,12 @@ use Rattle.std.proofs.lemmas.List.Elements.{All-push, All-nil}
 use Rattle.std.proofs.lemmas.List.Folds.{list_any-append}
 use Rattle.csi_types.specs.declared.code.Code.TheVariants as code
 use Rattle.csi_types.specs.declared.method.Method.{Method}
-use Rattle.frames_core.specs.Envelope.{ReplyBytes, IsReply, reply}
-use Rattle.frames_core.specs.declared.reply_fault.ReplyFault.{ReplyFault}
-use Rattle.frames_core.specs.declared.reply_fault.ReplyWhy.{ReplyWhy}
-use Rattle.frames_core.specs.declared.reply_fault.ReplyWhy.TheVariants.{EndOfInput}
+use Rattle.envelope.specs.Envelope.{ReplyBytes, IsReply, reply}
+use Rattle.envelope.specs.declared.reply_fault.ReplyFault.{ReplyFault}
+use Rattle.envelope.specs.declared.reply_fault.ReplyWhy.{ReplyWhy}
+use Rattle.envelope.specs.declared.reply_fault.ReplyWhy.TheVariants.{EndOfInput}
 use Rattle.frames_core.specs.Framer.{ReplyFramerState, IsReplyFrame, IsReplySettled, IsReplyCutShort, IsReplyFaultOf, reply_cut_short, reply_start}
-use Rattle.frames_core.specs.ReplyStream.{IsUnfinished}
+use Rattle.envelope.specs.ReplyStream.{IsUnfinished}
 use Rattle.csi_client.specs.declared.showing.Halt.{Halt}
 use Rattle.csi_client.specs.declared.showing.Halt.TheVariants as halt
 use Rattle.csi_client.specs.declared.showing.ShowEnd.{ShowEnd}

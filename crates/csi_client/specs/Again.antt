@@ -1,7 +1,7 @@
 -- A call that is sent again until it is answered.
 use Rattle.std.specs.Prelude.{ℕ, ◌-◌, ◌*◌, ◌^◌, Bool, true, false, not, min}
-use Rattle.frames_core.specs.declared.reply_fault.ReplyWhy.{ReplyWhy}
-use Rattle.frames_core.specs.declared.reply_fault.ReplyWhy.TheVariants as why
+use Rattle.envelope.specs.declared.reply_fault.ReplyWhy.{ReplyWhy}
+use Rattle.envelope.specs.declared.reply_fault.ReplyWhy.TheVariants as why
 use Rattle.csi_client.specs.declared.receiving.Received.{Received}
 use Rattle.csi_client.specs.declared.receiving.Received.TheVariants.{Reply, Nothing, Malformed, Failed, NoMemory}
 

@@ -3,8 +3,8 @@ use Rattle.std.specs.Prelude.{ℕ, ◌≡◌, ◌+◌, ◌≤◌, ◌<◌, ◌||
 use Rattle.std.specs.Io.KnownBytes.{Appends, Keeps}
 use Rattle.csi_types.specs.declared.code.Code.TheVariants as code
 use Rattle.csi_types.specs.declared.method.Method.{Method}
-use Rattle.frames_core.specs.Envelope.{ReplyBytes}
-use Rattle.frames_core.specs.ReplyStream.{IsUnfinished}
+use Rattle.envelope.specs.Envelope.{ReplyBytes}
+use Rattle.envelope.specs.ReplyStream.{IsUnfinished}
 use Rattle.frames_core.specs.Framer.{ReplyFramerState}
 use Rattle.csi_client.specs.declared.showing.Halt.{Halt}
 use Rattle.csi_client.specs.declared.showing.Halt.TheVariants as halt

@@ -1,10 +1,10 @@
 -- What comes of waiting for the reply to a call.
 use Rattle.std.specs.Prelude.{ℕ, ◌≡◌, ◌⊎◌, List, [], ◌++◌, Option, Some, None, Result, Ok, Err}
 use Rattle.std.specs.Io.KnownBytes.{Consumes, IsAtEnd}
-use Rattle.frames_core.specs.declared.reply_fault.ReplyFault.{ReplyFault}
-use Rattle.frames_core.specs.declared.reply_fault.ReplyWhy.TheVariants.{EndOfInput}
-use Rattle.frames_core.specs.Envelope.{ReplyBytes, IsReply, reply}
-use Rattle.frames_core.specs.ReplyStream.{BeginsReply, FaultAt, IsUnfinished}
+use Rattle.envelope.specs.declared.reply_fault.ReplyFault.{ReplyFault}
+use Rattle.envelope.specs.declared.reply_fault.ReplyWhy.TheVariants.{EndOfInput}
+use Rattle.envelope.specs.Envelope.{ReplyBytes, IsReply, reply}
+use Rattle.envelope.specs.ReplyStream.{BeginsReply, FaultAt, IsUnfinished}
 use Rattle.frames_core.specs.Framer.{ReplyFramerState, IsReplyFrame}
 use Rattle.csi_client.specs.declared.receiving.Received.{Received}
 use Rattle.csi_client.specs.declared.receiving.Received.TheVariants.{Reply, Nothing, Malformed, Failed, NoMemory}

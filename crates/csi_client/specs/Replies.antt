@@ -6,7 +6,7 @@ use Rattle.csi_types.specs.Codes.{name_of}
 use Rattle.csi_types.specs.declared.code.Code.{Code}
 use Rattle.csi_types.specs.declared.method.Method.{Method}
 use Rattle.csi_types.specs.declared.responses.Response.{Response}
-use Rattle.frames_core.specs.Envelope.{ReplyBytes}
+use Rattle.envelope.specs.Envelope.{ReplyBytes}
 use Rattle.csi_client.specs.Lines.{lines}
 
 abbrev pub or_dash : List ℕ → List ℕ

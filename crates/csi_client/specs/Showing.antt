@@ -7,10 +7,10 @@ use Rattle.csi_types.specs.Codes.{number_of}
 use Rattle.csi_types.specs.declared.code.Code.{Code}
 use Rattle.csi_types.specs.declared.code.Code.TheVariants as code
 use Rattle.csi_types.specs.declared.method.Method.{Method}
-use Rattle.frames_core.specs.declared.reply_fault.ReplyFault.{ReplyFault}
-use Rattle.frames_core.specs.declared.reply_fault.ReplyWhy.TheVariants.{EndOfInput}
-use Rattle.frames_core.specs.Envelope.{ReplyBytes, IsReply, reply}
-use Rattle.frames_core.specs.ReplyStream.{IsUnfinished}
+use Rattle.envelope.specs.declared.reply_fault.ReplyFault.{ReplyFault}
+use Rattle.envelope.specs.declared.reply_fault.ReplyWhy.TheVariants.{EndOfInput}
+use Rattle.envelope.specs.Envelope.{ReplyBytes, IsReply, reply}
+use Rattle.envelope.specs.ReplyStream.{IsUnfinished}
 use Rattle.frames_core.specs.Framer.{IsReplyFaultOf}
 use Rattle.csi_client.specs.declared.showing.ShowEnd.{ShowEnd}
 use Rattle.csi_client.specs.declared.showing.ShowEnd.TheVariants.{Done, Malformed, BadBody, ReadFailed, WriteFailed, NoMemory}

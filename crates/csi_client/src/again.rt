@@ -38,7 +38,7 @@ pub fn is_unanswered(received: &Received) -> bool
 }
 
 /// What a line counts.
-#[derive(Clone, Copy, Debug, PartialEq, Eq)]
+#[derive(Clone, Copy, Debug)]
 pub struct Exchanges {
     /// How many exchanges were made.
     pub made: u64,

@@ -1,9 +1,9 @@
 //! The reply to a call.
 
 ghost use Rattle.std.specs.Prelude.{◌≡◌, None, false, IfOk, IsTrue};
-ghost use Rattle.frames_core.specs.Envelope.{reply_bytes_of};
+ghost use Rattle.envelope.specs.Envelope.{reply_bytes_of};
 ghost use Rattle.frames_core.specs.Framer.{IsReplySettled, reply_start};
-ghost use Rattle.frames_core.specs.ReplyStream.{IsUnfinished};
+ghost use Rattle.envelope.specs.ReplyStream.{IsUnfinished};
 ghost use Rattle.csi_client.specs.Receiving.{Receives, Gathers, reply_of};
 
 use frames_core::{Reply, ReplyFault, ReplyFramer};
@@ -17,7 +17,7 @@ const MAX_READS: u64 = 1 << 32;
 const PIECE_BYTES: usize = 4096;
 
 /// A reply that was received, with its own copy of the text and the body.
-#[derive(Debug, PartialEq, Eq, Drop)]
+#[derive(Debug, Drop)]
 pub struct ReceivedReply {
     /// The status code: 0 where the call was done.
     pub status: u8,
@@ -55,7 +55,7 @@ impl ReceivedReply {
 }
 
 /// What came of waiting for the reply to a call.
-#[derive(Debug, PartialEq, Eq, Drop)]
+#[derive(Debug, Drop)]
 pub enum Received {
     /// The first reply.
     Reply(ReceivedReply),

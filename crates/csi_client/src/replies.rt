@@ -4,7 +4,7 @@ ghost use Rattle.std.specs.Prelude.{◌≡◌, ◌++◌, ℕ, IfErr, IfOk, OnOk,
 ghost use Rattle.pbmessage.specs.declared.message.DecodeFault.TheVariants.{Malformed};
 ghost use Rattle.csi_types.specs.Codes.{name_of, number_of};
 ghost use Rattle.csi_types.specs.declared.code.Code.{Code};
-ghost use Rattle.frames_core.specs.Envelope.{reply_bytes_of};
+ghost use Rattle.envelope.specs.Envelope.{reply_bytes_of};
 ghost use Rattle.csi_client.specs.Lines.{lines};
 ghost use Rattle.csi_client.specs.Replies.{content, first_line, body_lines};
 ghost use Rattle.csi_client.specs.Showing.{IsBad, IsBadAt};

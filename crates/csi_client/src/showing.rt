@@ -6,7 +6,7 @@ ghost use Rattle.pbmessage.specs.declared.message.DecodeFault.TheVariants.{Malfo
 ghost use Rattle.csi_types.specs.Codes.{number_of};
 ghost use Rattle.csi_types.specs.declared.code.Code.{Code};
 ghost use Rattle.csi_types.specs.declared.code.Code.TheVariants as Code;
-ghost use Rattle.frames_core.specs.Envelope.{IsReply, reply_bytes_of};
+ghost use Rattle.envelope.specs.Envelope.{IsReply, reply_bytes_of};
 ghost use Rattle.csi_client.specs.Replies.{first_line, body_lines};
 ghost use Rattle.csi_client.specs.Showing.{IsBad, is_refusal, Ended, Shows};
 ghost use Rattle.csi_client.specs.Live.{ShowsOne, end_of, IsReady, Live, Steps, AdvancesBy, IsAllFed};
@@ -25,7 +25,7 @@ const MAX_READS: u64 = 1 << 32;
 const PIECE_BYTES: usize = 4096;
 
 /// How a run of [`show_all`] ended.
-#[derive(Clone, Copy, Debug, PartialEq, Eq)]
+#[derive(Clone, Copy, Debug)]
 pub enum ShowEnd {
     /// The input ended behind a whole reply, and all were shown. Whether one of them was a refusal:
     /// a status other than 0.

@@ -4,7 +4,7 @@ use csi_types::Text;
 use thiserror::Error;
 
 /// What is wrong with the sizes of volumes.
-#[derive(Clone, Copy, Debug, PartialEq, Eq, Error)]
+#[derive(Clone, Copy, Debug, Error)]
 pub enum SizeRule {
     /// The default size is 0 or no multiple of 1 MiB.
     #[error("the default size is not a positive multiple of 1048576 bytes")]
@@ -21,7 +21,7 @@ pub enum SizeRule {
 }
 
 /// What is wrong with a pool.
-#[derive(Clone, Copy, Debug, PartialEq, Eq, Error)]
+#[derive(Clone, Copy, Debug, Error)]
 pub enum PoolRule {
     /// The name is not 1 to 63 ASCII letters, digits, `-`, `_` and `.`.
     #[error("the name is not 1 to 63 ASCII letters, digits, '-', '_' and '.'")]
@@ -50,7 +50,7 @@ pub enum PoolRule {
 }
 
 /// What is wrong with a node.
-#[derive(Clone, Copy, Debug, PartialEq, Eq, Error)]
+#[derive(Clone, Copy, Debug, Error)]
 pub enum NodeRule {
     /// The id is not 1 to 256 bytes, or has one below 0x20 or 0x7F.
     #[error("the id is not 1 to 256 bytes without control characters")]
@@ -64,7 +64,7 @@ pub enum NodeRule {
 }
 
 /// Why parts make no configuration. Its `Display` names what is wrong, and which rule it breaks.
-#[derive(Debug, PartialEq, Eq, Drop, Error)]
+#[derive(Debug, Drop, Error)]
 pub enum ConfigFault {
     /// The plugin's name is not 1 to 63 ASCII letters, digits, `-` and `.`, the first and the last a
     /// letter or digit.

@@ -12,7 +12,7 @@ pub const GRANULE_BYTES: u64 = 1_048_576;
 const _: () = prove!(GRANULE_BYTES == 1_048_576);
 
 /// The sizes of volumes: positive multiples of 1 MiB.
-#[derive(Clone, Copy, Debug, PartialEq, Eq)]
+#[derive(Clone, Copy, Debug)]
 pub struct Sizes {
     /// The size of a volume for which none is asked, in bytes.
     pub default_bytes: u64,

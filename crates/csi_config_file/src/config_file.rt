@@ -11,7 +11,7 @@ use thiserror::Error;
 use toml::{Table, Value};
 
 /// A part of the document.
-#[derive(Clone, Copy, Debug, PartialEq, Eq)]
+#[derive(Clone, Copy, Debug)]
 pub enum Section {
     /// Its top.
     Top,
@@ -32,7 +32,7 @@ impl fmt::Display for Section {
 }
 
 /// A key of a configuration. It is displayed as it is written.
-#[derive(Clone, Copy, Debug, PartialEq, Eq)]
+#[derive(Clone, Copy, Debug)]
 pub enum Key {
     /// The plugin's name, and the name of a pool.
     Name,
@@ -81,7 +81,7 @@ impl fmt::Display for Key {
 }
 
 /// What is wrong with a key.
-#[derive(Clone, Copy, Debug, PartialEq, Eq, Error)]
+#[derive(Clone, Copy, Debug, Error)]
 pub enum KeyRule {
     /// It is missing.
     #[error("is missing")]
@@ -101,7 +101,7 @@ pub enum KeyRule {
 }
 
 /// Why a text gives no configuration. Its `Display` is one line that says where.
-#[derive(Debug, PartialEq, Eq, Drop, Error)]
+#[derive(Debug, Drop, Error)]
 pub enum ConfigError {
     /// The bytes are not UTF-8, or no TOML document.
     #[error("line {line}: it is no TOML in UTF-8")]

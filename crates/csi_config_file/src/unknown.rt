@@ -19,7 +19,7 @@ const POOL: &[Key] = &[Key::Name, Key::Bytes, Key::Segments];
 const NODE: &[Key] = &[Key::Id, Key::MaxVolumes];
 
 /// A key that is not known, which reading a configuration passes over. Its `Display` says where it is.
-#[derive(Debug, PartialEq, Eq, Drop)]
+#[derive(Debug, Drop)]
 pub struct UnknownKey {
     /// Where it is.
     pub section: Section,

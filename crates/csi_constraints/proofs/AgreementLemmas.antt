@@ -16,8 +16,8 @@ use Rattle.csi_keeper.specs.State.{Place}
 use Rattle.csi_keeper.specs.declared.capability.CapKey.{CapKey}
 use Rattle.csi_keeper.specs.declared.volume.Attachment.{Attachment}
 use Rattle.csi_keeper.specs.declared.volume.Volume.{Volume}
-use Rattle.csi_transactions.specs.Cells.{as_flag}
-use Rattle.csi_transactions.specs.Rows.{bool_value}
+use Rattle.csi_statements.specs.Cells.{as_flag}
+use Rattle.csi_statements.specs.Rows.{bool_value}
 use Rattle.csi_scans.specs.Scans.{with_owner}
 use Rattle.csi_tables.specs.Encoding.{caps_bytes, FitCaps, ReadsBack}
 use Rattle.csi_tables.specs.Holding.{attachment_entry}

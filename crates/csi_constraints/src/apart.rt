@@ -14,7 +14,7 @@ use std::alloc::Global;
 
 /// An attachment that stands for those of its volume so far: what can stand beside it can stand beside
 /// each of them.
-#[derive(Debug, Drop)]
+#[derive(Drop)]
 pub struct Led {
     /// The number of the volume.
     pub number: i64,

@@ -5,11 +5,11 @@ ghost use Rattle.csi_constraints.specs.Attachments.{has_flag, is_at_node, is_nod
 
 use csi_config::{Config, Node};
 use csi_scans::RowTest;
-use csi_transactions::values::{flag_at, text_at};
+use csi_statements::values::{flag_at, text_at};
 use sqlite::Row;
 
 /// `readonly` of an attachment is 0 or 1.
-#[derive(Clone, Copy, Debug)]
+#[derive(Clone, Copy)]
 pub struct HasFlag;
 
 impl RowTest for HasFlag {
@@ -27,7 +27,7 @@ fn is_node(nodes: &[Node], id: &[u8]) -> bool
 }
 
 /// The node of an attachment is one of the configuration.
-#[derive(Clone, Copy, Debug)]
+#[derive(Clone, Copy)]
 pub struct IsAtNode<'a> {
     /// The configuration.
     pub config: &'a Config,

@@ -4,7 +4,7 @@ use csi_types::Text;
 use thiserror::Error;
 
 /// A constraint of a row of volumes.
-#[derive(Clone, Copy, Debug, PartialEq, Eq, Error)]
+#[derive(Clone, Copy, Debug, Error)]
 pub enum VolumeConstraint {
     /// The number is at least 1 and below the next number.
     #[error("its number is not from 1 to below the next number")]
@@ -28,7 +28,7 @@ pub enum VolumeConstraint {
 }
 
 /// A constraint of a row of attachments.
-#[derive(Clone, Copy, Debug, PartialEq, Eq, Error)]
+#[derive(Clone, Copy, Debug, Error)]
 pub enum AttachmentConstraint {
     /// `cap` says one capability, which is supported.
     #[error("its cap is not the bytes of one supported capability")]
@@ -48,7 +48,7 @@ pub enum AttachmentConstraint {
 }
 
 /// Which constraint stored rows break. Its `Display` names the row.
-#[derive(Debug, PartialEq, Eq, Drop, Error)]
+#[derive(Debug, Drop, Error)]
 pub enum BrokenConstraint {
     /// The next number is not 1 to 2^62.
     #[error("the next number is not 1 to 2^62")]

@@ -6,7 +6,7 @@ ghost use Rattle.sqlite.specs.Order.{column};
 ghost use Rattle.csi_constraints.specs.Kinds.{is_blob, is_integer, is_text};
 ghost use Rattle.csi_constraints.specs.Values.{if_passes};
 
-use csi_transactions::values::text_at;
+use csi_statements::values::text_at;
 use sqlite::Row;
 use sqlite::types::ValueRef;
 use std::str;

@@ -8,7 +8,7 @@ ghost use Rattle.csi_constraints.specs.Coded.{has_cap, has_caps, has_params, key
 use crate::coding::{are_keys, are_params, key_in, keys_in, params_in};
 use crate::trial::RowTrial;
 use csi_keeper::{CapKey, supported};
-use csi_transactions::values::blob_at;
+use csi_statements::values::blob_at;
 use csi_types::{Items, Map};
 use sqlite::{Error, Row};
 use std::alloc::Global;
@@ -49,7 +49,7 @@ fn params_at(alloc: Global, row: &Row, at: usize) -> Result<Option<(Map, Map)>, 
 }
 
 /// `caps` of a volume is the canonical bytes of capabilities: at least one, in order, each supported.
-#[derive(Clone, Copy, Debug)]
+#[derive(Clone, Copy)]
 pub struct HasCaps {
     /// What holds the capabilities while they are looked at.
     pub alloc: Global,
@@ -70,7 +70,7 @@ impl RowTrial for HasCaps {
 
 /// `params` of a volume is the canonical bytes of parameters and mutable parameters, each of at most
 /// 4,096 bytes. Tables of format 1 have none that are mutable.
-#[derive(Clone, Copy, Debug)]
+#[derive(Clone, Copy)]
 pub struct HasParams {
     /// What holds the parameters while they are looked at.
     pub alloc: Global,
@@ -92,7 +92,7 @@ impl RowTrial for HasParams {
 }
 
 /// `cap` of an attachment is the canonical bytes of one capability, which is supported.
-#[derive(Clone, Copy, Debug)]
+#[derive(Clone, Copy)]
 pub struct HasCap {
     /// What holds the capability while it is looked at.
     pub alloc: Global,

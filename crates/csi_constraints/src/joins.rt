@@ -6,7 +6,7 @@ ghost use Rattle.csi_constraints.specs.Joins.{attached_at};
 
 use crate::coded::key_at;
 use csi_keeper::Attachment;
-use csi_transactions::values::flag_at;
+use csi_statements::values::flag_at;
 use csi_types::Text;
 use sqlite::{Error, Row};
 use std::alloc::Global;

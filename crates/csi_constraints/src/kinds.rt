@@ -8,7 +8,7 @@ use sqlite::Row;
 
 /// The number and the bytes of a row of volumes are integers, its name and pool are texts in UTF-8, and
 /// its caps and params are bytes.
-#[derive(Clone, Copy, Debug)]
+#[derive(Clone, Copy)]
 pub struct HasVolumeKinds;
 
 impl RowTest for HasVolumeKinds {
@@ -26,7 +26,7 @@ impl RowTest for HasVolumeKinds {
 
 /// Behind the rowid, the number of a row of attachments is an integer, its node is a text in UTF-8, its
 /// cap is bytes, and readonly is an integer.
-#[derive(Clone, Copy, Debug)]
+#[derive(Clone, Copy)]
 pub struct HasAttachmentKinds;
 
 impl RowTest for HasAttachmentKinds {

@@ -4,7 +4,7 @@ ghost use Rattle.std.specs.Prelude.{◌≡◌, refl, None, IfOk};
 ghost use Rattle.std.specs.List.{AllByRecursion};
 ghost use Rattle.std.specs.Str.{is_utf8};
 ghost use Rattle.sqlite.specs.Order.{column};
-ghost use Rattle.csi_transactions.specs.Cells.{as_text};
+ghost use Rattle.csi_statements.specs.Cells.{as_text};
 ghost use Rattle.csi_scans.specs.Failing.{FailsForMemory};
 ghost use Rattle.csi_constraints.specs.Named.{name_of};
 ghost use Rattle.csi_constraints.specs.Values.{if_passes};
@@ -13,13 +13,13 @@ ghost use Rattle.csi_constraints.specs.facts.Starts.{still_found};
 use crate::cells::as_utf8;
 use crate::trial::RowTrial;
 use csi_scans::{Fold, RowTest, integer_at};
-use csi_transactions::values::text_at;
+use csi_statements::values::text_at;
 use csi_types::Text;
 use sqlite::{Error, Row};
 use std::alloc::{AllocError, Global};
 
 /// What a row is named by.
-#[derive(Debug, PartialEq, Eq, Drop)]
+#[derive(Drop)]
 pub struct RowName {
     /// Its number; `None` where there is no integer.
     pub number: Option<i64>,
@@ -104,7 +104,7 @@ impl<T: RowTrial> Fold for FirstBroken<T> {
 }
 
 /// A test that takes no memory, as one that may.
-#[derive(Debug, Drop)]
+#[derive(Drop)]
 pub struct Sure<T> {
     /// The test.
     pub test: T,

@@ -15,13 +15,13 @@ use crate::coding::keys_in;
 use crate::named::{RowName, name_at};
 use csi_keeper::{CapKey, has_key};
 use csi_scans::Fold;
-use csi_transactions::values::blob_at;
+use csi_statements::values::blob_at;
 use csi_types::Items;
 use sqlite::{Error, Row};
 use std::alloc::Global;
 
 /// The caps of a volume, and the keys that they say.
-#[derive(Debug, Drop)]
+#[derive(Drop)]
 pub struct KnownCaps {
     /// The bytes, as they stand in the row.
     pub bytes: Vec<u8>,

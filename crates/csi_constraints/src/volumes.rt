@@ -6,12 +6,12 @@ ghost use Rattle.csi_constraints.specs.Volumes.{is_in_pools, is_name, is_named, 
 use crate::cells::as_utf8;
 use csi_config::{Config, Pool, is_whole};
 use csi_scans::RowTest;
-use csi_transactions::values::{number_at, text_at};
+use csi_statements::values::{number_at, text_at};
 use csi_types::name_reason;
 use sqlite::Row;
 
 /// The number of a volume is at least 1, and below the next number.
-#[derive(Clone, Copy, Debug)]
+#[derive(Clone, Copy)]
 pub struct IsNumbered {
     /// The next number.
     pub next: u64,
@@ -38,7 +38,7 @@ fn is_name(name: &[u8]) -> bool
 }
 
 /// The name of a volume is one that a volume can be made with (`csi_types::name_reason`).
-#[derive(Clone, Copy, Debug)]
+#[derive(Clone, Copy)]
 pub struct IsNamed;
 
 impl RowTest for IsNamed {
@@ -53,7 +53,7 @@ impl RowTest for IsNamed {
 }
 
 /// The size of a volume is a positive multiple of 1 MiB.
-#[derive(Clone, Copy, Debug)]
+#[derive(Clone, Copy)]
 pub struct IsSized;
 
 impl RowTest for IsSized {
@@ -74,7 +74,7 @@ fn is_pool(pools: &[Pool], name: &[u8]) -> bool
 }
 
 /// The pool of a volume is one of the configuration.
-#[derive(Clone, Copy, Debug)]
+#[derive(Clone, Copy)]
 pub struct IsInPools<'a> {
     /// The configuration.
     pub config: &'a Config,

@@ -10,7 +10,7 @@ use std::alloc::{AllocError, Global};
 use std::cmp::Ordering;
 
 /// How a volume is offered (CSI 1.x, `VolumeCapability.access_type`).
-#[derive(Debug, PartialEq, Eq, Drop)]
+#[derive(Debug, Drop)]
 pub enum Kind {
     /// A raw block device (`BlockVolume`).
     Block,

@@ -57,7 +57,7 @@ impl Change {
 }
 
 /// How many volumes a pool has, and the sum of their bytes.
-#[derive(Clone, Copy, Debug, PartialEq, Eq)]
+#[derive(Clone, Copy, Debug)]
 pub struct Usage {
     /// How many volumes there are.
     pub volumes: u64,
@@ -66,7 +66,7 @@ pub struct Usage {
 }
 
 /// Why a keeper's call failed.
-#[derive(Clone, Copy, Debug, PartialEq, Eq)]
+#[derive(Clone, Copy, Debug)]
 pub enum StoreFault {
     /// Memory was refused.
     NoMemory,

@@ -8,7 +8,7 @@ use csi_types::{Items, Text, copy_text};
 use std::alloc::{AllocError, Global};
 
 /// What a listing tells of a volume (CSI 1.x, `ListVolumesResponse.Entry`).
-#[derive(Debug, Drop)]
+#[derive(Drop)]
 pub struct Listed {
     /// The number.
     pub number: u64,

@@ -4,8 +4,8 @@ use Rattle.std.specs.Prelude.{nat_le, ◌&&◌}
 use Rattle.std.specs.List.{list_all}
 use Rattle.std.proofs.lemmas.List.Sums.{AllPass-from_list_all}
 use Rattle.std.proofs.lemmas.Bool.{leb-true}
-use Rattle.frames_core.specs.declared.limits.TheConstants.{MAX_MESSAGE_BYTES}
-use Rattle.frames_core.specs.Envelope.{IsCall, IsPathByte}
+use Rattle.envelope.specs.declared.limits.TheConstants.{MAX_MESSAGE_BYTES}
+use Rattle.envelope.specs.Envelope.{IsCall, IsPathByte}
 use Rattle.csi_log.specs.Asking.{path_of}
 use Rattle.csi_log.specs.declared.asking.Call.{Call}
 use Rattle.csi_log.specs.declared.asking.Call.TheVariants.{Read}

@@ -3,7 +3,7 @@ use Rattle.std.specs.Prelude.{ℕ, ◌==◌, Bool, true, false, List, [], ◌∷
 use Rattle.std.specs.FinMap.{empty}
 use Rattle.pbwire.specs.Wire.{WireField, Number, Payload}
 use Rattle.pbwire.specs.Writing.{spelling, spellings}
-use Rattle.frames_core.specs.Envelope.{frame}
+use Rattle.envelope.specs.Envelope.{frame}
 use Rattle.csi_client.specs.declared.receiving.Received.{Received}
 use Rattle.csi_client.specs.declared.receiving.Received.TheVariants.{Reply, Nothing, Malformed, Failed, NoMemory as NoRoom}
 use Rattle.csi_keeper.specs.declared.change.Change.{Change}

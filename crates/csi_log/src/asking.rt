@@ -1,8 +1,8 @@
 //! The calls of a log, as frames.
 
 ghost use Rattle.std.specs.Prelude.{◌≡◌, ◌≢◌, ◌<◌, Err, IfErr, IfOk, IsErrOf, length};
-ghost use Rattle.frames_core.specs.Envelope.{frame};
-ghost use Rattle.frames_core.specs.declared.limits.TheConstants.{MAX_MESSAGE_BYTES};
+ghost use Rattle.envelope.specs.Envelope.{frame};
+ghost use Rattle.envelope.specs.declared.limits.TheConstants.{MAX_MESSAGE_BYTES};
 ghost use Rattle.csi_keeper.specs.declared.change.StoreFault.TheVariants.{Down, NoMemory, Refused};
 ghost use Rattle.csi_log.specs.Asking.{lead_frame, make_frame, path_of, read_frame, token_bytes};
 

@@ -1,7 +1,7 @@
 //! The frame that asks for a change.
 
 ghost use Rattle.std.specs.Prelude.{◌≡◌, ◌≢◌, ◌++◌, ◌∷◌, ◌<◌, [], Err, IfOk, IsErrOf, OnOk, length};
-ghost use Rattle.frames_core.specs.declared.limits.TheConstants.{MAX_MESSAGE_BYTES};
+ghost use Rattle.envelope.specs.declared.limits.TheConstants.{MAX_MESSAGE_BYTES};
 ghost use Rattle.pbwire.specs.Writing.{spellings};
 ghost use Rattle.csi_keeper.specs.declared.change.StoreFault.TheVariants.{Down, Refused};
 ghost use Rattle.std.specs.FinMap.{empty};

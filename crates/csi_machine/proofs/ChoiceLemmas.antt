@@ -6,7 +6,7 @@ use Rattle.csi_types.specs.Maps.{TextMap}
 use Rattle.csi_config.specs.declared.pools.Pool.{Pool}
 use Rattle.csi_machine.specs.declared.choice.Room as code
 use Rattle.csi_machine.specs.Choice.{Room, room_value, free, fits, pairs, choice}
-use Rattle.csi_machine.specs.Topology.{serves, or_empty}
+use Rattle.csi_plans.specs.Topology.{serves, or_empty}
 
 abbrev pub or_else : {A : Type 0} → Option A → Option A → Option A
 or_else None b = b

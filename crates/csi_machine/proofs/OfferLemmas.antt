@@ -26,11 +26,11 @@ use Rattle.csi_machine.specs.Choice.{Room, rooms, free, choice, count}
 use Rattle.csi_machine.specs.Configured.{IsConfigured}
 use Rattle.csi_keeper.specs.Invariant.{IsInvariant}
 use Rattle.csi_machine.specs.Offer.{term_of, exactly, AsksFor, IsNew}
-use Rattle.csi_machine.specs.Plan.{refuse}
-use Rattle.csi_machine.specs.Size.{size, within, asked, rounded_up, rounded_down}
+use Rattle.csi_plans.specs.Plan.{refuse}
+use Rattle.csi_plans.specs.Size.{size, within, asked, rounded_up, rounded_down}
 use Rattle.csi_keeper.specs.State.{State, used, sizes}
 use Rattle.csi_keeper.specs.Texts.{Text}
-use Rattle.csi_machine.specs.Topology.{serves, terms}
+use Rattle.csi_plans.specs.Topology.{serves, terms}
 use Rattle.csi_machine.specs.calls.Capacity.{capacity, served, is_served, greatest, greatest_size, tell_capacity}
 use Rattle.csi_machine.specs.calls.Create.{create, create_named, place, place_in}
 use Rattle.csi_machine.proofs.ChoiceLemmas.{or_else, choice_one, choice_cons}

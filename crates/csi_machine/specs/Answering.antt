@@ -7,23 +7,18 @@ use Rattle.csi_config.specs.declared.config.Config.{Config}
 use Rattle.csi_types.specs.declared.requests.Request.{Request}
 use Rattle.csi_keeper.specs.declared.change.StoreFault.{StoreFault}
 use Rattle.csi_keeper.specs.declared.change.StoreFault.TheVariants.{NoMemory, Refused, Down}
-use Rattle.csi_machine.specs.declared.body.Verdict.{Verdict}
-use Rattle.csi_machine.specs.declared.body.Verdict.TheVariants as verdict
-use Rattle.csi_machine.specs.declared.plan.Plan.{Plan}
+use Rattle.csi_plans.specs.declared.body.Verdict.{Verdict}
+use Rattle.csi_plans.specs.declared.plan.Plan.{Plan}
 use Rattle.csi_keeper.specs.Invariant.{IsInvariant}
 use Rattle.csi_keeper.specs.Keeper.{count_after}
 use Rattle.csi_keeper.specs.Model.{Model}
-use Rattle.csi_machine.specs.Down.{TellsDown}
-use Rattle.csi_machine.specs.Plan.{after}
+use Rattle.csi_plans.specs.Down.{TellsDown}
+use Rattle.csi_plans.specs.Plan.{after}
 use Rattle.csi_keeper.specs.State.{State, Allows}
 use Rattle.csi_machine.specs.Step.{step}
-use Rattle.csi_machine.specs.Verdicts.{Appended, IsTold}
+use Rattle.csi_plans.specs.Verdicts.{Appended, IsTold, verdict_of}
 
--- the verdict of an outcome, and the body that is written
-abbrev pub verdict_of : Result Response Reason → Verdict
-verdict_of (Ok r) = verdict.Done
-verdict_of (Err reason) = verdict.Refused reason
-
+-- the body of an outcome that is written
 abbrev pub body_of : Result Response Reason → List ℕ
 body_of (Ok r) = response_bytes r
 body_of (Err reason) = []

@@ -8,7 +8,7 @@ use Rattle.csi_config.specs.declared.pools.Pool.{Pool}
 use Rattle.csi_keeper.specs.declared.change.Usage.{Usage}
 use Rattle.csi_machine.specs.declared.choice.Room as code
 use Rattle.csi_keeper.specs.State.{State, used}
-use Rattle.csi_machine.specs.Topology.{serves}
+use Rattle.csi_plans.specs.Topology.{serves}
 
 -- a pool, and what its volumes use of it
 abbrev pub Room : Type 0

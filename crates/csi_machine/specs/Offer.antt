@@ -10,7 +10,7 @@ use Rattle.csi_config.specs.declared.config.Config.{Config}
 use Rattle.csi_machine.specs.Choice.{rooms, count}
 use Rattle.csi_keeper.specs.State.{State, named}
 use Rattle.csi_keeper.specs.Texts.{Text}
-use Rattle.csi_machine.specs.Topology.{terms}
+use Rattle.csi_plans.specs.Topology.{terms}
 
 -- the topology of a GetCapacity as a term; none is the empty one
 abbrev pub term_of : Option TextMap → TextMap

@@ -2,8 +2,5 @@ pub mod Create
 pub mod Delete
 pub mod Publish
 pub mod Unpublish
-pub mod Validate
 pub mod Listing
 pub mod Capacity
-pub mod Modify
-pub mod Identity

@@ -2,21 +2,21 @@
 
 ghost use Rattle.std.specs.Prelude.{◌≡◌, ◌≤◌, ◌++◌, length, [], OnOk, OnErr, IfSome, IsTrue, None};
 ghost use Rattle.csi_types.specs.Checks.{checked};
-ghost use Rattle.frames_core.specs.declared.limits.TheConstants.{MAX_BODY_BYTES};
+ghost use Rattle.envelope.specs.declared.limits.TheConstants.{MAX_BODY_BYTES};
 ghost use Rattle.csi_types.specs.declared.requests.Request.TheVariants.{Create};
 ghost use Rattle.csi_machine.specs.Answering.{Carries, Performs, body_of};
 ghost use Rattle.csi_keeper.specs.Invariant.{IsInvariant};
 ghost use Rattle.csi_keeper.specs.State.{State, IsBounded};
 ghost use Rattle.csi_machine.specs.Configured.{IsConfigured};
 ghost use Rattle.csi_machine.specs.Step.{is_planned, limited, step};
-ghost use Rattle.csi_machine.specs.Verdicts.{Appended, IsTold, told_of};
+ghost use Rattle.csi_plans.specs.Verdicts.{Appended, IsTold, told_of};
 
-use crate::body::Verdict;
-use crate::calls::{append_page, append_ready, create, plan_of};
+use crate::calls::{append_page, create, plan_of};
 use crate::configured::configured;
 use crate::outcome::Outcome;
 use csi_config::Config;
 use csi_keeper::{Keeper, StoreFault};
+use csi_plans::{Verdict, append_ready};
 use csi_types::{CreateVolume, Map, Request};
 use std::alloc::Global;
 

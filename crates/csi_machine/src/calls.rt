@@ -4,26 +4,25 @@
 
 ghost use Rattle.std.specs.Prelude.{◌≡◌, IfOk, IfSome, IsTrue};
 ghost use Rattle.csi_keeper.specs.State.{IsBounded};
-ghost use Rattle.csi_machine.specs.Finding.{Finds};
+ghost use Rattle.csi_plans.specs.Finding.{Finds};
 ghost use Rattle.csi_machine.specs.Step.{is_planned, plan};
 
 mod capacity;
 mod create;
 mod delete;
-mod identity;
 mod listing;
-mod modify;
 mod publish;
 mod unpublish;
-mod validate;
 
-use crate::planned::{Planned, Planning};
+use crate::planned::Planned;
 pub(crate) use create::create;
 use csi_config::Config;
 use csi_keeper::Keeper;
+use csi_plans::{
+    Planning, plan_controller_capabilities, plan_modify, plan_plugin_capabilities,
+    plan_plugin_info, plan_validate,
+};
 use csi_types::Request;
-pub(crate) use identity::append_ready;
-use identity::{plan_controller_capabilities, plan_plugin_capabilities, plan_plugin_info};
 pub(crate) use listing::append_page;
 use std::alloc::Global;
 
@@ -45,9 +44,9 @@ pub(crate) fn plan_of<K: Keeper>(
         Request::Delete(request) => request.plan(alloc, config, keeper),
         Request::Publish(request) => request.plan(alloc, config, keeper),
         Request::Unpublish(request) => request.plan(alloc, config, keeper),
-        Request::Validate(request) => request.plan(alloc, config, keeper),
+        Request::Validate(request) => plan_validate(alloc, keeper, request.get()),
         Request::Capacity(request) => request.plan(alloc, config, keeper),
-        Request::Modify(request) => request.plan(alloc, config, keeper),
+        Request::Modify(request) => plan_modify(alloc, keeper, request.get()),
         Request::Probe | Request::Create(_) | Request::List(_) => unreachable!(),
     }
 }

@@ -3,19 +3,20 @@
 ghost use Rattle.std.specs.Prelude.{◌≡◌, ◌&&◌, nat_le, Some, [], ◌∷◌, find, map, IfOk};
 ghost use Rattle.std.specs.FinMap.{empty};
 ghost use Rattle.std.specs.Option.{option_map};
-ghost use Rattle.csi_machine.specs.Finding.{Finds};
+ghost use Rattle.csi_plans.specs.Finding.{Finds};
 ghost use Rattle.csi_machine.specs.Choice.{room_value, free, rooms, choice, count};
-ghost use Rattle.csi_keeper.specs.State.{up_to_u64};
-ghost use Rattle.csi_machine.specs.Topology.{serves, or_empty, terms};
+ghost use Rattle.csi_keeper.specs.Keeper.{Reads};
+ghost use Rattle.csi_keeper.specs.State.{up_to_u64, used};
+ghost use Rattle.csi_plans.specs.Topology.{serves, or_empty, terms};
 
-use crate::topology::serves;
 use csi_config::{Config, Pool};
 use csi_keeper::{Keeper, StoreFault, Usage};
+use csi_plans::serves;
 use csi_types::{Map, Requirement};
 use std::alloc::Global;
 
 /// A pool, and what its volumes use of it.
-#[derive(Debug, Drop)]
+#[derive(Drop)]
 pub(crate) struct Room<'a> {
     pub pool: &'a Pool,
     pub used: Usage,
@@ -28,6 +29,16 @@ impl Room<'_> {
     {
         self.pool.bytes.saturating_sub(self.used.bytes)
     }
+}
+
+// A pool, and what is used of it.
+#[inline(always)]
+fn read_room<'a, K: Keeper>(keeper: &mut K, pool: &'a Pool) -> Result<Room<'a>, StoreFault>
+    ensures pool { IfOk result (λ r. r.pool.now ≡ pool.now) }
+    ensures reads { Reads (K.model keeper.old) (K.model keeper.new) result (λ s r. room_value r ≡ (pool.now, used s pool.now.name)) }
+{
+    let used = keeper.used_in(&pool.name)?;
+    Ok(Room { pool, used })
 }
 
 /// The pools in the order of the configuration, and what is used of each.
@@ -43,8 +54,7 @@ pub(crate) fn read_rooms<'a, K: Keeper>(
 {
     let mut rooms = Vec::new(alloc);
     for pool in config.pools() {
-        let used = keeper.used_in(&pool.name)?;
-        rooms.push(Room { pool, used })?;
+        rooms.push(read_room(keeper, pool)?)?;
     }
     Ok(rooms)
 }

@@ -2,7 +2,7 @@
 //! nothing.
 
 ghost use Rattle.std.specs.Prelude.{◌≡◌, ◌<◌, ◌^◌, ℕ, List, [], ◌∷◌, None, Some};
-ghost use Rattle.csi_machine.specs.Ids.{id, number_of_id};
+ghost use Rattle.csi_plans.specs.Ids.{id, number_of_id};
 ghost use Rattle.csi_keeper.specs.Texts.{Text};
 ghost use Rattle.csi_keeper.specs.Invariant.{IsInvariant};
 ghost use Rattle.csi_keeper.specs.State.{State};
@@ -15,7 +15,7 @@ ghost use Rattle.csi_machine.specs.calls.Capacity.{capacity, tell_capacity};
 ghost use Rattle.csi_machine.specs.calls.Create.{create, place_in};
 ghost use Rattle.csi_machine.specs.Retry.{Try, IsLife, AreTriesOf, all_tries, told_once, after_once};
 ghost use Rattle.csi_machine.specs.Step.{step};
-ghost use Rattle.csi_machine.specs.Verdicts.{Told};
+ghost use Rattle.csi_plans.specs.Verdicts.{Told};
 ghost use Rattle.csi_config.specs.declared.pools.Pool.{Pool};
 ghost use Rattle.csi_types.specs.declared.requests.CreateVolume.{CreateVolume};
 ghost use Rattle.csi_types.specs.declared.requests.GetCapacity.{GetCapacity};
@@ -28,7 +28,7 @@ use csi_types::laws::{equal_topologies, inclusions, overlays};
 
 /// An id names the volume that it was made of, and no other text names that volume.
 #[inline(always)]
-#[tactic(auto, using(crate::proofs::IdsLemmas::id_named, crate::proofs::IdsLemmas::named_id))]
+#[tactic(auto, using(csi_plans::specs::facts::Ids::id_named, csi_plans::specs::facts::Ids::named_id))]
 pub fn ids()
     ensures read { (n : ℕ) → n < 2 ^ 64 → number_of_id (id n) ≡ Some n }
     ensures only { (t : Text) (n : ℕ) → number_of_id t ≡ Some n → t ≡ id n }

@@ -5,9 +5,9 @@ ghost use Rattle.std.specs.Option.{option_copied};
 ghost use Rattle.csi_types.specs.Maps.{same_text};
 ghost use Rattle.csi_machine.specs.Places.{IsPlaced};
 
-use crate::info::{context_of, segments_at, topology_of};
 use csi_codec::Placement;
 use csi_config::Config;
+use csi_plans::{context_of, segments_at, topology_of};
 use csi_types::{Map, Text, copy_text};
 use std::alloc::{AllocError, Global};
 

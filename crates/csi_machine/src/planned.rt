@@ -3,17 +3,14 @@
 ghost use Rattle.std.specs.Prelude.{◌≡◌, IfOk, IfSome};
 ghost use Rattle.csi_config.specs.declared.config.Config.{Config as AnyConfig};
 ghost use Rattle.csi_keeper.specs.State.{State, IsBounded};
-ghost use Rattle.csi_machine.specs.Finding.{Finds};
-ghost use Rattle.csi_machine.specs.declared.plan.Plan.{Plan as AnyPlan};
+ghost use Rattle.csi_plans.specs.Finding.{Finds};
+ghost use Rattle.csi_plans.specs.declared.plan.Plan.{Plan as AnyPlan};
 
-use crate::plan::Plan;
 use csi_config::Config;
-use csi_keeper::{Keeper, StoreFault};
+use csi_keeper::Keeper;
+use csi_plans::Planning;
 use csi_types::Boxed;
 use std::alloc::Global;
-
-/// A plan, or why none was made: what the keeper answered, or want of memory.
-pub(crate) type Planning = Result<Plan, StoreFault>;
 
 /// A request of one method, or of any.
 pub(crate) trait Planned {

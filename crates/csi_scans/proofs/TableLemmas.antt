@@ -23,7 +23,7 @@ use Rattle.csi_schema.specs.Rows.{seen_attachment, seen_meta, seen_volume}
 use Rattle.csi_schema.specs.Tables.{schema}
 use Rattle.csi_schema.specs.facts.Compiling.{Compiles, is_alone, is_select, selects}
 use Rattle.csi_schema.specs.facts.Failing.{IsNeverRefused, IsSure, only_limit, sure_of}
-use Rattle.csi_transactions.specs.Statements.{plain_query, rising}
+use Rattle.csi_statements.specs.Statements.{plain_query, rising}
 use Rattle.csi_scans.specs.Scans.{IsInOrder, first_cmp, keyed_attachment}
 
 -- ---- the scans, their texts and what these compute to

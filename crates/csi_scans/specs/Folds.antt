@@ -9,7 +9,7 @@ use Rattle.sqlite.specs.Tree.{IsAscending}
 use Rattle.sqlite.specs.View.{is_int}
 use Rattle.sqlite.specs.declared.types.Value.{Value}
 use Rattle.sqlite.specs.declared.types.Value.TheVariants.{Int, Text}
-use Rattle.csi_transactions.specs.Cells.{as_number}
+use Rattle.csi_statements.specs.Cells.{as_number}
 use Rattle.csi_scans.specs.declared.sums.Weight.{Weight}
 use Rattle.csi_scans.specs.declared.sums.Weight.TheVariants.{One, Number}
 

@@ -11,7 +11,7 @@ use Rattle.sqlite.specs.declared.error.Error.{Error}
 use Rattle.csi_schema.specs.Failing.{FailsFor}
 use Rattle.csi_schema.specs.Rows.{seen_attachment}
 use Rattle.csi_schema.specs.Transactions.{LeavesNothingNew}
-use Rattle.csi_transactions.specs.Deletes.{is_same}
+use Rattle.csi_statements.specs.Deletes.{is_same}
 
 -- a fold has become another over rows of which this is so
 abbrev pub HasFolded : {F : Type 0} → (F → List Row → F → Type 0) → F → F → (List Row → Type 0) → Type 0

@@ -7,7 +7,7 @@ use crate::fold::Fold;
 use sqlite::{Error, Row};
 
 /// How many rows there are.
-#[derive(Debug, Drop)]
+#[derive(Drop)]
 pub struct RowCount {
     /// The rows so far, or 2^64 - 1 where there are more. It begins as 0.
     pub rows: u64,

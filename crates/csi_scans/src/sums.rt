@@ -8,12 +8,12 @@ ghost use Rattle.csi_scans.specs.Folds.{is_text, sum_after, weight_of};
 ghost use Rattle.csi_scans.specs.facts.Starts.{still_sum};
 
 use crate::fold::Fold;
-use csi_transactions::values::{number_at, text_at};
+use csi_statements::values::{number_at, text_at};
 use sqlite::{Error, Row};
 use std::cmp::Ordering;
 
 /// What a row adds to a sum.
-#[derive(Clone, Copy, Debug, PartialEq, Eq)]
+#[derive(Clone, Copy)]
 pub enum Weight {
     /// One, so that the sum counts the rows.
     One,

@@ -5,19 +5,19 @@ use Rattle.std.specs.Result.{IsOk}
 use Rattle.std.specs.Io.KnownBytes.{Appends}
 use Rattle.std.proofs.lemmas.Bool.{cases_lt}
 use Rattle.std.proofs.lemmas.List.{take-append-drop, take_all, length-take}
-use Rattle.frames_core.specs.declared.fault.FrameFault.{FrameFault}
-use Rattle.frames_core.specs.declared.fault.FrameWhy.{FrameWhy}
-use Rattle.frames_core.specs.Envelope.{CallBytes, IsCall, IsReply, frame, reply}
-use Rattle.frames_core.specs.Grammar as grammar
-use Rattle.frames_core.specs.Stream.{Breaks, BreaksFirst, FaultAt, IsUnfinished, BeginsFrame}
+use Rattle.envelope.specs.declared.fault.FrameFault.{FrameFault}
+use Rattle.envelope.specs.declared.fault.FrameWhy.{FrameWhy}
+use Rattle.envelope.specs.Envelope.{CallBytes, IsCall, IsReply, frame, reply}
+use Rattle.envelope.specs.Grammar as grammar
+use Rattle.envelope.specs.Stream.{Breaks, BreaksFirst, FaultAt, IsUnfinished, BeginsFrame}
 use Rattle.frames_core.specs.Framer.{FramerState, IsSettled, IsBreakOf, start}
 use Rattle.csi_keeper.specs.Model.{Model}
 use Rattle.csi_server.specs.Machine.{Machine, Answers, Runs}
 use Rattle.csi_server.specs.Service.{reply_of}
 use Rattle.csi_server.specs.declared.refused.Refusal.{Refusal}
 use Rattle.csi_server.specs.Serving.{Answered, CutOff, HasFault, AnswersCall, WrotePrefix}
-use Rattle.frames_core.specs.declared.fault.FrameWhy.TheVariants.{BadPathLength, BadPath, BadFlag, TooLong, EndOfInput}
-use Rattle.frames_core.specs.Stream.{Stream, Ends, Clean, Open}
+use Rattle.envelope.specs.declared.fault.FrameWhy.TheVariants.{BadPathLength, BadPath, BadFlag, TooLong, EndOfInput}
+use Rattle.envelope.specs.Stream.{Stream, Ends, Clean, Open}
 use Rattle.csi_server.specs.declared.end.RunEnd.{RunEnd}
 use Rattle.csi_server.specs.declared.end.RunEnd.TheVariants.{Done, Malformed, ReadFailed, TurnsSpent, WriteFailed, NoMemory}
 use Rattle.csi_server.specs.Serving.{HasNoFault, Ended, fault_frame}

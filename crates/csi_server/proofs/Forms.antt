@@ -4,12 +4,12 @@ use Rattle.std.specs.Prelude.{codes, decimal, nat_le, if◌then◌else◌}
 use Rattle.std.proofs.lemmas.Bool.{leb-true}
 use Rattle.std.proofs.lemmas.List.Elements.{All-append, All-nil}
 use Rattle.std.proofs.lemmas.Fmt.{length-decimal-le}
-use Rattle.frames_core.specs.declared.fault.FrameFault.{FrameFault}
-use Rattle.frames_core.specs.declared.fault.FrameWhy.{FrameWhy}
-use Rattle.frames_core.specs.declared.fault.FrameWhy.TheVariants.{BadPathLength, BadPath, BadFlag, TooLong, EndOfInput}
-use Rattle.frames_core.specs.Texts.{fault_words}
-use Rattle.frames_core.specs.Envelope.{CallBytes, is_status, IsReply, IsTextByte}
-use Rattle.frames_core.specs.declared.limits.TheConstants.{MAX_MESSAGE_BYTES, MAX_BODY_BYTES}
+use Rattle.envelope.specs.declared.fault.FrameFault.{FrameFault}
+use Rattle.envelope.specs.declared.fault.FrameWhy.{FrameWhy}
+use Rattle.envelope.specs.declared.fault.FrameWhy.TheVariants.{BadPathLength, BadPath, BadFlag, TooLong, EndOfInput}
+use Rattle.envelope.specs.Texts.{fault_words}
+use Rattle.envelope.specs.Envelope.{CallBytes, is_status, IsReply, IsTextByte}
+use Rattle.envelope.specs.declared.limits.TheConstants.{MAX_MESSAGE_BYTES, MAX_BODY_BYTES}
 use Rattle.csi_types.specs.declared.responses.Response.{Response}
 use Rattle.csi_types.specs.declared.method.Method.{Method}
 use Rattle.csi_types.specs.declared.code.Code.{Code}
@@ -22,7 +22,7 @@ use Rattle.csi_types.specs.Codes.{number_of}
 use Rattle.csi_types.specs.Reasons.{code_of, text_of}
 use Rattle.csi_codec.specs.Methods.{IsNoRequest}
 use Rattle.csi_codec.specs.Reading.{read_request, IsRead}
-use Rattle.csi_machine.specs.Verdicts.{Told, Says, Denies, within, told_of}
+use Rattle.csi_plans.specs.Verdicts.{Told, Says, Denies, within, told_of}
 use Rattle.csi_server.specs.Machine.{refusal, refused}
 use Rattle.csi_server.specs.Requests.{requests, malformed, told, after_check, after_read, after_path}
 use Rattle.csi_server.proofs.Printable.{all_printable}

@@ -9,7 +9,7 @@ use Rattle.csi_types.specs.declared.reason.Reason.{Reason}
 use Rattle.csi_types.specs.declared.reason.Reason.TheVariants as reason
 use Rattle.csi_types.specs.Codes.{number_of}
 use Rattle.csi_types.specs.Reasons.{code_of, text_of}
-use Rattle.frames_core.specs.Envelope.{IsTextByte}
+use Rattle.envelope.specs.Envelope.{IsTextByte}
 use Rattle.csi_server.proofs.Printable.{is_printable, all_printable, both}
 
 abbrev is_told : Reason → Bool

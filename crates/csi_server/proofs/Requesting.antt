@@ -5,12 +5,12 @@ use Rattle.csi_types.specs.declared.method.Method.{Method}
 use Rattle.csi_types.specs.declared.reason.Reason.TheVariants as reason
 use Rattle.csi_types.specs.declared.requests.Request.{Request}
 use Rattle.csi_types.specs.Checks.{checked}
-use Rattle.frames_core.specs.Envelope.{CallBytes, ReplyBytes}
-use Rattle.frames_core.specs.declared.limits.TheConstants.{REPLY_HEAD_BYTES}
+use Rattle.envelope.specs.Envelope.{CallBytes, ReplyBytes}
+use Rattle.envelope.specs.declared.limits.TheConstants.{REPLY_HEAD_BYTES}
 use Rattle.csi_codec.specs.Reading.{read_request}
-use Rattle.csi_machine.specs.declared.body.Verdict.{Verdict}
-use Rattle.csi_machine.specs.declared.body.Verdict.TheVariants as verdict
-use Rattle.csi_machine.specs.Verdicts.{Told, told_of, IsTold}
+use Rattle.csi_plans.specs.declared.body.Verdict.{Verdict}
+use Rattle.csi_plans.specs.declared.body.Verdict.TheVariants as verdict
+use Rattle.csi_plans.specs.Verdicts.{Told, told_of, IsTold}
 use Rattle.csi_keeper.specs.Model.{Model}
 use Rattle.csi_server.specs.Machine.{Machine, Mark, Unmarked, OutOfMemory, StoreRefused, StoreDown, Answers, Leaves, KnowsDown, marked, refused}
 use Rattle.csi_server.specs.Requests.{AnswersBy, LeavesBy, IsUnread, IsRequest, requests, after_check, after_read, after_path, told}

@@ -3,7 +3,7 @@ use Rattle.std.proofs.Common.{◌≡◌, ◌≢◌, ◌∙◌, inl, inr, ap, sym
 use Rattle.std.proofs.lemmas.List.{map-append}
 use Rattle.std.proofs.lemmas.List.Concat.{flat_map-append}
 use Rattle.std.specs.List.{AllByRecursion}
-use Rattle.frames_core.specs.Envelope.{CallBytes, ReplyBytes}
+use Rattle.envelope.specs.Envelope.{CallBytes, ReplyBytes}
 use Rattle.csi_types.specs.declared.method.Method.{Method}
 use Rattle.csi_types.specs.declared.reason.Reason.{Reason}
 use Rattle.csi_types.specs.declared.reason.Reason.TheVariants as reason
@@ -17,7 +17,7 @@ use Rattle.csi_keeper.specs.State.{State}
 use Rattle.csi_machine.specs.Retry.{Try, Ending, Marked, Unanswered, Answered, after_try, told_by, told_of, IsDue, Leaves, IsLife, AreTriesOf, all_tries, told_once, after_once, still_open}
 use Rattle.csi_machine.specs.Retry.{state_after as after_tries}
 use Rattle.csi_machine.specs.Step.{step}
-use Rattle.csi_machine.specs.Verdicts.{Told}
+use Rattle.csi_plans.specs.Verdicts.{Told}
 use Rattle.csi_server.specs.Machine.{Event, Mark, Unmarked, OutOfMemory, StoreRefused, StoreDown, marked, refused, state_after}
 use Rattle.csi_server.specs.Machine.{step as call_step}
 use Rattle.csi_server.specs.Requests.{after_check, after_path, after_read, malformed, told}

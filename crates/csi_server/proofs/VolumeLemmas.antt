@@ -2,11 +2,11 @@
 use Rattle.std.proofs.Common.{◌≡◌, ◌⊎◌, true, ℕ, List, [], ◌++◌, ◌+◌, drop, length, length-append, None, Result, Ok, Err, refl, sym, ap, subst, ◌∙◌, inl, inr, arith}
 use Rattle.std.specs.Prelude.{⊤}
 use Rattle.csi_types.specs.declared.requests.Request.{Request}
-use Rattle.frames_core.specs.Envelope.{ReplyBytes}
-use Rattle.frames_core.specs.declared.limits.TheConstants.{REPLY_HEAD_BYTES}
+use Rattle.envelope.specs.Envelope.{ReplyBytes}
+use Rattle.envelope.specs.declared.limits.TheConstants.{REPLY_HEAD_BYTES}
 use Rattle.csi_config.specs.declared.config.Config.{Config}
-use Rattle.csi_machine.specs.declared.body.Verdict.{Verdict}
-use Rattle.csi_machine.specs.declared.body.Verdict.TheVariants as verdict
+use Rattle.csi_plans.specs.declared.body.Verdict.{Verdict}
+use Rattle.csi_plans.specs.declared.body.Verdict.TheVariants as verdict
 use Rattle.csi_keeper.specs.Model.{Model}
 use Rattle.csi_keeper.specs.declared.change.StoreFault.{StoreFault}
 use Rattle.csi_keeper.specs.declared.change.StoreFault.TheVariants as fault
@@ -14,7 +14,7 @@ use Rattle.csi_machine.specs.Answering.{IsOfAll, Performs}
 use Rattle.csi_keeper.specs.Invariant.{IsInvariant}
 use Rattle.csi_keeper.specs.State.{State}
 use Rattle.csi_machine.specs.Step.{step}
-use Rattle.csi_machine.specs.Verdicts.{Appended}
+use Rattle.csi_plans.specs.Verdicts.{Appended}
 use Rattle.csi_server.specs.Machine.{Mark, Unmarked, OutOfMemory, StoreRefused, StoreDown, KnowsDown, RoseBy, marked, store_mark, refused}
 use Rattle.csi_server.specs.Requests.{AnswersBy, LeavesBy, after_check, told}
 use Rattle.csi_server.specs.Service.{HasBody, room}

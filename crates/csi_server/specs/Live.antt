@@ -1,13 +1,13 @@
 -- A run of a server between two reads.
 use Rattle.std.specs.Prelude.{◌≡◌, ◌≢◌, ℕ, ◌+◌, List, [], ◌++◌, length, All, Option, None}
 use Rattle.std.specs.Io.KnownBytes.{Appends, Keeps}
-use Rattle.frames_core.specs.declared.fault.FrameFault.{FrameFault}
-use Rattle.frames_core.specs.declared.fault.FrameWhy.TheVariants.{EndOfInput}
+use Rattle.envelope.specs.declared.fault.FrameFault.{FrameFault}
+use Rattle.envelope.specs.declared.fault.FrameWhy.TheVariants.{EndOfInput}
 use Rattle.csi_keeper.specs.Model.{Model}
 use Rattle.csi_server.specs.declared.end.RunEnd.{RunEnd}
 use Rattle.csi_server.specs.declared.end.RunEnd.TheVariants.{Done, Malformed, ReadFailed, TurnsSpent, WriteFailed, NoMemory}
-use Rattle.frames_core.specs.Envelope.{IsCall}
-use Rattle.frames_core.specs.Stream.{frames, IsUnfinished}
+use Rattle.envelope.specs.Envelope.{IsCall}
+use Rattle.envelope.specs.Stream.{frames, IsUnfinished}
 use Rattle.frames_core.specs.Framer.{FramerState}
 use Rattle.csi_server.specs.Machine.{Machine, Runs, Event, replies, calls_of}
 use Rattle.csi_server.specs.Serving.{Answered, CutOff, HasFault, WrotePrefix, fault_frame}

@@ -2,8 +2,8 @@
 use Rattle.std.specs.Prelude.{ℕ, ◌+◌, ◌≤◌, List, [], ◌∷◌, drop, length, Result, Ok, Err}
 use Rattle.csi_server.specs.declared.refused.Refusal.{Refusal}
 use Rattle.csi_server.specs.declared.refused.Refusal.TheVariants.{For, Malformed}
-use Rattle.frames_core.specs.declared.limits.TheConstants.{REPLY_HEAD_BYTES, MAX_BODY_BYTES}
-use Rattle.frames_core.specs.Envelope.{ReplyBytes}
+use Rattle.envelope.specs.declared.limits.TheConstants.{REPLY_HEAD_BYTES, MAX_BODY_BYTES}
+use Rattle.envelope.specs.Envelope.{ReplyBytes}
 use Rattle.csi_server.specs.Machine.{refused}
 use Rattle.csi_server.specs.Requests.{malformed}
 

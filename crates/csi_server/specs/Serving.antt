@@ -3,12 +3,12 @@ use Rattle.std.specs.Prelude.{◌≡◌, ℕ, ◌≤◌, ◌^◌, List, [], ◌�
 use Rattle.std.specs.Io.KnownBytes.{Appends, Consumes, IsAtEnd, Keeps}
 use Rattle.csi_types.specs.declared.code.Code.TheVariants as code
 use Rattle.csi_types.specs.Codes.{number_of}
-use Rattle.frames_core.specs.declared.fault.FrameFault.{FrameFault}
-use Rattle.frames_core.specs.declared.fault.FrameWhy.{FrameWhy}
-use Rattle.frames_core.specs.declared.fault.FrameWhy.TheVariants.{EndOfInput}
-use Rattle.frames_core.specs.Envelope.{CallBytes, ReplyBytes, IsCall, IsReply, reply}
-use Rattle.frames_core.specs.Stream.{Stream, Clean, Fault, Open, frames}
-use Rattle.frames_core.specs.Texts.{fault_words}
+use Rattle.envelope.specs.declared.fault.FrameFault.{FrameFault}
+use Rattle.envelope.specs.declared.fault.FrameWhy.{FrameWhy}
+use Rattle.envelope.specs.declared.fault.FrameWhy.TheVariants.{EndOfInput}
+use Rattle.envelope.specs.Envelope.{CallBytes, ReplyBytes, IsCall, IsReply, reply}
+use Rattle.envelope.specs.Stream.{Stream, Clean, Fault, Open, frames}
+use Rattle.envelope.specs.Texts.{fault_words}
 use Rattle.csi_keeper.specs.Model.{Model}
 use Rattle.csi_server.specs.declared.end.RunEnd.{RunEnd}
 use Rattle.csi_server.specs.declared.end.RunEnd.TheVariants.{Done, Malformed, ReadFailed, TurnsSpent, WriteFailed, NoMemory}

@@ -1,7 +1,7 @@
 -- Calls as tries of requests: what a client of the volume machine asks for, call by call, what it hears, and what its sessions leave (CSI specification, 'Timeouts').
 use Rattle.std.specs.Prelude.{◌≡◌, ◌⊎◌, ℕ, Bool, true, false, List, [], ◌∷◌, ◌++◌, map, Option, Some, None, Result, Ok, Err}
 use Rattle.std.specs.List.{flat_map}
-use Rattle.frames_core.specs.Envelope.{CallBytes, ReplyBytes}
+use Rattle.envelope.specs.Envelope.{CallBytes, ReplyBytes}
 use Rattle.csi_types.specs.declared.method.Method.{Method}
 use Rattle.csi_types.specs.declared.reason.Reason.{Reason}
 use Rattle.csi_types.specs.declared.requests.Request.{Request}

@@ -1,8 +1,8 @@
 -- The volume machine over calls, and what is seen of a keeper.
 use Rattle.std.specs.Prelude.{◌≡◌, ◌≢◌, ℕ, List, [], ◌∷◌, ◌++◌, drop, Some, None, Result, Ok, Err}
 use Rattle.std.specs.List.{AllByRecursion}
-use Rattle.frames_core.specs.Envelope.{ReplyBytes}
-use Rattle.frames_core.specs.declared.limits.TheConstants.{REPLY_HEAD_BYTES}
+use Rattle.envelope.specs.Envelope.{ReplyBytes}
+use Rattle.envelope.specs.declared.limits.TheConstants.{REPLY_HEAD_BYTES}
 use Rattle.csi_types.specs.declared.method.Method.{Method}
 use Rattle.csi_types.specs.declared.reason.Reason.TheVariants as reason
 use Rattle.csi_types.specs.declared.requests.Request.{Request}
@@ -16,8 +16,8 @@ use Rattle.csi_keeper.specs.State.{State}
 use Rattle.csi_keeper.specs.declared.change.StoreFault.{StoreFault}
 use Rattle.csi_keeper.specs.declared.change.StoreFault.TheVariants as fault
 use Rattle.csi_machine.specs.Step.{step}
-use Rattle.csi_machine.specs.declared.body.Verdict.{Verdict}
-use Rattle.csi_machine.specs.declared.body.Verdict.TheVariants as verdict
+use Rattle.csi_plans.specs.declared.body.Verdict.{Verdict}
+use Rattle.csi_plans.specs.declared.body.Verdict.TheVariants as verdict
 use Rattle.csi_server.specs.Machine.{Machine, Event, Unmarked, refused, state_after}
 use Rattle.csi_server.specs.Machine.{step as call_step}
 use Rattle.csi_server.specs.Requests.{requests}

@@ -1,7 +1,7 @@
 use frames_core::FrameFault;
 
 /// How a run of the server ended.
-#[derive(Clone, Copy, Debug, PartialEq, Eq)]
+#[derive(Clone, Copy, Debug)]
 pub enum RunEnd {
     /// The input ended behind a whole frame, and all calls were answered.
     Done,

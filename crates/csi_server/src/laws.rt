@@ -2,10 +2,10 @@
 
 ghost use Rattle.std.specs.Prelude.{◌≡◌, ◌⊎◌, ◌↔◌, ◌≤◌, ◌<◌, ◌^◌, ◌++◌, ℕ, List, None, Some, length, decimal, map};
 ghost use Rattle.std.specs.List.{AllByRecursion};
-ghost use Rattle.frames_core.specs.declared.fault.FrameFault.{FrameFault};
-ghost use Rattle.frames_core.specs.declared.limits.TheConstants.{MAX_MESSAGE_BYTES};
-ghost use Rattle.frames_core.specs.Envelope.{CallBytes, IsReply, ReplyBytes};
-ghost use Rattle.frames_core.specs.Texts.{fault_words};
+ghost use Rattle.envelope.specs.declared.fault.FrameFault.{FrameFault};
+ghost use Rattle.envelope.specs.declared.limits.TheConstants.{MAX_MESSAGE_BYTES};
+ghost use Rattle.envelope.specs.Envelope.{CallBytes, IsReply, ReplyBytes};
+ghost use Rattle.envelope.specs.Texts.{fault_words};
 ghost use Rattle.csi_types.specs.declared.code.Code.TheVariants as Code;
 ghost use Rattle.csi_types.specs.Codes.{number_of};
 ghost use Rattle.csi_types.specs.declared.requests.Request.{Request};

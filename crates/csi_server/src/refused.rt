@@ -1,7 +1,7 @@
 //! Why a call is not done.
 
 ghost use Rattle.std.specs.Prelude.{◌≡◌, ◌≤◌, List, ℕ, All, codes, length};
-ghost use Rattle.frames_core.specs.Envelope.{IsReply, IsTextByte, reply as reply_frame};
+ghost use Rattle.envelope.specs.Envelope.{IsReply, IsTextByte, reply as reply_frame};
 ghost use Rattle.csi_server.specs.Service.{refused_by};
 
 use csi_types::{Code, Reason};
@@ -9,7 +9,7 @@ use frames_core::{FixedFrame, refusal_frame, text_and_number};
 use pbmessage::MALFORMED_MESSAGE;
 
 /// Why a call is not done.
-#[derive(Clone, Copy, Debug, PartialEq, Eq)]
+#[derive(Clone, Copy, Debug)]
 pub enum Refusal {
     /// For a reason, with its status code and its text.
     For(Reason),

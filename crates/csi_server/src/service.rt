@@ -1,5 +1,5 @@
 ghost use Rattle.std.specs.Prelude.{◌≡◌, ◌≤◌, [], OnOk, OnErr};
-ghost use Rattle.frames_core.specs.Envelope.{bytes_of};
+ghost use Rattle.envelope.specs.Envelope.{bytes_of};
 ghost use Rattle.csi_keeper.specs.Model.{Model};
 ghost use Rattle.csi_server.specs.Machine.{Machine, Answers};
 ghost use Rattle.csi_server.specs.Service.{room};

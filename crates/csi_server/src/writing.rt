@@ -1,7 +1,7 @@
 ghost use Rattle.std.specs.Prelude.{◌≡◌, ◌≤◌, ◌+◌, [], length, drop, OnOk};
 ghost use Rattle.std.specs.Io.KnownBytes.{Appends};
-ghost use Rattle.frames_core.specs.Envelope.{IsReply};
-ghost use Rattle.frames_core.specs.Envelope.{reply as reply_frame};
+ghost use Rattle.envelope.specs.Envelope.{IsReply};
+ghost use Rattle.envelope.specs.Envelope.{reply as reply_frame};
 ghost use Rattle.csi_server.specs.Serving.{WrotePrefix, fault_frame};
 ghost use Rattle.csi_server.specs.Service.{reply_of, HoldsBody};
 

@@ -16,8 +16,8 @@ use Rattle.csi_schema.specs.Failing as fails
 use Rattle.csi_schema.specs.Failing.{SqlRefuses}
 use Rattle.csi_schema.specs.Tables.{schema}
 use Rattle.csi_schema.specs.declared.formats.TheConstants.{LATEST_FORMAT}
-use Rattle.csi_transactions.specs.Failing.{FailsFor, HasNoNext}
-use Rattle.csi_transactions.specs.Rows.{IsUndone, ReadsOnly, meta_row, number_value, seen_meta}
+use Rattle.csi_statements.specs.Failing.{FailsFor, HasNoNext}
+use Rattle.csi_statements.specs.Rows.{IsUndone, ReadsOnly, meta_row, number_value, seen_meta}
 use Rattle.csi_tables.specs.Answers.{answered, of_database}
 use Rattle.csi_tables.specs.Holding.{Shows, conn_doubt, conn_holds}
 use Rattle.csi_tables.specs.Refusing.{ConnReads, HasKnownModes, IsRefusal, by_disk, as_shut, at_limit, as_refused}

@@ -9,7 +9,7 @@ use sqlite::{Error, ErrorCode};
 use std::alloc::{AllocError, AllocFailed};
 
 /// Why a call failed, of a keeper that is not down.
-#[derive(Clone, Copy, Debug, PartialEq, Eq)]
+#[derive(Clone, Copy)]
 pub(crate) enum Fault {
     /// Memory was refused.
     NoMemory,

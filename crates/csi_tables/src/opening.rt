@@ -7,7 +7,7 @@ ghost use Rattle.csi_schema.specs.Failing.{FailsFor};
 ghost use Rattle.csi_schema.specs.Making.{MakesTables, RefusesTables};
 ghost use Rattle.csi_schema.specs.Tables.{no_schema};
 ghost use Rattle.csi_schema.specs.Transactions.{LeavesFrom};
-ghost use Rattle.csi_transactions.specs.Rows.{IsUndone};
+ghost use Rattle.csi_statements.specs.Rows.{IsUndone};
 ghost use Rattle.csi_keeper.specs.State.{State};
 ghost use Rattle.csi_tables.specs.Holding.{conn_doubt, store_doubt, store_holds};
 ghost use Rattle.csi_tables.specs.Keeping.{connection_of, is_down, refusals, store_of, IsNewOver};

@@ -9,7 +9,7 @@ ghost use Rattle.csi_keeper.specs.State.{Place};
 ghost use Rattle.csi_keeper.specs.declared.capability.CapKey.{CapKey as Key};
 ghost use Rattle.csi_keeper.specs.declared.volume.Attachment.{Attachment as Placed};
 ghost use Rattle.csi_keeper.specs.declared.volume.Volume.{Volume as Stored};
-ghost use Rattle.csi_transactions.specs.Rows.{number_value};
+ghost use Rattle.csi_statements.specs.Rows.{number_value};
 ghost use Rattle.csi_tables.specs.Encoding.{caps_bytes, params_bytes, AreKnown, FitCaps, FitParams};
 ghost use Rattle.csi_tables.specs.Holding.{volume_entry, node_entry, IsStored, IsPlaced, IsReadable, IsReadablePlace};
 ghost use Rattle.csi_tables.specs.declared.fault.Fault.TheVariants.{Refused};

@@ -1,5 +1,5 @@
 -- What a transaction over the tables makes, and that of two statements: the row of a volume, and the next number.
-use Rattle.std.proofs.Common.{◌≡◌, ◌∙◌, inr, subst, arith, true, ℕ, Ok, Err, Result, OnOk}
+use Rattle.std.proofs.Common.{◌≡◌, ◌∙◌, ◌∷◌, inr, refl, sym, ap, subst, arith, map, true, ℕ, Ok, Err, Result, OnOk, IsPermutation}
 use Rattle.std.specs.Result.{IsErrAnd}
 use Rattle.sqlite.specs.Effect.{Database}
 use Rattle.sqlite.specs.Held.{Held, state}
@@ -11,10 +11,31 @@ use Rattle.sqlite.proofs.InsideLemmas.{keeps_then}
 use Rattle.sqlite.proofs.StateLemmas.{survives_then}
 use Rattle.csi_schema.specs.Transactions.{CommitsOver, RunsOver}
 use Rattle.csi_schema.specs.facts.Failing.{Committed, Dropped, commits, fails_behind, undoes}
-use Rattle.csi_transactions.specs.Failing.{FailsOver, RefusesNext, RefusesNumbered}
-use Rattle.csi_transactions.specs.Rows.{AddsNumbered, AddsVolume, SetsNext, Steps}
-use Rattle.csi_transactions.specs.Tables.{schema}
-use Rattle.csi_transactions.proofs.UpdateLemmas.{adds_numbered}
+use Rattle.csi_statements.specs.Failing.{FailsOver, RefusesNext, RefusesNumbered}
+use Rattle.csi_statements.specs.Rows.{seen_meta, AddsNumbered, AddsVolume, SetsNext, Steps}
+use Rattle.csi_statements.specs.Tables.{schema}
+
+-- the row and the number, one after the other
+adds_numbered : (old mid new : State) (row : Row) (next : ℕ) → Steps (AddsVolume row) old mid → Steps (SetsNext next) mid new → Steps (AddsNumbered row next) old new
+adds_numbered old mid new row next one two = record {
+  shown = record {
+    was_open = one.shown.was_open;
+    is_open = two.shown.is_open;
+    now_is = refl;
+    committed_is = two.shown.committed_is ∙ one.shown.committed_is;
+    mode = two.shown.mode;
+  };
+  effect = λ has.
+      let first = one.effect has in
+      let second = two.effect (first.schema ∙ has) in
+      record {
+        schema = second.schema ∙ first.schema;
+        sound = second.sound;
+        rows = subst (λ t. IsPermutation (row ∷ old.now.trees 1) t) (sym second.volumes) first.rows;
+        meta = λ format was at. second.meta format was (ap (map seen_meta) first.meta ∙ at);
+        attachments = second.attachments ∙ first.attachments;
+      };
+}
 
 module _ (row : Row) (next : ℕ) (a b c : State) (one : Steps (AddsVolume row) a b) where
   both_step : {Y : Type 0} (r : Result Y Error) → OnOk r (Steps (SetsNext next) b c) → OnOk r (Steps (AddsNumbered row next) a c)

@@ -1,10 +1,1 @@
 mod CommitLemmas
-mod DeleteLemmas
-mod FailLemmas
-mod FilterLemmas
-mod InsertLemmas
-mod ParamsLemmas
-mod ReadLemmas
-mod SelectLemmas
-mod TextLemmas
-mod UpdateLemmas

@@ -6,15 +6,17 @@
 
 ghost use Rattle.std.specs.Prelude.{◌≡◌, ◌+◌, ◌<◌, ◌^◌, false};
 ghost use Rattle.csi_schema.specs.Transactions.{CommitsOver};
-ghost use Rattle.csi_transactions.specs.Deletes.{Drops, is_numbered, is_of, is_place};
-ghost use Rattle.csi_transactions.specs.Failing.{RefusesAttachment, RefusesDetaching, RefusesDetachingAll, RefusesFormat, RefusesNumbered, RefusesParams, RefusesRemoval};
-ghost use Rattle.csi_transactions.specs.Rows.{AddsAttachment, AddsNumbered, SetsFormat, attachment_row, seen_attachment, seen_volume, volume_row};
-ghost use Rattle.csi_transactions.specs.Tables.{schema};
-ghost use Rattle.csi_transactions.specs.Updates.{SetsParams};
+ghost use Rattle.csi_statements.specs.Deletes.{Drops, is_numbered, is_of, is_place};
+ghost use Rattle.csi_statements.specs.Failing.{RefusesAttachment, RefusesDetaching, RefusesDetachingAll, RefusesFormat, RefusesNumbered, RefusesParams, RefusesRemoval};
+ghost use Rattle.csi_statements.specs.Rows.{AddsAttachment, AddsNumbered, SetsFormat, attachment_row, seen_attachment, seen_volume, volume_row};
+ghost use Rattle.csi_statements.specs.Tables.{schema};
+ghost use Rattle.csi_statements.specs.Updates.{SetsParams};
 
-use crate::statements::attachments::{delete_attachment, delete_attachments, insert_attachment};
-use crate::statements::meta::{set_next, update_format};
-use crate::statements::volumes::{VolumeRow, delete_volume, insert_volume, update_params};
+use csi_statements::statements::attachments::{
+    delete_attachment, delete_attachments, insert_attachment,
+};
+use csi_statements::statements::meta::{set_next, update_format};
+use csi_statements::statements::volumes::{VolumeRow, delete_volume, insert_volume, update_params};
 use sqlite::{Alter, Connection, Error};
 
 /// Adds a volume, and makes its number plus 1 the next number.

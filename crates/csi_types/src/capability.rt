@@ -11,7 +11,7 @@ use crate::text::Text;
 /// `VolumeCapability.MountVolume` (CSI specification, 'CreateVolume').
 ///
 /// Fields: `fs_type` 1, `mount_flags` 2, `volume_mount_group` 3.
-#[derive(Debug, PartialEq, Eq, Drop)]
+#[derive(Debug, Drop)]
 pub struct Mount {
     /// The file system, or empty where the plugin chooses.
     pub fs_type: Text,
@@ -22,7 +22,7 @@ pub struct Mount {
 }
 
 /// The member of `VolumeCapability.access_type` (CSI specification, 'CreateVolume').
-#[derive(Debug, PartialEq, Eq, Drop)]
+#[derive(Debug, Drop)]
 pub enum Access {
     /// No member is set.
     Missing,
@@ -33,7 +33,7 @@ pub enum Access {
 }
 
 /// `VolumeCapability` (CSI specification, 'CreateVolume').
-#[derive(Debug, PartialEq, Eq, Drop)]
+#[derive(Debug, Drop)]
 pub struct Capability {
     /// The oneof `access_type`, fields 1 and 2.
     pub access: Access,

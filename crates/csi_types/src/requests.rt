@@ -12,7 +12,7 @@ use crate::topology::Requirement;
 use std::fmt;
 
 /// `CreateVolumeRequest` (CSI specification, 'CreateVolume').
-#[derive(PartialEq, Eq, Drop)]
+#[derive(Drop)]
 pub struct CreateVolume {
     /// `name`, field 1.
     pub name: Text,
@@ -47,7 +47,7 @@ impl fmt::Debug for CreateVolume {
 }
 
 /// `DeleteVolumeRequest` (CSI specification, 'DeleteVolume').
-#[derive(PartialEq, Eq, Drop)]
+#[derive(Drop)]
 pub struct DeleteVolume {
     /// `volume_id`, field 1.
     pub volume_id: Text,
@@ -64,7 +64,7 @@ impl fmt::Debug for DeleteVolume {
 }
 
 /// `ControllerPublishVolumeRequest` (CSI specification, 'ControllerPublishVolume').
-#[derive(PartialEq, Eq, Drop)]
+#[derive(Drop)]
 pub struct Publish {
     /// `volume_id`, field 1.
     pub volume_id: Text,
@@ -93,7 +93,7 @@ impl fmt::Debug for Publish {
 }
 
 /// `ControllerUnpublishVolumeRequest` (CSI specification, 'ControllerUnpublishVolume').
-#[derive(PartialEq, Eq, Drop)]
+#[derive(Drop)]
 pub struct Unpublish {
     /// `volume_id`, field 1.
     pub volume_id: Text,
@@ -113,7 +113,7 @@ impl fmt::Debug for Unpublish {
 }
 
 /// `ValidateVolumeCapabilitiesRequest` (CSI specification, 'ValidateVolumeCapabilities').
-#[derive(PartialEq, Eq, Drop)]
+#[derive(Drop)]
 pub struct Validate {
     /// `volume_id`, field 1.
     pub volume_id: Text,
@@ -139,7 +139,7 @@ impl fmt::Debug for Validate {
 }
 
 /// `ListVolumesRequest` (CSI specification, 'ListVolumes').
-#[derive(Debug, PartialEq, Eq, Drop)]
+#[derive(Debug, Drop)]
 pub struct ListVolumes {
     /// `max_entries`, field 1; 0 for as many as a page holds.
     pub max_entries: i32,
@@ -148,7 +148,7 @@ pub struct ListVolumes {
 }
 
 /// `GetCapacityRequest` (CSI specification, 'GetCapacity').
-#[derive(Debug, PartialEq, Eq, Drop)]
+#[derive(Debug, Drop)]
 pub struct GetCapacity {
     /// `volume_capabilities`, field 1.
     pub capabilities: Items<Capability>,
@@ -159,7 +159,7 @@ pub struct GetCapacity {
 }
 
 /// `ControllerModifyVolumeRequest` (CSI specification, 'ControllerModifyVolume').
-#[derive(PartialEq, Eq, Drop)]
+#[derive(Drop)]
 pub struct Modify {
     /// `volume_id`, field 1.
     pub volume_id: Text,
@@ -179,7 +179,7 @@ impl fmt::Debug for Modify {
 }
 
 /// The request of a call, by its method. The message of one that has fields is kept apart, so that a request is small wherever it goes.
-#[derive(Debug, PartialEq, Eq)]
+#[derive(Debug)]
 pub enum Request {
     /// `GetPluginInfoRequest`, without fields.
     PluginInfo,

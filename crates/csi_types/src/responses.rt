@@ -6,7 +6,7 @@ use crate::text::Text;
 use crate::volume::{Confirmed, Entry, VolumeInfo};
 
 /// The response of a call, by its method (CSI specification, 'RPC Interface').
-#[derive(Debug, PartialEq, Eq, Drop)]
+#[derive(Debug, Drop)]
 pub enum Response {
     /// `GetPluginInfoResponse`.
     PluginInfo {

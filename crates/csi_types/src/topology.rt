@@ -27,7 +27,7 @@ const FEW_SEGMENTS: usize = 32;
 /// `TopologyRequirement` (CSI specification, 'CreateVolume').
 ///
 /// Each term is the map `segments`, field 1, of a `Topology`.
-#[derive(Debug, PartialEq, Eq, Drop)]
+#[derive(Debug, Drop)]
 pub struct Requirement {
     /// `requisite`, field 1: the volume is reachable from one of these.
     pub requisite: Items<Map>,

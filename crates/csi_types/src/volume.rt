@@ -6,7 +6,7 @@ use crate::map::Map;
 use crate::text::Text;
 
 /// `Volume` (CSI specification, 'CreateVolume').
-#[derive(Debug, PartialEq, Eq, Drop)]
+#[derive(Debug, Drop)]
 pub struct VolumeInfo {
     /// `capacity_bytes`, field 1.
     pub bytes: i64,
@@ -19,7 +19,7 @@ pub struct VolumeInfo {
 }
 
 /// `ListVolumesResponse.Entry` (CSI specification, 'ListVolumes').
-#[derive(Debug, PartialEq, Eq, Drop)]
+#[derive(Debug, Drop)]
 pub struct Entry {
     /// `volume`, field 1.
     pub volume: Option<VolumeInfo>,
@@ -29,7 +29,7 @@ pub struct Entry {
 
 /// `ValidateVolumeCapabilitiesResponse.Confirmed` (CSI specification,
 /// 'ValidateVolumeCapabilities').
-#[derive(Debug, PartialEq, Eq, Drop)]
+#[derive(Debug, Drop)]
 pub struct Confirmed {
     /// `volume_context`, field 1.
     pub context: Map,

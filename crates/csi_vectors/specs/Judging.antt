@@ -2,9 +2,9 @@
 use Rattle.std.specs.Prelude.{ℕ, ◌≡◌, ◌⊎◌, List, [], ◌++◌}
 use Rattle.csi_config.specs.declared.config.Config.{Config}
 use Rattle.csi_keeper.specs.State.{first_state}
-use Rattle.frames_core.specs.declared.fault.FrameFault.{FrameFault}
-use Rattle.frames_core.specs.Envelope.{CallBytes}
-use Rattle.frames_core.specs.Stream.{Stream, Clean}
+use Rattle.envelope.specs.declared.fault.FrameFault.{FrameFault}
+use Rattle.envelope.specs.Envelope.{CallBytes}
+use Rattle.envelope.specs.Stream.{Stream, Clean}
 use Rattle.csi_server.specs.declared.end.RunEnd.{RunEnd}
 use Rattle.csi_server.specs.declared.end.RunEnd.TheVariants.{Done, Malformed, ReadFailed, TurnsSpent, WriteFailed, NoMemory}
 use Rattle.csi_server.specs.Machine.{Event, calls_of, replies}

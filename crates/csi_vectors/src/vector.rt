@@ -19,7 +19,7 @@ pub struct Vector<'a> {
 }
 
 /// Why a line is no vector.
-#[derive(Clone, Copy, Debug, PartialEq, Eq)]
+#[derive(Clone, Copy, Debug)]
 pub enum LineFault {
     /// It is not a name, the input and the output, with one space between.
     NotVector,

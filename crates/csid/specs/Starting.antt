@@ -1,9 +1,9 @@
 -- What the first bytes of a connection begin.
 use Rattle.std.specs.Prelude.{◌≡◌, ◌≢◌, ◌⊎◌, ◌≤◌, List, [], length, take, ℕ}
-use Rattle.frames_core.specs.declared.fault.FrameWhy.{FrameWhy}
-use Rattle.frames_core.specs.declared.fault.FrameWhy.TheVariants.{EndOfInput}
-use Rattle.frames_core.specs.Envelope.{CallBytes, IsCall, frame}
-use Rattle.frames_core.specs.Stream.{FaultAt}
+use Rattle.envelope.specs.declared.fault.FrameWhy.{FrameWhy}
+use Rattle.envelope.specs.declared.fault.FrameWhy.TheVariants.{EndOfInput}
+use Rattle.envelope.specs.Envelope.{CallBytes, IsCall, frame}
+use Rattle.envelope.specs.Stream.{FaultAt}
 
 -- a whole frame stands first
 abbrev pub BeginsCall : List ℕ → Type 0

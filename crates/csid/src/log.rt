@@ -267,6 +267,20 @@ fn read_log<P: Peer + Drop, S: Alter + Drop>(
     }
 }
 
+// The same over files in memory: there a row that comes in takes as many steps as its tree is deep, where the store of rows in memory would move all
+// rows behind it.
+fn read_over_memory<P: Peer + Drop>(
+    rt: &HostRuntime,
+    config: &Config,
+    path: &str,
+    log: P,
+) -> Result<Through<MemKeeper, RemoteLog<P>>, Failure>
+    ensures { IfErr result (λ failure. IsOrNoMemory 4 failure) }
+{
+    let conn = open(rt.alloc(), path, files_of(rt.alloc(), &[], &[])?)?;
+    read_log(rt, config, path, log, conn)
+}
+
 // A connection to a log. It gives up what takes too long.
 fn connect(rt: &HostRuntime, path: &str) -> io::Result<UnixStream> {
     let stream = UnixStream::connect(rt, path)?;
@@ -293,9 +307,6 @@ fn reach(rt: &HostRuntime, path: &str, is_asked: Rc<Cell<bool>>) -> io::Result<(
 
 /// Reads and judges all that a log has, and says what that is.
 ///
-/// Its rows stand in files in memory for that: there a row that comes in takes as many steps as its tree is deep, where the store of rows in memory
-/// would move all rows behind it.
-///
 /// # Errors
 ///
 /// Where the log cannot be had, its rows are refused, or memory is.
@@ -309,8 +320,7 @@ pub(crate) fn open_log(rt: &HostRuntime, config: &Config, path: &str) -> Result<
         Ok(reached) => reached,
         Err(error) => return Err(of_log(rt.alloc(), path, &error)),
     };
-    let conn = open(rt.alloc(), path, files_of(rt.alloc(), &[], &[])?)?;
-    let keeper = read_log(rt, config, path, line, conn)?;
+    let keeper = read_over_memory(rt, config, path, line)?;
     Ok(OpenLog {
         keeper,
         stream,

@@ -2,17 +2,17 @@
 use Rattle.std.proofs.Common.{◌-◌, ◌++◌, ◌≡◌, ℕ, ◌+◌, ◌<◌, ◌^◌, List, [], length, take, Option, Some, None, refl, sym, ap, subst, arith, length-append, inl, inr, ◌⊎◌}
 use Rattle.std.specs.Prelude.{IsSome, is_some, true, false}
 use Rattle.std.proofs.lemmas.List.{length-take}
-use Rattle.frames_core.specs.declared.kind.Kind.{Kind}
-use Rattle.frames_core.specs.declared.kind.Part.{Part}
-use Rattle.frames_core.specs.declared.head.Flaw.{Flaw}
+use Rattle.envelope.specs.declared.kind.Kind.{Kind}
+use Rattle.envelope.specs.declared.kind.Part.{Part}
+use Rattle.envelope.specs.declared.head.Flaw.{Flaw}
 use Rattle.frames_core.specs.declared.prefix.Prefix.{Prefix}
 use Rattle.frames_core.specs.Framer.{CutterState}
-use Rattle.frames_core.specs.Grammar.{BreaksFirst, FaultAt, IsUnbroken, IsUnfinished, BeginsFrame, IsFrame}
-use Rattle.frames_core.specs.Head.{IsShort, IsWhole}
+use Rattle.envelope.specs.Grammar.{BreaksFirst, FaultAt, IsUnbroken, IsUnfinished, BeginsFrame, IsFrame}
+use Rattle.envelope.specs.Head.{IsShort, IsWhole}
 use Rattle.frames_core.specs.Prefix.{TakesPrefix, Stands}
 use Rattle.frames_core.specs.Holding.{Holds, IsBreakIn}
-use Rattle.frames_core.proofs.Breaking.{BreaksFirst-longer, nil_unbroken}
-use Rattle.frames_core.proofs.Frames.{IsBytes, fault_of_break, fault_no_frame, frame_begins, is_unfinished, nil_short, whole_frame}
+use Rattle.envelope.specs.facts.Breaking.{BreaksFirst-longer, nil_unbroken}
+use Rattle.envelope.specs.facts.Frames.{IsBytes, fault_of_break, fault_no_frame, frame_begins, is_unfinished, nil_short, whole_frame}
 
 pub empty_holds : {F : Type 0} (kind : Kind) (part : F → Part) (at : F → ℕ) (past : ℕ) → past < 2 ^ 63 → Holds kind part at past [] None
 empty_holds kind part at past few = record { few = omega arith; faults = (nil_unbroken kind, inl (nil_short kind)) }

@@ -1,9 +1,2 @@
-mod Breaking
-mod Frames
 mod Framing
-mod Looking
-mod Cancelling
-mod Reading
-mod Existing
-mod Longer
-mod Printable
+mod Taking

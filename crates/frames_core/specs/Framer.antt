@@ -1,15 +1,11 @@
 -- What a framer has taken, as its contracts see it: a framer of calls, and one of replies.
 use Rattle.std.specs.Prelude.{ℕ, ◌+◌, List, [], length, Option, Some, None, IsSome, IsNone, ◌≢◌, ◌⊎◌}
-use Rattle.frames_core.specs.declared.fault.FrameFault.{FrameFault}
-use Rattle.frames_core.specs.declared.fault.FrameWhy.TheVariants.{EndOfInput as CallMissing}
-use Rattle.frames_core.specs.declared.reply_fault.ReplyFault.{ReplyFault}
-use Rattle.frames_core.specs.declared.reply_fault.ReplyWhy.TheVariants.{EndOfInput as ReplyMissing}
-use Rattle.frames_core.specs.declared.kind.Kind.{Kind}
-use Rattle.frames_core.specs.declared.kind.Kind.TheVariants.{Calls, Replies}
-use Rattle.frames_core.specs.declared.kind.Part.{Part}
-use Rattle.frames_core.specs.Grammar as grammar
-use Rattle.frames_core.specs.Stream.{part_of}
-use Rattle.frames_core.specs.Replies.{reply_part_of}
+use Rattle.envelope.specs.declared.fault.FrameFault.{FrameFault}
+use Rattle.envelope.specs.declared.reply_fault.ReplyFault.{ReplyFault}
+use Rattle.envelope.specs.declared.kind.Kind.{Kind}
+use Rattle.envelope.specs.declared.kind.Kind.TheVariants.{Calls, Replies}
+use Rattle.envelope.specs.Grammar as grammar
+use Rattle.envelope.specs.Faults.{part, place, call_cut_at, reply_part, reply_place, reply_cut_at}
 use Rattle.frames_core.specs.Holding.{IsFaultIn, IsBreakIn}
 
 -- how many bytes the frames that were given up have, the bytes since then, and the fault that is known
@@ -44,16 +40,6 @@ start = begun
 abbrev pub IsFrame : List ℕ → Type 0
 IsFrame bytes = grammar.IsFrame Calls bytes
 
-abbrev pub part : FrameFault → Part
-part f = part_of f.why
-
-abbrev pub place : FrameFault → ℕ
-place f = f.at
-
--- the fault of an input that ends there inside a frame
-abbrev pub call_cut_at : ℕ → FrameFault
-call_cut_at at = record { why = CallMissing; at = at }
-
 -- the fault, with its place counted from the first byte of the stream
 abbrev pub IsFaultOf : ℕ → List ℕ → FrameFault → Type 0
 IsFaultOf past held f = IsFaultIn Calls past held (part f) (place f)
@@ -81,15 +67,6 @@ reply_start = begun
 
 abbrev pub IsReplyFrame : List ℕ → Type 0
 IsReplyFrame bytes = grammar.IsFrame Replies bytes
-
-abbrev pub reply_part : ReplyFault → Part
-reply_part f = reply_part_of f.why
-
-abbrev pub reply_place : ReplyFault → ℕ
-reply_place f = f.at
-
-abbrev pub reply_cut_at : ℕ → ReplyFault
-reply_cut_at at = record { why = ReplyMissing; at = at }
 
 abbrev pub IsReplyFaultOf : ℕ → List ℕ → ReplyFault → Type 0
 IsReplyFaultOf past held f = IsFaultIn Replies past held (reply_part f) (reply_place f)

@@ -1,10 +1,10 @@
 -- What holds of a framer of either kind: the bytes of the frames that were given up, the bytes since then, and the
 -- fault, whose part of a frame and whose place two functions give.
 use Rattle.std.specs.Prelude.{ℕ, ◌+◌, ◌-◌, ◌≤◌, ◌<◌, ◌^◌, List, ◌++◌, length, Option, MatchOption, ◌⊎◌}
-use Rattle.frames_core.specs.declared.kind.Kind.{Kind}
-use Rattle.frames_core.specs.declared.kind.Part.{Part}
-use Rattle.frames_core.specs.Grammar.{IsUnbroken, FaultAt, BreaksFirst}
-use Rattle.frames_core.specs.Head.{IsShort, IsWhole}
+use Rattle.envelope.specs.declared.kind.Kind.{Kind}
+use Rattle.envelope.specs.declared.kind.Part.{Part}
+use Rattle.envelope.specs.Grammar.{IsUnbroken, FaultAt, BreaksFirst}
+use Rattle.envelope.specs.Head.{IsShort, IsWhole}
 
 -- the fault is one of the bytes held, with its place counted from the first byte of the stream
 abbrev pub IsFaultIn : Kind → ℕ → List ℕ → Part → ℕ → Type 0

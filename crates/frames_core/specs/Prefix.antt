@@ -1,10 +1,10 @@
 -- What a framer takes of a piece.
 use Rattle.std.specs.Prelude.{◌≡◌, ℕ, ◌+◌, ◌≤◌, ◌<◌, List, ◌++◌, length, take, Option, None, Some, IsSome, ◌⊎◌}
-use Rattle.frames_core.specs.declared.kind.Kind.{Kind}
+use Rattle.envelope.specs.declared.kind.Kind.{Kind}
 use Rattle.frames_core.specs.declared.prefix.Prefix.{Prefix}
-use Rattle.frames_core.specs.declared.head.Flaw.{Flaw}
-use Rattle.frames_core.specs.Grammar.{lead, text_length, body_length, IsUnbroken, IsUnfinished, BreaksFirst}
-use Rattle.frames_core.specs.Head.{IsShort, IsWhole}
+use Rattle.envelope.specs.declared.head.Flaw.{Flaw}
+use Rattle.envelope.specs.Grammar.{lead, text_length, body_length, IsUnbroken, IsUnfinished, BreaksFirst}
+use Rattle.envelope.specs.Head.{IsShort, IsWhole}
 
 -- what the bytes are with those that were taken
 abbrev pub Stands : Kind → List ℕ → Option Flaw → Type 0

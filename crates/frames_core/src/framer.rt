@@ -1,18 +1,13 @@
 ghost use Rattle.std.specs.Prelude.{◌≡◌, ℕ, ◌+◌, ◌^◌, ◌<◌, ◌≤◌, [], ◌++◌, length, take, slice_index, min, vec_len, vec_capacity, None, Some, IfOk, MatchOption, IsTrue, IsNone, IfSome, is_some, false};
-ghost use Rattle.frames_core.specs.Envelope.{IsCall, bytes_of, frame, IsReply, reply_bytes_of, reply};
-ghost use Rattle.frames_core.specs.Grammar.{BeginsFrame, IsFrame, IsUnbroken, IsUnfinished};
-ghost use Rattle.frames_core.specs.declared.kind.Kind.TheVariants.{Calls, Replies};
-ghost use Rattle.frames_core.specs.Head.{IsShort, IsWhole};
+ghost use Rattle.envelope.specs.Envelope.{IsCall, bytes_of, frame, IsReply, reply_bytes_of, reply};
+ghost use Rattle.envelope.specs.Grammar.{BeginsFrame, IsFrame, IsUnbroken, IsUnfinished};
+ghost use Rattle.envelope.specs.declared.kind.Kind.TheVariants.{Calls, Replies};
+ghost use Rattle.envelope.specs.Head.{IsShort, IsWhole};
 ghost use Rattle.frames_core.specs.Holding.{IsBreakIn, IsFaultIn};
 ghost use Rattle.frames_core.specs.Framer.{CutterState, begun, IsSettledAs, IsCutShortAs, cut_with};
 
-use crate::call::Call;
-use crate::fault::{Fault, FrameFault};
-use crate::head::{call_of, is_whole, reply_of};
-use crate::kind::Part;
 use crate::prefix::{each_fits, take_prefix};
-use crate::reply::Reply;
-use crate::reply_fault::ReplyFault;
+use envelope::{Call, Fault, FrameFault, Part, Reply, ReplyFault, call_of, is_whole, reply_of};
 use std::alloc::{AllocError, Global};
 use std::marker::Model;
 
@@ -28,16 +23,16 @@ pub struct Cutter<F: Fault> {
     known: Option<F>,
 }
 
-/// Cuts a stream into its calls: its buffer has [`MAX_FRAME_BYTES`](crate::MAX_FRAME_BYTES) bytes.
+/// Cuts a stream into its calls: its buffer has [`MAX_FRAME_BYTES`](envelope::MAX_FRAME_BYTES) bytes.
 pub type Framer = Cutter<FrameFault>;
 
-/// Cuts a stream into its replies: its buffer has [`MAX_REPLY_BYTES`](crate::MAX_REPLY_BYTES) bytes.
+/// Cuts a stream into its replies: its buffer has [`MAX_REPLY_BYTES`](envelope::MAX_REPLY_BYTES) bytes.
 pub type ReplyFramer = Cutter<ReplyFault>;
 
 impl<F: Fault> Model for Cutter<F> {
     ghost use Rattle.std.specs.Prelude.{◌≤◌, vec_capacity};
     ghost use Rattle.frames_core.specs.Framer.{CutterState};
-    ghost use Rattle.frames_core.specs.Head.{most_frame};
+    ghost use Rattle.envelope.specs.Head.{most_frame};
     ghost use Rattle.frames_core.specs.Holding.{Holds};
 
     ghost Value = { CutterState F };

@@ -1,10 +1,9 @@
 ghost use Rattle.std.specs.Prelude.{◌≡◌, ℕ, ◌+◌, ◌<◌, ◌≤◌, ◌++◌, length, slice_index, min, vec_len, vec_capacity};
 ghost use Rattle.frames_core.specs.Prefix.{TakesPrefix, Misses};
-ghost use Rattle.frames_core.specs.Grammar.{IsUnbroken};
-ghost use Rattle.frames_core.specs.Head.{IsShort, most_frame};
+ghost use Rattle.envelope.specs.Grammar.{IsUnbroken};
+ghost use Rattle.envelope.specs.Head.{IsShort, most_frame};
 
-use crate::head::{Flaw, Head, Look, look_at};
-use crate::kind::Kind;
+use envelope::{Flaw, Head, Kind, Look, look_at};
 
 /// What was taken of a piece.
 #[derive(Clone, Copy)]
@@ -82,7 +81,7 @@ fn append(buffer: &mut Vec<u8>, bytes: &[u8])
 }
 
 // How many bytes of the body are missing: 0 until its length is known.
-#[tactic(auto, unfolding(crate::specs::Head::IsShort))]
+#[tactic(auto, unfolding(envelope::specs::Head::IsShort))]
 #[inline(always)]
 fn missing(kind: Kind, bytes: &[u8]) -> usize
     requires { IsShort kind bytes.now }

@@ -3,7 +3,7 @@
 use thiserror::Error;
 
 /// What a field holds, by its wire type (Protocol Buffers encoding guide, "Message Structure").
-#[derive(Clone, Copy, Debug, PartialEq, Eq)]
+#[derive(Clone, Copy, Debug)]
 pub enum Value<'a> {
     /// Wire type 0 (`VARINT`): a number of up to 64 bits.
     Varint(u64),
@@ -16,7 +16,7 @@ pub enum Value<'a> {
 }
 
 /// One field of a message (Protocol Buffers encoding guide, "Message Structure").
-#[derive(Clone, Copy, Debug, PartialEq, Eq)]
+#[derive(Clone, Copy, Debug)]
 pub struct Field<'a> {
     /// The field's number, from 1 to 536,870,911.
     pub number: u32,
@@ -26,7 +26,7 @@ pub struct Field<'a> {
 
 /// Why no field stands at an offset. One reason holds: a tag's goes before its payload's, and the tag's
 /// number before its wire type.
-#[derive(Clone, Copy, Debug, PartialEq, Eq, Error)]
+#[derive(Clone, Copy, Debug, Error)]
 pub enum WireWhy {
     /// A malformed varint, as tag, value or length: ten bytes stand there, and no first bytes of
     /// them are one ("Base 128 Varints"). A tenth byte above 1 is malformed too.
@@ -44,7 +44,7 @@ pub enum WireWhy {
 }
 
 /// An offset of a message at which a field should stand, and none does.
-#[derive(Clone, Copy, Debug, PartialEq, Eq, Error)]
+#[derive(Clone, Copy, Debug, Error)]
 #[error("{why} at byte {at}")]
 pub struct WireFault {
     /// What is wrong.

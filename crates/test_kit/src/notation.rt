@@ -14,7 +14,7 @@ use std::str;
 const DEEPEST: u8 = 12;
 
 /// Why a text is no bytes.
-#[derive(Clone, Copy, Debug, PartialEq, Eq)]
+#[derive(Clone, Copy, Debug)]
 pub enum NotationFault {
     /// The text is not of this notation.
     NotBytes,

@@ -11,7 +11,7 @@ const INPUT_OUTPUT: u8 = 5;
 const HEAD: &str = "@ ";
 
 /// What a row is answered.
-#[derive(Debug, Drop)]
+#[derive(Drop)]
 pub enum Answer {
     /// Nothing: the row is not written either.
     Nothing,

@@ -8,12 +8,11 @@ ghost use Rattle.csi_keeper.specs.State.{up_to_u64};
 ghost use Rattle.csi_machine.specs.calls.Capacity.{is_served, served, greatest, tell_capacity, capacity_of, capacity};
 
 use crate::choice::{Room, read_rooms};
-use crate::plan::{Plan, respond};
-use crate::planned::{Planned, Planning};
-use crate::topology::serves;
+use crate::planned::Planned;
 use csi_config::Config;
 use csi_config::laws::{pool_bytes_whole, sizes_whole};
 use csi_keeper::Keeper;
+use csi_plans::{Answer, Plan, Planning, respond, serves};
 use csi_types::{Capability, GetCapacity, Map, Response, is_supported};
 use std::alloc::{AllocError, Global};
 
@@ -56,13 +55,13 @@ fn tell_capacity(alloc: Global, available: u64, maximum: u64) -> Result<Plan, Al
     requires maximum { maximum ≤ 2 ^ 62 }
     ensures { IfOk result (λ p. p ≡ tell_capacity available maximum) }
 {
-    respond(
+    Ok(respond(Answer::of(
         alloc,
         Response::Capacity {
             available: available as i64,
             maximum: Some(maximum as i64),
         },
-    )
+    )?))
 }
 
 #[tactic(auto, using(crate::proofs::CapacityLemmas::sum_small, crate::proofs::CapacityLemmas::served_told))]

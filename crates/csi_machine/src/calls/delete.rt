@@ -4,12 +4,11 @@ ghost use Rattle.std.specs.Prelude.{◌≡◌, IfOk, IfSome};
 ghost use Rattle.csi_keeper.specs.State.{IsBounded};
 ghost use Rattle.csi_machine.specs.calls.Delete.{delete_volume, delete};
 
-use crate::finding::caps_of;
-use crate::plan::{Plan, make, refuse, respond};
-use crate::planned::{Planned, Planning};
+use crate::planned::Planned;
 use csi_config::Config;
 use csi_keeper::{Attachment, Change, Keeper};
-use csi_types::{DeleteVolume, Reason, Response};
+use csi_plans::{Answer, Plan, Planning, caps_of, make, refuse, respond};
+use csi_types::{DeleteVolume, Reason};
 use std::alloc::{AllocError, Global};
 
 // The plan for a volume that stands.
@@ -20,7 +19,7 @@ fn delete_volume(alloc: Global, number: u64, attachments: &[Attachment]) -> Resu
     if !attachments.is_empty() {
         return Ok(refuse(Reason::VolumeInUse));
     }
-    make(alloc, Response::Delete, Change::RemoveVolume(number))
+    make(alloc, Answer::deleted(), Change::RemoveVolume(number))
 }
 
 /// A volume that is attached is refused, one that does not stand is done with.
@@ -29,7 +28,7 @@ impl Planned for DeleteVolume {
 
     fn plan<K: Keeper>(&self, alloc: Global, _config: &Config, keeper: &mut K) -> Planning {
         let Some((number, _)) = caps_of(alloc, keeper, &self.volume_id)? else {
-            return Ok(respond(alloc, Response::Delete)?);
+            return Ok(respond(Answer::deleted()));
         };
         let attachments = keeper.attachments(alloc, number)?;
         Ok(delete_volume(alloc, number, attachments.as_slice())?)

@@ -3,16 +3,14 @@
 ghost use Rattle.std.specs.Prelude.{◌≡◌, Some, None, IfOk, IfSome, find, not};
 ghost use Rattle.std.specs.Option.{option_copied};
 ghost use Rattle.csi_keeper.specs.State.{IsBounded};
-ghost use Rattle.csi_machine.specs.Finding.{Finds};
+ghost use Rattle.csi_plans.specs.Finding.{Finds};
 ghost use Rattle.csi_machine.specs.calls.Publish.{is_at, publish_again, has_conflict, attach, publish, publish_node, publish_at, publish_key, asked_key};
 ghost use Rattle.csi_keeper.specs.Lookup.{node_of};
 
-use crate::finding::caps_of;
-use crate::plan::{Plan, make_told, refuse, tell};
-use crate::planned::{Planned, Planning};
-use crate::response::Answer;
+use crate::planned::Planned;
 use csi_config::{Config, Node};
 use csi_keeper::{Attachment, CapKey, Change, Keeper, cap_key, coexist, has_key};
+use csi_plans::{Answer, Plan, Planning, caps_of, make, refuse, respond};
 use csi_types::{Capability, Publish, Reason, Text, copy_text};
 use std::alloc::{AllocError, Global};
 
@@ -21,7 +19,7 @@ fn publish_again(key: &CapKey, readonly: bool, attachment: &Attachment) -> Plan
     ensures value { result ≡ publish_again key.now readonly attachment.now }
 {
     if attachment.cap == *key && attachment.readonly == readonly {
-        return tell(Answer::published(readonly));
+        return respond(Answer::published(readonly));
     }
     refuse(Reason::PublishedOtherwise)
 }
@@ -56,7 +54,7 @@ fn attach(alloc: Global, target: &Target, mine: Attachment) -> Result<Plan, Allo
         return Ok(refuse(Reason::NodeFull));
     }
     let answer = Answer::published(mine.readonly);
-    make_told(alloc, answer, Change::Attach(target.number, mine))
+    make(alloc, answer, Change::Attach(target.number, mine))
 }
 
 /// The attachment at a node.

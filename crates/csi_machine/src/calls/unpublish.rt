@@ -5,12 +5,11 @@ ghost use Rattle.csi_keeper.specs.State.{IsBounded};
 ghost use Rattle.csi_machine.specs.calls.Unpublish.{detach_all, detach, unpublish};
 
 use crate::calls::publish::attachment_at;
-use crate::ids::number_of_id;
-use crate::plan::{Plan, make, respond};
-use crate::planned::{Planned, Planning};
+use crate::planned::Planned;
 use csi_config::Config;
 use csi_keeper::{Attachment, Change, Keeper};
-use csi_types::{Response, Text, Unpublish, copy_text};
+use csi_plans::{Answer, Plan, Planning, make, number_of_id, respond};
+use csi_types::{Text, Unpublish, copy_text};
 use std::alloc::{AllocError, Global};
 
 fn detach_all(alloc: Global, number: u64, attachments: &[Attachment]) -> Result<Plan, AllocError>
@@ -18,9 +17,9 @@ fn detach_all(alloc: Global, number: u64, attachments: &[Attachment]) -> Result<
     ensures value { IfOk result (λ p. p ≡ detach_all number attachments.now) }
 {
     if attachments.is_empty() {
-        return respond(alloc, Response::Unpublish);
+        return Ok(respond(Answer::unpublished()));
     }
-    make(alloc, Response::Unpublish, Change::DetachAll(number))
+    make(alloc, Answer::unpublished(), Change::DetachAll(number))
 }
 
 // The plan for the attachments of one volume: an empty node id is each node.
@@ -37,10 +36,10 @@ fn detach(
         return detach_all(alloc, number, attachments);
     }
     if attachment_at(attachments, node).is_none() {
-        return respond(alloc, Response::Unpublish);
+        return Ok(respond(Answer::unpublished()));
     }
     let node = copy_text(alloc, node.as_str())?;
-    make(alloc, Response::Unpublish, Change::Detach(number, node))
+    make(alloc, Answer::unpublished(), Change::Detach(number, node))
 }
 
 /// A volume that is not published there, or does not stand, is answered as one that was.
@@ -49,7 +48,7 @@ impl Planned for Unpublish {
 
     fn plan<K: Keeper>(&self, alloc: Global, _config: &Config, keeper: &mut K) -> Planning {
         let Some(number) = number_of_id(self.volume_id.as_str()) else {
-            return Ok(respond(alloc, Response::Unpublish)?);
+            return Ok(respond(Answer::unpublished()));
         };
         let attachments = keeper.attachments(alloc, number)?;
         Ok(detach(alloc, number, &self.node_id, attachments.as_slice())?)

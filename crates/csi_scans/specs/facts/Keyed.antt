@@ -14,7 +14,7 @@ use Rattle.sqlite_rules.proofs.ProbeLemmas.{mapped_has}
 use Rattle.sqlite_trees.proofs.ListLemmas.{all-permutation}
 use Rattle.sqlite_value.proofs.OrderLemmas.{value_cmp_total}
 use Rattle.csi_schema.specs.Rows.{seen_attachment}
-use Rattle.csi_transactions.specs.Rows.{AreKeyed}
+use Rattle.csi_statements.specs.Rows.{AreKeyed}
 use Rattle.csi_scans.specs.Folds.{IsRising}
 use Rattle.csi_scans.specs.Scans.{IsInOrder, keyed_attachment}
 

@@ -1,8 +1,9 @@
 use Rattle.std.proofs.Common.{rules, ◌≡◌, ◌∙◌, inl, inr, sym, ap, ap₂, subst, Err, IfErr}
 use Rattle.sqlite.specs.Held.{state}
 use Rattle.csi_schema.specs.Tables.{schema as our_schema}
+use Rattle.csi_judging.specs.Seen.{sums_of}
 use Rattle.csi_adoption.specs.Adopting.{IsNotRefused}
-use Rattle.csi_adoption.specs.Judging.{sums_of, total_in}
+use Rattle.csi_adoption.specs.Judging.{total_in}
 use Rattle.csi_adoption.proofs.FaultLemmas.{is_err, must_fail}
 use Rattle.csi_adoption.proofs.ChainLemmas.{ended}
 use Rattle.csi_adoption.proofs.adopting.judge.Goals as goal

@@ -1,6 +1,6 @@
 use Rattle.std.proofs.Common.{sym, ◌∙◌, inr}
 use Rattle.std.specs.Io.KnownBytes.{IsAtEnd}
-use Rattle.frames_core.specs.Envelope.{reply_bytes_of}
+use Rattle.envelope.specs.Envelope.{reply_bytes_of}
 use Rattle.csi_client.proofs.Gathering.{nothing_came, reply_came}
 use Rattle.csi_client.proofs.receiving.receive.Goals as goal
 

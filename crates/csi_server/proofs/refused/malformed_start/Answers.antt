@@ -1,6 +1,6 @@
 use Rattle.std.proofs.Common.{◌≡◌, ℕ, List, All, refl, rules, sym, subst}
 use Rattle.std.specs.Prelude.{codes}
-use Rattle.frames_core.specs.Envelope.{IsTextByte}
+use Rattle.envelope.specs.Envelope.{IsTextByte}
 use Rattle.csi_server.proofs.Printable.{all_printable}
 use Rattle.csi_server.proofs.refused.malformed_start.Goals as goal
 

@@ -1,6 +1,6 @@
 use Rattle.std.proofs.Common.{rules, ◌≡◌, ℕ, List, All, sym, subst}
 use Rattle.csi_types.specs.Reasons.{text_of}
-use Rattle.frames_core.specs.Envelope.{IsTextByte}
+use Rattle.envelope.specs.Envelope.{IsTextByte}
 use Rattle.csi_server.proofs.Reasons.{reason_printable}
 use Rattle.csi_server.proofs.refused.reason_frame.Goals as goal
 

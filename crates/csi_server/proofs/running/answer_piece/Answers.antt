@@ -1,6 +1,6 @@
 use Rattle.std.proofs.Common.{ℕ, ◌++◌, ◌∙◌, List, [], take, arith, subst, sym, ap}
 use Rattle.std.specs.Result.{IsOk, is_ok}
-use Rattle.frames_core.specs.Envelope.{bytes_of}
+use Rattle.envelope.specs.Envelope.{bytes_of}
 use Rattle.frames_core.specs.Framer.{IsFrame}
 use Rattle.csi_server.specs.Serving.{Answered, CutOff, HasFault}
 use Rattle.csi_server.specs.Live.{Live, IsReady}

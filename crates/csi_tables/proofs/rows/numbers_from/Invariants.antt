@@ -1,5 +1,5 @@
 use Rattle.std.proofs.Common.{◌≡◌, ℕ, List, [], ◌∷◌, map, take}
-use Rattle.csi_transactions.specs.Rows.{number_value}
+use Rattle.csi_statements.specs.Rows.{number_value}
 use Rattle.csi_tables.proofs.rows.numbers_from.Given as goal
 
 abbrev pub invariant-loop-row : goal.invariant-loop-row

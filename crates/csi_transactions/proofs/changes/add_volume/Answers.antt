@@ -1,5 +1,5 @@
 use Rattle.std.proofs.Common.{◌+◌, inl, Ok, Err, rules}
-use Rattle.csi_transactions.specs.Rows.{volume_row}
+use Rattle.csi_statements.specs.Rows.{volume_row}
 use Rattle.csi_transactions.proofs.CommitLemmas.{done, runs_both, undone}
 use Rattle.csi_transactions.proofs.changes.add_volume.Goals as goal
 

@@ -1,8 +1,8 @@
 use Rattle.std.proofs.Common.{◌≡◌, ℕ, ◌-◌, ◌≤◌, List, ◌++◌, length, take, drop, refl, sym, ap, ◌∙◌, arith}
 use Rattle.std.specs.Prelude.{min}
 use Rattle.std.proofs.lemmas.List.{take_at, length-append}
-use Rattle.frames_core.specs.Head.{most_head}
-use Rattle.frames_core.proofs.Looking.{takes_broken, takes_whole, takes_short, missing_room, broken_later, whole_later}
+use Rattle.envelope.specs.Head.{most_head}
+use Rattle.frames_core.proofs.Taking.{takes_broken, takes_whole, takes_short, missing_room, broken_later, whole_later}
 use Rattle.frames_core.proofs.prefix.take_prefix.Goals as goal
 
 -- what was held stays in prefix

@@ -1,6 +1,6 @@
 use Rattle.std.proofs.Common.{ℕ, List, ◌++◌, ◌∙◌, ap}
 use Rattle.csi_types.specs.declared.code.Code.TheVariants as code
-use Rattle.frames_core.specs.Envelope.{reply_bytes_of}
+use Rattle.envelope.specs.Envelope.{reply_bytes_of}
 use Rattle.csi_client.specs.Replies.{first_line}
 use Rattle.csi_client.proofs.showing.Printer.make_lines.Goals as goal
 

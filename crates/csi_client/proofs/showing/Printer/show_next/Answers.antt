@@ -1,5 +1,5 @@
 use Rattle.std.proofs.Common.{sym, ◌∙◌}
-use Rattle.frames_core.specs.Envelope.{reply_bytes_of}
+use Rattle.envelope.specs.Envelope.{reply_bytes_of}
 use Rattle.frames_core.specs.Framer.{IsReplyFrame}
 use Rattle.csi_client.proofs.Feeding.{Fed}
 use Rattle.csi_client.proofs.Printing.{fed_fault, fed_halted, fed_shown, advanced}

@@ -4,8 +4,8 @@ use Rattle.csi_types.specs.declared.responses.Response.TheVariants as response
 use Rattle.csi_codec.specs.Methods.{response_bytes}
 use Rattle.csi_keeper.specs.declared.change.StoreFault.{StoreFault}
 use Rattle.csi_machine.specs.Places.{entry_at, last_row, row_token}
-use Rattle.csi_machine.specs.Size.{whole}
-use Rattle.csi_machine.specs.Verdicts.{IsTold, within}
+use Rattle.csi_plans.specs.Size.{whole}
+use Rattle.csi_plans.specs.Verdicts.{IsTold, within}
 use Rattle.csi_machine.proofs.PageLemmas.{page_finds, told_as}
 use Rattle.csi_machine.proofs.calls.listing.append_after.Goals as goal
 

@@ -1,5 +1,5 @@
 use Rattle.std.proofs.Common.{sym, subst}
-use Rattle.frames_core.specs.Envelope.{IsReply}
+use Rattle.envelope.specs.Envelope.{IsReply}
 use Rattle.csi_server.specs.declared.refused.Refusal.{Refusal}
 use Rattle.csi_server.specs.Service.{refused_by}
 use Rattle.csi_server.proofs.refused.Refusal.frame.Goals as goal

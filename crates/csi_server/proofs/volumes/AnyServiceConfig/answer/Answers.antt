@@ -1,5 +1,5 @@
 use Rattle.std.proofs.Common.{◌∙◌, sym}
-use Rattle.frames_core.specs.Envelope.{bytes_of}
+use Rattle.envelope.specs.Envelope.{bytes_of}
 use Rattle.csi_types.specs.Methods.{method_at}
 use Rattle.csi_machine.specs.Step.{step}
 use Rattle.csi_server.proofs.Requesting.{call_by, read_by}

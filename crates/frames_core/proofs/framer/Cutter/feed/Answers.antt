@@ -1,12 +1,12 @@
 use Rattle.std.proofs.Common.{◌≡◌, ◌≤◌, length, vec_capacity, sym, ap, subst, arith, inl}
-use Rattle.frames_core.specs.declared.kind.Kind.{Kind}
-use Rattle.frames_core.specs.declared.kind.Part.{Part}
-use Rattle.frames_core.specs.Grammar.{BreaksFirst}
-use Rattle.frames_core.specs.Head.{most_frame}
+use Rattle.envelope.specs.declared.kind.Kind.{Kind}
+use Rattle.envelope.specs.declared.kind.Part.{Part}
+use Rattle.envelope.specs.Grammar.{BreaksFirst}
+use Rattle.envelope.specs.Head.{most_frame}
 use Rattle.frames_core.specs.Prefix.{TakesPrefix}
-use Rattle.frames_core.proofs.Breaking.{Breaks_within}
+use Rattle.envelope.specs.facts.Breaking.{Breaks_within}
 use Rattle.frames_core.proofs.Framing.{broke, holds_broken, known_break, not_settled, settled_whole}
-use Rattle.frames_core.proofs.Frames.{breaks_has}
+use Rattle.envelope.specs.facts.Frames.{breaks_has}
 use Rattle.frames_core.proofs.framer.Cutter.feed.Goals as goal
 
 pub of-requires : goal.of-requires

@@ -1,5 +1,5 @@
 use Rattle.std.proofs.Common.{◌≡◌, ℕ, List, [], None, sym, ap, subst, arith}
-use Rattle.frames_core.specs.Head.{most_frame}
+use Rattle.envelope.specs.Head.{most_frame}
 use Rattle.frames_core.specs.Holding.{Holds}
 use Rattle.frames_core.proofs.Framing.{empty_holds, none_unfinished}
 use Rattle.frames_core.proofs.framer.Cutter.new.Goals as goal

@@ -1,5 +1,5 @@
 use Rattle.std.proofs.Common.{◌≡◌, ◌+◌, ℕ, List, [], length, sym, ap, subst, arith}
-use Rattle.frames_core.specs.Grammar.{IsFrame}
+use Rattle.envelope.specs.Grammar.{IsFrame}
 use Rattle.frames_core.specs.Holding.{Holds}
 use Rattle.frames_core.proofs.Framing.{given_up, none_unfinished}
 use Rattle.frames_core.proofs.framer.Cutter.next_frame.Goals as goal

@@ -1,9 +1,9 @@
 use Rattle.std.proofs.Common.{◌≡◌, List, ℕ, refl, ap, ◌∙◌, sym, subst}
-use Rattle.frames_core.specs.declared.kind.Kind.{Kind}
+use Rattle.envelope.specs.declared.kind.Kind.{Kind}
 use Rattle.frames_core.specs.Framer.{CutterState}
-use Rattle.frames_core.specs.Head.{IsWhole}
+use Rattle.envelope.specs.Head.{IsWhole}
 use Rattle.frames_core.specs.Holding.{Holds}
-use Rattle.frames_core.proofs.Frames.{IsBytes}
+use Rattle.envelope.specs.facts.Frames.{IsBytes}
 use Rattle.frames_core.proofs.Framing.{known_no, known_some, none_begins, whole_of}
 use Rattle.frames_core.proofs.framer.Cutter.whole_frame.Goals as goal
 

@@ -2,14 +2,15 @@ use Rattle.std.proofs.Common.{◌≡◌, ◌∙◌, ℕ, Option, ap, refl, sym}
 use Rattle.csi_keeper.specs.State.{State, attached}
 use Rattle.csi_keeper.specs.declared.volume.Volume.{Volume}
 use Rattle.csi_machine.specs.calls.Delete.{delete_found, delete_volume}
-use Rattle.csi_machine.specs.Finding.{volume_at}
-use Rattle.csi_machine.specs.Ids.{number_of_id}
-use Rattle.csi_machine.proofs.FindingLemmas.{found_so, found_then, keys_so, none_found, read_found}
+use Rattle.csi_plans.specs.Finding.{volume_at}
+use Rattle.csi_plans.specs.Ids.{number_of_id}
+use Rattle.csi_plans.specs.Plan.{respond}
+use Rattle.csi_plans.specs.facts.Finding.{found_so, found_then, keys_so, none_found, read_found}
 use Rattle.csi_machine.proofs.calls.delete.DeleteVolumePlanned.plan.Goals as goal
 
 pub returns-in_default-clause-finds : goal.returns-in_default-clause-finds
 returns-in_default-clause-finds g c =
-    found_so c.in_ok-number.ensures (λ s named. c.in_ok-respond.ensures ∙ ap (delete_found s) (sym (none_found (volume_at s (number_of_id c.args.self.now.volume_id)) (sym named ∙ c.in_default.is))))
+    found_so c.in_ok-number.ensures (λ s named. c.respond.ensures ∙ ap respond c.deleted.ensures ∙ ap (delete_found s) (sym (none_found (volume_at s (number_of_id c.args.self.now.volume_id)) (sym named ∙ c.in_default.is))))
 
 pub returns-clause-finds : goal.returns-clause-finds
 returns-clause-finds g c =

@@ -1,0 +1,13 @@
+pub mod Down
+pub mod Finding
+pub mod Identity
+pub mod Ids
+pub mod Info
+pub mod Modify
+pub mod Plan
+pub mod Response
+pub mod Size
+pub mod Topology
+pub mod Validate
+pub mod Verdicts
+pub mod facts

@@ -1,0 +1,3 @@
+pub mod Capability
+pub mod Finding
+pub mod Ids

@@ -1,0 +1,9 @@
+mod DeleteLemmas
+mod FailLemmas
+mod FilterLemmas
+mod InsertLemmas
+mod ParamsLemmas
+mod ReadLemmas
+mod SelectLemmas
+mod TextLemmas
+mod UpdateLemmas

@@ -1,0 +1,37 @@
+//! The statements over meta.
+
+ghost use Rattle.std.specs.Prelude.{◌≡◌, ◌<◌, ◌^◌};
+ghost use Rattle.csi_schema.specs.Transactions.{RunsOver};
+ghost use Rattle.csi_statements.specs.Failing.{HasNoNext, RefusesFormat, RefusesNext};
+ghost use Rattle.csi_statements.specs.Rows.{Selects, SetsFormat, SetsNext};
+ghost use Rattle.csi_statements.specs.Shown.{IsNext};
+ghost use Rattle.csi_statements.specs.Tables.{schema};
+
+use crate::statements::Changed;
+use crate::values::integer;
+use sqlite::{Alter, Error, Row, Transaction};
+
+/// Sets the next number, which is below 2^63. The format stays.
+pub fn set_next<S: Alter>(tx: &mut Transaction<'_, S>, next: u64) -> Changed
+    requires { next < 2 ^ 63 }
+    ensures same_reference { tx.new.conn.ghost_name ≡ tx.old.conn.ghost_name }
+    ensures runs { RunsOver S.Store tx.old.conn.now tx.new.conn.now schema (SetsNext next) (RefusesNext next) result }
+{
+    tx.execute("UPDATE meta SET next_number = ?1", &[integer(next)])
+}
+
+/// Sets the format to `csi_schema::LATEST_FORMAT`. The next number stays.
+pub fn update_format<S: Alter>(tx: &mut Transaction<'_, S>) -> Changed
+    ensures same_reference { tx.new.conn.ghost_name ≡ tx.old.conn.ghost_name }
+    ensures runs { RunsOver S.Store tx.old.conn.now tx.new.conn.now schema SetsFormat RefusesFormat result }
+{
+    tx.execute("UPDATE meta SET format_no = 2", &[])
+}
+
+/// The next number.
+pub(crate) fn select_next<S: Alter>(tx: &mut Transaction<'_, S>) -> Result<Row, Error>
+    ensures same_reference { tx.new.conn.ghost_name ≡ tx.old.conn.ghost_name }
+    ensures selects { Selects S.Store tx.old.conn.now tx.new.conn.now IsNext HasNoNext result }
+{
+    tx.query_row("SELECT next_number FROM meta", &[])
+}

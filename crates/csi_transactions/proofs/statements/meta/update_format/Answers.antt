@@ -1,9 +1,0 @@
-use Rattle.std.proofs.Common.{[]}
-use Rattle.csi_schema.specs.facts.Failing.{runs_over}
-use Rattle.csi_transactions.specs.Texts.{text, SetFormat}
-use Rattle.csi_transactions.proofs.UpdateLemmas.{sets_latest}
-use Rattle.csi_transactions.proofs.TextLemmas.{alone}
-use Rattle.csi_transactions.proofs.statements.meta.update_format.Goals as goal
-
-pub returns-clause-runs : goal.returns-clause-runs
-returns-clause-runs g c = runs_over (text SetFormat) [] c.execute.result (alone SetFormat) sets_latest c.execute.ensures.runs c.execute.ensures.survives

@@ -1,0 +1,6 @@
+mod Looking
+mod Cancelling
+mod Reading
+mod Existing
+mod Longer
+mod Printable

@@ -1,0 +1,11 @@
+pub mod Envelope
+pub mod Grammar
+pub mod Stream
+pub mod Replies
+pub mod Head
+pub mod Faults
+pub mod Taken
+pub mod TakenReply
+pub mod Texts
+pub mod ReplyStream
+pub mod facts

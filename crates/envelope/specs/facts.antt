@@ -1,0 +1,3 @@
+pub mod Breaking
+pub mod Frames
+pub mod Fronts

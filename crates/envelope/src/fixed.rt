@@ -1,0 +1,123 @@
+ghost use Rattle.std.specs.Prelude.{◌≡◌, ◌≢◌, true, ℕ, ◌+◌, ◌<◌, ◌≤◌, [], ◌∷◌, ◌++◌, List, length, take, decimal, All};
+ghost use Rattle.envelope.specs.Envelope.{reply, is_status, IsReply, IsTextByte};
+ghost use Rattle.envelope.specs.Texts.{fault_words};
+
+use crate::fault::FrameFault;
+use crate::limits::{MAX_REFUSAL_TEXT_BYTES, REPLY_HEAD_BYTES};
+use itoa::Buffer;
+use std::marker::Model;
+
+/// At most N bytes in an array, which contracts see as the list of these bytes.
+#[derive(Drop)]
+pub struct Fixed<const N: usize> {
+    array: [u8; N],
+    len: usize,
+}
+
+impl<const N: usize> Model for Fixed<N> {
+    ghost Value = { List ℕ };
+
+    ghost view = { λ f. take f.len f.array };
+
+    ghost invariant = { λ f. f.len ≤ N };
+}
+
+/// The frame of a refusal, or all of a reply's frame before its body.
+pub type FixedFrame = Fixed<168>;
+
+/// A text of one line.
+pub type FixedText = Fixed<140>;
+
+impl<const N: usize> Fixed<N> {
+    fn new() -> Self
+        ensures { result ≡ [] }
+    {
+        Fixed {
+            array: [0; N],
+            len: 0,
+        }
+    }
+
+    fn push(&mut self, byte: u8)
+        requires { length self.old < N }
+        ensures { self.new ≡ self.old ++ byte ∷ [] }
+    {
+        self.array[self.len] = byte;
+        self.len += 1;
+    }
+
+    fn extend(&mut self, bytes: &[u8])
+        requires { length self.old + length bytes.now ≤ N }
+        ensures { self.new ≡ self.old ++ bytes.now }
+    {
+        for byte in bytes {
+            self.push(*byte);
+        }
+    }
+
+    /// The bytes, lent.
+    pub fn bytes(&self) -> &[u8]
+        ensures value { result.now ≡ self.now }
+        ensures short { length result.now ≤ N }
+    {
+        &self.array[..self.len]
+    }
+}
+
+/// All that stands before the body in the frame of a reply with status 0, for a body of so many bytes: [`REPLY_HEAD_BYTES`].
+#[tactic(auto, unfolding(crate::specs::Envelope::reply))]
+pub fn reply_head(body_len: u32) -> FixedFrame
+    ensures spelled { (body : List ℕ) → length body ≡ body_len → result ++ body ≡ reply (record { status = 0; text = []; body = body }) }
+    ensures long { length result ≡ REPLY_HEAD_BYTES }
+{
+    let mut frame = FixedFrame::new();
+    frame.extend(&[0, 0, 0, 0]);
+    frame.extend(&body_len.to_be_bytes());
+    frame
+}
+
+/// The frame of the reply that refuses a call, with this status code and text.
+///
+/// The code is not 0. The text has at most [`MAX_REFUSAL_TEXT_BYTES`], each 0x20 to 0x7E. With one of the
+/// status codes of docs/PROTOCOL.md the frame is a reply of the envelope.
+#[tactic(auto, unfolding(crate::specs::Envelope::reply))]
+pub fn refusal_frame(code: u8, text: &[u8]) -> FixedFrame
+    requires refusal { code ≢ 0 }
+    requires short { length text.now ≤ MAX_REFUSAL_TEXT_BYTES }
+    requires printable { All IsTextByte text.now }
+    ensures spelled { result ≡ reply (record { status = code; text = text.now; body = [] }) }
+    ensures formed { is_status code ≡ true → IsReply (record { status = code; text = text.now; body = [] }) }
+{
+    let mut frame = FixedFrame::new();
+    frame.push(code);
+    frame.extend(&(text.len() as u16).to_be_bytes());
+    frame.extend(text);
+    frame.extend(&[0, 0, 0, 0, 0]);
+    frame
+}
+
+/// The text, then the number in decimal.
+///
+/// The text has at most 120 bytes, each 0x20 to 0x7E, and so has what is made of it.
+pub fn text_and_number(text: &[u8], n: u64) -> FixedText
+    requires short { length text.now ≤ 120 }
+    requires printable { All IsTextByte text.now }
+    ensures value { result ≡ text.now ++ decimal n }
+    ensures short { length result ≤ length text.now + 20 }
+    ensures printable { All IsTextByte result }
+{
+    let mut line = FixedText::new();
+    line.extend(text);
+    let mut buffer = Buffer::new();
+    line.extend(buffer.format(n).as_bytes());
+    line
+}
+
+/// What a malformed frame is answered with, as `bad flag at byte 53`.
+pub fn fault_text(fault: &FrameFault) -> FixedText
+    ensures value { result ≡ fault_words fault.now.why ++ decimal fault.now.at }
+    ensures short { length result ≤ 140 }
+    ensures printable { All IsTextByte result }
+{
+    text_and_number(fault.why.text().as_bytes(), fault.at)
+}

@@ -1,0 +1,215 @@
+ghost use Rattle.std.specs.Prelude.{◌≡◌, ℕ, ◌+◌, ◌-◌, ◌<◌, ◌≤◌, ◌↔◌, ◌≢◌, ◌⊎◌, length, take, slice_index, false, IsTrue, MatchOption};
+ghost use Rattle.envelope.specs.declared.kind.Kind.TheVariants.{Calls, Replies};
+ghost use Rattle.envelope.specs.Grammar.{lead, text_length, body_length, IsUnbroken};
+ghost use Rattle.envelope.specs.Envelope.{IsCall, bytes_of, frame, IsReply, reply_bytes_of, reply};
+ghost use Rattle.envelope.specs.Head.{item, Says, IsHead, IsWhole, Looks, AreGoodBytes, IsBadByte};
+
+use crate::call::Call;
+use crate::kind::{Kind, Part};
+use crate::reply::Reply;
+
+// The length of the text, which the two bytes before it give.
+#[tactic(auto, unfolding(crate::specs::Grammar::text_length))]
+#[inline(always)]
+fn text_length_of(kind: Kind, bytes: &[u8]) -> usize
+    requires { lead kind + 2 ≤ length bytes.now }
+    ensures value { result ≡ text_length kind bytes.now }
+    ensures bound { result < 65536 }
+{
+    let at = kind.lead();
+    usize::from(bytes[at]) * 256 + usize::from(bytes[at + 1])
+}
+
+// The length of the body, which the four bytes behind the flag give.
+#[tactic(auto, unfolding(crate::specs::Grammar::body_length))]
+#[inline(always)]
+fn body_length_of(kind: Kind, bytes: &[u8], from: usize) -> usize
+    requires from { from ≡ lead kind + 3 + text_length kind bytes.now }
+    requires there { from + 4 ≤ length bytes.now }
+    ensures value { result ≡ body_length kind bytes.now }
+    ensures bound { result < 4294967296 }
+{
+    usize::from(bytes[from]) * 16777216
+        + usize::from(bytes[from + 1]) * 65536
+        + usize::from(bytes[from + 2]) * 256
+        + usize::from(bytes[from + 3])
+}
+
+/// What the bytes of a frame before its body say of its length.
+#[derive(Clone, Copy)]
+pub struct Head {
+    /// Where the body begins.
+    pub body_at: usize,
+    /// How many bytes it has.
+    pub body_length: usize,
+}
+
+impl Head {
+    /// What they say, where all bytes before the body are there; nothing where one is missing.
+    #[inline(always)]
+    pub fn read(kind: Kind, bytes: &[u8]) -> Option<Head>
+        ensures { MatchOption result (length bytes.now < lead kind + 7 + text_length kind bytes.now) (IsHead kind bytes.now) }
+    {
+        let lead = kind.lead();
+        if bytes.len() < lead + 7 {
+            return None;
+        }
+        let text_length = text_length_of(kind, bytes);
+        if bytes.len() < lead + 7 + text_length {
+            return None;
+        }
+        Some(Head {
+            body_at: lead + 7 + text_length,
+            body_length: body_length_of(kind, bytes, lead + 3 + text_length),
+        })
+    }
+
+    /// How many bytes the whole frame has. The head is one that [`read`](Head::read) gave, which is within both bounds.
+    pub fn frame_bytes(self) -> usize
+        requires { (self.body_at < 65544) × (self.body_length < 4294967296) }
+        ensures { result ≡ self.body_at + self.body_length }
+    {
+        self.body_at + self.body_length
+    }
+}
+
+/// Whether the bytes are as many as they say that their frame has.
+///
+/// Where [`look_at`] finds nothing broken in them, they are then a frame.
+#[tactic(auto, unfolding(crate::specs::Head::IsWhole))]
+#[inline(always)]
+pub fn is_whole(kind: Kind, bytes: &[u8]) -> bool
+    ensures { IsTrue result ↔ IsWhole kind bytes.now }
+{
+    match Head::read(kind, bytes) {
+        None => false,
+        Some(head) => bytes.len() == head.frame_bytes(),
+    }
+}
+
+/// What breaks the table of a frame.
+#[derive(Clone, Copy)]
+pub struct Flaw {
+    /// The part that is wrong.
+    pub part: Part,
+    /// The byte at which it is, counted from the frame's first.
+    pub at: usize,
+}
+
+/// What the first bytes of a rest are.
+#[derive(Clone, Copy)]
+pub enum Look {
+    /// They may yet become a frame.
+    Short,
+    /// That many are a frame.
+    Whole(usize),
+    /// They break the table, and the last of that many shows it.
+    Broken(Flaw, usize),
+}
+
+/// What these bytes are, of which so many were looked at before and break nothing.
+///
+/// Takes the time of the text's bytes that are new: none of the body is looked at.
+#[inline(always)]
+pub fn look_at(kind: Kind, bytes: &[u8], seen: usize) -> Look
+    requires within { seen ≤ length bytes.now }
+    requires prefix { IsUnbroken kind (take seen bytes.now) }
+    ensures { Looks kind bytes.now result }
+{
+    let lead = kind.lead();
+    if kind.has_bad_status(bytes) {
+        return broken(Part::Status, 0, 1);
+    }
+    if bytes.len() < lead + 2 {
+        return Look::Short;
+    }
+    let text_length = text_length_of(kind, bytes);
+    if text_length < kind.least_text() || text_length > kind.most_text(bytes[0]) {
+        return broken(Part::TextLength, lead, lead + 2);
+    }
+    if let Some(at) = bad_byte(kind, bytes, seen, lead + 2 + text_length) {
+        return broken(Part::Text, at, at + 1);
+    }
+    if bytes.len() < lead + 3 + text_length {
+        return Look::Short;
+    }
+    if bytes[lead + 2 + text_length] != 0 {
+        return broken(Part::Flag, lead + 2 + text_length, lead + 3 + text_length);
+    }
+    let Some(head) = Head::read(kind, bytes) else {
+        return Look::Short;
+    };
+    if head.body_length > kind.most_body(bytes[0]) {
+        return broken(
+            Part::BodyLength,
+            lead + 3 + text_length,
+            lead + 7 + text_length,
+        );
+    }
+    if bytes.len() < head.frame_bytes() {
+        return Look::Short;
+    }
+    Look::Whole(head.frame_bytes())
+}
+
+fn broken(part: Part, at: usize, size: usize) -> Look
+    ensures { result ≡ Look.Broken (record { part = part; at = at }) size }
+{
+    Look::Broken(Flaw { part, at }, size)
+}
+
+// The first byte that no text has, of those from here on that the text has.
+#[inline(always)]
+fn bad_byte(kind: Kind, bytes: &[u8], from: usize, end: usize) -> Option<usize>
+    ensures { MatchOption result (AreGoodBytes kind bytes.now from end (length bytes.now)) (λ at. IsBadByte kind bytes.now from end at) }
+{
+    let least = kind.least_byte();
+    let first = from.max(kind.lead() + 2);
+    let last = end.min(bytes.len());
+    for i in first..last {
+        let byte = bytes[i];
+        if byte < least || byte > 126 {
+            return Some(i);
+        }
+    }
+    None
+}
+
+// The text and the body of a whole frame.
+#[tactic(auto, unfolding(crate::specs::Head::IsWhole))]
+#[inline(always)]
+fn parts(kind: Kind, bytes: &[u8]) -> (&[u8], &[u8])
+    requires unbroken { IsUnbroken kind bytes.now }
+    requires whole { IsWhole kind bytes.now }
+    ensures { Says kind bytes.now (item kind (slice_index bytes.now 0) result.0.now result.1.now) }
+{
+    let text_length = text_length_of(kind, bytes);
+    let (_, rest) = bytes.split_at(kind.lead() + 2);
+    let (text, rest) = rest.split_at(text_length);
+    let (_, body) = rest.split_at(5);
+    (text, body)
+}
+
+/// The call of a whole frame, lent from its bytes: they break nothing ([`look_at`]) and are all there ([`is_whole`]).
+#[inline(always)]
+pub fn call_of(bytes: &[u8]) -> Call<'_>
+    requires { IsUnbroken Calls bytes.now × IsWhole Calls bytes.now }
+    ensures { IsCall (bytes_of result) × (bytes.now ≡ frame (bytes_of result)) }
+{
+    let (path, message) = parts(Kind::Calls, bytes);
+    Call { path, message }
+}
+
+/// The reply of a whole frame, lent from its bytes: they break nothing ([`look_at`]) and are all there ([`is_whole`]).
+#[tactic(auto, unfolding(crate::specs::Head::IsWhole))]
+pub fn reply_of(bytes: &[u8]) -> Reply<'_>
+    requires { IsUnbroken Replies bytes.now × IsWhole Replies bytes.now }
+    ensures { IsReply (reply_bytes_of result) × (bytes.now ≡ reply (reply_bytes_of result)) }
+{
+    let (text, body) = parts(Kind::Replies, bytes);
+    Reply {
+        status: bytes[0],
+        text,
+        body,
+    }
+}

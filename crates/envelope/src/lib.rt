@@ -1,0 +1,53 @@
+//! The envelope: how calls and replies are framed as bytes, and which calls a list of bytes has.
+//!
+//! The envelope is this project's own (docs/PROTOCOL.md, "Envelope"). Calls and replies are one kind of frame: a text behind its length, a
+//! flag, and a body behind its length; before the text of a reply stands its status, which says how long text and body may be. So one table
+//! reads both: `specs/Envelope.antt` spells a frame, `specs/Grammar.antt` says which byte breaks the table and in which part (the break of
+//! the least place is the fault), and `specs/Stream.antt` reads a list of bytes as calls and an end. Each lemma is proved once, for both kinds;
+//! `specs/facts/` has those that are wanted above as well.
+//!
+//! [`take_frame`] and [`take_reply`] look at a whole rest, and [`put_request`] appends a call. Heads of replies, refusals and fault texts are made in fixed
+//! arrays, without memory. What takes a stream in pieces stands above, in `frames_core`, by [`look_at`], [`Head`], [`call_of`] and [`reply_of`].
+//!
+//! ```rust
+//! match take_frame(rest) {
+//!     Taken::Nothing => stop(),
+//!     Taken::Frame(call, size) => {
+//!         answer(call.path, call.message);
+//!         rest = &rest[size..];
+//!     }
+//!     Taken::Fault(fault) => refuse(fault_text(&fault).bytes()),
+//! }
+//! ```
+#![tactic(auto)]
+
+mod call;
+mod fault;
+mod fixed;
+mod head;
+mod kind;
+pub mod laws;
+mod limits;
+mod reply;
+mod reply_fault;
+mod request;
+mod taken;
+mod taken_reply;
+
+pub use call::Call;
+pub use fault::{Fault, FrameFault, FrameWhy};
+pub use fixed::{
+    Fixed, FixedFrame, FixedText, fault_text, refusal_frame, reply_head, text_and_number,
+};
+pub use head::{Flaw, Head, Look, call_of, is_whole, look_at, reply_of};
+pub use kind::{Kind, Part};
+pub use limits::{
+    MAX_BODY_BYTES, MAX_FRAME_BYTES, MAX_HEAD_BYTES, MAX_MESSAGE_BYTES, MAX_PATH_BYTES,
+    MAX_REFUSAL_TEXT_BYTES, MAX_REPLY_BYTES, MAX_REPLY_HEAD_BYTES, MAX_TEXT_BYTES,
+    REPLY_HEAD_BYTES,
+};
+pub use reply::Reply;
+pub use reply_fault::{ReplyFault, ReplyWhy};
+pub use request::put_request;
+pub use taken::{Taken, take_frame};
+pub use taken_reply::{TakenReply, take_reply};

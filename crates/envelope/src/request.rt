@@ -1,0 +1,26 @@
+ghost use Rattle.std.specs.Prelude.{◌≡◌, ◌++◌, OnOk, OnErr};
+ghost use Rattle.envelope.specs.Envelope.{IsCall, frame};
+
+use std::alloc::AllocError;
+
+/// Appends the frame of a call, as [`take_frame`](crate::take_frame) reads it.
+///
+/// The path has 1 to 128 bytes, each 0x21 to 0x7E, and the message at most 1,048,576 bytes. The
+/// vector grows at most once.
+///
+/// # Errors
+///
+/// Where memory was refused: the vector is then as it was.
+#[tactic(auto, unfolding(crate::specs::Envelope::frame))]
+pub fn put_request(out: &mut Vec<u8>, path: &[u8], message: &[u8]) -> Result<(), AllocError>
+    requires { IsCall (record { path = path.now; message = message.now }) }
+    ensures ok { OnOk result (out.new.items ≡ out.old.items ++ frame (record { path = path.now; message = message.now })) }
+    ensures err { OnErr result (out.new.items ≡ out.old.items) }
+{
+    out.reserve(7 + path.len() + message.len())?;
+    out.extend_from_slice(&(path.len() as u16).to_be_bytes())?;
+    out.extend_from_slice(path)?;
+    out.extend_from_slice(&[0])?;
+    out.extend_from_slice(&(message.len() as u32).to_be_bytes())?;
+    out.extend_from_slice(message)
+}

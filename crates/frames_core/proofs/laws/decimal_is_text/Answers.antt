@@ -1,5 +1,0 @@
-use Rattle.frames_core.proofs.Printable.{decimal_printable}
-use Rattle.frames_core.proofs.laws.decimal_is_text.Goals as goal
-
-pub returns : goal.returns
-returns c n small = decimal_printable n small

@@ -1,5 +1,0 @@
-use Rattle.frames_core.proofs.Existing.{some_reading}
-use Rattle.frames_core.proofs.laws.some_reading.Goals as goal
-
-pub returns : goal.returns
-returns c bytes each = some_reading bytes each

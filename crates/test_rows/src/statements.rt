@@ -1,0 +1,203 @@
+//! Statements over tables in memory.
+
+ghost use Rattle.std.specs.Prelude.{◌≡◌, false};
+
+use crate::cells::{cell_text, or_none, put_row};
+use crate::database::{refused, without_tables};
+use crate::numbers::small_at;
+use csi_schema::make_tables;
+use csi_transactions::values::flag_at;
+use csi_transactions::{changes, reads};
+use sqlite::{Alter, Connection, Error as SqlError, MemStore, Row};
+use std::alloc::Global;
+use test_kit::{Answer, AnswerRow, RowFault, bytes_of, number_at, put_part, word_at, words_of};
+
+/// A database between two transactions. It does not know how it is stored, and nor do the proofs of its rows.
+#[derive(Drop)]
+pub(crate) struct Bench<S: Alter + Drop> {
+    conn: Connection<S>,
+    ghost idle: { conn.in_transaction ≡ false },
+}
+
+/// A database in memory, without tables.
+pub(crate) fn in_memory(alloc: Global) -> Result<Bench<MemStore>, RowFault> {
+    Ok(Bench {
+        conn: without_tables(alloc)?,
+    })
+}
+
+impl<S: Alter + Drop> Bench<S> {
+    fn answer(&mut self, alloc: Global, row: &str) -> Result<String, RowFault> {
+        self.answer_words(alloc, &words_of(alloc, row)?)
+    }
+
+    fn answer_words(&mut self, alloc: Global, words: &[&str]) -> Result<String, RowFault> {
+        match word_at(words, 0)? {
+            "make" => done(alloc, make_tables(&mut self.conn)),
+            "add" => self.add(alloc, words),
+            "remove" => self.remove(alloc, words),
+            "attach" => self.attach(alloc, words),
+            "detach" => self.detach(alloc, words),
+            "params" => self.params(alloc, words),
+            "format" => done(alloc, changes::set_format(&mut self.conn)),
+            "first" => done(alloc, take_first_format(&mut self.conn)),
+            "meta" => all(alloc, meta(&mut self.conn)),
+            "next" | "number" | "name" => self.find(alloc, words),
+            "attachments" | "at" | "sizes" => self.list(alloc, words),
+            "page" | "nodes" => self.page(alloc, words),
+            _ => Err(RowFault::NotRow),
+        }
+    }
+
+    fn add(&mut self, alloc: Global, words: &[&str]) -> Result<String, RowFault> {
+        let number = small_at(words, 1)?;
+        let name = word_at(words, 2)?;
+        let bytes = small_at(words, 3)?;
+        let pool = word_at(words, 4)?;
+        let caps = bytes_of(alloc, word_at(words, 5)?)?;
+        let params = bytes_of(alloc, word_at(words, 6)?)?;
+        done(
+            alloc,
+            changes::add_volume(&mut self.conn, number, name, bytes, pool, &caps, &params),
+        )
+    }
+
+    fn params(&mut self, alloc: Global, words: &[&str]) -> Result<String, RowFault> {
+        let number = small_at(words, 1)?;
+        let params = bytes_of(alloc, word_at(words, 2)?)?;
+        done(alloc, changes::set_params(&mut self.conn, number, &params))
+    }
+
+    fn remove(&mut self, alloc: Global, words: &[&str]) -> Result<String, RowFault> {
+        done(
+            alloc,
+            changes::remove_volume(&mut self.conn, small_at(words, 1)?),
+        )
+    }
+
+    fn attach(&mut self, alloc: Global, words: &[&str]) -> Result<String, RowFault> {
+        let number = small_at(words, 1)?;
+        let node = word_at(words, 2)?;
+        let cap = bytes_of(alloc, word_at(words, 3)?)?;
+        let readonly = word_at(words, 4)? == "readonly";
+        done(
+            alloc,
+            changes::attach(&mut self.conn, number, node, &cap, readonly),
+        )
+    }
+
+    fn detach(&mut self, alloc: Global, words: &[&str]) -> Result<String, RowFault> {
+        let number = small_at(words, 1)?;
+        match word_at(words, 2)? {
+            "*" => done(alloc, changes::detach_all(&mut self.conn, number)),
+            node => done(alloc, changes::detach(&mut self.conn, number, node)),
+        }
+    }
+
+    // At most one row.
+    fn find(&mut self, alloc: Global, words: &[&str]) -> Result<String, RowFault> {
+        match word_at(words, 0)? {
+            "number" => found(alloc, reads::by_number(&mut self.conn, small_at(words, 1)?)),
+            "name" => found(alloc, reads::by_name(&mut self.conn, word_at(words, 1)?)),
+            _ => found(alloc, reads::next_number(&mut self.conn).map(Some)),
+        }
+    }
+
+    fn list(&mut self, alloc: Global, words: &[&str]) -> Result<String, RowFault> {
+        match word_at(words, 0)? {
+            "attachments" => attachments(
+                alloc,
+                reads::attachments(&mut self.conn, small_at(words, 1)?),
+            ),
+            "at" => all(
+                alloc,
+                reads::attached_at(&mut self.conn, word_at(words, 1)?),
+            ),
+            _ => all(alloc, reads::sizes_in(&mut self.conn, word_at(words, 1)?)),
+        }
+    }
+
+    fn page(&mut self, alloc: Global, words: &[&str]) -> Result<String, RowFault> {
+        let after = small_at(words, 1)?;
+        let count = number_at(words, 2)?;
+        if word_at(words, 0)? == "page" {
+            return all(alloc, reads::page(&mut self.conn, after, count));
+        }
+        let page = reads::page_nodes(&mut self.conn, after, count).map_err(refused)?;
+        both(alloc, &page.numbers, &page.places)
+    }
+}
+
+impl<S: Alter + Drop> AnswerRow for Bench<S> {
+    fn answer_row(&mut self, rt: &HostRuntime, row: &str) -> Result<Answer, RowFault> {
+        Ok(Answer::Text(self.answer(rt.alloc(), row)?))
+    }
+}
+
+// Gives the tables the first format, which no statement of the crate does.
+fn take_first_format<S: Alter>(conn: &mut Connection<S>) -> Result<(), SqlError>
+    requires { conn.old.in_transaction ≡ false }
+    ensures { conn.new.in_transaction ≡ false }
+{
+    let mut tx = conn.transaction();
+    tx.execute("UPDATE meta SET format_no = 1", &[])?;
+    tx.commit()
+}
+
+// The rows of meta: the key, the format and the next number of each.
+fn meta<S: Alter>(conn: &mut Connection<S>) -> Result<Vec<Row>, SqlError>
+    requires { conn.old.in_transaction ≡ false }
+    ensures { conn.new.in_transaction ≡ false }
+{
+    let mut tx = conn.transaction();
+    let rows = tx.query_all("SELECT k, format_no, next_number FROM meta", &[])?;
+    tx.rollback();
+    Ok(rows)
+}
+
+fn done(alloc: Global, change: Result<(), SqlError>) -> Result<String, RowFault> {
+    change.map_err(refused)?;
+    Ok(String::from_str(alloc, "done")?)
+}
+
+fn found(alloc: Global, found: Result<Option<Row>, SqlError>) -> Result<String, RowFault> {
+    let mut text = String::new(alloc);
+    if let Some(row) = found.map_err(refused)? {
+        put_row(&mut text, alloc, &row)?;
+    }
+    Ok(or_none(text)?)
+}
+
+fn all(alloc: Global, rows: Result<Vec<Row>, SqlError>) -> Result<String, RowFault> {
+    rows_text(alloc, &rows.map_err(refused)?)
+}
+
+fn rows_text(alloc: Global, rows: &[Row]) -> Result<String, RowFault> {
+    let mut text = String::new(alloc);
+    for row in rows {
+        put_row(&mut text, alloc, row)?;
+    }
+    Ok(or_none(text)?)
+}
+
+fn both(alloc: Global, numbers: &[Row], places: &[Row]) -> Result<String, RowFault> {
+    let numbers = rows_text(alloc, numbers)?;
+    let places = rows_text(alloc, places)?;
+    Ok(format!(in alloc; "{numbers}; {places}")?)
+}
+
+// Of each attachment its node, its capability, and whether it is readonly.
+fn attachments(alloc: Global, rows: Result<Vec<Row>, SqlError>) -> Result<String, RowFault> {
+    let mut text = String::new(alloc);
+    for row in &rows.map_err(refused)? {
+        put_part(&mut text, &attachment_text(alloc, row)?)?;
+    }
+    Ok(or_none(text)?)
+}
+
+fn attachment_text(alloc: Global, row: &Row) -> Result<String, RowFault> {
+    let readonly = flag_at(row, 2).ok_or(RowFault::Refused("no flag"))?;
+    let node = cell_text(alloc, row, 0)?;
+    let cap = cell_text(alloc, row, 1)?;
+    Ok(format!(in alloc; "{node} {cap} {readonly}")?)
+}

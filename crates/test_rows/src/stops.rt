@@ -1,0 +1,93 @@
+//! A call is made again and again over the tables in two files, each time with the disk stopping at a later call of its own, and
+//! what the next start finds is compared.
+
+mod disks;
+mod runs;
+mod serving;
+mod trials;
+
+use csi_config::Config;
+use disks::{NEVER, copies, left_of, new_disks, new_files};
+use runs::Wanted;
+use serving::{left_by, outcome_of};
+use sqlite_disk::{Files, Memory};
+use std::alloc::Global;
+use test_kit::{Answer, AnswerRow, RowFault, bytes_of, number_at};
+use trials::{Trials, Way};
+
+/// How a database is left.
+#[derive(Clone, Copy)]
+pub(crate) enum Ending {
+    /// Closed.
+    Closed,
+    /// What was committed stands in the log alone.
+    Open,
+    /// Closed, with tables of format 1.
+    Older,
+}
+
+/// The sample configuration, and the two files.
+#[derive(Drop)]
+pub(crate) struct Bench {
+    config: Config,
+    files: Files<Memory>,
+}
+
+impl Bench {
+    /// New files.
+    pub(crate) fn new(alloc: Global) -> Result<Bench, RowFault> {
+        Ok(Bench {
+            config: Config::sample(alloc)?,
+            files: new_files(alloc),
+        })
+    }
+
+    fn answer(&mut self, alloc: Global, row: &str) -> Result<String, RowFault> {
+        let (word, rest) = row.split_once(' ').ok_or(RowFault::NotRow)?;
+        match word {
+            "begin" => self.begin(alloc, rest, Ending::Closed),
+            "begun" => self.begin(alloc, rest, Ending::Open),
+            "older" => self.begin(alloc, rest, Ending::Older),
+            "stops" => self.stop(alloc, rest, Way::Once),
+            "twice" => self.stop(alloc, rest, Way::Twice),
+            "closes" => self.stop(alloc, rest, Way::Closing),
+            "new" => {
+                self.files = new_files(alloc);
+                self.stop(alloc, rest, Way::Once)
+            }
+            _ => Err(RowFault::NotRow),
+        }
+    }
+
+    // New files with the tables, over which these calls are made.
+    fn begin(&mut self, alloc: Global, calls: &str, ending: Ending) -> Result<String, RowFault> {
+        let calls = bytes_of(alloc, calls)?;
+        let disks = new_disks(alloc, NEVER);
+        let (made, mut disks) = left_by(alloc, &self.config, disks, &calls, ending)?;
+        self.files = left_of(alloc, &mut disks, false)?;
+        Ok(made.after)
+    }
+
+    // Stops in a call. The words are how many calls of the disk a run stops later than the last one, and the call.
+    fn stop(&mut self, alloc: Global, words: &str, way: Way) -> Result<String, RowFault> {
+        let (step, call) = words.split_once(' ').ok_or(RowFault::NotRow)?;
+        let step = number_at(&[step], 0)?;
+        let call = bytes_of(alloc, call)?;
+        let whole = outcome_of(alloc, &self.config, &self.files, &call)?;
+        let wanted = Wanted {
+            alloc,
+            config: &self.config,
+            files: &self.files,
+            call: &call,
+            whole: &whole,
+        };
+        let seen = Trials::new(wanted, step, way).all()?;
+        Ok(format!(in alloc; "{}, {seen}, all allowed", whole.after)?)
+    }
+}
+
+impl AnswerRow for Bench {
+    fn answer_row(&mut self, rt: &HostRuntime, row: &str) -> Result<Answer, RowFault> {
+        Ok(Answer::Text(self.answer(rt.alloc(), row)?))
+    }
+}

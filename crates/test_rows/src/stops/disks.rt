@@ -1,0 +1,198 @@
+//! The two files of a database, in memory, which stop behind so many of their calls.
+
+ghost use Rattle.std.specs.Prelude.{◌≡◌, false, IfOk};
+
+use crate::database::run;
+use sqlite::{Alter, Connection, Error as SqlError, ErrorCode, FileStore, Options};
+use sqlite_disk::{Crash, Disk, Files, Fuse, Memory};
+use std::alloc::Global;
+use std::fmt;
+use test_kit::RowFault;
+
+// The seed of the salts in the log, of which no answer depends.
+const SEED: u64 = 7;
+
+/// So many calls of each file that neither stops.
+pub(crate) const NEVER: (u64, u64) = (u64::MAX, u64::MAX);
+
+/// Files that stop.
+pub(crate) type Disks = Files<Fuse<Memory>>;
+
+/// The file that stops.
+#[derive(Clone, Copy)]
+pub(crate) enum Which {
+    /// The log.
+    Log,
+    /// The database file.
+    Database,
+    /// Each of the two, behind so many calls of its own.
+    Both,
+}
+
+/// A moment at which a disk stops, and what becomes of it.
+#[derive(Clone, Copy)]
+pub(crate) struct Stop {
+    /// What stops.
+    pub(crate) which: Which,
+    /// Behind so many calls of the disk.
+    pub(crate) calls: u64,
+    /// The connection is closed in the end, and not dropped.
+    pub(crate) closes: bool,
+    /// What was not synchronised is lost.
+    pub(crate) loses: bool,
+}
+
+impl Stop {
+    /// Behind how many calls the log and the database file stop.
+    pub(crate) fn calls_of_each(self) -> (u64, u64) {
+        match self.which {
+            Which::Log => (self.calls, u64::MAX),
+            Which::Database => (u64::MAX, self.calls),
+            Which::Both => (self.calls, self.calls),
+        }
+    }
+}
+
+impl fmt::Display for Stop {
+    fn fmt<W: fmt::Write>(&self, f: &mut fmt::Formatter<W>) -> fmt::Result {
+        let which = match self.which {
+            Which::Log => "log",
+            Which::Database => "database",
+            Which::Both => "both",
+        };
+        let closes = if self.closes { ", closed" } else { "" };
+        let loses = if self.loses {
+            ", unsynchronised lost"
+        } else {
+            ""
+        };
+        write!(
+            f,
+            "stop of {which} behind {} calls{closes}{loses}",
+            self.calls
+        )
+    }
+}
+
+/// Two files that nobody has opened.
+pub(crate) fn new_files(alloc: Global) -> Files<Memory> {
+    Files {
+        log: Memory::new(alloc),
+        db: Memory::new(alloc),
+    }
+}
+
+// Files that stop behind so many calls of the log and of the database file.
+fn fused(files: Files<Memory>, calls: (u64, u64)) -> Disks {
+    Files {
+        log: Fuse::new(files.log, calls.0),
+        db: Fuse::new(files.db, calls.1),
+    }
+}
+
+/// Two files that nobody has opened, which stop so.
+pub(crate) fn new_disks(alloc: Global, calls: (u64, u64)) -> Disks {
+    fused(new_files(alloc), calls)
+}
+
+// A file with the same bytes, all synchronised.
+fn copied(alloc: Global, file: &Memory) -> Result<Memory, RowFault> {
+    let mut copy = Memory::new(alloc);
+    // A file in memory refuses nothing but memory.
+    if copy.write_at(0, file.bytes()).is_err() || copy.sync().is_err() {
+        return Err(RowFault::NoMemory);
+    }
+    Ok(copy)
+}
+
+fn copied_files(alloc: Global, log: &Memory, db: &Memory) -> Result<Files<Memory>, RowFault> {
+    let log = copied(alloc, log)?;
+    Ok(Files {
+        log,
+        db: copied(alloc, db)?,
+    })
+}
+
+/// Files with the same bytes, all synchronised, which stop behind so many calls of the log and of the database file.
+pub(crate) fn copies(
+    alloc: Global,
+    files: &Files<Memory>,
+    calls: (u64, u64),
+) -> Result<Disks, RowFault> {
+    Ok(fused(copied_files(alloc, &files.log, &files.db)?, calls))
+}
+
+/// Whether files have the same bytes.
+pub(crate) fn are_same(one: &Files<Memory>, other: &Files<Memory>) -> bool {
+    one.log.bytes() == other.log.bytes() && one.db.bytes() == other.db.bytes()
+}
+
+/// Whether one of the files has stopped.
+pub(crate) fn has_stopped(disks: &mut Disks) -> bool {
+    !disks.may_be_used() || disks.log.len().is_err() || disks.db.len().is_err()
+}
+
+/// What the next start finds of files.
+pub(crate) fn left_of(
+    alloc: Global,
+    disks: &mut Disks,
+    loses: bool,
+) -> Result<Files<Memory>, RowFault> {
+    if loses {
+        disks.log.crash();
+        disks.db.crash();
+    }
+    copied_files(alloc, disks.log.inner(), disks.db.inner())
+}
+
+// Opens the database in two files, or gives back why it cannot be opened, and the files.
+fn open<D: Disk + Drop>(
+    alloc: Global,
+    files: Files<D>,
+) -> Result<Connection<FileStore<D>>, (SqlError, Files<D>)>
+    ensures { IfOk result (λ conn. conn.in_transaction ≡ false) }
+{
+    if !files.may_be_used() {
+        return Err((SqlError::SqliteFailure(ErrorCode::SystemIoFailure), files));
+    }
+    match Connection::open_files(alloc, files, Options::new(SEED)) {
+        Ok(conn) => Ok(conn),
+        Err((error, left)) => Err((error, left.into_files())),
+    }
+}
+
+/// Makes tables ones of format 1, which have no mutable parameters.
+pub(crate) fn make_older<S: Alter>(conn: &mut Connection<S>) -> Result<(), RowFault> {
+    run(conn, "UPDATE meta SET format_no = 1")
+}
+
+// Ends a connection, and gives its files back: closed, or as a stop leaves them.
+fn end<D: Disk + Drop>(conn: Connection<FileStore<D>>, closes: bool) -> Files<D> {
+    if !closes {
+        return conn.into_store().close();
+    }
+    match conn.close_files() {
+        Ok(files) => files,
+        Err((_, store)) => store.close(),
+    }
+}
+
+/// What is done over a database, wherever it is stored.
+pub(crate) trait Task {
+    /// Does it, and gives the connection back.
+    fn run<S: Alter + Drop>(&mut self, conn: Connection<S>) -> Connection<S>
+        requires { conn.in_transaction ≡ false };
+}
+
+/// Opens files, does a task over them, and gives them back, closed or as a stop leaves them; or says why they cannot be opened.
+pub(crate) fn over<D: Disk + Drop, T: Task>(
+    alloc: Global,
+    files: Files<D>,
+    closes: bool,
+    task: &mut T,
+) -> (Files<D>, Result<(), SqlError>) {
+    match open(alloc, files) {
+        Ok(conn) => (end(task.run(conn), closes), Ok(())),
+        Err((error, files)) => (files, Err(error)),
+    }
+}

@@ -1,0 +1,159 @@
+//! Rows about calls that are sent again.
+
+use crate::shown::displayed;
+use csi_client::{Exchanges, Line, Received, ReceivedReply, call_again, pause_millis};
+use frames_core::{ReplyFault, ReplyWhy};
+use std::alloc::Global;
+use test_kit::{RowFault, number_at, word_at, words_of};
+
+// What is sent; a line does not look into it.
+const FRAME: &[u8] = b"the frame of a call";
+
+/// The answer to a row: a word that says what is asked, and what it takes.
+pub(crate) fn answer(alloc: Global, row: &str) -> Result<String, RowFault> {
+    let words = words_of(alloc, row)?;
+    match word_at(&words, 0)? {
+        "call" => call_answer(alloc, &words),
+        "pause" => pause_answer(alloc, &words),
+        _ => Err(RowFault::NotRow),
+    }
+}
+
+// What an exchange gives, by its word.
+#[derive(Clone, Copy)]
+enum Outcome {
+    Reply(u8),
+    Nothing,
+    Malformed(ReplyWhy),
+    Failed,
+    NoMemory,
+}
+
+impl Outcome {
+    fn named(word: &str) -> Option<Outcome> {
+        Some(match word {
+            "done" => Outcome::Reply(0),
+            "exists" => Outcome::Reply(6),
+            "inside" => Outcome::Reply(13),
+            "nothing" => Outcome::Nothing,
+            "status" => Outcome::Malformed(ReplyWhy::BadStatus),
+            "text-length" => Outcome::Malformed(ReplyWhy::BadTextLength),
+            "text" => Outcome::Malformed(ReplyWhy::BadText),
+            "flag" => Outcome::Malformed(ReplyWhy::BadFlag),
+            "body-length" => Outcome::Malformed(ReplyWhy::BadBodyLength),
+            "end" => Outcome::Malformed(ReplyWhy::EndOfInput),
+            "failed" => Outcome::Failed,
+            "memory" => Outcome::NoMemory,
+            _ => return None,
+        })
+    }
+
+    fn received(self, alloc: Global) -> Received {
+        match self {
+            Outcome::Reply(status) => Received::Reply(ReceivedReply {
+                status,
+                text: Vec::new(alloc),
+                body: Vec::new(alloc),
+            }),
+            Outcome::Nothing => Received::Nothing,
+            Outcome::Malformed(why) => Received::Malformed(ReplyFault { why, at: 0 }),
+            Outcome::Failed => Received::Failed,
+            Outcome::NoMemory => Received::NoMemory,
+        }
+    }
+}
+
+// The word of what an exchange gave.
+fn word_of(received: &Received) -> &'static str {
+    match received {
+        Received::Reply(reply) => match reply.status {
+            0 => "done",
+            6 => "exists",
+            13 => "inside",
+            _ => "another reply",
+        },
+        Received::Nothing => "nothing",
+        Received::Malformed(fault) => match fault.why {
+            ReplyWhy::BadStatus => "status",
+            ReplyWhy::BadTextLength => "text-length",
+            ReplyWhy::BadText => "text",
+            ReplyWhy::BadFlag => "flag",
+            ReplyWhy::BadBodyLength => "body-length",
+            ReplyWhy::EndOfInput => "end",
+        },
+        Received::Failed => "failed",
+        Received::NoMemory => "memory",
+    }
+}
+
+// A line whose exchanges give what these words say, and the last one from then on.
+#[derive(Drop)]
+struct Script<'w> {
+    alloc: Global,
+    words: &'w [&'w str],
+    exchanges: Exchanges,
+    // Whether each exchange was given the frame.
+    is_same: bool,
+}
+
+impl Script<'_> {
+    fn gives(&self) -> Option<Outcome> {
+        let turn = usize::try_from(self.exchanges.made).ok()?;
+        let word = self.words.get(turn).or(self.words.last())?;
+        Outcome::named(word)
+    }
+}
+
+impl Line for Script<'_> {
+    ghost exchanges = { λ line. line.exchanges.made };
+
+    ghost unanswered = { λ line. line.exchanges.unanswered };
+
+    fn exchange(&mut self, frame: &[u8]) -> Received {
+        self.is_same &= frame == FRAME;
+        let received = match self.gives() {
+            Some(outcome) => outcome.received(self.alloc),
+            None => Received::NoMemory,
+        };
+        self.exchanges.count(&received);
+        received
+    }
+}
+
+// The word of what the last exchange gave, and the counts.
+fn call_answer(alloc: Global, words: &[&str]) -> Result<String, RowFault> {
+    let tries: u32 = number_at(words, 1)?;
+    if tries < 1 || tries > 10 || words.len() < 3 {
+        return Err(RowFault::NotRow);
+    }
+    let (_, script) = words.split_at(2);
+    if script.iter().any(|word| Outcome::named(word).is_none()) {
+        return Err(RowFault::NotRow);
+    }
+    let mut line = Script {
+        alloc,
+        words: script,
+        exchanges: Exchanges::none(),
+        is_same: true,
+    };
+    let word = word_of(&call_again(&mut line, FRAME, tries));
+    told(alloc, &line, word)
+}
+
+// What the last exchange gave, and what came of the line.
+fn told(alloc: Global, line: &Script<'_>, word: &str) -> Result<String, RowFault> {
+    let Exchanges {
+        made,
+        unanswered,
+        ..
+    } = line.exchanges;
+    let frames = if line.is_same { "" } else { ", another frame" };
+    Ok(format!(in alloc; "{word}, {made} made, {unanswered} unanswered{frames}")?)
+}
+
+// The milliseconds of a pause.
+fn pause_answer(alloc: Global, words: &[&str]) -> Result<String, RowFault> {
+    let tried: u32 = number_at(words, 1)?;
+    let chance: u32 = number_at(words, 2)?;
+    displayed(alloc, &pause_millis(tried, chance))
+}
