@@ -1,12 +1,12 @@
-"""The worst messages of about 1 MiB that are known: those of crates/test_rows/stdin, and creates for the volume machine.
+"""The worst messages of about 1 MiB that are known: those of crates/test_bytes/stdin, and creates for the volume machine.
 
-What the notation of a message means is explained at the head of the section codec of crates/test_rows/stdin.
+What the notation of a message means is explained at the head of the section codec of crates/test_bytes/stdin.
 """
 import os, re
 
 import streams
 
-STDIN = os.path.join(os.path.dirname(os.path.dirname(os.path.abspath(__file__))), "crates", "test_rows", "stdin")
+STDIN = os.path.join(os.path.dirname(os.path.dirname(os.path.abspath(__file__))), "crates", "test_bytes", "stdin")
 BEGIN = "@ codec\n"
 SECTION = "# Hostile messages"
 

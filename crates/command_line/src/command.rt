@@ -3,8 +3,9 @@
 ghost use Rattle.std.specs.Prelude.{◌≡◌};
 ghost use Rattle.command_line.specs.Statuses.{IsRefusal, arguments_status};
 
+use crate::options::{CommandLine, root_command};
 use clap::error::ErrorKind as ClapKind;
-use clap::{ArgMatches, Command, Error as ClapError};
+use clap::{ArgMatches, Error as ClapError};
 use std::alloc::{AllocError, Global};
 use std::env;
 use std::io::{self, ErrorKind};
@@ -107,21 +108,25 @@ fn end(rt: &HostRuntime, error: &ClapError) -> Result<(), ArgumentsFault> {
 ///
 /// # Errors
 ///
-/// Where the command was not made or refuses them, printing fails, or memory was refused.
+/// Where the command line does not have them, printing fails, or memory was refused.
 pub fn matches<'a>(
     rt: &HostRuntime,
-    command: Result<Command<'a>, ClapError>,
+    line: &CommandLine<'_>,
     arguments: &'a [String],
 ) -> Result<Option<ArgMatches<'a>>, ArgumentsFault> {
-    let matched = match command {
-        Ok(command) => command.try_get_matches_from(arguments),
-        Err(error) => Err(error),
-    };
-    match matched {
+    match matched(rt.alloc(), line, arguments) {
         Ok(matches) => Ok(Some(matches)),
         Err(error) => {
             end(rt, &error)?;
             Ok(None)
         }
     }
+}
+
+fn matched<'a>(
+    alloc: Global,
+    line: &CommandLine<'_>,
+    arguments: &'a [String],
+) -> Result<ArgMatches<'a>, ClapError> {
+    root_command(alloc, line)?.try_get_matches_from(arguments)
 }

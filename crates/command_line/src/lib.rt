@@ -4,7 +4,7 @@
 //! ```rust
 //! let taken = take_closed(rt); // before anything is opened
 //! let arguments = arguments(rt)?;
-//! match matches(rt, command(rt.alloc()), arguments.as_slice())? {
+//! match matches(rt, &command_line, arguments.as_slice())? {
 //!     Some(matches) => obey(rt, &matches),
 //!     None => Ok(()), // help was asked for
 //! }
@@ -20,5 +20,5 @@ mod standard;
 pub use command::{ArgumentsFault, arguments, matches};
 pub use lines::{is_decimal, say};
 pub use named::{Cause, Named, cause};
-pub use options::{CommandOption, OPTION, Takes, command_of, with_options, with_subcommand};
+pub use options::{CommandLine, CommandOption, OPTION, Subcommand, Takes};
 pub use standard::take_closed;

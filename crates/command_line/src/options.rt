@@ -107,41 +107,56 @@ fn args<'a>(alloc: Global, options: &[CommandOption]) -> Result<Vec<Arg<'a>>, Er
     Ok(args)
 }
 
-/// A command with further options.
-///
-/// # Errors
-///
-/// Where memory was refused.
-pub fn with_options<'a>(
-    alloc: Global,
-    command: Command<'a>,
-    options: &[CommandOption],
-) -> Result<Command<'a>, Error> {
-    Ok(command.args(args(alloc, options)?)?)
+/// A command of a program.
+#[derive(Clone, Copy)]
+pub struct Subcommand {
+    pub name: &'static str,
+    pub about: &'static str,
+    pub options: &'static [CommandOption],
+    /// Options behind those, as commands share them.
+    pub shared: &'static [CommandOption],
 }
 
-/// A command with these options.
-///
-/// # Errors
-///
-/// Where memory was refused.
-pub fn command_of<'a>(
-    alloc: Global,
-    name: &'static str,
-    about: &'static str,
-    options: &[CommandOption],
-) -> Result<Command<'a>, Error> {
-    with_options(alloc, Command::new(alloc, name).about(about), options)
+/// What a program's command line may have: options, or one of its commands.
+#[derive(Clone, Copy)]
+pub struct CommandLine<'l> {
+    /// The name of the program.
+    pub name: &'static str,
+    pub version: &'static str,
+    pub about: &'static str,
+    /// Those without a command; a command cannot stand beside them.
+    pub options: &'static [CommandOption],
+    pub subcommands: &'l [Subcommand],
 }
 
-/// A command with a further subcommand.
+fn command_of<'a>(alloc: Global, spec: &Subcommand) -> Result<Command<'a>, Error> {
+    let command = Command::new(alloc, spec.name)
+        .about(spec.about)
+        .args(args(alloc, spec.options)?)?;
+    Ok(command.args(args(alloc, spec.shared)?)?)
+}
+
+fn commands_of<'a>(alloc: Global, specs: &[Subcommand]) -> Result<Vec<Command<'a>>, Error> {
+    let mut commands = Vec::new(alloc);
+    for spec in specs {
+        commands.push(command_of(alloc, spec)?)?;
+    }
+    Ok(commands)
+}
+
+/// The command that reads a command line.
 ///
 /// # Errors
 ///
 /// Where memory was refused.
-pub fn with_subcommand<'a>(
-    command: Command<'a>,
-    subcommand: Result<Command<'a>, Error>,
+pub(crate) fn root_command<'a>(
+    alloc: Global,
+    line: &CommandLine<'_>,
 ) -> Result<Command<'a>, Error> {
-    Ok(command.subcommand(subcommand?)?)
+    let command = Command::new(alloc, line.name)
+        .version(line.version)
+        .about(line.about)
+        .args_conflicts_with_subcommands(!line.options.is_empty())
+        .args(args(alloc, line.options)?)?;
+    Ok(command.subcommands(commands_of(alloc, line.subcommands)?)?)
 }

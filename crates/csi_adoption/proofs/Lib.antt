@@ -7,6 +7,7 @@ mod AttachmentPassLemmas
 mod AttachmentRowLemmas
 mod BegunLemmas
 mod FaultLemmas
+mod FailingLemmas
 mod JudgedLemmas
 mod JudgingLemmas
 mod ScanLemmas

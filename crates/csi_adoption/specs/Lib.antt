@@ -1,6 +1,7 @@
 pub mod Adopting
 pub mod Again
 pub mod Found
+pub mod Failing
 pub mod FoundAttachments
 pub mod Judging
 pub mod Laws

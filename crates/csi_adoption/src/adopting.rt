@@ -5,6 +5,8 @@ ghost use Rattle.sqlite.specs.Held.{state};
 ghost use Rattle.sqlite.specs.State.{HasCleanDisk, KeepsCommit, Survives};
 ghost use Rattle.csi_schema.specs.Tables.{no_schema, schema as our_schema};
 ghost use Rattle.csi_schema.specs.declared.formats.TheConstants.{FIRST_FORMAT};
+ghost use Rattle.csi_schema.specs.Failing.{FailsOver};
+ghost use Rattle.csi_statements.specs.Failing.{RefusesFormat};
 ghost use Rattle.csi_statements.specs.Rows.{Changes, IsUndone, Leaves, SetsFormat};
 ghost use Rattle.sqlite.specs.Tree.{Trees};
 ghost use Rattle.sqlite_catalog.specs.Listing.{IsSound};
@@ -13,6 +15,7 @@ ghost use Rattle.csi_keeper.specs.State.{State, first_state};
 ghost use Rattle.csi_tables.specs.Holding.{IsEitherRows};
 ghost use Rattle.csi_judging.specs.Faults.{is_failure};
 ghost use Rattle.csi_adoption.specs.Adopting.{FoundState, IsAdopted, IsFound, IsNotRefused, IsTaken, IsUnadopted, LeavesLatest};
+ghost use Rattle.csi_adoption.specs.Failing.{JudgingFails, ScanFails};
 ghost use Rattle.csi_adoption.specs.Scanning.{Scans};
 ghost use Rattle.csi_adoption.specs.declared.meta.Meta.{Meta as Row};
 ghost use Rattle.csi_adoption.specs.Judging.{AreJudged, ArePassed, IsFaultOf, IsMetaFault, JudgesBehind, JudgesJoined, JudgesRows, JudgesSeen, SeesRow, TablesAreSeen};
@@ -71,6 +74,7 @@ fn see_tables<S: Alter>(
     requires idle { conn.old.in_transaction ≡ false }
     requires ours { HasCleanDisk (state S.Store conn.old) → conn.old.schema ≡ our_schema }
     ensures scans { Scans S.Store conn.old conn.new result }
+    ensures failed { ScanFails S.Store conn.old conn.new result }
     ensures seen { HasCleanDisk (state S.Store conn.new) → IfOk result (λ tables. TablesAreSeen config.now meta (state S.Store conn.old).now.trees tables) }
 {
     let volumes = see_volumes(alloc, conn, config, meta)?;
@@ -92,6 +96,7 @@ fn judge_joined<S: Alter>(
     requires idle { conn.old.in_transaction ≡ false }
     requires ours { HasCleanDisk (state S.Store conn.old) → conn.old.schema ≡ our_schema }
     ensures scans { Scans S.Store conn.old conn.new result }
+    ensures failed { JudgingFails S.Store conn.old conn.new result }
     ensures judged { HasCleanDisk (state S.Store conn.new) → (row : Row) → JudgesJoined config.now (state S.Store conn.old).now.trees row tables.now result }
 {
     check_attachment(
@@ -120,6 +125,7 @@ fn judge_seen<S: Alter>(
     requires idle { conn.old.in_transaction ≡ false }
     requires ours { HasCleanDisk (state S.Store conn.old) → conn.old.schema ≡ our_schema }
     ensures scans { Scans S.Store conn.old conn.new result }
+    ensures failed { JudgingFails S.Store conn.old conn.new result }
     ensures judged { HasCleanDisk (state S.Store conn.new) → JudgesSeen config.now (state S.Store conn.old).now.trees meta tables.now result }
 {
     check_tables(
@@ -143,6 +149,7 @@ fn judge_behind<S: Alter>(
     requires idle { conn.old.in_transaction ≡ false }
     requires ours { HasCleanDisk (state S.Store conn.old) → conn.old.schema ≡ our_schema }
     ensures scans { Scans S.Store conn.old conn.new result }
+    ensures failed { JudgingFails S.Store conn.old conn.new result }
     ensures judged { HasCleanDisk (state S.Store conn.new) → JudgesBehind config.now (state S.Store conn.old).now.trees meta result }
 {
     let tables = see_tables(alloc, conn, config, meta)?;
@@ -156,6 +163,7 @@ fn see_row<S: Alter>(conn: &mut Connection<S>) -> Result<Meta, AdoptFault>
     requires idle { conn.old.in_transaction ≡ false }
     requires ours { HasCleanDisk (state S.Store conn.old) → conn.old.schema ≡ our_schema }
     ensures scans { Scans S.Store conn.old conn.new result }
+    ensures failed { JudgingFails S.Store conn.old conn.new result }
     ensures seen { HasCleanDisk (state S.Store conn.new) → SeesRow (state S.Store conn.old).now.trees result }
 {
     let rows = see_meta(conn)?;
@@ -171,6 +179,7 @@ fn judge_rows<S: Alter>(
     requires idle { conn.old.in_transaction ≡ false }
     requires ours { HasCleanDisk (state S.Store conn.old) → conn.old.schema ≡ our_schema }
     ensures scans { Scans S.Store conn.old conn.new result }
+    ensures failed { JudgingFails S.Store conn.old conn.new result }
     ensures judged { HasCleanDisk (state S.Store conn.new) → JudgesRows config.now (state S.Store conn.old).now.trees result }
 {
     let meta = see_row(conn)?;
@@ -215,6 +224,7 @@ fn judge<S: Alter>(
 ) -> Result<Judged, AdoptFault>
     requires idle { conn.old.in_transaction ≡ false }
     ensures scans { Scans S.Store conn.old conn.new result }
+    ensures failed { JudgingFails S.Store conn.old conn.new result }
     ensures found { HasCleanDisk (state S.Store conn.new) → IfOk result
         (λ judged. IsFound config.now (state S.Store conn.old).now judged.format judged.totals) }
     ensures first { HasCleanDisk (state S.Store conn.new) → IfErr result
@@ -249,6 +259,7 @@ fn upgrade<S: Alter>(conn: &mut Connection<S>, format: u32) -> Result<(), Error>
     ensures ok { HasCleanDisk (state S.Store conn.new)
         → OnOk result (format ≡ FIRST_FORMAT → Changes SetsFormat (state S.Store conn.old) (state S.Store conn.new)) }
     ensures err { HasCleanDisk (state S.Store conn.new) → OnErr result (IsUndone (state S.Store conn.old) (state S.Store conn.new)) }
+    ensures failed { HasCleanDisk (state S.Store conn.new) → FailsOver our_schema RefusesFormat (state S.Store conn.old) (state S.Store conn.new) result }
     ensures survives { Survives (state S.Store conn.old) (state S.Store conn.new)
         (λ db. (format ≡ FIRST_FORMAT) × Leaves SetsFormat (state S.Store conn.old) db) }
 {
@@ -268,6 +279,7 @@ fn take<S: Alter>(
     requires idle { conn.old.in_transaction ≡ false }
     ensures idle { conn.new.in_transaction ≡ false }
     ensures taken { HasCleanDisk (state S.Store conn.new) → IfOk result (IsTaken config.now (state S.Store conn.old) (state S.Store conn.new)) }
+    ensures failed { JudgingFails S.Store conn.old conn.new result }
     ensures kept { HasCleanDisk (state S.Store conn.new) → OnErr result (KeepsCommit (state S.Store conn.old) (state S.Store conn.new)) }
     ensures first { HasCleanDisk (state S.Store conn.new) → IfErr result
         (λ fault. is_failure fault ≡ false → IsFaultOf config.now (state S.Store conn.old).now fault) }
@@ -306,7 +318,8 @@ fn settle<S: Alter>(conn: &mut Connection<S>)
 ///
 /// The first constraint that is broken, with the row that a scan finds first; or that the database or memory
 /// failed, which says nothing of the rows: those of a State that meets every constraint are refused for
-/// nothing else. What was committed stays, and the connection is given back.
+/// nothing else. That the database failed has a cause: its disk, a fault that had shut the connection, or that
+/// it refuses what is asked. What was committed stays, and the connection is given back.
 pub fn adopt<S: Alter>(
     alloc: Global,
     mut conn: Connection<S>,

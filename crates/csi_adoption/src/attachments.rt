@@ -10,6 +10,7 @@ ghost use Rattle.csi_scans.specs.Scans.{IsInOrder, keyed_attachment, owners};
 ghost use Rattle.csi_scans.specs.declared.sums.Weight.TheVariants.{One as Ones};
 ghost use Rattle.csi_constraints.specs.Apart.{apart_named};
 ghost use Rattle.csi_constraints.specs.Joins.{is_owned};
+ghost use Rattle.csi_adoption.specs.Failing.{ScanFails};
 ghost use Rattle.csi_adoption.specs.Judging.{SeesAttachments, first_named};
 ghost use Rattle.csi_adoption.specs.Scanning.{IsBegun, Scans, SeenBy};
 
@@ -134,6 +135,7 @@ pub(crate) fn see_attachments<S: Alter>(
     requires idle { conn.old.in_transaction ≡ false }
     requires ours { HasCleanDisk (state S.Store conn.old) → conn.old.schema ≡ our_schema }
     ensures scans { Scans S.Store conn.old conn.new result }
+    ensures failed { ScanFails S.Store conn.old conn.new result }
     ensures seen { SeenBy S.Store conn.old conn.new result (λ db rows. IsInOrder (map keyed_attachment (db 3)) rows)
         (λ rows seen. SeesAttachments config.now rows seen) }
 {
@@ -163,6 +165,7 @@ pub(crate) fn see_owners<S: Alter>(
     requires idle { conn.old.in_transaction ≡ false }
     requires ours { HasCleanDisk (state S.Store conn.old) → conn.old.schema ≡ our_schema }
     ensures scans { Scans S.Store conn.old conn.new result }
+    ensures failed { ScanFails S.Store conn.old conn.new result }
     ensures seen { SeenBy S.Store conn.old conn.new result (λ db rows. IsPermutation (owners (db 3) (db 1)) rows)
         (λ rows found. found ≡ first_named 0 1 is_owned rows) }
 {
@@ -183,6 +186,7 @@ pub(crate) fn see_apart<S: Alter>(
     requires idle { conn.old.in_transaction ≡ false }
     requires ours { HasCleanDisk (state S.Store conn.old) → conn.old.schema ≡ our_schema }
     ensures scans { Scans S.Store conn.old conn.new result }
+    ensures failed { ScanFails S.Store conn.old conn.new result }
     ensures seen { SeenBy S.Store conn.old conn.new result (λ db rows. IsPermutation (map seen_attachment (db 3)) rows)
         (λ rows found. found ≡ apart_named rows) }
 {

@@ -15,7 +15,7 @@
 //! attachment (`VolumeRowLemmas`, `AttachmentRowLemmas`), rows whose numbers rise and that SQL's UNIQUE holds apart are those of a map (`VolumeMapLemmas`,
 //! `AttachmentMapLemmas`), the State of these maps meets the invariant (`VolumeFoundLemmas`, `AttachmentFoundLemmas`, `StateFoundLemmas`), and the rows of a
 //! State that meets it pass (`VolumePassLemmas`, `AttachmentPassLemmas`). `AdoptLemmas` says what that is of a connection (`specs/Adopting.antt`), `TakeLemmas` how
-//! tables of the first format become ones of the latest behind the scans, and `AgainLemmas` what it is of one that a keeper left (`specs/Again.antt`).
+//! tables of the first format become ones of the latest behind the scans, `FailingLemmas` why the database failed (`specs/Failing.antt`), and `AgainLemmas` what it is of one that a keeper left (`specs/Again.antt`).
 //!
 //! ```rust
 //! match adopt(alloc, conn, &config) {

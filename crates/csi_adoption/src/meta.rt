@@ -5,6 +5,7 @@ ghost use Rattle.sqlite.specs.Held.{state};
 ghost use Rattle.sqlite.specs.State.{HasCleanDisk};
 ghost use Rattle.csi_schema.specs.Rows.{seen_meta};
 ghost use Rattle.csi_schema.specs.Tables.{schema as our_schema};
+ghost use Rattle.csi_adoption.specs.Failing.{ScanFails};
 ghost use Rattle.csi_adoption.specs.Judging.{integers_judged, meta_judged, valid_format, valid_next, with_row, with_rows};
 ghost use Rattle.csi_adoption.specs.Scanning.{Scans, SeenBy};
 ghost use Rattle.csi_adoption.specs.declared.meta.MetaRows.TheVariants as meta;
@@ -127,6 +128,7 @@ pub(crate) fn see_meta<S: Alter>(conn: &mut Connection<S>) -> Result<MetaRows, E
     requires idle { conn.old.in_transaction ≡ false }
     requires ours { HasCleanDisk (state S.Store conn.old) → conn.old.schema ≡ our_schema }
     ensures scans { Scans S.Store conn.old conn.new result }
+    ensures failed { ScanFails S.Store conn.old conn.new result }
     ensures seen { SeenBy S.Store conn.old conn.new result (λ db rows. IsPermutation (map seen_meta (db 0)) rows)
         (λ rows seen. seen ≡ with_rows meta.None rows) }
 {

@@ -10,6 +10,7 @@ ghost use Rattle.csi_scans.specs.Scans.{IsInOrder};
 ghost use Rattle.csi_scans.specs.declared.sums.Weight.TheVariants as weight;
 ghost use Rattle.csi_keeper.specs.Totals.{total_of};
 ghost use Rattle.csi_judging.specs.Seen.{sums_of};
+ghost use Rattle.csi_adoption.specs.Failing.{ScanFails};
 ghost use Rattle.csi_adoption.specs.Judging.{SeesVolumes, total_in};
 ghost use Rattle.csi_adoption.specs.Scanning.{IsBegun, Scans, SeenBy};
 
@@ -200,6 +201,7 @@ pub(crate) fn see_volumes<S: Alter>(
     requires idle { conn.old.in_transaction ≡ false }
     requires ours { HasCleanDisk (state S.Store conn.old) → conn.old.schema ≡ our_schema }
     ensures scans { Scans S.Store conn.old conn.new result }
+    ensures failed { ScanFails S.Store conn.old conn.new result }
     ensures seen { SeenBy S.Store conn.old conn.new result (λ db rows. IsInOrder (map seen_volume (db 1)) rows)
         (λ rows seen. SeesVolumes config.now meta rows seen) }
 {

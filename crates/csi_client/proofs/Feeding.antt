@@ -1,9 +1,9 @@
 -- What one feed of a framer of replies makes of the bytes that were read.
-use Rattle.std.proofs.Common.{◌≡◌, ◌≢◌, ℕ, ◌+◌, ◌-◌, ◌≤◌, ◌<◌, List, [], ◌++◌, length, take, drop, Option, Some, None, refl, sym, ap, subst, ◌∙◌, append_assoc, append-nil, length-append, arith, inl, inr, ◌⊎◌}
+use Rattle.std.proofs.Common.{◌≡◌, ℕ, ◌+◌, ◌-◌, ◌≤◌, ◌<◌, List, [], ◌++◌, length, take, drop, Option, Some, None, sym, ap, subst, ◌∙◌, append_assoc, append-nil, length-append, arith, inl, inr}
 use Rattle.std.specs.Prelude.{IfSome, IsSome}
 use Rattle.std.proofs.lemmas.Bool.{cases_lt}
-use Rattle.std.proofs.lemmas.List.{take-append-drop, take_all, length-take}
-use Rattle.envelope.specs.Envelope.{ReplyBytes, IsReply, reply}
+use Rattle.std.proofs.lemmas.List.{take-append-drop, length-take}
+use Rattle.envelope.specs.Envelope.{reply}
 use Rattle.envelope.specs.Grammar as grammar
 use Rattle.envelope.specs.declared.reply_fault.ReplyFault.{ReplyFault}
 use Rattle.envelope.specs.declared.reply_fault.ReplyWhy.{ReplyWhy}

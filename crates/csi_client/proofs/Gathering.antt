@@ -1,17 +1,15 @@
 -- What comes of waiting for the reply to a call, read by read.
-use Rattle.std.proofs.Common.{◌≡◌, ◌≢◌, ℕ, ◌+◌, ◌-◌, ◌≤◌, ◌<◌, List, [], ◌∷◌, ◌++◌, length, take, drop, Option, Some, None, Result, Ok, Err, refl, sym, ap, subst, ◌∙◌, append_assoc, append-nil, arith, inl, inr, ◌⊎◌}
+use Rattle.std.proofs.Common.{◌≡◌, ◌≢◌, ℕ, ◌-◌, ◌≤◌, ◌<◌, List, [], ◌∷◌, ◌++◌, length, take, drop, Option, Some, None, Result, Ok, Err, refl, sym, ap, subst, ◌∙◌, append-nil, length-drop, arith, inl, inr}
 use Rattle.std.specs.Prelude.{IsErr, IsNone, IfSome}
-use Rattle.std.specs.Io.KnownBytes.{Consumes, IsAtEnd}
+use Rattle.std.specs.Io.KnownBytes.{Consumes}
 use Rattle.std.proofs.KnownBytes.{Consumes-trans}
 use Rattle.std.proofs.lemmas.List.{take_all}
-use Rattle.envelope.specs.Envelope.{ReplyBytes, IsReply, reply}
+use Rattle.envelope.specs.Envelope.{ReplyBytes, reply}
 use Rattle.envelope.specs.declared.reply_fault.ReplyFault.{ReplyFault}
-use Rattle.envelope.specs.declared.reply_fault.ReplyWhy.{ReplyWhy}
-use Rattle.envelope.specs.declared.reply_fault.ReplyWhy.TheVariants.{EndOfInput}
 use Rattle.frames_core.specs.Framer.{ReplyFramerState, IsReplyFrame, IsReplySettled, IsReplyCutShort, reply_cut_short, reply_start}
 use Rattle.envelope.specs.ReplyStream.{FaultAt, IsUnfinished, BeginsReply}
 use Rattle.csi_client.specs.Receiving.{HasFault, Gathered, Gathers, IsGathering}
-use Rattle.csi_client.proofs.Feeding.{Fed, fault_of, not_at_end, known_break, all_held, took_all, no_some}
+use Rattle.csi_client.proofs.Feeding.{Fed, fault_of, not_at_end, known_break, all_held, took_all, some_fed, no_some}
 
 pub gathering_start : (s : ReplyFramerState) → s ≡ reply_start → IsUnfinished s.held → IsGathering [] s
 gathering_start s e open_ = record {
@@ -39,6 +37,7 @@ ended_at [] AtEnd s t g ends kept at_end =
     let same : t ≡ s = kept (λ short. short.1 g.held) in
     subst (λ (x : ReplyFramerState). Gathered [] AtEnd x) (sym same) (record {
       rest = [];
+      few = omega arith;
       whole = ap (λ (x : List ℕ). x ++ []) (sym g.held);
       faulty = λ f e. absurd (no_fault s.fault f g.unknown e);
       nothing = λ none whole. (refl, at_end);
@@ -50,6 +49,7 @@ ended_at (b ∷ bs) AtEnd s t g ends kept at_end =
     let cut : t ≡ reply_cut_short s = ends (none, some, λ f. open_.frameless (f.0, [], f.1, f.2 ∙ sym (append-nil (reply f.0)))) in
     subst (λ (x : ReplyFramerState). Gathered (b ∷ bs) AtEnd x) (sym cut) (record {
       rest = [];
+      few = omega arith;
       whole = sym (append-nil s.held ∙ g.held);
       faulty = λ f e. subst (λ (o : Option ReplyFault). IfSome o (λ x. HasFault (b ∷ bs) AtEnd x)) e ((omega (arith, g.past, ap length g.held), ((λ none. absurd cc), g.unfinished)), λ why. at_end);
       nothing = λ known whole. absurd cc;
@@ -63,9 +63,10 @@ ended read AtEnd s t g ends kept at_end = ended_at read AtEnd s t g ends kept at
 held_all : (read bytes : List ℕ) (s t : ReplyFramerState) (n : ℕ) → IsGathering read s → Fed s t bytes n → read ++ bytes ≡ t.held ++ drop n bytes
 held_all read bytes s t n g f = ap (λ (x : List ℕ). x ++ bytes) (sym g.held) ∙ all_held s t bytes n f
 
-pub settled : (read bytes : List ℕ) (AtEnd : Type 0) (s t : ReplyFramerState) (n : ℕ) → IsGathering read s → Fed s t bytes n → (t.fault ≡ None → ¬ IsReplyFrame t.held → ⊥) → Gathered (read ++ bytes) AtEnd t
-settled read bytes AtEnd s t n g f some = record {
+pub settled : (read bytes : List ℕ) (AtEnd : Type 0) (s t : ReplyFramerState) (n : ℕ) → IsGathering read s → Fed s t bytes n → 0 < length bytes → length bytes ≤ 4096 → (t.fault ≡ None → ¬ IsReplyFrame t.held → ⊥) → Gathered (read ++ bytes) AtEnd t
+settled read bytes AtEnd s t n g f any small some = record {
   rest = drop n bytes;
+  few = omega (arith, small, length-drop n bytes, some_fed s t bytes n g.unknown (subst IsUnfinished (sym g.held) g.unfinished) f any);
   whole = held_all read bytes s t n g f;
   faulty = λ x e.
       let k = known_break s t bytes n x g.unknown f e in (

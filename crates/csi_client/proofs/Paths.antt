@@ -4,7 +4,7 @@ use Rattle.std.specs.Prelude.{nat_le, ◌&&◌}
 use Rattle.std.specs.List.{list_all}
 use Rattle.std.proofs.lemmas.List.Sums.{AllPass-from_list_all}
 use Rattle.std.proofs.lemmas.Bool.{leb-true}
-use Rattle.envelope.specs.declared.limits.TheConstants.{MAX_PATH_BYTES, MAX_MESSAGE_BYTES}
+use Rattle.envelope.specs.declared.limits.TheConstants.{MAX_MESSAGE_BYTES}
 use Rattle.envelope.specs.Envelope.{IsCall, IsPathByte}
 use Rattle.csi_types.specs.declared.method.Method.{Method}
 use Rattle.csi_types.specs.declared.method.Method.TheVariants.{GetPluginInfo}

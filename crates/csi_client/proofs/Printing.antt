@@ -1,9 +1,8 @@
 -- What one step makes of a run that shows replies.
-use Rattle.std.proofs.Common.{◌≡◌, ◌≢◌, ℕ, ◌+◌, ◌-◌, ◌≤◌, ◌<◌, Bool, List, [], ◌∷◌, ◌++◌, length, take, drop, Option, Some, None, refl, sym, ap, subst, ◌∙◌, append_assoc, append-nil, length-append, arith, inl, inr, ◌⊎◌, All, Err, Ok, Result}
-use Rattle.std.specs.Prelude.{IfSome, IsSome, IsNone, ◌||◌, true, false, ⊤}
-use Rattle.std.specs.Io.KnownBytes.{Appends, Keeps, Consumes}
-use Rattle.std.proofs.KnownBytes.{Appends-trans, Consumes-trans}
-use Rattle.std.specs.List.{flat_map, list_any}
+use Rattle.std.proofs.Common.{◌≡◌, ◌≢◌, ℕ, ◌+◌, ◌≤◌, Bool, List, [], ◌∷◌, ◌++◌, length, take, drop, Option, Some, None, refl, sym, ap, subst, ◌∙◌, append_assoc, append-nil, length-append, arith, inr, Err, Ok}
+use Rattle.std.specs.Prelude.{IfSome, IsNone, ◌||◌, true, false, ⊤}
+use Rattle.std.specs.Io.KnownBytes.{Appends, Keeps}
+use Rattle.std.proofs.KnownBytes.{Appends-trans}
 use Rattle.std.proofs.lemmas.Grind.{flat_map-append}
 use Rattle.std.proofs.lemmas.List.{take-append-drop, take-take, drop-take, take_all}
 use Rattle.std.proofs.lemmas.List.Elements.{All-push, All-nil}
@@ -12,18 +11,17 @@ use Rattle.csi_types.specs.declared.code.Code.TheVariants as code
 use Rattle.csi_types.specs.declared.method.Method.{Method}
 use Rattle.envelope.specs.Envelope.{ReplyBytes, IsReply, reply}
 use Rattle.envelope.specs.declared.reply_fault.ReplyFault.{ReplyFault}
-use Rattle.envelope.specs.declared.reply_fault.ReplyWhy.{ReplyWhy}
 use Rattle.envelope.specs.declared.reply_fault.ReplyWhy.TheVariants.{EndOfInput}
-use Rattle.frames_core.specs.Framer.{ReplyFramerState, IsReplyFrame, IsReplySettled, IsReplyCutShort, IsReplyFaultOf, reply_cut_short, reply_start}
+use Rattle.frames_core.specs.Framer.{ReplyFramerState, IsReplyCutShort, IsReplyFaultOf, reply_cut_short, reply_start}
 use Rattle.envelope.specs.ReplyStream.{IsUnfinished}
 use Rattle.csi_client.specs.declared.showing.Halt.{Halt}
 use Rattle.csi_client.specs.declared.showing.Halt.TheVariants as halt
 use Rattle.csi_client.specs.declared.showing.ShowEnd.{ShowEnd}
 use Rattle.csi_client.specs.declared.showing.ShowEnd.TheVariants.{Done, Malformed, BadBody, ReadFailed, WriteFailed, NoMemory}
 use Rattle.csi_client.specs.Replies.{first_line}
-use Rattle.csi_client.specs.Showing.{IsBad, IsShown, AreShown, Shown, Wrote, Ended, frames, has_refusal, is_refusal}
+use Rattle.csi_client.specs.Showing.{IsShown, AreShown, Wrote, Ended, frames, has_refusal, is_refusal}
 use Rattle.csi_client.specs.Live.{ShowsOne, end_of, Live, IsReady, Advances}
-use Rattle.csi_client.proofs.Feeding.{Fed, fault_of, not_at_end, known_break, all_held, fed_count, some_fed, no_some}
+use Rattle.csi_client.proofs.Feeding.{Fed, fault_of, not_at_end, known_break, all_held, fed_count, some_fed}
 
 Appends-kept : (a b c : Option (List ℕ)) (bytes : List ℕ) → Appends a b bytes → Keeps b c → Appends a c bytes
 Appends-kept None b c bytes p q = tt
@@ -131,6 +129,7 @@ fed_halted X method read old new rest n a b c refused r halt.NoMemory h fed good
   new.held ++ drop n rest,
   wrote_kept method (read ++ rest) a b c h.replies (new.held ++ drop n rest) []
       (re_read method read a b h.replies old.held [] h.wrote (read ++ rest) (new.held ++ drop n rest) (split method read old new rest n a b refused h fed)) k,
+  inr (r, drop n rest, good, ap (λ (x : List ℕ). x ++ drop n rest) is),
 )
 
 pub fed_shown : {X : Type 0} (method : Option Method) (read : List ℕ) (old new next : ReplyFramerState) (rest : List ℕ) (n : ℕ) (a b c : Option (List ℕ)) (refused then_ : Bool) (r : ReplyBytes) (x : X) → Live method read old a b refused → Fed old new rest n → IsReply r → new.held ≡ reply r

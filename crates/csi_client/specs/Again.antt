@@ -1,5 +1,5 @@
 -- A call that is sent again until it is answered.
-use Rattle.std.specs.Prelude.{ℕ, ◌-◌, ◌*◌, ◌^◌, Bool, true, false, not, min}
+use Rattle.std.specs.Prelude.{ℕ, ◌+◌, ◌-◌, ◌*◌, ◌/◌, ◌%◌, ◌^◌, Bool, true, false, not, min}
 use Rattle.envelope.specs.declared.reply_fault.ReplyWhy.{ReplyWhy}
 use Rattle.envelope.specs.declared.reply_fault.ReplyWhy.TheVariants as why
 use Rattle.csi_client.specs.declared.receiving.Received.{Received}
@@ -36,3 +36,7 @@ answered_count r = one_if (not (is_unanswered r))
 -- the longest pause before a further try, in milliseconds: twice as long after each try, up to 2 s
 abbrev pub longest_pause : ℕ → ℕ
 longest_pause tried = min (100 * 2 ^ (tried - 1)) 2000
+
+-- A pause before a further try, in milliseconds: half of the longest, and of the other half as much as chance chooses.
+abbrev pub pause : ℕ → ℕ → ℕ
+pause tried chance = longest_pause tried / 2 + chance % (longest_pause tried / 2 + 1)

@@ -2,7 +2,6 @@
 use Rattle.std.specs.Prelude.{ℕ, ℤ, Bool, true, false, List, [], ◌∷◌, ◌++◌, Option, Some, None, codes}
 use Rattle.std.specs.Fmt.{signed_decimal}
 use Rattle.std.specs.FinMap.{entries}
-use Rattle.csi_types.specs.Maps.{TextMap}
 use Rattle.csi_types.specs.declared.responses.Response.{Response}
 use Rattle.csi_types.specs.declared.responses.Response.TheVariants as response
 use Rattle.csi_types.specs.declared.volume.Confirmed.{Confirmed}

@@ -1,5 +1,5 @@
 -- A run that shows replies, between two reads.
-use Rattle.std.specs.Prelude.{ℕ, ◌≡◌, ◌+◌, ◌≤◌, ◌<◌, ◌||◌, Bool, List, [], ◌++◌, length, take, Option, Some, None, Result, Ok, Err}
+use Rattle.std.specs.Prelude.{ℕ, ◌≡◌, ◌+◌, ◌≤◌, ◌<◌, Bool, List, [], ◌++◌, length, take, Option, None, Result, Ok, Err}
 use Rattle.std.specs.Io.KnownBytes.{Appends, Keeps}
 use Rattle.csi_types.specs.declared.code.Code.TheVariants as code
 use Rattle.csi_types.specs.declared.method.Method.{Method}
@@ -13,7 +13,7 @@ use Rattle.csi_client.specs.declared.showing.ShowEnd.TheVariants.{Malformed, Bad
 use Rattle.csi_client.specs.declared.showing.Step.{Step}
 use Rattle.csi_client.specs.declared.showing.Step.TheVariants.{Fed, Faulty, Halted}
 use Rattle.csi_client.specs.Replies.{first_line}
-use Rattle.csi_client.specs.Showing.{IsBad, IsShown, Wrote, Ended, frames, has_refusal, is_refusal}
+use Rattle.csi_client.specs.Showing.{IsBad, IsShown, Wrote, Ended, frames, has_refusal}
 
 -- the end of a run that is halted
 abbrev pub end_of : Halt → ShowEnd

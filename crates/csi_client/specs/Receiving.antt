@@ -1,5 +1,5 @@
 -- What comes of waiting for the reply to a call.
-use Rattle.std.specs.Prelude.{ℕ, ◌≡◌, ◌⊎◌, List, [], ◌++◌, Option, Some, None, Result, Ok, Err}
+use Rattle.std.specs.Prelude.{ℕ, ◌≡◌, ◌⊎◌, ◌<◌, List, [], ◌++◌, length, Option, Some, None, Result, Ok, Err}
 use Rattle.std.specs.Io.KnownBytes.{Consumes, IsAtEnd}
 use Rattle.envelope.specs.declared.reply_fault.ReplyFault.{ReplyFault}
 use Rattle.envelope.specs.declared.reply_fault.ReplyWhy.TheVariants.{EndOfInput}
@@ -17,9 +17,10 @@ reply_of r = record { status = r.status; text = r.text.items; body = r.body.item
 abbrev pub HasFault : List ℕ → Type 0 → ReplyFault → Type 0
 HasFault bytes AtEnd f = FaultAt bytes f.why f.at × (f.why ≡ EndOfInput → AtEnd)
 
--- what the bytes that were read are: they begin with the first reply, or with none
+-- What the bytes that were read are: they begin with the first reply, or with none. Behind the reply they are fewer than
+-- a piece has, so no piece is read behind the one in which it ends.
 abbrev pub Comes : List ℕ → Type 0 → Received → Type 0
-Comes read AtEnd (Reply r) = (more : List ℕ) × IsReply (reply_of r) × (read ≡ reply (reply_of r) ++ more)
+Comes read AtEnd (Reply r) = (more : List ℕ) × IsReply (reply_of r) × (read ≡ reply (reply_of r) ++ more) × (length more < 4096)
 Comes read AtEnd Nothing = (read ≡ []) × AtEnd
 Comes read AtEnd (Malformed f) = HasFault read AtEnd f
 Comes read AtEnd Failed = IsUnfinished read
@@ -40,6 +41,8 @@ pub record IsGathering (read : List ℕ) (s : ReplyFramerState) : Type 0 where
 pub record Gathered (read : List ℕ) (AtEnd : Type 0) (s : ReplyFramerState) : Type 0 where
   pub rest : List ℕ
   pub whole : read ≡ s.held ++ rest
+  -- the last piece, of at most 4,096 bytes, has some that it needs
+  pub few : length rest < 4096
   pub faulty : (f : ReplyFault) → s.fault ≡ Some f → HasFault read AtEnd f
   -- without a reply or a fault nothing came
   pub nothing : s.fault ≡ None → ¬ IsReplyFrame s.held → (read ≡ []) × AtEnd

@@ -1,21 +1,18 @@
 -- What is shown of a stream of replies, by the way the run ends.
-use Rattle.std.specs.Prelude.{ℕ, ◌≡◌, ◌==◌, ◌≤◌, ◌||◌, not, Bool, List, [], ◌∷◌, ◌++◌, length, All, Option, Some, None, Result, Ok, Err}
-use Rattle.std.specs.Io.KnownBytes.{Appends, Consumes, IsAtEnd, Keeps}
+use Rattle.std.specs.Prelude.{ℕ, ◌≡◌, ◌==◌, ◌⊎◌, not, Bool, List, [], ◌∷◌, ◌++◌, length, All, Option, Some, Err, IsOk}
+use Rattle.std.specs.Io.KnownBytes.{Appends, Consumes, IsAtEnd}
 use Rattle.std.specs.List.{flat_map, list_any}
 use Rattle.csi_codec.specs.Reading.{read_response}
 use Rattle.csi_types.specs.Codes.{number_of}
 use Rattle.csi_types.specs.declared.code.Code.{Code}
 use Rattle.csi_types.specs.declared.code.Code.TheVariants as code
 use Rattle.csi_types.specs.declared.method.Method.{Method}
-use Rattle.envelope.specs.declared.reply_fault.ReplyFault.{ReplyFault}
 use Rattle.envelope.specs.declared.reply_fault.ReplyWhy.TheVariants.{EndOfInput}
 use Rattle.envelope.specs.Envelope.{ReplyBytes, IsReply, reply}
-use Rattle.envelope.specs.ReplyStream.{IsUnfinished}
+use Rattle.envelope.specs.ReplyStream.{IsUnfinished, BeginsReply}
 use Rattle.frames_core.specs.Framer.{IsReplyFaultOf}
 use Rattle.csi_client.specs.declared.showing.ShowEnd.{ShowEnd}
 use Rattle.csi_client.specs.declared.showing.ShowEnd.TheVariants.{Done, Malformed, BadBody, ReadFailed, WriteFailed, NoMemory}
-use Rattle.csi_client.specs.declared.showing.Halt.{Halt}
-use Rattle.csi_client.specs.declared.showing.Halt.TheVariants as halt
 use Rattle.csi_client.specs.Replies.{first_line, body_lines}
 
 -- the call was done, and the body is no response of its method, which shows at this byte
@@ -27,6 +24,13 @@ pub record IsBadAt (method : Option Method) (r : ReplyBytes) (at : ℕ) : Type 0
 
 abbrev pub IsBad : Option Method → ReplyBytes → Type 0
 IsBad method r = (at : ℕ) × IsBadAt method r at
+
+-- the call was done, and the body is a response of its method
+pub record IsReadable (method : Option Method) (r : ReplyBytes) : Type 0 where
+  pub called : Method
+  pub is : method ≡ Some called
+  pub done : r.status ≡ 0
+  pub read : IsOk (read_response called r.body)
 
 -- the lines of one reply, whose body can be read
 pub record IsShown (method : Option Method) (r : ReplyBytes) (lines : List ℕ) : Type 0 where
@@ -69,7 +73,7 @@ Ended method read AtEnd held holds (Malformed f) = (rs : List ReplyBytes) × (re
 Ended method read AtEnd held holds BadBody = (rs : List ReplyBytes) × (r : ReplyBytes) × (more : List ℕ) × IsReply r × IsBad method r × Wrote method read held holds rs (reply r ++ more) (first_line code.Ok r)
 Ended method read AtEnd held holds ReadFailed = (rs : List ReplyBytes) × (rest : List ℕ) × Wrote method read held holds rs rest [] × IsUnfinished rest
 Ended method read AtEnd held holds WriteFailed = Unit {0}
-Ended method read AtEnd held holds NoMemory = (rs : List ReplyBytes) × (rest : List ℕ) × Wrote method read held holds rs rest []
+Ended method read AtEnd held holds NoMemory = (rs : List ReplyBytes) × (rest : List ℕ) × Wrote method read held holds rs rest [] × ((read ≡ []) ⊎ BeginsReply rest)
 
 -- A run over a reader and a writer.
 abbrev pub Shows : Option Method → Option (List ℕ) → Option (List ℕ) → Option (List ℕ) → Option (List ℕ) → ShowEnd → Type 0

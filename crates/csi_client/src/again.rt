@@ -1,7 +1,7 @@
 //! A call, sent again until it is answered.
 
 ghost use Rattle.std.specs.Prelude.{◌≡◌, ◌≤◌, ◌<◌, ◌+◌, ◌-◌, ◌/◌, ◌^◌, ℕ, true};
-ghost use Rattle.csi_client.specs.Again.{is_unanswered, unanswered_count, answered_count, longest_pause};
+ghost use Rattle.csi_client.specs.Again.{is_unanswered, unanswered_count, answered_count, longest_pause, pause};
 
 use crate::receiving::Received;
 use frames_core::ReplyWhy;
@@ -109,6 +109,7 @@ fn longest_pause(tried: u32) -> u64
 pub fn pause_millis(tried: u32, chance: u32) -> u64
     ensures least { longest_pause tried / 2 ≤ result }
     ensures most { result ≤ longest_pause tried }
+    ensures chosen { result ≡ pause tried chance }
 {
     let half = longest_pause(tried) / 2;
     half + u64::from(chance) % (half + 1)

@@ -1,13 +1,13 @@
 //! What a reply says, as lines.
 
-ghost use Rattle.std.specs.Prelude.{◌≡◌, ◌++◌, ℕ, IfErr, IfOk, OnOk, Some, Err, codes, decimal};
-ghost use Rattle.pbmessage.specs.declared.message.DecodeFault.TheVariants.{Malformed};
+ghost use Rattle.std.specs.Prelude.{◌≡◌, ◌≢◌, ◌++◌, ℕ, IfErr, IfOk, OnOk, Some, Err, codes, decimal};
+ghost use Rattle.pbmessage.specs.declared.message.DecodeFault.TheVariants.{Malformed, NoMemory};
 ghost use Rattle.csi_types.specs.Codes.{name_of, number_of};
 ghost use Rattle.csi_types.specs.declared.code.Code.{Code};
 ghost use Rattle.envelope.specs.Envelope.{reply_bytes_of};
 ghost use Rattle.csi_client.specs.Lines.{lines};
 ghost use Rattle.csi_client.specs.Replies.{content, first_line, body_lines};
-ghost use Rattle.csi_client.specs.Showing.{IsBad, IsBadAt};
+ghost use Rattle.csi_client.specs.Showing.{IsBad, IsBadAt, IsReadable};
 
 use crate::lines::put_lines;
 use csi_codec::decode_response;
@@ -64,6 +64,7 @@ fn put_decoded(
     ensures ok { IfOk decoded.now (λ response. OnOk result (out.new.items ≡ out.old.items ++ lines response)) }
     ensures err { IfErr decoded.now (λ fault. (result ≡ Err fault) × (out.new.items ≡ out.old.items)) }
     ensures malformed { (at : ℕ) → result ≡ Err (Malformed at) → decoded.now ≡ Err (Malformed at) }
+    ensures memory { result ≡ Err NoMemory → (at : ℕ) → decoded.now ≢ Err (Malformed at) }
 {
     match decoded {
         Ok(response) => put_lines(out, response).map_err(|_| DecodeFault::NoMemory),
@@ -77,8 +78,8 @@ fn put_decoded(
 /// # Errors
 ///
 /// [`DecodeFault::Malformed`] where the body is no response of the method; then nothing was
-/// appended. [`DecodeFault::NoMemory`] where memory was refused; nothing is promised of the vector
-/// then.
+/// appended. [`DecodeFault::NoMemory`] where memory was refused, and only where the body is one;
+/// nothing is promised of the vector then.
 pub fn put_body_lines(
     alloc: Global,
     out: &mut Vec<u8>,
@@ -88,6 +89,7 @@ pub fn put_body_lines(
     ensures ok { OnOk result (out.new.items ≡ out.old.items ++ body_lines method (reply_bytes_of reply.now)) }
     ensures readable { OnOk result (¬ IsBad method (reply_bytes_of reply.now)) }
     ensures malformed { (at : ℕ) → result ≡ Err (Malformed at) → IsBadAt method (reply_bytes_of reply.now) at × (out.new.items ≡ out.old.items) }
+    ensures memory { result ≡ Err NoMemory → IsReadable method (reply_bytes_of reply.now) }
 {
     let Some(method) = method else {
         return Ok(());

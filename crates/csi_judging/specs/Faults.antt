@@ -107,6 +107,11 @@ is_failure (Broken rule) = false
 is_failure (Store error) = true
 is_failure NoMemory = true
 
+-- the database failed
+abbrev pub is_store : AdoptFault → Bool
+is_store (Store error) = true
+is_store _ = false
+
 -- an error of the database that is want of memory
 abbrev pub wants_memory : Error → Bool
 wants_memory (SqliteFailure OutOfMemory) = true
@@ -125,7 +130,19 @@ abbrev pub is_no_memory : AdoptFault → Bool
 is_no_memory NoMemory = true
 is_no_memory _ = false
 
--- and so it is, unless memory was refused
+-- a fault that has the name of a pool or of a node, which is copied
+abbrev pub has_name : AdoptFault → Bool
+has_name (Broken (broken.Attachment number node rule)) = true
+has_name (Broken (broken.Pool name)) = true
+has_name (Broken (broken.Node id)) = true
+has_name _ = false
+
+-- there is a fault, and memory may be refused for its name
+abbrev pub takes_memory : Option AdoptFault → Bool
+takes_memory None = false
+takes_memory (Some fault) = has_name fault
+
+-- and so it is, unless memory was refused for its name; it is no failure of the database
 abbrev pub Says : {X : Type 0} → Option AdoptFault → Result X AdoptFault → Type 0
 Says fault (Ok x) = fault ≡ None
-Says fault (Err e) = is_no_memory e ≡ false → fault ≡ Some e
+Says fault (Err e) = (is_no_memory e ≡ false → fault ≡ Some e) × (is_no_memory e ≡ true → takes_memory fault ≡ true) × (is_store e ≡ false)

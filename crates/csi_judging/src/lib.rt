@@ -5,7 +5,7 @@
 //! `check_` answers the first fault of its constraints, so that a `?` behind each makes the first of all. `fault.rt` says why tables are not adopted.
 //!
 //! `specs/Seen.antt` says what was seen as definitions speak of it, `specs/Faults.antt` which fault each constraint has, their order, and what is answered:
-//! the fault if there is one (`Tells`), or that memory was refused where its name is copied (`Says`).
+//! the fault if there is one (`Tells`), or that memory was refused for its name, which is copied, and nowhere else (`Says`).
 //!
 //! ```rust
 //! check_tables(alloc, &config, next, &volumes, &attachments)?;

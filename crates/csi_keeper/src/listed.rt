@@ -34,7 +34,7 @@ pub fn listed_at(alloc: Global, volume: &Volume, nodes: Items<Text>) -> Result<L
 }
 
 /// What is told of volumes and the nodes of each, of as many as there are of both.
-pub(crate) fn listed_each(
+pub fn listed_each(
     alloc: Global,
     volumes: &[Volume],
     nodes: Items<Items<Text>>,

@@ -101,3 +101,15 @@ told_once config s (r ∷ rs) = (step config s r).0 ∷ told_once config (step c
 abbrev pub after_once : Config → State → List Request → State
 after_once config s [] = s
 after_once config s (r ∷ rs) = after_once config (step config s r).1 rs
+
+-- ---- a life of one request
+
+-- a session in which a request is tried once, and one in which it is tried again and answered
+abbrev pub twice : Request → Ending → List (List Try)
+twice r end = (record { request = r; end = end } ∷ []) ∷ (record { request = r; end = Answered } ∷ []) ∷ []
+
+-- These are tries of the request, and a life from the State: the first session leaves what the request makes of it, and the second answers the request there.
+abbrev pub IsLifeOfTwo : Config → State → Request → Ending → Type 0
+IsLifeOfTwo config s r end =
+    AreTriesOf (r ∷ []) (all_tries (twice r end))
+    × IsLife config s (twice r end) ((step config (step config s r).1 r).0 ∷ []) (step config (step config s r).1 r).1

@@ -13,7 +13,7 @@ ghost use Rattle.csi_machine.specs.Choice.{choice, rooms};
 ghost use Rattle.csi_machine.specs.Offer.{AsksFor, IsNew, term_of};
 ghost use Rattle.csi_machine.specs.calls.Capacity.{capacity, tell_capacity};
 ghost use Rattle.csi_machine.specs.calls.Create.{create, place_in};
-ghost use Rattle.csi_machine.specs.Retry.{Try, IsLife, AreTriesOf, all_tries, told_once, after_once};
+ghost use Rattle.csi_machine.specs.Retry.{Try, IsLife, AreTriesOf, all_tries, told_once, after_once, Marked, Unanswered, IsLifeOfTwo};
 ghost use Rattle.csi_machine.specs.Step.{step};
 ghost use Rattle.csi_plans.specs.Verdicts.{Told};
 ghost use Rattle.csi_config.specs.declared.pools.Pool.{Pool};
@@ -112,3 +112,13 @@ pub fn retry(config: &Config)
     overlays();
     inclusions();
 }
+
+/// There are such lives, of each request and from each State, so [`retry`] does not speak of nothing.
+///
+/// A request is made and its answer is lost; or it is refused inside, and a stop leaves its change all the same. In the
+/// next session it is tried again, and answered.
+#[inline(always)]
+pub fn tried_twice(config: &Config)
+    ensures lost { (s : State) (r : Request) → IsLifeOfTwo config.now s r Unanswered }
+    ensures refused { (s : State) (r : Request) → IsLifeOfTwo config.now s r Marked }
+{}

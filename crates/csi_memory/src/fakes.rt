@@ -1,16 +1,17 @@
 //! Keepers that fail where a test asks for it.
 
-ghost use Rattle.std.specs.Prelude.{◌≡◌, ◌≤◌, ◌+◌, ◌-◌, ◌^◌, ◌↔◌, min, false, Some, Err, IfOk, IsTrue};
+ghost use Rattle.std.specs.Prelude.{◌≡◌, ◌≢◌, ◌≤◌, ◌+◌, ◌-◌, ◌^◌, ◌↔◌, min, false, Some, Err, IfOk, IsTrue};
 ghost use Rattle.std.specs.FinMap.{get};
 ghost use Rattle.std.specs.Option.{option_map};
 ghost use Rattle.csi_memory.specs.Holding.{Holds};
 ghost use Rattle.csi_memory.specs.Fakes.{burnt, calls_left, is_shut, kept, refusals_of, Burns, fused_model};
 ghost use Rattle.csi_keeper.specs.Keeper.{Applies, Reads, count_after};
+ghost use Rattle.csi_keeper.specs.Listing.{listing};
 ghost use Rattle.csi_keeper.specs.State.{IsBounded, attached, attached_at, named, page, published_of_page, sizes, used, first_state};
 ghost use Rattle.csi_keeper.specs.declared.change.StoreFault.TheVariants.{Down, Refused};
 
 use crate::mem::MemKeeper;
-use csi_keeper::{Attachment, CapKey, Change, Keeper, StoreFault, Usage, Volume};
+use csi_keeper::{Attachment, CapKey, Change, Keeper, Listed, StoreFault, Usage, Volume};
 use csi_types::{Items, Text};
 use std::alloc::{AllocError, Global};
 
@@ -202,11 +203,25 @@ impl Keeper for FusedMem {
         self.keeper.published_nodes(alloc, after, count)
     }
 
+    fn listing(
+        &mut self,
+        alloc: Global,
+        after: u64,
+        count: u32,
+    ) -> Result<Items<Listed>, StoreFault>
+        ensures reads { Reads (fused_model self.old) (fused_model self.new) result (λ s xs. xs ≡ listing s after count) }
+        ensures turn { Burns self.old self.new result }
+    {
+        self.fuse.burn()?;
+        self.keeper.listing(alloc, after, count)
+    }
+
     fn apply(&mut self, alloc: Global, change: &Change) -> Result<(), StoreFault>
         requires { IsBounded change.now }
         ensures applies { Applies (fused_model self.old) (fused_model self.new) change.now result }
         ensures turn { Burns self.old self.new result }
         ensures stops { result ≡ Err Refused → IsTrue (is_shut self.new) }
+        ensures goes_on { result ≢ Err Refused → is_shut self.new ≡ is_shut self.old }
     {
         if let Err(fault) = self.fuse.burn() {
             self.fuse.is_down = true;
@@ -220,6 +235,7 @@ impl Keeper for FusedMem {
         ensures applies { Applies (fused_model self.old) (fused_model self.new) change result }
         ensures turn { Burns self.old self.new result }
         ensures stops { result ≡ Err Refused → IsTrue (is_shut self.new) }
+        ensures goes_on { result ≢ Err Refused → is_shut self.new ≡ is_shut self.old }
     {
         self.apply(alloc, &change)
     }

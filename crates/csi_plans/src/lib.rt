@@ -6,7 +6,7 @@
 //! pools serve a topology (`topology.rt`), ids and tokens (`ids.rt`), and what is answered of a volume (`info.rt`), each beside its definitions in `specs/`.
 //! `specs/facts/` has what follows from these and is wanted above as well.
 //!
-//! Here stand the plans of the calls that no wrong body of the gate changes: those that say what the plugin is (`identity.rt`), ControllerModifyVolume
+//! Here stand the plans of the calls that change no more than a volume's parameters: those that say what the plugin is (`identity.rt`), ControllerModifyVolume
 //! (`modify.rt`) and ValidateVolumeCapabilities (`validate.rt`). The others, and the answers to all of them, are those of `csi_machine`, above.
 //!
 //! ```rust

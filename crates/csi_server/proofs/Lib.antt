@@ -9,3 +9,4 @@ mod VolumeLemmas
 mod PendingLemmas
 mod KeptLemmas
 mod TriesLemmas
+mod LifeLemmas

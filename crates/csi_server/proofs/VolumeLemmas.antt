@@ -15,7 +15,7 @@ use Rattle.csi_keeper.specs.Invariant.{IsInvariant}
 use Rattle.csi_keeper.specs.State.{State}
 use Rattle.csi_machine.specs.Step.{step}
 use Rattle.csi_plans.specs.Verdicts.{Appended}
-use Rattle.csi_server.specs.Machine.{Mark, Unmarked, OutOfMemory, StoreRefused, StoreDown, KnowsDown, RoseBy, marked, store_mark, refused}
+use Rattle.csi_server.specs.Machine.{Mark, Unmarked, OutOfMemory, StoreRefused, StoreDown, KnowsDown, RoseBy, marked, store_mark}
 use Rattle.csi_server.specs.Requests.{AnswersBy, LeavesBy, after_check, told}
 use Rattle.csi_server.specs.Service.{HasBody, room}
 use Rattle.csi_server.specs.Volumes.{RepliesTo, seen}

@@ -10,8 +10,8 @@ use Rattle.csi_types.specs.Methods.{method_at}
 use Rattle.csi_codec.specs.Reading.{read_request}
 use Rattle.csi_config.specs.declared.config.Config.{Config}
 use Rattle.csi_keeper.specs.State.{State}
-use Rattle.csi_machine.specs.Retry.{Try, Ending, Marked, Unanswered, Answered}
-use Rattle.csi_server.specs.Machine.{Event, Mark, Unmarked, OutOfMemory, StoreRefused, StoreDown, state_after}
+use Rattle.csi_machine.specs.Retry.{Try, Ending, Marked, Unanswered, Answered, AreTriesOf, all_tries}
+use Rattle.csi_server.specs.Machine.{Event, Mark, Unmarked, OutOfMemory, StoreRefused, StoreDown, done, state_after}
 use Rattle.csi_server.specs.Machine.{step as call_step}
 use Rattle.csi_server.specs.Volumes.{volumes, IsPending}
 
@@ -102,3 +102,17 @@ IsLifeOfCalls config s (session ∷ sessions) heard t =
     × IsLeft config s (events_of session) u
     × (heard ≡ heard_of config s session ++ rest)
     × IsLifeOfCalls config u sessions rest t
+
+-- ---- a life of one call
+
+-- a session in which a call is made and its reply is not heard, and one in which it is made again and its reply is heard
+abbrev pub twice : CallBytes → Mark → List (List Exchange)
+twice call mark =
+    (record { event = record { call = call; mark = mark }; is_heard = false } ∷ [])
+    ∷ (record { event = record { call = call; mark = Unmarked }; is_heard = true } ∷ []) ∷ []
+
+-- They are tries of the request, and a life from the State: the first session leaves what the call makes of it, and the second replies to it there.
+abbrev pub IsLifeOfTwo : Config → State → CallBytes → Request → Mark → Type 0
+IsLifeOfTwo config s call r mark =
+    AreTriesOf (r ∷ []) (all_tries (map tries_of (twice call mark)))
+    × IsLifeOfCalls config s (twice call mark) (((volumes config).respond (done (volumes config) s call) call).0 ∷ []) (done (volumes config) (done (volumes config) s call) call)

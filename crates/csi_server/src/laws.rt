@@ -1,6 +1,6 @@
 //! Laws of the definitions and of the machines that are served.
 
-ghost use Rattle.std.specs.Prelude.{◌≡◌, ◌⊎◌, ◌↔◌, ◌≤◌, ◌<◌, ◌^◌, ◌++◌, ℕ, List, None, Some, length, decimal, map};
+ghost use Rattle.std.specs.Prelude.{◌≡◌, ◌≢◌, ◌⊎◌, ◌↔◌, ◌≤◌, ◌<◌, ◌^◌, ◌++◌, ℕ, List, None, Some, length, decimal, map};
 ghost use Rattle.std.specs.List.{AllByRecursion};
 ghost use Rattle.envelope.specs.declared.fault.FrameFault.{FrameFault};
 ghost use Rattle.envelope.specs.declared.limits.TheConstants.{MAX_MESSAGE_BYTES};
@@ -10,10 +10,10 @@ ghost use Rattle.csi_types.specs.declared.code.Code.TheVariants as Code;
 ghost use Rattle.csi_types.specs.Codes.{number_of};
 ghost use Rattle.csi_types.specs.declared.requests.Request.{Request};
 ghost use Rattle.csi_keeper.specs.Invariant.{IsInvariant};
-ghost use Rattle.csi_server.specs.Machine.{Unmarked, Event, Runs, AreReplies, refusal, state_after};
+ghost use Rattle.csi_server.specs.Machine.{Unmarked, Event, Mark, Runs, AreReplies, refusal, state_after};
 ghost use Rattle.csi_server.specs.Identity.{identity};
 ghost use Rattle.csi_server.specs.Requests.{told};
-ghost use Rattle.csi_server.specs.Tries.{Asks, Exchange, asked, events_of, tries_of, heard_of, IsLeft, IsLifeOfCalls};
+ghost use Rattle.csi_server.specs.Tries.{Asks, Exchange, asked, events_of, tries_of, heard_of, IsLeft, IsLifeOfCalls, IsLifeOfTwo};
 ghost use Rattle.csi_server.specs.Volumes.{volumes, seen, IsPending};
 ghost use Rattle.csi_machine.specs.Retry.{Leaves, AreTriesOf, all_tries, told_of, told_once, after_once};
 ghost use Rattle.csi_machine.specs.Retry.{state_after as after_tries};
@@ -131,6 +131,15 @@ pub fn retry(config: &Config)
 {
     retry_requests(config);
 }
+
+/// There are such lives, of each call that asks for a request and from each State, so [`retry`] does not speak of nothing.
+///
+/// The call is made and its reply is lost; or it is refused inside, and a stop leaves its change all the same. In the next
+/// session it is made again, and its reply is heard.
+pub fn made_twice(config: &Config)
+    ensures lost { (s : MachineState) (call : CallBytes) (r : Request) → Asks call r → IsLifeOfTwo config.now s call r Unmarked }
+    ensures refused { (s : MachineState) (call : CallBytes) (r : Request) (mark : Mark) → Asks call r → mark ≢ Unmarked → IsLifeOfTwo config.now s call r mark }
+{}
 
 /// Each call is idempotent (CSI specification, 'Timeouts'): from a State of the invariant the same call, made again
 /// at once, has the same reply and leaves the same State, also one that is not read or does not pass the checks.

@@ -3,6 +3,7 @@ mod ChangeLemmas
 mod EncodingLemmas
 mod EntryLemmas
 mod KeepLemmas
+mod ListingLemmas
 mod ModeLemmas
 mod NewLemmas
 mod PageLemmas

@@ -5,13 +5,14 @@
 
 ghost use Rattle.std.specs.Prelude.{◌≡◌, ◌<◌, ◌^◌, false};
 ghost use Rattle.std.specs.FinMap.{get};
+ghost use Rattle.csi_keeper.specs.Listing.{listing};
 ghost use Rattle.csi_keeper.specs.State.{attached, attached_at, named, page, published_of_page, sizes};
 ghost use Rattle.csi_tables.specs.Refusing.{ConnReads};
 
 use crate::fault::Fault;
 use crate::nodes::nodes_of_each;
 use crate::rows::{attachments_from, number_in, numbers_from, volume_of, volumes_from};
-use csi_keeper::{Attachment, Volume};
+use csi_keeper::{Attachment, Listed, Volume, listed_each};
 use csi_transactions::reads;
 use csi_types::{Items, Text};
 use sqlite::{Alter, Connection};
@@ -122,4 +123,20 @@ pub(crate) fn published_nodes<S: Alter>(
     let page = reads::page_nodes(conn, after, count)?;
     let numbers = numbers_from(alloc, &page.numbers)?;
     nodes_of_each(alloc, numbers.as_slice(), &page.places)
+}
+
+/// What a listing tells of the volumes of a page, by two reads.
+pub(crate) fn listing<S: Alter>(
+    alloc: Global,
+    conn: &mut Connection<S>,
+    after: u64,
+    count: u32,
+) -> Result<Items<Listed>, Fault>
+    requires idle { conn.old.in_transaction ≡ false }
+    requires after { after < 2 ^ 63 }
+    ensures { ConnReads S.Store conn.old conn.new (λ s xs. xs ≡ listing s after count) result }
+{
+    let volumes = page(alloc, conn, after, count)?;
+    let nodes = published_nodes(alloc, conn, after, count)?;
+    Ok(listed_each(alloc, volumes.as_slice(), nodes)?)
 }

@@ -3,12 +3,13 @@
 ghost use Rattle.std.specs.Prelude.{◌≡◌, false, IsTrue, OnErr};
 ghost use Rattle.std.specs.FinMap.{get};
 ghost use Rattle.std.specs.Option.{option_map};
-ghost use Rattle.csi_keeper.specs.State.{IsBounded, attached, attached_at, named, page, published_of_page, sizes};
+ghost use Rattle.csi_keeper.specs.Listing.{listing};
+ghost use Rattle.csi_keeper.specs.State.{IsBounded, attached, attached_at, named, page, published_of_page, sizes, used};
 
 use crate::changes::{NUMBERS, make};
 use crate::health::Health;
 use crate::read;
-use csi_keeper::{Attachment, CapKey, Change, Keeper, StoreFault, Totals, Usage, Volume};
+use csi_keeper::{Attachment, CapKey, Change, Keeper, Listed, StoreFault, Totals, Usage, Volume};
 use csi_types::{Items, Text};
 use sqlite::{Alter, Connection};
 use std::alloc::Global;
@@ -22,7 +23,7 @@ use std::alloc::Global;
 /// as a fault of the disk, and is never want of memory.
 ///
 /// All of that is promised while the database has returned what was written to it: while the store's
-/// `HasCleanDisk` holds as the call ends. A call is one transaction, a removal two; what a pool has used
+/// `HasCleanDisk` holds as the call ends. A call is one transaction, a removal and a listing two; what a pool has used
 /// is told from memory, without one.
 #[derive(Drop)]
 pub struct Tables<S: Alter> {
@@ -138,7 +139,10 @@ impl<S: Alter> Keeper for Tables<S> {
         self.health.end(answer)
     }
 
-    fn used_in(&mut self, pool: &Text) -> Result<Usage, StoreFault> {
+    fn used_in(&mut self, pool: &Text) -> Result<Usage, StoreFault>
+        ensures reads { Reads (tables_model S.Store self.old) (tables_model S.Store self.new) result (λ s u. u ≡ used s pool.now) }
+        ensures sure { OnErr result (IsTrue self.old.health.is_down) }
+    {
         self.health.begin()?;
         Ok(self.totals.usage(pool))
     }
@@ -169,6 +173,23 @@ impl<S: Alter> Keeper for Tables<S> {
             return Ok(Items::new(alloc));
         }
         let answer = read::published_nodes(alloc, &mut self.conn, after, count);
+        self.health.end(answer)
+    }
+
+    fn listing(
+        &mut self,
+        alloc: Global,
+        after: u64,
+        count: u32,
+    ) -> Result<Items<Listed>, StoreFault>
+        ensures reads { Reads (tables_model S.Store self.old) (tables_model S.Store self.new) result (λ s xs. xs ≡ listing s after count) }
+        ensures refused { TablesRefuses S.Store self.old self.new ⊥ result }
+    {
+        self.health.begin()?;
+        if after >= NUMBERS {
+            return Ok(Items::new(alloc));
+        }
+        let answer = read::listing(alloc, &mut self.conn, after, count);
         self.health.end(answer)
     }
 

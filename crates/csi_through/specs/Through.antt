@@ -1,9 +1,12 @@
 -- What contracts see of a keeper over a memory and a log.
-use Rattle.std.specs.Prelude.{◌≡◌, ◌+◌, ◌≤◌, true, false}
+use Rattle.std.specs.Prelude.{◌≡◌, ◌+◌, ◌≤◌, true, false, Err}
 use Rattle.csi_config.specs.declared.config.Config.{Config}
 use Rattle.csi_keeper.specs.Invariant.{IsInvariant}
+use Rattle.csi_keeper.specs.Keeper.{Applies}
 use Rattle.csi_keeper.specs.Model.{Model}
 use Rattle.csi_keeper.specs.State.{State}
+use Rattle.csi_keeper.specs.declared.change.Change.{Change}
+use Rattle.csi_keeper.specs.declared.change.StoreFault.{StoreFault}
 use Rattle.csi_through.specs.declared.through.Through.{Through}
 
 -- The log has the State, and so has the memory, unless it is behind. A stop leaves what it leaves of the log.
@@ -16,6 +19,10 @@ through_model memory log t = record {
   tied = (log t.log).tied;
   is_down = t.health.is_down;
 }
+
+-- a memory was asked for a change, and did not make it
+abbrev pub HasMissed : Model State → Model State → Change → Type 0
+HasMissed old new change = (fault : StoreFault) × Applies {X = Unit {0}} old new change (Err fault)
 
 -- opened over a keeper: it has the keeper's States of the invariant, nothing more is left by a stop, and it is not down
 pub record Opens (old new : Model State) : Type 0 where

@@ -1,7 +1,7 @@
 //! What keeps the changes of a State.
 
 ghost use Rattle.std.specs.Prelude.{◌≡◌};
-ghost use Rattle.csi_keeper.specs.Keeper.{Changes};
+ghost use Rattle.csi_keeper.specs.Keeper.{Applies, Changes};
 ghost use Rattle.csi_keeper.specs.Model.{Model};
 ghost use Rattle.csi_keeper.specs.State.{State, IsBounded};
 
@@ -50,7 +50,11 @@ impl<K: Keeper> Logged<K> {
 impl<K: Keeper> Log for Logged<K> {
     ghost model = { λ logged. K.model logged.keeper };
 
-    fn commit(&mut self, alloc: Global, change: &Change) -> Result<(), StoreFault> {
+    fn commit(&mut self, alloc: Global, change: &Change) -> Result<(), StoreFault>
+        requires { IsBounded change.now }
+        ensures changes { Changes (K.model self.old.keeper) (K.model self.new.keeper) change.now result }
+        ensures applies { Applies (K.model self.old.keeper) (K.model self.new.keeper) change.now result }
+    {
         self.keeper.apply(alloc, change)
     }
 }

@@ -1,11 +1,14 @@
 //! A keeper over a memory and a log.
 
-ghost use Rattle.std.specs.Prelude.{◌≡◌, true, false, IfErr, IfOk, IsTrue, OnErr};
+ghost use Rattle.std.specs.FinMap.{get};
+ghost use Rattle.std.specs.Option.{option_map};
+ghost use Rattle.std.specs.Prelude.{◌≡◌, true, false, IfErr, IfOk, IsTrue, OnErr, OnOk};
 ghost use Rattle.csi_memory.specs.Holding.{mem_model};
-ghost use Rattle.csi_keeper.specs.Keeper.{Applies, IsQuiet};
-ghost use Rattle.csi_keeper.specs.State.{IsBounded};
+ghost use Rattle.csi_keeper.specs.Keeper.{Applies, IsQuiet, Reads};
+ghost use Rattle.csi_keeper.specs.Listing.{listing};
+ghost use Rattle.csi_keeper.specs.State.{IsBounded, attached, attached_at, named, page, published_of_page, sizes, used};
 ghost use Rattle.csi_through.specs.Copying.{IsCopy};
-ghost use Rattle.csi_through.specs.Through.{Opens, through_model};
+ghost use Rattle.csi_through.specs.Through.{HasMissed, Opens, through_model};
 
 use crate::copying::copy_of;
 use crate::health::Health;
@@ -148,55 +151,82 @@ impl<M: Keeper, D: Log> Keeper for Through<M, D> {
         self.health.refusals
     }
 
-    fn next_number(&mut self) -> Result<u64, StoreFault> {
+    fn next_number(&mut self) -> Result<u64, StoreFault>
+        ensures reads { Reads (through_model M.model D.model self.old) (through_model M.model D.model self.new) result (λ s n. n ≡ s.next) }
+        ensures current { self.new.health.is_current ≡ self.old.health.is_current }
+    {
         self.health.begin()?;
         let answer = self.memory.next_number();
         self.health.end(answer)
     }
 
-    fn by_name(&mut self, alloc: Global, name: &str) -> Result<Option<Volume>, StoreFault> {
+    fn by_name(&mut self, alloc: Global, name: &str) -> Result<Option<Volume>, StoreFault>
+        ensures reads { Reads (through_model M.model D.model self.old) (through_model M.model D.model self.new) result (λ s v. v ≡ named s name.now) }
+        ensures current { self.new.health.is_current ≡ self.old.health.is_current }
+    {
         self.health.begin()?;
         let answer = self.memory.by_name(alloc, name);
         self.health.end(answer)
     }
 
-    fn by_number(&mut self, alloc: Global, number: u64) -> Result<Option<Volume>, StoreFault> {
+    fn by_number(&mut self, alloc: Global, number: u64) -> Result<Option<Volume>, StoreFault>
+        ensures reads { Reads (through_model M.model D.model self.old) (through_model M.model D.model self.new) result (λ s v. v ≡ get s.volumes number) }
+        ensures current { self.new.health.is_current ≡ self.old.health.is_current }
+    {
         self.health.begin()?;
         let answer = self.memory.by_number(alloc, number);
         self.health.end(answer)
     }
 
-    fn caps_of(&mut self, alloc: Global, number: u64) -> Result<Option<Items<CapKey>>, StoreFault> {
+    fn caps_of(&mut self, alloc: Global, number: u64) -> Result<Option<Items<CapKey>>, StoreFault>
+        ensures reads { Reads (through_model M.model D.model self.old) (through_model M.model D.model self.new) result (λ s keys. keys ≡ option_map (λ v. v.caps) (get s.volumes number)) }
+        ensures current { self.new.health.is_current ≡ self.old.health.is_current }
+    {
         self.health.begin()?;
         let answer = self.memory.caps_of(alloc, number);
         self.health.end(answer)
     }
 
-    fn attachments(&mut self, alloc: Global, number: u64) -> Result<Items<Attachment>, StoreFault> {
+    fn attachments(&mut self, alloc: Global, number: u64) -> Result<Items<Attachment>, StoreFault>
+        ensures reads { Reads (through_model M.model D.model self.old) (through_model M.model D.model self.new) result (λ s xs. xs ≡ attached s number) }
+        ensures current { self.new.health.is_current ≡ self.old.health.is_current }
+    {
         self.health.begin()?;
         let answer = self.memory.attachments(alloc, number);
         self.health.end(answer)
     }
 
-    fn attached_at(&mut self, alloc: Global, node: &str) -> Result<Items<u64>, StoreFault> {
+    fn attached_at(&mut self, alloc: Global, node: &str) -> Result<Items<u64>, StoreFault>
+        ensures reads { Reads (through_model M.model D.model self.old) (through_model M.model D.model self.new) result (λ s xs. xs ≡ attached_at s node.now) }
+        ensures current { self.new.health.is_current ≡ self.old.health.is_current }
+    {
         self.health.begin()?;
         let answer = self.memory.attached_at(alloc, node);
         self.health.end(answer)
     }
 
-    fn sizes_in(&mut self, alloc: Global, pool: &str) -> Result<Items<u64>, StoreFault> {
+    fn sizes_in(&mut self, alloc: Global, pool: &str) -> Result<Items<u64>, StoreFault>
+        ensures reads { Reads (through_model M.model D.model self.old) (through_model M.model D.model self.new) result (λ s xs. xs ≡ sizes s pool.now) }
+        ensures current { self.new.health.is_current ≡ self.old.health.is_current }
+    {
         self.health.begin()?;
         let answer = self.memory.sizes_in(alloc, pool);
         self.health.end(answer)
     }
 
-    fn used_in(&mut self, pool: &Text) -> Result<Usage, StoreFault> {
+    fn used_in(&mut self, pool: &Text) -> Result<Usage, StoreFault>
+        ensures reads { Reads (through_model M.model D.model self.old) (through_model M.model D.model self.new) result (λ s u. u ≡ used s pool.now) }
+        ensures current { self.new.health.is_current ≡ self.old.health.is_current }
+    {
         self.health.begin()?;
         let answer = self.memory.used_in(pool);
         self.health.end(answer)
     }
 
-    fn page(&mut self, alloc: Global, after: u64, count: u32) -> Result<Items<Volume>, StoreFault> {
+    fn page(&mut self, alloc: Global, after: u64, count: u32) -> Result<Items<Volume>, StoreFault>
+        ensures reads { Reads (through_model M.model D.model self.old) (through_model M.model D.model self.new) result (λ s xs. xs ≡ page s after count) }
+        ensures current { self.new.health.is_current ≡ self.old.health.is_current }
+    {
         self.health.begin()?;
         let answer = self.memory.page(alloc, after, count);
         self.health.end(answer)
@@ -207,7 +237,10 @@ impl<M: Keeper, D: Log> Keeper for Through<M, D> {
         alloc: Global,
         after: u64,
         count: u32,
-    ) -> Result<Items<Items<Text>>, StoreFault> {
+    ) -> Result<Items<Items<Text>>, StoreFault>
+        ensures reads { Reads (through_model M.model D.model self.old) (through_model M.model D.model self.new) result (λ s xs. xs ≡ published_of_page s after count) }
+        ensures current { self.new.health.is_current ≡ self.old.health.is_current }
+    {
         self.health.begin()?;
         let answer = self.memory.published_nodes(alloc, after, count);
         self.health.end(answer)
@@ -218,7 +251,10 @@ impl<M: Keeper, D: Log> Keeper for Through<M, D> {
         alloc: Global,
         after: u64,
         count: u32,
-    ) -> Result<Items<Listed>, StoreFault> {
+    ) -> Result<Items<Listed>, StoreFault>
+        ensures reads { Reads (through_model M.model D.model self.old) (through_model M.model D.model self.new) result (λ s xs. xs ≡ listing s after count) }
+        ensures current { self.new.health.is_current ≡ self.old.health.is_current }
+    {
         self.health.begin()?;
         let answer = self.memory.listing(alloc, after, count);
         self.health.end(answer)
@@ -228,6 +264,7 @@ impl<M: Keeper, D: Log> Keeper for Through<M, D> {
         requires { IsBounded change.now }
         ensures applies { Applies (through_model M.model D.model self.old) (through_model M.model D.model self.new) change.now result }
         ensures stops { OnErr result (IsTrue self.new.health.is_down) }
+        ensures current { OnOk result (self.new.health.is_current ≡ false → HasMissed (M.model self.old.memory) (M.model self.new.memory) change.now) }
     {
         self.health.begin_change()?;
         let answer = self.log.commit(alloc, change);
@@ -242,6 +279,7 @@ impl<M: Keeper, D: Log> Keeper for Through<M, D> {
         requires { IsBounded change }
         ensures applies { Applies (through_model M.model D.model self.old) (through_model M.model D.model self.new) change result }
         ensures stops { OnErr result (IsTrue self.new.health.is_down) }
+        ensures current { OnOk result (self.new.health.is_current ≡ false → HasMissed (M.model self.old.memory) (M.model self.new.memory) change) }
     {
         self.health.begin_change()?;
         let made = self.log.commit(alloc, &change);

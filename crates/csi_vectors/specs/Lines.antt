@@ -29,3 +29,7 @@ pub record IsLineOf (line name input output : List ℕ) : Type 0 where
   pub named : name ≢ []
   pub input_is : Spells (head (tail line)) input
   pub output_is : Spells (tail (tail line)) output
+
+-- a name, and two parts more: what is in them is not looked at
+abbrev pub HasParts : List ℕ → Type 0
+HasParts line = HasSpace line × HasSpace (tail line) × (head line ≢ [])

@@ -1,7 +1,7 @@
 //! A line as a vector.
 
 ghost use Rattle.std.specs.Prelude.{◌≡◌, List, ℕ, IfOk, IsErrOf};
-ghost use Rattle.csi_vectors.specs.Lines.{IsLineOf, Spells};
+ghost use Rattle.csi_vectors.specs.Lines.{IsLineOf, HasParts, Spells};
 ghost use Rattle.csi_vectors.specs.declared.vector.LineFault.TheVariants.{NoMemory, NotVector};
 
 use hex::FromHexError;
@@ -63,6 +63,7 @@ impl<'a> Vector<'a> {
     pub fn of_line(alloc: Global, line: &'a str) -> Result<Vector<'a>, LineFault>
         ensures ok { IfOk result (λ v. IsLineOf line.now v.name.now v.input.items v.output.items) }
         ensures refused { IsErrOf result NotVector → (name input output : List ℕ) → ¬ IsLineOf line.now name input output }
+        ensures memory { IsErrOf result NoMemory → HasParts line.now }
     {
         let Some((name, rest)) = line.split_once(' ') else {
             return Err(LineFault::NotVector);

@@ -1,8 +1,7 @@
 //! The command line.
 
-use clap::{Command, Error};
-use command_line::{CommandOption, OPTION, Takes, command_of, with_options, with_subcommand};
-use std::alloc::Global;
+use clap::ArgMatches;
+use command_line::{ArgumentsFault, CommandLine, CommandOption, OPTION, Subcommand, Takes};
 
 // What a call is made of: its method, the fields of its message, and the message as it is.
 static CALLED: [CommandOption; 15] = [
@@ -159,44 +158,47 @@ static VECTORS: [CommandOption; 1] = [CommandOption {
     ..OPTION
 }];
 
-fn show<'a>(alloc: Global) -> Result<Command<'a>, Error> {
-    let about = "Shows the replies of standard input, a line each, as no command does";
-    command_of(alloc, "show", about, &SHOW)
-}
-
-fn frame<'a>(alloc: Global) -> Result<Command<'a>, Error> {
-    let about = "Writes one call to standard output";
-    command_of(alloc, "frame", about, &CALLED)
-}
-
-fn call<'a>(alloc: Global) -> Result<Command<'a>, Error> {
-    let about = "Makes one call of a server on a socket, and shows its reply";
-    with_options(alloc, command_of(alloc, "call", about, &CALL)?, &CALLED)
-}
-
-fn vectors<'a>(alloc: Global) -> Result<Command<'a>, Error> {
-    command_of(
-        alloc,
-        "vectors",
-        "Runs the test vectors of a file",
-        &VECTORS,
-    )
-}
-
-fn plain<'a>(alloc: Global) -> Command<'a> {
-    Command::new(alloc, "csictl").version("0.1.0").about(
-        "The client of csid: calls and replies are frames, as docs/PROTOCOL.md says",
-    )
-}
-
-/// The command line of the program.
+/// What the arguments ask for; nothing where that is help or the version, which is printed then.
 ///
 /// # Errors
 ///
-/// Where memory is refused.
-pub(crate) fn command<'a>(alloc: Global) -> Result<Command<'a>, Error> {
-    let command = with_subcommand(plain(alloc), show(alloc))?;
-    let command = with_subcommand(command, frame(alloc))?;
-    let command = with_subcommand(command, call(alloc))?;
-    with_subcommand(command, vectors(alloc))
+/// Where the command line does not have them, printing fails, or memory is refused.
+pub(crate) fn matches<'a>(
+    rt: &HostRuntime,
+    arguments: &'a [String],
+) -> Result<Option<ArgMatches<'a>>, ArgumentsFault> {
+    let subcommands = [
+        Subcommand {
+            name: "show",
+            about: "Shows the replies of standard input, a line each, as no command does",
+            options: &SHOW,
+            shared: &[],
+        },
+        Subcommand {
+            name: "frame",
+            about: "Writes one call to standard output",
+            options: &CALLED,
+            shared: &[],
+        },
+        Subcommand {
+            name: "call",
+            about: "Makes one call of a server on a socket, and shows its reply",
+            options: &CALL,
+            shared: &CALLED,
+        },
+        Subcommand {
+            name: "vectors",
+            about: "Runs the test vectors of a file",
+            options: &VECTORS,
+            shared: &[],
+        },
+    ];
+    let line = CommandLine {
+        name: "csictl",
+        version: "0.1.0",
+        about: "The client of csid: calls and replies are frames, as docs/PROTOCOL.md says",
+        options: &[],
+        subcommands: &subcommands,
+    };
+    command_line::matches(rt, &line, arguments)
 }

@@ -1,10 +1,10 @@
 //! What the program does.
 
-use crate::command::command;
+use crate::command::matches;
 use crate::failure::{Ended, Failure};
 use crate::{call, frame, show, vectors};
 use clap::ArgMatches;
-use command_line::{arguments, matches};
+use command_line::arguments;
 
 // Does what the arguments ask.
 fn obey(rt: &HostRuntime, arguments: &ArgMatches<'_>) -> Result<Ended, Failure> {
@@ -24,7 +24,7 @@ fn obey(rt: &HostRuntime, arguments: &ArgMatches<'_>) -> Result<Ended, Failure> 
 /// Why the program ends otherwise than well. It is not said yet.
 pub(crate) fn run(rt: &HostRuntime) -> Result<Ended, Failure> {
     let arguments = arguments(rt)?;
-    match matches(rt, command(rt.alloc()), arguments.as_slice())? {
+    match matches(rt, arguments.as_slice())? {
         Some(matches) => obey(rt, &matches),
         None => Ok(Ended::Done),
     }

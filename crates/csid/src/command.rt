@@ -1,10 +1,9 @@
 //! The command line.
 
-use clap::{ArgMatches, Command, Error};
+use clap::ArgMatches;
 use command_line::{
-    CommandOption, OPTION, Takes, command_of, is_decimal, with_options, with_subcommand,
+    ArgumentsFault, CommandLine, CommandOption, OPTION, Subcommand, Takes, is_decimal,
 };
-use std::alloc::Global;
 
 /// What the command line asks for.
 #[derive(Clone, Copy)]
@@ -150,31 +149,37 @@ static SERVE: [CommandOption; 9] = [
     },
 ];
 
-fn pipe<'a>(alloc: Global) -> Result<Command<'a>, Error> {
-    let about =
-        "Answers the calls of standard input on standard output, as no command does; without --tables the volumes are forgotten at the end";
-    command_of(alloc, "pipe", about, &PIPE)
-}
-
-fn serve<'a>(alloc: Global) -> Result<Command<'a>, Error> {
-    let about = "Answers the calls of connections to a Unix socket, one connection after the other";
-    command_of(alloc, "serve", about, &SERVE)
-}
-
-fn plain<'a>(alloc: Global) -> Command<'a> {
-    Command::new(alloc, "csid").version("0.1.0").about(
-        "A CSI controller plugin: calls and replies are frames, as docs/PROTOCOL.md says",
-    )
-}
-
-/// The command line of the program.
+/// What the arguments ask for; nothing where that is help or the version, which is printed then.
 ///
 /// # Errors
 ///
-/// Where memory is refused.
-pub(crate) fn command<'a>(alloc: Global) -> Result<Command<'a>, Error> {
-    let command = with_options(alloc, plain(alloc), &CHECKS)?.args_conflicts_with_subcommands(true);
-    with_subcommand(with_subcommand(command, pipe(alloc))?, serve(alloc))
+/// Where the command line does not have them, printing fails, or memory is refused.
+pub(crate) fn matches<'a>(
+    rt: &HostRuntime,
+    arguments: &'a [String],
+) -> Result<Option<ArgMatches<'a>>, ArgumentsFault> {
+    let subcommands = [
+        Subcommand {
+            name: "pipe",
+            about: "Answers the calls of standard input on standard output, as no command does; without --tables the volumes are forgotten at the end",
+            options: &PIPE,
+            shared: &[],
+        },
+        Subcommand {
+            name: "serve",
+            about: "Answers the calls of connections to a Unix socket, one connection after the other",
+            options: &SERVE,
+            shared: &[],
+        },
+    ];
+    let line = CommandLine {
+        name: "csid",
+        version: "0.1.0",
+        about: "A CSI controller plugin: calls and replies are frames, as docs/PROTOCOL.md says",
+        options: &CHECKS,
+        subcommands: &subcommands,
+    };
+    command_line::matches(rt, &line, arguments)
 }
 
 /// The options that are numbers, each as it is shown.
@@ -243,7 +248,7 @@ fn asked_plainly<'a>(arguments: &ArgMatches<'a>) -> Task<'a> {
     }
 }
 
-/// What the arguments that [`command`] takes ask for.
+/// What arguments that [`matches`] takes ask for.
 pub(crate) fn asked<'a>(matches: &ArgMatches<'a>) -> Task<'a> {
     match matches.subcommand() {
         Some(("serve", arguments)) => Task::Serve(asked_of_serve(arguments)),

@@ -4,7 +4,7 @@ ghost use Rattle.std.specs.Prelude.{IfErr};
 ghost use Rattle.csid.specs.Statuses.{IsOrNoMemory};
 
 use crate::check::{check_config, check_tables};
-use crate::command::{Piped, Serving, Task, asked, command, odd_number, odd_store};
+use crate::command::{Piped, Serving, Task, asked, matches, odd_number, odd_store};
 use crate::config::configuration;
 use crate::failure::{Failure, Peer, outcome};
 use crate::keeping::{OverKeeper, Place, over_keeper};
@@ -12,7 +12,7 @@ use crate::say::say;
 use crate::socket::{listen, serve_all};
 use crate::tables::{Blank, check_standing, survey};
 use clap::ArgMatches;
-use command_line::{ArgumentsFault, arguments, matches};
+use command_line::{ArgumentsFault, arguments};
 use csi_config::Config;
 use csi_keeper::Keeper;
 use csi_memory::MemKeeper;
@@ -181,7 +181,7 @@ fn obey(rt: &HostRuntime, arguments: &ArgMatches<'_>) -> Result<(), Failure> {
 /// Why the program ends with a status other than 0. It is not said yet.
 pub(crate) fn run(rt: &HostRuntime) -> Result<(), Failure> {
     let arguments = arguments(rt)?;
-    match matches(rt, command(rt.alloc()), arguments.as_slice())? {
+    match matches(rt, arguments.as_slice())? {
         Some(matches) => obey(rt, &matches),
         None => Ok(()),
     }

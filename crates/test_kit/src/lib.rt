@@ -11,14 +11,18 @@
 //! ```
 #![tactic(auto)]
 
+mod configs;
 mod fault;
 mod notation;
 mod parts;
 mod replies;
 mod rows;
+mod texts;
 
+pub use configs::{config_with, nodes_of, plugin_of, pools_of};
 pub use fault::RowFault;
 pub use notation::{NotationFault, bytes_counted, bytes_of};
 pub use parts::{bytes_text, number_at, number_of, put_part, word_at, words_of};
 pub use replies::{Reply, reply_to};
 pub use rows::{Answer, AnswerRow, AnswerSection, Rows, answer_rows};
+pub use texts::{map_of, text_at, texts_of};

@@ -1,11 +1,13 @@
-use Rattle.std.proofs.Common.{rules, ◌≡◌, ◌∙◌, inl, inr, sym, ap, ap₂, subst, Err, IfErr}
+use Rattle.std.proofs.Common.{rules, ◌≡◌, ◌∙◌, inl, inr, refl, sym, ap, ap₂, subst, Err, IfErr}
 use Rattle.sqlite.specs.Held.{state}
 use Rattle.csi_schema.specs.Tables.{schema as our_schema}
 use Rattle.csi_judging.specs.Seen.{sums_of}
+use Rattle.csi_judging.specs.declared.fault.AdoptFault.TheVariants.{NoMemory}
 use Rattle.csi_adoption.specs.Adopting.{IsNotRefused}
 use Rattle.csi_adoption.specs.Judging.{total_in}
 use Rattle.csi_adoption.proofs.FaultLemmas.{is_err, must_fail}
 use Rattle.csi_adoption.proofs.ChainLemmas.{ended}
+use Rattle.csi_adoption.proofs.FailingLemmas.{handed_fault, no_store}
 use Rattle.csi_adoption.proofs.adopting.judge.Goals as goal
 
 pub returns-in_err-volumes-clause-other : goal.returns-in_err-volumes-clause-other
@@ -49,3 +51,9 @@ returns-clause-found g c = λ clean.
                 ∙ it.totals pool,
           );
     }
+
+pub returns-in_err-totals-clause-failed : goal.returns-in_err-totals-clause-failed
+returns-in_err-totals-clause-failed g c = no_store g.S.Store c.args.conn.now c.judge_rows.new.conn c.from_residual-in_err-totals.result NoMemory c.from_residual-in_err-totals.ensures.1 refl
+
+pub returns-in_err-volumes-clause-failed : goal.returns-in_err-volumes-clause-failed
+returns-in_err-volumes-clause-failed g c = handed_fault g.S.Store c.args.conn.now c.judge_rows.new.conn c.from_residual.result c.in_err-volumes.field-0.0 c.from_residual.ensures.1 c.in_err-volumes.ensures.failed

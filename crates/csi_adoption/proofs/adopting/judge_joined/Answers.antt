@@ -5,6 +5,7 @@ use Rattle.csi_adoption.specs.Judging.{JudgesRows, volumes_unless}
 use Rattle.csi_adoption.proofs.JudgedLemmas.{counts_fault, joined_failure, judged_err, none_broken, owner_fault}
 use Rattle.csi_adoption.proofs.FaultLemmas.{is_err, not_memory}
 use Rattle.csi_adoption.proofs.ChainLemmas.{clean_before, ended, failed, shown_behind, chained}
+use Rattle.csi_adoption.proofs.FailingLemmas.{cause_behind, no_store, told_behind}
 use Rattle.csi_adoption.proofs.adopting.judge_joined.Goals as goal
 
 pub returns-in_err-see_owners-clause-judged : goal.returns-in_err-see_owners-clause-judged
@@ -23,7 +24,7 @@ returns-in_err-check_attachment-clause-judged g c = λ clean next seen fine rows
     let db = (state g.S.Store c.args.conn.now).now.trees in
     let owned = c.in_ok-see_owners.ensures.seen clean in
     subst (λ r. JudgesRows config db (volumes_unless tables r)) (sym answer) (judged_err config db c.in_err-check_attachment.field-0.0 (λ known.
-    owner_fault config db next rows same is tables seen owned.0 owned.1 c.in_ok-see_owners.field-0 owned.2 fine c.in_err-check_attachment.field-0.0 (c.in_err-check_attachment.ensures (not_memory c.in_err-check_attachment.field-0.0 known))))
+    owner_fault config db next rows same is tables seen owned.0 owned.1 c.in_ok-see_owners.field-0 owned.2 fine c.in_err-check_attachment.field-0.0 (c.in_err-check_attachment.ensures.0 (not_memory c.in_err-check_attachment.field-0.0 known))))
 
 pub returns-in_err-see_apart-clause-scans : goal.returns-in_err-see_apart-clause-scans
 returns-in_err-see_apart-clause-scans g c =
@@ -48,7 +49,7 @@ returns-in_err-check_counts-clause-judged g c = λ clean next seen fine rows sam
     c.in_ok-see_owners.ensures.scans c.in_ok-see_apart.ensures.scans c.in_ok-see_apart.ensures.seen clean in
     subst (λ r. JudgesRows c.args.config.now db (volumes_unless c.args.tables.now r)) (sym answer) (judged_err c.args.config.now db c.in_err-check_counts.field-0.0 (λ known.
     counts_fault c.args.config.now db next rows same is c.args.tables.now seen owned.0 owned.1 c.in_ok-see_owners.field-0 owned.2 fine places.0 places.1 c.in_ok-see_apart.field-0 places.2 c.in_ok-check_attachment.ensures
-    c.in_err-check_counts.field-0.0 (c.in_err-check_counts.ensures (not_memory c.in_err-check_counts.field-0.0 known))))
+    c.in_err-check_counts.field-0.0 (c.in_err-check_counts.ensures.0 (not_memory c.in_err-check_counts.field-0.0 known))))
 
 pub returns-clause-scans : goal.returns-clause-scans
 returns-clause-scans g c =
@@ -62,3 +63,19 @@ returns-clause-judged g c = λ clean next seen fine rows same is.
     let places = shown_behind g.S.Store c.args.conn.now c.see_owners.new.conn c.see_apart.new.conn _ _ (λ db rows. IsPermutation (map seen_attachment (db 3)) rows)
     c.in_ok-see_owners.ensures.scans c.in_ok-see_apart.ensures.scans c.in_ok-see_apart.ensures.seen clean in
     none_broken c.args.config.now db next rows same is c.args.tables.now seen owned.0 owned.1 c.in_ok-see_owners.field-0 owned.2 fine places.0 places.1 c.in_ok-see_apart.field-0 places.2 c.in_ok-check_attachment.ensures c.in_ok-check_counts.ensures
+
+pub returns-in_err-see_owners-clause-failed : goal.returns-in_err-see_owners-clause-failed
+returns-in_err-see_owners-clause-failed g c = told_behind g.S.Store c.args.conn.now c.see_owners.new.conn c.from_residual.result c.in_err-see_owners.field-0.0 c.from_residual.ensures.1 c.in_err-see_owners.ensures.failed
+
+pub returns-in_err-check_attachment-clause-failed : goal.returns-in_err-check_attachment-clause-failed
+returns-in_err-check_attachment-clause-failed g c =
+    no_store g.S.Store c.args.conn.now c.see_owners.new.conn c.from_residual-in_err-check_attachment.result c.in_err-check_attachment.field-0.0 c.from_residual-in_err-check_attachment.ensures.1 c.in_err-check_attachment.ensures.2
+
+pub returns-in_err-see_apart-clause-failed : goal.returns-in_err-see_apart-clause-failed
+returns-in_err-see_apart-clause-failed g c =
+    told_behind g.S.Store c.args.conn.now c.see_apart.new.conn c.from_residual-in_err-see_apart.result c.in_err-see_apart.field-0.0 c.from_residual-in_err-see_apart.ensures.1
+    (λ other. cause_behind g.S.Store c.args.conn.now c.see_owners.new.conn c.see_apart.new.conn _ c.in_ok-see_owners.ensures.scans c.in_err-see_apart.ensures.scans.survives (c.in_err-see_apart.ensures.failed other))
+
+pub returns-in_err-check_counts-clause-failed : goal.returns-in_err-check_counts-clause-failed
+returns-in_err-check_counts-clause-failed g c =
+    no_store g.S.Store c.args.conn.now c.see_apart.new.conn c.from_residual-in_err-check_counts.result c.in_err-check_counts.field-0.0 c.from_residual-in_err-check_counts.ensures.1 c.in_err-check_counts.ensures.2

@@ -2,6 +2,7 @@ use Rattle.std.proofs.Common.{map, subst}
 use Rattle.sqlite.specs.Tree.{Trees}
 use Rattle.csi_scans.specs.Scans.{keyed_attachment, IsInOrder}
 use Rattle.csi_adoption.proofs.ChainLemmas.{clean_before, ended, failed, same_trees, chained}
+use Rattle.csi_adoption.proofs.FailingLemmas.{cause_behind, handed_error}
 use Rattle.csi_adoption.proofs.adopting.see_tables.Goals as goal
 
 pub returns-in_err-attachments-clause-scans : goal.returns-in_err-attachments-clause-scans
@@ -28,3 +29,11 @@ returns-clause-seen g c = λ clean.
       sees = volumes.2;
       placed = attachments.2;
     }
+
+pub returns-in_err-attachments-clause-failed : goal.returns-in_err-attachments-clause-failed
+returns-in_err-attachments-clause-failed g c =
+    handed_error g.S.Store c.args.conn.now c.see_attachments.new.conn c.from_residual-in_err-attachments.result c.in_err-attachments.field-0.0 c.from_residual-in_err-attachments.ensures.1
+    (λ other. cause_behind g.S.Store c.args.conn.now c.see_volumes.new.conn c.see_attachments.new.conn c.in_ok-volumes.volumes c.in_ok-volumes.ensures.scans c.in_err-attachments.ensures.scans.survives (c.in_err-attachments.ensures.failed other))
+
+pub returns-in_err-volumes-clause-failed : goal.returns-in_err-volumes-clause-failed
+returns-in_err-volumes-clause-failed g c = handed_error g.S.Store c.args.conn.now c.see_volumes.new.conn c.from_residual.result c.in_err-volumes.field-0.0 c.from_residual.ensures.1 c.in_err-volumes.ensures.failed

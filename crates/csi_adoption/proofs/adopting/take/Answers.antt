@@ -1,4 +1,11 @@
+use Rattle.std.proofs.Common.{◌≡◌, ◌∙◌, sym, arith, false, true≢false}
+use Rattle.sqlite.specs.Held.{state}
+use Rattle.sqlite.specs.State.{HasCleanDisk}
+use Rattle.csi_judging.specs.Faults.{failure_of, is_failure}
+use Rattle.csi_adoption.specs.Judging.{IsFaultOf}
+use Rattle.csi_adoption.proofs.FaultLemmas.{error_fails}
 use Rattle.csi_adoption.proofs.TakeLemmas.{is_taken, taken_survives}
+use Rattle.csi_adoption.proofs.FailingLemmas.{cause_behind, format_cause, handed_fault, if_err, ours, told_behind}
 use Rattle.csi_adoption.proofs.adopting.take.Goals as goal
 
 pub returns-in_err-upgrade-clause-survives : goal.returns-in_err-upgrade-clause-survives
@@ -16,3 +23,20 @@ pub returns-clause-survives : goal.returns-clause-survives
 returns-clause-survives g c =
     let judged = c.in_ok-judged.ensures in
     taken_survives g.S.Store c.args.config.now c.args.conn.now c.judge.new.conn c.upgrade.new.conn c.in_ok-judged.judged.format c.in_ok-judged.judged.totals judged.scans.same judged.scans.survives judged.found c.latest.ensures c.upgrade.ensures.survives
+
+pub returns-in_err-upgrade-clause-failed : goal.returns-in_err-upgrade-clause-failed
+returns-in_err-upgrade-clause-failed g c =
+    let judged = c.in_ok-judged.ensures in
+    told_behind g.S.Store c.args.conn.now c.upgrade.new.conn c.from_residual-in_err-upgrade.result c.in_err-upgrade.field-0.0 c.from_residual-in_err-upgrade.ensures.1
+    (λ other. cause_behind g.S.Store c.args.conn.now c.judge.new.conn c.upgrade.new.conn c.in_ok-judged.judged judged.scans c.upgrade.ensures.survives
+    (format_cause g.S.Store c.judge.new.conn c.upgrade.new.conn c.in_err-upgrade.field-0.0 other (λ clean. c.in_err-upgrade.ensures.failed clean
+    (let before : HasCleanDisk (state g.S.Store c.judge.new.conn) = omega (arith, clean, c.upgrade.ensures.survives.clean) in
+    ours g.S.Store c.args.conn.now c.judge.new.conn (judged.found before).schema_is (judged.scans.same before)))))
+
+pub returns-in_err-judged-clause-failed : goal.returns-in_err-judged-clause-failed
+returns-in_err-judged-clause-failed g c = handed_fault g.S.Store c.args.conn.now c.judge.new.conn c.from_residual.result c.in_err-judged.field-0.0 c.from_residual.ensures.1 c.in_err-judged.ensures.failed
+
+pub returns-in_err-upgrade-clause-first : goal.returns-in_err-upgrade-clause-first
+returns-in_err-upgrade-clause-first g c = λ clean.
+    if_err (λ fault. is_failure fault ≡ false → IsFaultOf c.args.config.now (state g.S.Store c.args.conn.now).now fault) c.from_residual-in_err-upgrade.result (failure_of c.in_err-upgrade.field-0.0) c.from_residual-in_err-upgrade.ensures.1
+    (λ known. absurd (true≢false (sym (error_fails c.in_err-upgrade.field-0.0) ∙ known)))

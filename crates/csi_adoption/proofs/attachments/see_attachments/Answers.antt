@@ -5,6 +5,7 @@ use Rattle.csi_constraints.specs.Coded.{has_cap}
 use Rattle.csi_constraints.specs.Kinds.{has_attachment_kinds}
 use Rattle.csi_adoption.specs.Judging.{SeesAttachments}
 use Rattle.csi_adoption.proofs.SeeingLemmas.{all_sums, named, named_by, risen, sees_attachments}
+use Rattle.csi_adoption.proofs.FailingLemmas.{fallen, scan_failed, scan_short, unrisen_attachments}
 use Rattle.csi_adoption.proofs.attachments.see_attachments.Goals as goal
 
 pub returns-clause-seen : goal.returns-clause-seen
@@ -26,3 +27,17 @@ returns-clause-seen g c clean =
           (risen _ _ _ _ _ rows kinds.column kinds.good kinds.last all.0.0.1.1 c.if-not-rises.false)
           all.0.1.0.4),
     )
+
+pub returns-in_err-nodes-clause-failed : goal.returns-in_err-nodes-clause-failed
+returns-in_err-nodes-clause-failed g c = scan_short g.S.Store c.args.conn.now c.args.conn.now c.from_residual.result c.from_residual.ensures.1
+
+pub returns-in_err-scanned-clause-failed : goal.returns-in_err-scanned-clause-failed
+returns-in_err-scanned-clause-failed g c =
+    scan_failed g.S.Store c.args.conn.now c.scan_attachments-scanned.new.conn c.from_residual-in_err-scanned.result c.in_err-scanned.field-0.0 (rw c.in_err-scanned.was at c.scan_attachments-scanned.ensures.failed) c.from_residual-in_err-scanned.ensures.1
+
+pub returns-then-not-rises-clause-failed : goal.returns-then-not-rises-clause-failed
+returns-then-not-rises-clause-failed g c other =
+    let kinds = c.kinds.ensures in
+    unrisen_attachments g.S.Store c.args.conn.now c.scan_attachments-scanned.new.conn (λ clean.
+    let seen = rw c.in_ok-scanned.was at (c.scan_attachments-scanned.ensures.ok clean) in
+    (seen.0, seen.1, fallen _ _ _ _ _ seen.0 kinds.column kinds.good kinds.last seen.2.0.0.1.1 c.if-not-rises.true))

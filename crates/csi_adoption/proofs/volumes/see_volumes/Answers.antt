@@ -5,6 +5,7 @@ use Rattle.csi_constraints.specs.Kinds.{has_volume_kinds}
 use Rattle.csi_constraints.specs.Volumes.{is_in_pools, is_named, is_numbered, is_sized}
 use Rattle.csi_adoption.specs.Judging.{SeesVolumes}
 use Rattle.csi_adoption.proofs.SeeingLemmas.{all_sums, counted, named, named_by, risen, sees_volumes}
+use Rattle.csi_adoption.proofs.FailingLemmas.{fallen, scan_failed, scan_short, unrisen_volumes}
 use Rattle.csi_adoption.proofs.volumes.see_volumes.Goals as goal
 
 pub returns-clause-seen : goal.returns-clause-seen
@@ -34,3 +35,17 @@ returns-clause-seen g c clean =
           all.0.1.1.0.4
           all.0.1.1.1.4),
     )
+
+pub returns-in_err-sums-clause-failed : goal.returns-in_err-sums-clause-failed
+returns-in_err-sums-clause-failed g c = scan_short g.S.Store c.args.conn.now c.args.conn.now c.from_residual.result c.from_residual.ensures.1
+
+pub returns-in_err-scanned-clause-failed : goal.returns-in_err-scanned-clause-failed
+returns-in_err-scanned-clause-failed g c =
+    scan_failed g.S.Store c.args.conn.now c.scan_volumes-scanned.new.conn c.from_residual-in_err-scanned.result c.in_err-scanned.field-0.0 (rw c.in_err-scanned.was at c.scan_volumes-scanned.ensures.failed) c.from_residual-in_err-scanned.ensures.1
+
+pub returns-then-not-rises-clause-failed : goal.returns-then-not-rises-clause-failed
+returns-then-not-rises-clause-failed g c other =
+    let kinds = c.kinds.ensures in
+    unrisen_volumes g.S.Store c.args.conn.now c.scan_volumes-scanned.new.conn (λ clean.
+    let seen = rw c.in_ok-scanned.was at (c.scan_volumes-scanned.ensures.ok clean) in
+    (seen.0, seen.1, fallen _ _ _ _ _ seen.0 kinds.column kinds.good kinds.last seen.2.0.0.0.1.1 c.if-not-rises.true))

@@ -1,6 +1,6 @@
-use Rattle.std.proofs.Common.{rules, ℕ, ◌++◌, ◌≤◌, List, [], length, take, arith, subst, sym, ap, refl, ◌∙◌}
+use Rattle.std.proofs.Common.{rules, ℕ, ◌++◌, ◌≤◌, ◌<◌, List, length, arith, subst, sym, refl}
 use Rattle.std.specs.Io.KnownBytes.{Consumes, IsAtEnd}
-use Rattle.std.proofs.KnownBytes.{Consumes-nil, Consumes-trans, Consumes-kept}
+use Rattle.std.proofs.KnownBytes.{Consumes-trans}
 use Rattle.csi_client.proofs.Feeding.{Fed, fed_count}
 use Rattle.csi_client.proofs.Gathering.{ended, settled, settled_some, one_more, nothing_more}
 use Rattle.csi_client.proofs.receiving.gather.Goals as goal
@@ -18,10 +18,13 @@ pub returns-then-is_settled : goal.returns-then-is_settled
 returns-then-is_settled g c =
     let r = g.R.Read.remaining in
     let run = c.loop-turn.invariant.run in
+    let b : c.in_ok-count.count ≤ 4096 = search rules in
+    let any : 0 < length c.split_at.result.0.now = omega (arith, c.split_at.ensures.front_len, c.if-count-eq0.false) in
+    let small : length c.split_at.result.0.now ≤ 4096 = omega (arith, c.split_at.ensures.front_len, b) in
     let f : Fed c.loop-turn.framer c.feed.new.self c.split_at.result.0.now c.feed.result = record { past = c.feed.ensures.past; held = c.feed.ensures.held; all = c.feed.ensures.all; known = c.feed.ensures.known; idle = c.feed.ensures.idle } in (
       run.0 ++ c.split_at.result.0.now,
       Consumes-trans (r c.args.reader.now) (r c.loop-turn.reader) (r c.read.new.self) run.0 c.split_at.result.0.now run.1 (subst (λ (x : List ℕ). Consumes (r c.loop-turn.reader) (r c.read.new.self) x) (sym c.split_at.ensures.front) c.in_ok-count.ensures.bytes.0),
-      settled run.0 c.split_at.result.0.now (IsAtEnd (r c.read.new.self)) c.loop-turn.framer c.feed.new.self c.feed.result run.2 f (settled_some c.feed.new.self (c.if-is_settled.ensures.settled refl)),
+      settled run.0 c.split_at.result.0.now (IsAtEnd (r c.read.new.self)) c.loop-turn.framer c.feed.new.self c.feed.result run.2 f any small (settled_some c.feed.new.self (c.if-is_settled.ensures.settled refl)),
     )
 
 pub loop-turn-preserved : goal.loop-turn-preserved

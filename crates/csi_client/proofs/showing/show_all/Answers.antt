@@ -6,7 +6,7 @@ use Rattle.frames_core.specs.Framer.{ReplyFramerState}
 use Rattle.csi_client.specs.declared.showing.ShowEnd.{ShowEnd}
 use Rattle.csi_client.specs.declared.showing.ShowEnd.TheVariants.{Malformed}
 use Rattle.csi_client.specs.Showing.{Ended}
-use Rattle.csi_client.specs.Live.{Live, end_of}
+use Rattle.csi_client.specs.Live.{end_of}
 use Rattle.csi_client.proofs.Gathering.{nothing_more}
 use Rattle.csi_client.proofs.Printing.{live_start, live_as, live_whole, ended_as, ended_at, read_failed}
 use Rattle.csi_client.proofs.showing.show_all.Goals as goal

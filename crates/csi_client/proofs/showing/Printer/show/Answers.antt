@@ -1,6 +1,3 @@
-use Rattle.std.proofs.Common.{◌++◌, List, ℕ, subst}
-use Rattle.std.specs.Io.KnownBytes.{Appends}
-use Rattle.envelope.specs.Envelope.{reply_bytes_of}
 use Rattle.csi_client.proofs.Statuses.{code_of}
 use Rattle.csi_client.proofs.showing.Printer.show.Goals as goal
 

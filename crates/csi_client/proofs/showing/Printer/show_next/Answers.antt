@@ -1,4 +1,4 @@
-use Rattle.std.proofs.Common.{sym, ◌∙◌}
+use Rattle.std.proofs.Common.{sym}
 use Rattle.envelope.specs.Envelope.{reply_bytes_of}
 use Rattle.frames_core.specs.Framer.{IsReplyFrame}
 use Rattle.csi_client.proofs.Feeding.{Fed}

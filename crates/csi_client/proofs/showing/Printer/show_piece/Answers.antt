@@ -1,4 +1,4 @@
-use Rattle.std.proofs.Common.{ℕ, ◌++◌, ◌≡◌, ◌∙◌, List, take, arith, subst, sym}
+use Rattle.std.proofs.Common.{ℕ, ◌++◌, ◌∙◌, List, take, arith, subst, sym}
 use Rattle.csi_client.specs.declared.showing.ShowEnd.TheVariants.{Malformed}
 use Rattle.csi_client.specs.Showing.{Ended}
 use Rattle.csi_client.specs.Live.{Live, end_of}

@@ -1,0 +1,8 @@
+use Rattle.csi_adoption.proofs.FailingLemmas.{handed_fault, judging_behind}
+use Rattle.csi_adoption.proofs.adopting.judge_rows.Goals as goal
+
+pub returns-clause-failed : goal.returns-clause-failed
+returns-clause-failed g c = judging_behind g.S.Store c.args.conn.now c.see_row.new.conn c.judge_behind.new.conn c.in_ok-meta.meta c.judge_behind.result c.in_ok-meta.ensures.scans c.judge_behind.ensures.scans.survives c.judge_behind.ensures.failed
+
+pub returns-in_err-meta-clause-failed : goal.returns-in_err-meta-clause-failed
+returns-in_err-meta-clause-failed g c = handed_fault g.S.Store c.args.conn.now c.see_row.new.conn c.from_residual.result c.in_err-meta.field-0.0 c.from_residual.ensures.1 c.in_err-meta.ensures.failed

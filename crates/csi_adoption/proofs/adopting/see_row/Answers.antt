@@ -1,0 +1,8 @@
+use Rattle.csi_adoption.proofs.FailingLemmas.{meta_fails, told_behind}
+use Rattle.csi_adoption.proofs.adopting.see_row.Goals as goal
+
+pub returns-in_err-rows-clause-failed : goal.returns-in_err-rows-clause-failed
+returns-in_err-rows-clause-failed g c = told_behind g.S.Store c.args.conn.now c.see_meta.new.conn c.from_residual.result c.in_err-rows.field-0.0 c.from_residual.ensures.1 c.in_err-rows.ensures.failed
+
+pub returns-clause-failed : goal.returns-clause-failed
+returns-clause-failed g c = meta_fails g.S.Store c.args.conn.now c.see_meta.new.conn c.in_ok-rows.rows c.judge_meta.result c.judge_meta.ensures

@@ -1,0 +1,27 @@
+//! What a keeper keeps, as a text.
+
+use csi_keeper::{Keeper, StoreFault};
+use std::alloc::Global;
+use std::fmt::Write;
+use test_kit::RowFault;
+
+// More than any row makes.
+const MOST_VOLUMES: u32 = 100_000;
+
+/// The next number, and each volume with all that is known of it and its attachments.
+pub(crate) fn kept<K: Keeper>(alloc: Global, keeper: &mut K) -> Result<String, RowFault> {
+    let next = keeper.next_number().map_err(refused)?;
+    let volumes = keeper.page(alloc, 0, MOST_VOLUMES).map_err(refused)?;
+    let mut text = format!(in alloc; "next {next}")?;
+    for volume in volumes.as_slice() {
+        let attachments = keeper.attachments(alloc, volume.number).map_err(refused)?;
+        let attachments = attachments.as_slice();
+        write!(text, ", {volume:?} at {attachments:?}")?;
+    }
+    Ok(text)
+}
+
+// None of the keepers that are looked at refuses anything but memory.
+fn refused(_fault: StoreFault) -> RowFault {
+    RowFault::NoMemory
+}

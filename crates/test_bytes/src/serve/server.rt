@@ -1,0 +1,88 @@
+//! The two servers that a stream is tried with.
+
+use super::compared::Served;
+use super::fakes::{Pieces, Reader, Takes, Writer};
+use super::kept::kept;
+use csi_config::Config;
+use csi_keeper::Keeper;
+use csi_memory::MemKeeper;
+use csi_server::{RunEnd, serve, serve_identity};
+use std::alloc::Global;
+use std::cell::Cell;
+use test_kit::RowFault;
+
+// The most bytes of a name and of a version.
+const MAX_NAME_BYTES: usize = 128;
+
+/// What serves.
+#[derive(Clone, Copy)]
+pub(crate) enum Server<'a> {
+    /// All calls, under a configuration.
+    Volumes(&'a Config),
+    /// The two calls that say what a plugin is.
+    Identity { name: &'a str, version: &'a str },
+}
+
+impl Server<'_> {
+    /// Serves a stream over a keeper in memory, which is new.
+    ///
+    /// # Errors
+    ///
+    /// A name that is too long, or memory is refused for what comes before or behind the run.
+    pub(crate) fn run(
+        self,
+        alloc: Global,
+        pieces: Pieces<'_>,
+        takes: Takes,
+    ) -> Result<Served, RowFault> {
+        let mut keeper = MemKeeper::new(alloc, 1)?;
+        self.run_on(alloc, &mut keeper, pieces, takes)
+    }
+
+    /// Serves a stream over a keeper, and looks what is kept.
+    ///
+    /// # Errors
+    ///
+    /// A name that is too long, or memory is refused behind the run.
+    pub(crate) fn run_on<K: Keeper>(
+        self,
+        alloc: Global,
+        keeper: &mut K,
+        pieces: Pieces<'_>,
+        takes: Takes,
+    ) -> Result<Served, RowFault> {
+        let (end, written) = self.run_over(alloc, keeper, pieces, takes)?;
+        Ok(Served {
+            end,
+            written,
+            kept: kept(alloc, keeper)?,
+        })
+    }
+
+    /// Serves a stream over a keeper: how that ends, and what is written.
+    ///
+    /// # Errors
+    ///
+    /// A name that is too long.
+    pub(crate) fn run_over<K: Keeper>(
+        self,
+        alloc: Global,
+        keeper: &mut K,
+        pieces: Pieces<'_>,
+        takes: Takes,
+    ) -> Result<(RunEnd, Vec<u8>), RowFault> {
+        let is_flushed = Cell::new(true);
+        let mut reader = Reader::new(pieces, &is_flushed);
+        let mut writer = Writer::new(alloc, takes, &is_flushed);
+        let end = match self {
+            Server::Volumes(config) => serve(alloc, config, keeper, &mut reader, &mut writer),
+            Server::Identity { name, version } => {
+                if name.len() > MAX_NAME_BYTES || version.len() > MAX_NAME_BYTES {
+                    return Err(RowFault::NotRow);
+                }
+                serve_identity(alloc, name, version, &mut reader, &mut writer)
+            }
+        };
+        Ok((end, writer.into_bytes()))
+    }
+}

@@ -1,0 +1,241 @@
+//! What is tried with a stream over a store that refuses a call.
+
+use super::compared::{Served, Trial, Wanted, compare};
+use super::fakes::{GREATEST_PIECE, Pieces, Takes};
+use super::kept::kept;
+use super::trials::Trials;
+use csi_keeper::Keeper;
+use csi_memory::fakes::FusedMem;
+use csi_server::RunEnd;
+use std::alloc::AllocError;
+use test_kit::RowFault;
+
+// 13, and a text of 13 bytes.
+pub(super) const STORE_REFUSED: &[u8] = b"\x0d\x00\x0dstore refused\x00\x00\x00\x00\x00";
+
+const STORE_DOWN: &[u8] = b"\x0d\x00\x0dstore is down\x00\x00\x00\x00\x00";
+
+/// More calls of the store than any row makes.
+pub(super) const MOST_CALLS: u64 = 1_000_000;
+
+/// A run over a store that refuses a call: its end, what was written, and how many refusals the store counted.
+#[derive(Drop)]
+pub(super) struct Run {
+    end: RunEnd,
+    written: Vec<u8>,
+    refusals: u64,
+}
+
+/// What came of a run over a store that refuses a call.
+#[derive(Drop)]
+pub(super) struct Refused {
+    pub(super) served: Served,
+    pub(super) refusals: u64,
+    pub(super) is_down: bool,
+}
+
+// What is wanted of it: the replies to all calls, what is kept, and how many refusals are counted.
+#[derive(Drop)]
+struct Replies {
+    bytes: Vec<u8>,
+    kept: String,
+    refusals: u64,
+}
+
+impl Trials<'_> {
+    /// Each call of the store is refused in turn, and then none. Each call of the stream that asks
+    /// the store is refused so at least once, and no other is.
+    ///
+    /// # Errors
+    ///
+    /// The first run that differs from what is wanted.
+    pub(crate) fn store(&self) -> Result<(), RowFault> {
+        let mut seen = 0;
+        for at in 0..MOST_CALLS {
+            match self.refuse(at)? {
+                Some(call) => seen = self.seen_with(seen, call)?,
+                None if self.first_asking(seen).is_none() => return Ok(()),
+                None => return Err(RowFault::Refused("a call did not ask the store")),
+            }
+        }
+        Err(RowFault::Refused("the store was asked too often"))
+    }
+
+    // How many calls are known to be refused where they ask, with one more that was.
+    fn seen_with(&self, seen: usize, call: usize) -> Result<usize, RowFault> {
+        let next = call.saturating_add(1);
+        if next == seen || self.first_asking(seen) == Some(call) {
+            return Ok(next);
+        }
+        Err(RowFault::Refused("another call than the next was refused"))
+    }
+
+    // The first call that asks the store, of those behind so many.
+    fn first_asking(&self, from: usize) -> Option<usize> {
+        let calls = self.stream.calls.get(from..)?;
+        let place = calls.iter().position(|call| call.asks)?;
+        from.checked_add(place)
+    }
+
+    // A call of the store is refused: the call in which it was, or none if there are fewer.
+    fn refuse(&self, at: u64) -> Result<Option<usize>, RowFault> {
+        let trial = Trial {
+            name: "refused call of the store",
+            number: at,
+        };
+        self.judge(trial, &self.serve_refusing(at)?)
+    }
+
+    /// The call in which a read or a change was refused, or none where none was: all came then as it should.
+    ///
+    /// # Errors
+    ///
+    /// What differs from what is wanted.
+    pub(super) fn judge(&self, trial: Trial, came: &Refused) -> Result<Option<usize>, RowFault> {
+        if came.refusals == 0 {
+            compare(self.alloc, trial, &came.served, &self.whole())?;
+            return Ok(None);
+        }
+        let call = self.answered(&came.served.written);
+        let replies = if came.is_down {
+            self.after_change(call)?
+        } else {
+            self.after_read(call)?
+        };
+        if came.refusals != replies.refusals {
+            return Err(RowFault::Refused("the refusals were not counted"));
+        }
+        let wanted = Wanted {
+            end: self.whole().end,
+            replies: replies.bytes.as_slice(),
+            last: self.stream.fault_frame(),
+            kept: replies.kept.as_str(),
+        };
+        compare(self.alloc, trial, &came.served, &wanted)?;
+        Ok(Some(call))
+    }
+
+    fn serve_refusing(&self, at: u64) -> Result<Refused, RowFault> {
+        let mut keeper = FusedMem::new(self.alloc, 1, at)?;
+        let run = self.run_over(&mut keeper)?;
+        let is_down = keeper.is_down();
+        self.look(run, is_down, &mut keeper.into_keeper())
+    }
+
+    /// Serves the stream over a keeper that refuses a call.
+    ///
+    /// # Errors
+    ///
+    /// Memory is refused before the run.
+    pub(super) fn run_over<K: Keeper>(&self, keeper: &mut K) -> Result<Run, RowFault> {
+        let pieces = self.whole_pieces();
+        let (end, written) = self
+            .server
+            .run_over(self.alloc, keeper, pieces, Takes::all())?;
+        Ok(Run {
+            end,
+            written,
+            refusals: keeper.refusals(),
+        })
+    }
+
+    /// What came of a run, with whether the store is down behind it and what a keeper keeps then.
+    ///
+    /// # Errors
+    ///
+    /// Memory is refused.
+    pub(super) fn look<K: Keeper>(
+        &self,
+        run: Run,
+        is_down: bool,
+        keeper: &mut K,
+    ) -> Result<Refused, RowFault> {
+        let kept = kept(self.alloc, keeper)?;
+        let Run {
+            end,
+            written,
+            refusals,
+        } = run;
+        Ok(Refused {
+            served: Served { end, written, kept },
+            refusals,
+            is_down,
+        })
+    }
+
+    /// How many calls were answered as ever, before one that was not.
+    pub(super) fn answered(&self, written: &[u8]) -> usize {
+        let mut answered = 0;
+        for call in 0..self.stream.calls.len() {
+            if written.starts_with(self.stream.replies(call.saturating_add(1))) {
+                answered = call.saturating_add(1);
+            }
+        }
+        answered
+    }
+
+    // What is wanted where the change of a call is refused: the store is down for the calls behind
+    // it that ask it.
+    fn after_change(&self, call: usize) -> Result<Replies, AllocError> {
+        let mut bytes = self.refused_behind(call)?;
+        let refused = self.put_refused(call.saturating_add(1), STORE_DOWN, &mut bytes)?;
+        Ok(Replies {
+            bytes,
+            kept: String::from_str(self.alloc, self.kept_after(call))?,
+            refusals: refused.saturating_add(1),
+        })
+    }
+
+    /// The replies to the calls behind so many, where each that asks the store is refused like this. How many are.
+    pub(super) fn put_refused(
+        &self,
+        behind: usize,
+        refusal: &[u8],
+        bytes: &mut Vec<u8>,
+    ) -> Result<u64, AllocError> {
+        let mut refused: u64 = 0;
+        for (later, next) in self.stream.calls.iter().enumerate().skip(behind) {
+            if next.asks {
+                bytes.extend_from_slice(refusal)?;
+                refused = refused.saturating_add(1);
+            } else {
+                bytes.extend_from_slice(self.stream.reply(later))?;
+            }
+        }
+        Ok(refused)
+    }
+
+    // The replies to the first calls, and the refusal of the next.
+    fn refused_behind(&self, calls: usize) -> Result<Vec<u8>, AllocError> {
+        let mut bytes = Vec::from_slice(self.alloc, self.stream.replies(calls))?;
+        bytes.extend_from_slice(STORE_REFUSED)?;
+        Ok(bytes)
+    }
+
+    // What is wanted where a read of a call is refused: all else is as if the call had not come.
+    fn after_read(&self, call: usize) -> Result<Replies, RowFault> {
+        let input = self.input_without(call)?;
+        let pieces = Pieces::new(&input, GREATEST_PIECE);
+        let served = self.server.run(self.alloc, pieces, Takes::all())?;
+        let (_, from) = self.stream.ends_of(call);
+        let mut bytes = self.refused_behind(call)?;
+        bytes.extend_from_slice(served.written.get(from..).unwrap_or(&[]))?;
+        Ok(Replies {
+            bytes,
+            kept: served.kept,
+            refusals: 1,
+        })
+    }
+
+    // All frames but that of a call.
+    fn input_without(&self, call: usize) -> Result<Vec<u8>, AllocError> {
+        let (start, _) = self.stream.ends_of(call);
+        let (end, _) = self.stream.ends_of(call.saturating_add(1));
+        let (last, _) = self.stream.ends_of(self.stream.calls.len());
+        let before = self.stream.input.get(..start).unwrap_or(&[]);
+        let behind = self.stream.input.get(end..last).unwrap_or(&[]);
+        let mut input = Vec::from_slice(self.alloc, before)?;
+        input.extend_from_slice(behind)?;
+        Ok(input)
+    }
+}

@@ -1,0 +1,97 @@
+//! What is tried with a stream over a memory and a log, of which one refuses a call.
+
+use super::compared::{Trial, Wanted, compare};
+use super::store::{MOST_CALLS, Refused, STORE_REFUSED};
+use super::trials::Trials;
+use csi_memory::MemKeeper;
+use csi_memory::fakes::FusedMem;
+use csi_through::{Logged, Through};
+use test_kit::RowFault;
+
+impl Trials<'_> {
+    /// Each change is refused in turn by the log, and then none. The memory answers the reads.
+    ///
+    /// # Errors
+    ///
+    /// The first run that differs from what is wanted.
+    pub(crate) fn log(&self) -> Result<(), RowFault> {
+        for at in 0..MOST_CALLS {
+            let trial = Trial {
+                name: "refused change of the log",
+                number: at,
+            };
+            if self.judge(trial, &self.serve_over_log(at)?)?.is_none() {
+                return Ok(());
+            }
+        }
+        Err(RowFault::Refused("the log was asked too often"))
+    }
+
+    fn serve_over_log(&self, at: u64) -> Result<Refused, RowFault> {
+        let memory = MemKeeper::new(self.alloc, 1)?;
+        let log = FusedMem::new(self.alloc, 1, at)?;
+        let mut keeper = Through::new(memory, Logged::new(log));
+        let run = self.run_over(&mut keeper)?;
+        let is_down = keeper.is_down();
+        let mut log = keeper.into_log().into_keeper().into_keeper();
+        self.look(run, is_down, &mut log)
+    }
+
+    /// Each read is refused in turn by the memory, and each change that the log has made. The log has what was
+    /// answered with OK.
+    ///
+    /// # Errors
+    ///
+    /// The first run that differs from what is wanted.
+    pub(crate) fn memory(&self) -> Result<(), RowFault> {
+        for at in 0..MOST_CALLS {
+            if !self.refuse_in_memory(at)? {
+                return Ok(());
+            }
+        }
+        Err(RowFault::Refused("the memory was asked too often"))
+    }
+
+    // A call of the memory is refused: whether there are so many.
+    fn refuse_in_memory(&self, at: u64) -> Result<bool, RowFault> {
+        let memory = FusedMem::new(self.alloc, 1, at)?;
+        let log = MemKeeper::new(self.alloc, 1)?;
+        let mut keeper = Through::new(memory, Logged::new(log));
+        let run = self.run_over(&mut keeper)?;
+        let is_down = keeper.is_down();
+        let is_current = keeper.is_current();
+        let mut log = keeper.into_log().into_keeper();
+        let came = self.look(run, is_down, &mut log)?;
+        self.judge_memory(at, is_current, &came)
+    }
+
+    fn judge_memory(&self, at: u64, is_current: bool, came: &Refused) -> Result<bool, RowFault> {
+        let trial = Trial {
+            name: "refused call of the memory",
+            number: at,
+        };
+        if is_current {
+            return Ok(self.judge(trial, came)?.is_some());
+        }
+        self.judge_behind(trial, came)?;
+        Ok(true)
+    }
+
+    // The memory is behind a change that was answered with OK: each later call that asks it is refused, and changes
+    // nothing.
+    fn judge_behind(&self, trial: Trial, came: &Refused) -> Result<(), RowFault> {
+        let calls = self.answered(&came.served.written);
+        let mut replies = Vec::from_slice(self.alloc, self.stream.replies(calls))?;
+        let refused = self.put_refused(calls, STORE_REFUSED, &mut replies)?;
+        if came.is_down || came.refusals != refused {
+            return Err(RowFault::Refused("the refusals were not counted"));
+        }
+        let wanted = Wanted {
+            end: self.whole().end,
+            replies: replies.as_slice(),
+            last: self.stream.fault_frame(),
+            kept: self.kept_after(calls),
+        };
+        compare(self.alloc, trial, &came.served, &wanted)
+    }
+}

@@ -1,0 +1,170 @@
+//! Rows about values.
+
+use crate::shown::{displayed, in_rust};
+use csi_types::{
+    Access, Boxed, Capability, Code, Map, Mount, Reason, copy_capability, copy_map, has_each,
+    laid_over, map_bytes, method_of, name_reason,
+};
+use std::alloc::Global;
+use std::convert::AsStr;
+use std::fmt::Write;
+use test_kit::{RowFault, map_of, number_at, text_at, texts_of, word_at};
+
+// All reasons.
+const REASONS: [Reason; 36] = [
+    Reason::NameMissing,
+    Reason::NameTooLong,
+    Reason::NameBanned,
+    Reason::CapabilityMissing,
+    Reason::AccessTypeMissing,
+    Reason::AccessModeUnknown,
+    Reason::CapabilityNotSupported,
+    Reason::CapacityNegative,
+    Reason::MapTooLarge,
+    Reason::TextTooLong,
+    Reason::SourceNotSupported,
+    Reason::TopologyKeysAlike,
+    Reason::PreferredNotRequisite,
+    Reason::VolumeIdMissing,
+    Reason::NodeIdMissing,
+    Reason::MaxEntriesNegative,
+    Reason::MutableMissing,
+    Reason::UnknownMethod,
+    Reason::VolumeNotFound,
+    Reason::NodeNotFound,
+    Reason::VolumeNotCompatible,
+    Reason::NoRoom,
+    Reason::TooManyVolumes,
+    Reason::NumbersUsedUp,
+    Reason::OutOfRange,
+    Reason::VolumeInUse,
+    Reason::PublishedElsewhere,
+    Reason::PublishedOtherwise,
+    Reason::NodeFull,
+    Reason::CapabilityNotOfVolume,
+    Reason::BadToken,
+    Reason::MutableTooLarge,
+    Reason::ReplyTooLarge,
+    Reason::OutOfMemory,
+    Reason::StoreRefused,
+    Reason::StoreDown,
+];
+
+/// Of `code NUMBER`: the name.
+pub(crate) fn code_answer(alloc: Global, words: &[&str]) -> Result<String, RowFault> {
+    match Code::of(number_at(words, 0)?) {
+        Some(code) => displayed(alloc, &code.name()),
+        None => displayed(alloc, &"no code"),
+    }
+}
+
+/// Of `reason NAME`: the status code's number and the text.
+pub(crate) fn reason_answer(alloc: Global, words: &[&str]) -> Result<String, RowFault> {
+    let name = word_at(words, 0)?;
+    for reason in REASONS {
+        if in_rust(alloc, &reason)?.as_str() == name {
+            return Ok(format!(in alloc; "{} {reason}", reason.code().number())?);
+        }
+    }
+    Err(RowFault::NotRow)
+}
+
+/// Of `method PATH`: the method.
+pub(crate) fn method_answer(alloc: Global, words: &[&str]) -> Result<String, RowFault> {
+    let path = text_at(alloc, words, 0)?;
+    match method_of(path.as_bytes()) {
+        Some(method) => in_rust(alloc, &method),
+        None => displayed(alloc, &"no method"),
+    }
+}
+
+/// Of `name TEXT`: why no volume may have the name.
+pub(crate) fn name_answer(alloc: Global, words: &[&str]) -> Result<String, RowFault> {
+    let name = text_at(alloc, words, 0)?;
+    match name_reason(name.as_str()) {
+        Some(reason) => displayed(alloc, &reason),
+        None => displayed(alloc, &"passed"),
+    }
+}
+
+fn bytes_behind<T: AsStr>(text: &T) -> usize {
+    text.as_str().len()
+}
+
+/// Of `text TEXT`: the text in a column of eight characters, and its bytes.
+pub(crate) fn text_answer(alloc: Global, words: &[&str]) -> Result<String, RowFault> {
+    let text = text_at(alloc, words, 0)?;
+    Ok(format!(in alloc; "[{text:>8}] of {} bytes", bytes_behind(&text))?)
+}
+
+/// Of `list TEXT ..`: its texts as they come out.
+pub(crate) fn list_answer(alloc: Global, words: &[&str]) -> Result<String, RowFault> {
+    let texts = texts_of(alloc, words)?;
+    let mut told = String::new(alloc);
+    for text in &texts {
+        write!(told, "[{text}]")?;
+    }
+    Ok(told)
+}
+
+/// Of `map KEY VALUE ..`: the entries of a copy, as they come out.
+pub(crate) fn map_answer(alloc: Global, words: &[&str]) -> Result<String, RowFault> {
+    entries_told(alloc, &copy_map(alloc, &map_of(alloc, words)?)?)
+}
+
+fn entries_told(alloc: Global, map: &Map) -> Result<String, RowFault> {
+    let mut told = String::new(alloc);
+    for (key, value) in map {
+        write!(told, "[{key}={value}]")?;
+    }
+    Ok(told)
+}
+
+/// Of `over KEY VALUE .. under KEY VALUE ..`: the entries of the second map with the first laid over it, as they come
+/// out, and their bytes; and whether the second had each of the first.
+pub(crate) fn over_answer(alloc: Global, words: &[&str]) -> Result<String, RowFault> {
+    let parts = words.iter().position(|word| *word == "under");
+    let place = parts.ok_or(RowFault::NotRow)?;
+    let given = map_of(alloc, words.get(..place).unwrap_or_default())?;
+    let map = map_of(alloc, words.get(place + 1..).unwrap_or_default())?;
+    let laid = laid_over(alloc, &map, &given)?;
+    let told = entries_told(alloc, &laid)?;
+    let had = if has_each(&map, &given) {
+        "had"
+    } else {
+        "had not"
+    };
+    Ok(format!(in alloc; "{told} of {} bytes; {had} each", map_bytes(&laid))?)
+}
+
+/// Of `capability none`, `capability block` or `capability mount TYPE GROUP MODE FLAG ..`: the value of a copy.
+pub(crate) fn capability_answer(alloc: Global, words: &[&str]) -> Result<String, RowFault> {
+    let capability = capability_of(alloc, words)?;
+    in_rust(alloc, &copy_capability(alloc, &capability)?)
+}
+
+fn capability_of(alloc: Global, words: &[&str]) -> Result<Capability, RowFault> {
+    match word_at(words, 0)? {
+        "none" => Ok(Capability {
+            access: Access::Missing,
+            mode: None,
+        }),
+        "block" => Ok(Capability {
+            access: Access::Block,
+            mode: None,
+        }),
+        "mount" => Ok(Capability {
+            mode: Some(number_at(words, 3)?),
+            access: Access::Mount(Boxed::new(alloc, mount_of(alloc, words)?)?),
+        }),
+        _ => Err(RowFault::NotRow),
+    }
+}
+
+fn mount_of(alloc: Global, words: &[&str]) -> Result<Mount, RowFault> {
+    Ok(Mount {
+        fs_type: text_at(alloc, words, 1)?,
+        group: text_at(alloc, words, 2)?,
+        flags: texts_of(alloc, words.get(4..).unwrap_or_default())?,
+    })
+}

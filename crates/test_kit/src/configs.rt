@@ -1,0 +1,76 @@
+//! What configurations are made of, as words.
+
+use crate::fault::RowFault;
+use crate::parts::number_at;
+use crate::texts::text_at;
+use csi_config::{Config, Node, Plugin, Pool, Sizes};
+use csi_types::Map;
+use std::alloc::Global;
+
+const MEBIBYTE: u64 = 1_048_576;
+
+/// The plugin of `NAME VERSION`.
+///
+/// # Errors
+///
+/// Where a word is missing or no text, or memory was refused.
+pub fn plugin_of(alloc: Global, words: &[&str]) -> Result<Plugin, RowFault> {
+    Ok(Plugin {
+        name: text_at(alloc, words, 0)?,
+        version: text_at(alloc, words, 1)?,
+    })
+}
+
+/// The pools of `NAME BYTES ..`, without segments; one word is none.
+///
+/// # Errors
+///
+/// Where a word is missing, no text or no number, or memory was refused.
+pub fn pools_of(alloc: Global, words: &[&str]) -> Result<Vec<Pool>, RowFault> {
+    let mut pools = Vec::new(alloc);
+    if words.len() > 1 {
+        for pair in words.chunks(2) {
+            pools.push(Pool {
+                name: text_at(alloc, pair, 0)?,
+                bytes: number_at(pair, 1)?,
+                segments: Map::new(alloc),
+            })?;
+        }
+    }
+    Ok(pools)
+}
+
+/// The nodes of `ID VOLUMES ..`.
+///
+/// # Errors
+///
+/// Where a word is missing, no text or no number, or memory was refused.
+pub fn nodes_of(alloc: Global, words: &[&str]) -> Result<Vec<Node>, RowFault> {
+    let mut nodes = Vec::new(alloc);
+    for pair in words.chunks(2) {
+        nodes.push(Node {
+            id: text_at(alloc, pair, 0)?,
+            max_volumes: number_at(pair, 1)?,
+        })?;
+    }
+    Ok(nodes)
+}
+
+/// The configuration with the pools of `NAME BYTES ..`, and the nodes n1, n2 and n3 for two volumes each; a volume has 1 to 8 MiB.
+///
+/// # Errors
+///
+/// Where the words are no pools, a configuration cannot have them, or memory was refused.
+pub fn config_with(alloc: Global, words: &[&str]) -> Result<Config, RowFault> {
+    let plugin = plugin_of(alloc, &["rows.example.org", "1"])?;
+    let sizes = Sizes {
+        default_bytes: MEBIBYTE,
+        greatest_bytes: 8 * MEBIBYTE,
+    };
+    let pools = pools_of(alloc, words)?;
+    let nodes = nodes_of(alloc, &["n1", "2", "n2", "2", "n3", "2"])?;
+    match Config::new(plugin, sizes, pools, nodes) {
+        Ok(config) => Ok(config),
+        Err(_) => Err(RowFault::Refused("no configuration")),
+    }
+}

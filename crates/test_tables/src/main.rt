@@ -1,0 +1,73 @@
+//! Answers rows about tables: statements and scans over them, the constraints of what is stored in them, the volume machine over them, tables
+//! that are adopted or not, and the tables in files of which the disk stopped in a call. What the rows of a section look like stands at its head in the file
+//! `stdin` of this crate.
+#![tactic(auto)]
+
+mod adoption;
+mod cells;
+mod constraints;
+mod database;
+mod numbers;
+mod scans;
+mod state;
+mod statements;
+mod stops;
+mod tables;
+
+use std::io::Write;
+use std::process::ExitCode;
+use test_kit::{Answer, AnswerRow, AnswerSection, RowFault, Rows, answer_rows};
+
+// A section that keeps nothing from row to row.
+#[derive(Clone, Copy)]
+enum Plain {
+    Scans,
+    Constraints,
+    Adoption,
+}
+
+impl AnswerRow for Plain {
+    fn answer_row(&mut self, rt: &HostRuntime, row: &str) -> Result<Answer, RowFault> {
+        Ok(Answer::Text(match self {
+            Plain::Scans => scans::answer(rt.alloc(), row)?,
+            Plain::Constraints => constraints::answer(rt.alloc(), row)?,
+            Plain::Adoption => adoption::answer(rt.alloc(), row)?,
+        }))
+    }
+}
+
+#[derive(Drop)]
+struct Sections;
+
+impl AnswerSection for Sections {
+    fn answer_section<W: Write>(
+        &self,
+        rt: &HostRuntime,
+        name: &str,
+        rows: &mut Rows<'_, W>,
+    ) -> Result<(), RowFault> {
+        match name {
+            "statements" => answer(rt, rows, statements::in_memory(rt.alloc())),
+            "scans" => answer(rt, rows, Ok(Plain::Scans)),
+            "constraints" => answer(rt, rows, Ok(Plain::Constraints)),
+            "tables" => answer(rt, rows, tables::Bench::new(rt.alloc())),
+            "adoption" => answer(rt, rows, Ok(Plain::Adoption)),
+            "stops" => answer(rt, rows, stops::Bench::new(rt.alloc())),
+            _ => Err(RowFault::NotRow),
+        }
+    }
+}
+
+// Answers the rows of a section that could begin. The large values that sections keep are owned here, where their types are not spelled out.
+fn answer<W: Write, R: AnswerRow + Drop>(
+    rt: &HostRuntime,
+    rows: &mut Rows<'_, W>,
+    section: Result<R, RowFault>,
+) -> Result<(), RowFault> {
+    rows.answer(rt, &mut section?);
+    Ok(())
+}
+
+fn main(rt: HostRuntime) -> ExitCode {
+    answer_rows(&rt, &Sections)
+}
