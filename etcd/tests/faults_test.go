@@ -215,30 +215,42 @@ func TestFull(t *testing.T) {
 	}
 }
 
-// A walk whose revision was compacted in its middle is refused as that, and another one begins anew.
+// A walk whose revision was compacted in its middle is refused as that, and another one begins anew. A page is read ahead, so the next one may have been read before.
 func TestCompacted(t *testing.T) {
 	t.Parallel()
 	cluster := clusters.Start(t, 1)
 	client := cluster.Client(t)
-	fill(t, client, 30000)
+	fill(t, client, 70000)
 	p := start(t, cluster.Endpoints()).leads(t)
 	l := p.dial(t)
 	reply, err := l.call(readPath, nil)
 	if err != nil || reply.Code != codes.OK {
 		t.Fatalf("%v, %v", reply.Code, err)
 	}
-	parts := fields(reply.Body)
-	token := parts[len(parts)-1].bytes
-	if len(token) == 0 {
-		t.Fatal("one page has all")
-	}
-	cluster.Ctl(t, "put", name+"/volumes/00000000000000030000", `{"name":"late","bytes":1,"pool":"p","caps":"","params":""}`)
+	message := tokenOf(t, reply.Body)
+	cluster.Ctl(t, "put", name+"/volumes/00000000000000070000", `{"name":"late","bytes":1,"pool":"p","caps":"","params":""}`)
 	cluster.Ctl(t, "compact", fmt.Sprint(revision(t, client)))
-	l.wants(t, readPath, fmt.Sprintf("0a%02x%x", len(token), token), codes.FailedPrecondition, "etcd compacted the revision of this walk over the rows: begin anew")
+	if reply, err = l.call(readPath, fromHex(t, message)); err == nil && reply.Code == codes.OK {
+		reply, err = l.call(readPath, fromHex(t, tokenOf(t, reply.Body)))
+	}
+	if err != nil || reply.Code != codes.FailedPrecondition || reply.Text != "etcd compacted the revision of this walk over the rows: begin anew" {
+		t.Errorf("%v %q, %v", reply.Code, reply.Text, err)
+	}
 	read, pages, err := l.walk()
-	if err != nil || len(read) != 45001 || !strings.HasPrefix(read["1 00000000000000030000"], "late ") {
+	if err != nil || len(read) != 105001 || !strings.HasPrefix(read["1 00000000000000070000"], "late ") {
 		t.Errorf("%d rows in %d pages, %v", len(read), pages, err)
 	}
+}
+
+// tokenOf is what asks for the page behind this one.
+func tokenOf(t *testing.T, page []byte) string {
+	t.Helper()
+	parts := fields(page)
+	token := parts[len(parts)-1].bytes
+	if len(token) == 0 {
+		t.Fatal("it is the last page")
+	}
+	return fmt.Sprintf("0a%02x%x", len(token), token)
 }
 
 // An etcd that was restored from a snapshot that is older than what was answered is refused: by the program that ran meanwhile, and by one that has

@@ -1,5 +1,5 @@
 -- The exit statuses of a program that is not told what to do.
-use Rattle.std.specs.Prelude.{◌≡◌, ◌⊎◌, ℕ}
+use Rattle.std.specs.Prelude.{ℕ}
 use Rattle.command_line.specs.declared.command.ArgumentsFault.{ArgumentsFault}
 use Rattle.command_line.specs.declared.command.ArgumentsFault.TheVariants.{NotText, Refused, WriteFailed, NoMemory}
 
@@ -8,7 +8,3 @@ arguments_status NotText = 2
 arguments_status (Refused line) = 2
 arguments_status WriteFailed = 5
 arguments_status NoMemory = 6
-
--- arguments that are refused, or want of memory
-abbrev pub IsRefusal : ArgumentsFault → Type 0
-IsRefusal fault = (arguments_status fault ≡ 2) ⊎ (arguments_status fault ≡ 6)

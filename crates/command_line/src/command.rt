@@ -1,7 +1,8 @@
 //! The arguments of a program, and what is done with those that ask for nothing that it does.
 
-ghost use Rattle.std.specs.Prelude.{◌≡◌};
-ghost use Rattle.command_line.specs.Statuses.{IsRefusal, arguments_status};
+ghost use Rattle.std.specs.Prelude.{◌≡◌, IfErr, IfOk};
+ghost use Rattle.command_line.specs.Statuses.{arguments_status};
+ghost use Rattle.command_line.specs.declared.command.ArgumentsFault.TheVariants.{NoMemory, Refused};
 
 use crate::options::{CommandLine, root_command};
 use clap::error::ErrorKind as ClapKind;
@@ -29,9 +30,10 @@ pub enum ArgumentsFault {
 }
 
 impl ArgumentsFault {
-    /// Arguments that are refused, with this line.
+    /// Arguments that are refused, with this line; want of memory, where there was none for it.
     pub fn refused(line: Result<String, AllocError>) -> ArgumentsFault
-        ensures { IsRefusal result }
+        ensures told { IfOk line (λ text. result ≡ Refused text) }
+        ensures memory { IfErr line (λ _. result ≡ NoMemory) }
     {
         match line {
             Ok(line) => ArgumentsFault::Refused(line),

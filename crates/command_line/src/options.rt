@@ -129,17 +129,17 @@ pub struct CommandLine<'l> {
     pub subcommands: &'l [Subcommand],
 }
 
-fn command_of<'a>(alloc: Global, spec: &Subcommand) -> Result<Command<'a>, Error> {
-    let command = Command::new(alloc, spec.name)
-        .about(spec.about)
-        .args(args(alloc, spec.options)?)?;
-    Ok(command.args(args(alloc, spec.shared)?)?)
+fn command_of<'a>(alloc: Global, subcommand: &Subcommand) -> Result<Command<'a>, Error> {
+    let command = Command::new(alloc, subcommand.name)
+        .about(subcommand.about)
+        .args(args(alloc, subcommand.options)?)?;
+    Ok(command.args(args(alloc, subcommand.shared)?)?)
 }
 
-fn commands_of<'a>(alloc: Global, specs: &[Subcommand]) -> Result<Vec<Command<'a>>, Error> {
+fn commands_of<'a>(alloc: Global, subcommands: &[Subcommand]) -> Result<Vec<Command<'a>>, Error> {
     let mut commands = Vec::new(alloc);
-    for spec in specs {
-        commands.push(command_of(alloc, spec)?)?;
+    for subcommand in subcommands {
+        commands.push(command_of(alloc, subcommand)?)?;
     }
     Ok(commands)
 }

@@ -18,9 +18,8 @@ use Rattle.csi_tables.specs.Holding.{IsEitherRows, IsFirstRows, IsRows, Shows, c
 use Rattle.csi_tables.specs.Keeping.{is_down, refusals, store_of, IsNewOver}
 use Rattle.csi_tables.specs.Laws.{OneState}
 use Rattle.csi_tables.specs.declared.tables.Tables.{Tables}
-use Rattle.csi_tables.specs.Refusing.{IsRefusal}
-use Rattle.csi_judging.specs.Faults.{is_failure, is_store}
-use Rattle.csi_adoption.specs.Failing.{RefusesCommitted}
+use Rattle.csi_judging.specs.Faults.{is_failure}
+use Rattle.csi_adoption.specs.Failing.{AdoptionFails}
 use Rattle.csi_judging.specs.declared.fault.AdoptFault.{AdoptFault}
 use Rattle.csi_judging.specs.declared.fault.AdoptFault.TheVariants.{Foreign}
 use Rattle.csi_judging.specs.declared.fault.Foreign.TheVariants as foreign
@@ -113,7 +112,7 @@ module _ {S : Type 0} (g : Ghosts S) (config : Config) (conn two three : Held S)
 -- ---- a fault of the tables
 
 module _ {S : Type 0} (g : Ghosts S) (config : Config) (conn two back : Held S) (fault : AdoptFault) (settled : IsSettled g conn two) (live : IsLive (state g two)) (idle : back.in_transaction ≡ false)
-    (failed : is_store fault ≡ true → HasCleanDisk (state g back) → IsRefusal (RefusesCommitted g conn) (state g (record conn { step_limit = None })) (state g back)) where
+    (failed : AdoptionFails g conn back fault) where
   -- the database is read, and only its format may have been written
   pub is_refused : (HasCleanDisk (state g back) → KeepsCommit (state g two) (state g back)) → Survives (state g two) (state g back) (LeavesLatest (state g two))
       → (HasCleanDisk (state g back) → is_failure fault ≡ false → IsFaultOf config (state g two).now fault) → (HasCleanDisk (state g back) → (state g two).now.schema ≢ schema → fault ≡ Foreign foreign.Schema) → (HasCleanDisk (state g back) → IsNotRefused config (state g two).now fault)
@@ -160,7 +159,7 @@ module _ {S : Type 0} (g : Ghosts S) (config : Config) (conn two : Held S) (sett
   -- a failure to make them
   pub is_unmade : (back : Held S) (fault : AdoptFault) → back.in_transaction ≡ false → is_failure fault ≡ true → (HasCleanDisk (state g back) → IsUndone (state g two) (state g back))
       → Survives (state g two) (state g back) (LeavesFrom no_schema MakesTables (state g two))
-      → (is_store fault ≡ true → HasCleanDisk (state g back) → IsRefusal (RefusesCommitted g conn) (state g (record conn { step_limit = None })) (state g back)) → IsUnadopted g config conn fault back
+      → AdoptionFails g conn back fault → IsUnadopted g config conn fault back
   is_unmade back fault idle failure undone survives failed =
       let before : HasCleanDisk (state g back) → HasCleanDisk (state g two) = λ clean. omega (arith, survives.clean) in
       record {

@@ -10,7 +10,7 @@ use Rattle.sqlite.specs.Store.{Ghosts}
 use Rattle.sqlite.specs.Tree.{Trees}
 use Rattle.sqlite.specs.declared.error.Error.{Error}
 use Rattle.sqlite.specs.declared.error.Error.TheVariants.{SqliteFailure}
-use Rattle.sqlite.specs.declared.error.ErrorCode.TheVariants.{OutOfMemory}
+use Rattle.sqlite.specs.declared.error.ErrorCode.TheVariants.{DatabaseCorrupt, OutOfMemory}
 use Rattle.csi_schema.specs.Failing as fails
 use Rattle.csi_schema.specs.Making.{RefusesTables}
 use Rattle.csi_schema.specs.Tables.{schema}
@@ -20,14 +20,13 @@ use Rattle.csi_schema.specs.Rows.{seen_volume}
 use Rattle.csi_scans.specs.Failing.{HasTooMany}
 use Rattle.csi_scans.specs.Folds.{IsRising, Rises}
 use Rattle.csi_scans.specs.Scans.{keyed_attachment}
-use Rattle.csi_tables.specs.Refusing.{IsRefusal, by_disk, as_shut, at_limit, as_refused}
 use Rattle.csi_judging.specs.Faults.{failure_of, is_store, wants_memory}
 use Rattle.csi_judging.specs.declared.fault.AdoptFault.{AdoptFault}
-use Rattle.csi_judging.specs.declared.fault.AdoptFault.TheVariants.{Foreign, Newer, Store, NoMemory}
+use Rattle.csi_judging.specs.declared.fault.AdoptFault.TheVariants.{Foreign, Newer, Broken, Store, NoMemory}
 use Rattle.csi_judging.specs.declared.fault.Foreign.TheVariants as foreign
 use Rattle.std.specs.Ordering.{int_eq}
 use Rattle.csi_schema.specs.declared.formats.TheConstants.{FIRST_FORMAT, LATEST_FORMAT}
-use Rattle.csi_adoption.specs.Failing.{DoNotRise, HasCause, HasUnrisen, JudgingFails, Refuses, RefusesCommitted, ScanFails, too_many, unrisen, format, tables}
+use Rattle.csi_adoption.specs.Failing.{AdoptionFails, DoNotRise, FailsCommitted, HasCause, HasUnrisen, JudgingFails, OfStore, Refuses, ScanFails, too_many, unrisen, format, tables, by_disk, as_shut, as_refused}
 use Rattle.csi_adoption.specs.Judging.{integers_judged, meta_judged, row_judged, valid_format, valid_next}
 use Rattle.csi_adoption.specs.Scanning.{Scans}
 use Rattle.csi_adoption.specs.declared.meta.Meta.{Meta}
@@ -36,12 +35,26 @@ use Rattle.csi_adoption.specs.declared.meta.MetaRows.TheVariants as meta
 
 -- ---- what an error is told as
 
-pub told_store : (e : Error) → is_store (failure_of e) ≡ true → wants_memory e ≡ false
-told_store e is = go (wants_memory e) refl is
+of_failure : (P : Error → Type 0) (e : Error) → P e → OfStore P (failure_of e)
+of_failure P e p = go (wants_memory e) refl
   where
-    go : (b : Bool) → wants_memory e ≡ b → is_store (cond b NoMemory (Store e)) ≡ true → wants_memory e ≡ false
-    go true was is = absurd (true≢false (sym is))
-    go false was is = was
+    go : (b : Bool) → wants_memory e ≡ b → OfStore P (cond b NoMemory (Store e))
+    go true was = tt
+    go false was = (was, p)
+
+of_no_store : (P : Error → Type 0) (fault : AdoptFault) → is_store fault ≡ false → OfStore P fault
+of_no_store P (Foreign what) other = tt
+of_no_store P (Newer number) other = tt
+of_no_store P (Broken rule) other = tt
+of_no_store P (Store e) other = absurd (true≢false other)
+of_no_store P NoMemory other = tt
+
+of_store_weaker : (P Q : Error → Type 0) → ((e : Error) → wants_memory e ≡ false → P e → Q e) → (fault : AdoptFault) → OfStore P fault → OfStore Q fault
+of_store_weaker P Q f (Foreign what) p = tt
+of_store_weaker P Q f (Newer number) p = tt
+of_store_weaker P Q f (Broken rule) p = tt
+of_store_weaker P Q f (Store e) p = (p.0, f e p.0 p.1)
+of_store_weaker P Q f NoMemory p = tt
 
 pub if_err : {X E : Type 0} (P : E → Type 0) (r : Result X E) (e : E) → IsErrAnd r (λ x. x ≡ e) → P e → IfErr r P
 if_err P (Ok x) e is p = absurd is
@@ -69,70 +82,61 @@ refuses_tables a b e now limit why =
     subst (λ (l : Option ℕ). RefusesTables (record a { step_limit = l }) e) limit (subst (λ (db : Database). RefusesTables (record a { now = db; step_limit = b.step_limit }) e) now why)
 
 module _ {S : Type 0} (g : Ghosts S) where
-  refused_scan : (a b : Held S) (e : Error) → wants_memory e ≡ false → fails.FailsFor (HasTooMany g a) (state g a) (state g b) e → IsRefusal (Refuses g a) (state g a) (state g b)
-  refused_scan a b e other (fails.for_memory is) = absurd (true≢false (sym (ap wants_memory is) ∙ other))
-  refused_scan a b e other (fails.by_disk is more) = by_disk more
-  refused_scan a b e other (fails.as_shut is shut) = as_shut shut
-  refused_scan a b e other (fails.at_limit is some) = at_limit some
-  refused_scan a b e other (fails.as_refused why) = as_refused (too_many e why)
+  -- what refuses it is one of what is refused
+  refused_as : {P : Error → Type 0} (a b : Held S) (e : Error) → (P e → Refuses g a e) → fails.FailsFor P (state g a) (state g b) e → fails.FailsFor (Refuses g a) (state g a) (state g b) e
+  refused_as a b e refuses (fails.for_memory is) = fails.for_memory is
+  refused_as a b e refuses (fails.by_disk is more) = fails.by_disk is more
+  refused_as a b e refuses (fails.as_shut is shut) = fails.as_shut is shut
+  refused_as a b e refuses (fails.at_limit is some) = fails.at_limit is some
+  refused_as a b e refuses (fails.as_refused why) = fails.as_refused (refuses why)
 
   -- a scan that failed
   pub scan_failed : {X : Type 0} (a b : Held S) (r : Result X Error) (e : Error) → (HasCleanDisk (state g b) → fails.FailsFor (HasTooMany g a) (state g a) (state g b) e) → IsErrAnd r (λ x. x ≡ e) → ScanFails g a b r
-  scan_failed a b r e failed is = if_err (λ x. wants_memory x ≡ false → HasCause g a b) r e is (λ other clean. refused_scan a b e other (failed clean))
+  scan_failed a b r e failed is = if_err (HasCause g a b) r e is (λ clean. refused_as a b e too_many (failed clean))
 
   -- want of memory
   pub scan_short : {X : Type 0} (a b : Held S) (r : Result X Error) → IsErrAnd r (λ x. x ≡ SqliteFailure OutOfMemory) → ScanFails g a b r
-  scan_short a b r is = if_err (λ x. wants_memory x ≡ false → HasCause g a b) r (SqliteFailure OutOfMemory) is (λ other. absurd (true≢false other))
+  scan_short a b r is = if_err (HasCause g a b) r (SqliteFailure OutOfMemory) is (λ clean. fails.for_memory refl)
 
   -- what is refused behind a scan is refused before it
-  same_refuses : (a b : Held S) → IsUnchanged (state g a) (state g b) → (state g b).step_limit ≡ (state g a).step_limit → Refuses g b → Refuses g a
-  same_refuses a b same limit (too_many e why) = too_many e (why.0, (why.1.0, why.1.1, why.1.2, unchanged_then (state g a) (state g b) (state g why.1.1) same why.1.3, why.1.4, why.1.5))
-  same_refuses a b same limit (unrisen why) = unrisen (subst HasUnrisen (ap (λ (d : Database). d.trees) same.0.now_is) why)
-  same_refuses a b same limit (format e why) = format e (refuses_format (state g a) (state g b) e same.0.now_is limit why)
-  same_refuses a b same limit (tables e why) = tables e (refuses_tables (state g a) (state g b) e same.0.now_is limit why)
+  same_refuses : (a b : Held S) (e : Error) → IsUnchanged (state g a) (state g b) → (state g b).step_limit ≡ (state g a).step_limit → Refuses g b e → Refuses g a e
+  same_refuses a b e same limit (too_many why) = too_many (why.0, (why.1.0, why.1.1, why.1.2, unchanged_then (state g a) (state g b) (state g why.1.1) same why.1.3, why.1.4, why.1.5))
+  same_refuses a b e same limit (unrisen is why) = unrisen is (subst HasUnrisen (ap (λ (d : Database). d.trees) same.0.now_is) why)
+  same_refuses a b e same limit (format why) = format (refuses_format (state g a) (state g b) e same.0.now_is limit why)
+  same_refuses a b e same limit (tables why) = tables (refuses_tables (state g a) (state g b) e same.0.now_is limit why)
 
-  cause_before : (a b c : Held S) → IsUnchanged (state g a) (state g b) → Survives (state g a) (state g b) (λ _. ⊥) → IsRefusal (Refuses g b) (state g b) (state g c) → IsRefusal (Refuses g a) (state g a) (state g c)
-  cause_before a b c same left (by_disk more) = by_disk (omega (arith, left.counts, more))
-  cause_before a b c same left (as_shut shut) = absurd (true≢false (sym same.0.is_open ∙ shut))
-  cause_before a b c same left (at_limit some) = at_limit (subst IsSome left.limit some)
-  cause_before a b c same left (as_refused why) = as_refused (same_refuses a b same left.limit why)
+  cause_before : (a b c : Held S) (e : Error) → IsUnchanged (state g a) (state g b) → Survives (state g a) (state g b) (λ _. ⊥) → fails.FailsFor (Refuses g b) (state g b) (state g c) e → fails.FailsFor (Refuses g a) (state g a) (state g c) e
+  cause_before a b c e same left (fails.for_memory is) = fails.for_memory is
+  cause_before a b c e same left (fails.by_disk is more) = fails.by_disk is (omega (arith, left.counts, more))
+  cause_before a b c e same left (fails.as_shut is shut) = absurd (true≢false (sym same.0.is_open ∙ shut))
+  cause_before a b c e same left (fails.at_limit is some) = fails.at_limit is (subst IsSome left.limit some)
+  cause_before a b c e same left (fails.as_refused why) = fails.as_refused (same_refuses a b e same left.limit why)
 
   -- behind a scan
-  pub cause_behind : {X E : Type 0} {P : Trees → Type 0} (a b c : Held S) (x : X) → Scans g a b {E = E} (Ok x) → Survives (state g b) (state g c) P → HasCause g b c → HasCause g a c
-  cause_behind a b c x one two cause clean = cause_before a b c (one.same (omega (arith, clean, two.clean))) one.survives (cause clean)
+  pub cause_behind : {X E : Type 0} {P : Trees → Type 0} (a b c : Held S) (x : X) (e : Error) → Scans g a b {E = E} (Ok x) → Survives (state g b) (state g c) P → HasCause g b c e → HasCause g a c e
+  cause_behind a b c x e one two cause clean = cause_before a b c e (one.same (omega (arith, clean, two.clean))) one.survives (cause clean)
+
+  pub fault_behind : {X E : Type 0} {P : Trees → Type 0} (a b c : Held S) (x : X) (fault : AdoptFault) → Scans g a b {E = E} (Ok x) → Survives (state g b) (state g c) P → OfStore (HasCause g b c) fault → OfStore (HasCause g a c) fault
+  fault_behind a b c x fault one two = of_store_weaker (HasCause g b c) (HasCause g a c) (λ e _. cause_behind a b c x e one two) fault
 
   pub judging_behind : {X Y E : Type 0} {P : Trees → Type 0} (a b c : Held S) (x : X) (r : Result Y AdoptFault) → Scans g a b {E = E} (Ok x) → Survives (state g b) (state g c) P → JudgingFails g b c r → JudgingFails g a c r
   judging_behind a b c x (Ok y) one two failed = tt
-  judging_behind a b c x (Err fault) one two failed = λ store. cause_behind a b c x one two (failed store)
+  judging_behind a b c x (Err fault) one two failed = fault_behind a b c x fault one two failed
 
   -- rows that do not rise
-  pub unrisen_volumes : (a b : Held S) → (HasCleanDisk (state g b) → DoNotRise (map seen_volume ((state g a).now.trees 1))) → HasCause g a b
-  unrisen_volumes a b found clean = as_refused (unrisen (inl (found clean)))
+  pub unrisen_volumes : (a b : Held S) → (HasCleanDisk (state g b) → DoNotRise (map seen_volume ((state g a).now.trees 1))) → HasCause g a b (SqliteFailure DatabaseCorrupt)
+  unrisen_volumes a b found clean = fails.as_refused (unrisen refl (inl (found clean)))
 
-  pub unrisen_attachments : (a b : Held S) → (HasCleanDisk (state g b) → DoNotRise (map keyed_attachment ((state g a).now.trees 3))) → HasCause g a b
-  unrisen_attachments a b found clean = as_refused (unrisen (inr (found clean)))
+  pub unrisen_attachments : (a b : Held S) → (HasCleanDisk (state g b) → DoNotRise (map keyed_attachment ((state g a).now.trees 3))) → HasCause g a b (SqliteFailure DatabaseCorrupt)
+  unrisen_attachments a b found clean = fails.as_refused (unrisen refl (inr (found clean)))
 
   -- the UPDATE of the format
-  refused_format : (a b : Held S) (e : Error) → wants_memory e ≡ false → fails.FailsFor (RefusesFormat (state g a)) (state g a) (state g b) e → IsRefusal (Refuses g a) (state g a) (state g b)
-  refused_format a b e other (fails.for_memory is) = absurd (true≢false (sym (ap wants_memory is) ∙ other))
-  refused_format a b e other (fails.by_disk is more) = by_disk more
-  refused_format a b e other (fails.as_shut is shut) = as_shut shut
-  refused_format a b e other (fails.at_limit is some) = at_limit some
-  refused_format a b e other (fails.as_refused why) = as_refused (format e why)
-
-  pub format_cause : (a b : Held S) (e : Error) → wants_memory e ≡ false → (HasCleanDisk (state g b) → fails.FailsFor (RefusesFormat (state g a)) (state g a) (state g b) e) → HasCause g a b
-  format_cause a b e other failed clean = refused_format a b e other (failed clean)
+  pub format_cause : (a b : Held S) (e : Error) → (HasCleanDisk (state g b) → fails.FailsFor (RefusesFormat (state g a)) (state g a) (state g b) e) → HasCause g a b e
+  format_cause a b e failed clean = refused_as a b e format (failed clean)
 
   -- a statement that makes tables
-  refused_tables : (a b : Held S) (e : Error) → wants_memory e ≡ false → fails.FailsFor (RefusesTables (state g a)) (state g a) (state g b) e → IsRefusal (Refuses g a) (state g a) (state g b)
-  refused_tables a b e other (fails.for_memory is) = absurd (true≢false (sym (ap wants_memory is) ∙ other))
-  refused_tables a b e other (fails.by_disk is more) = by_disk more
-  refused_tables a b e other (fails.as_shut is shut) = as_shut shut
-  refused_tables a b e other (fails.at_limit is some) = at_limit some
-  refused_tables a b e other (fails.as_refused why) = as_refused (tables e why)
-
-  pub tables_cause : (a b : Held S) (e : Error) (fault : AdoptFault) → fault ≡ failure_of e → (HasCleanDisk (state g b) → fails.FailsFor (RefusesTables (state g a)) (state g a) (state g b) e) → is_store fault ≡ true → HasCause g a b
-  tables_cause a b e fault is failed store clean = refused_tables a b e (told_store e (sym (ap is_store is) ∙ store)) (failed clean)
+  pub tables_cause : (a b : Held S) (e : Error) (fault : AdoptFault) → fault ≡ failure_of e → (HasCleanDisk (state g b) → fails.FailsFor (RefusesTables (state g a)) (state g a) (state g b) e) → OfStore (HasCause g a b) fault
+  tables_cause a b e fault is failed = subst (OfStore (HasCause g a b)) (sym is) (of_failure (HasCause g a b) e (λ clean. refused_as a b e tables (failed clean)))
 
   pub ours : (a b : Held S) → (state g a).now.schema ≡ schema → IsUnchanged (state g a) (state g b) → (state g b).now.schema ≡ schema
   ours a b is same = ap (λ (d : Database). d.schema) same.0.now_is ∙ is
@@ -140,53 +144,48 @@ module _ {S : Type 0} (g : Ghosts S) where
   -- ---- of what was committed
 
   -- a connection of which nothing but what was committed is seen
-  pub settled_cause : {P : Trees → Type 0} (conn one two back : Held S) → one ≡ record conn { step_limit = None } → (HasCleanDisk (state g two) → IsUndone (state g one) (state g two)) → Survives (state g one) (state g two) (λ _. ⊥)
-      → Survives (state g two) (state g back) P → HasCause g two back → HasCleanDisk (state g back) → IsRefusal (RefusesCommitted g conn) (state g (record conn { step_limit = None })) (state g back)
-  settled_cause conn one two back limit undone left last cause clean = go undone' left' (cause clean)
+  pub settled_cause : {P : Trees → Type 0} (conn one two back : Held S) (fault : AdoptFault) → one ≡ record conn { step_limit = None } → (HasCleanDisk (state g two) → IsUndone (state g one) (state g two)) → Survives (state g one) (state g two) (λ _. ⊥)
+      → Survives (state g two) (state g back) P → OfStore (HasCause g two back) fault → AdoptionFails g conn back fault
+  settled_cause conn one two back fault limit undone left last = of_store_weaker (HasCause g two back) (λ e. HasCleanDisk (state g back) → FailsCommitted g conn back e) (λ e other cause clean.
+      let clean' : HasCleanDisk (state g two) = omega (arith, last.clean, clean) in
+      go e clean' (subst (λ (h : Held S). IsUndone (state g h) (state g two)) limit (undone clean')) (subst (λ (h : Held S). Survives (state g h) (state g two) (λ _. ⊥)) limit left) other (cause clean)) fault
     where
       start : Held S
       start = record conn { step_limit = None }
 
-      clean' : HasCleanDisk (state g two)
-      clean' = omega (arith, last.clean, clean)
-
-      undone' : IsUndone (state g start) (state g two)
-      undone' = subst (λ (h : Held S). IsUndone (state g h) (state g two)) limit (undone clean')
-
-      left' : Survives (state g start) (state g two) (λ _. ⊥)
-      left' = subst (λ (h : Held S). Survives (state g h) (state g two) (λ _. ⊥)) limit left
-
-      shut_then : IsUndone (state g start) (state g two) → Survives (state g start) (state g two) (λ _. ⊥) → (state g two).is_open ≡ false → IsRefusal (RefusesCommitted g conn) (state g start) (state g back)
-      shut_then undone left shut =
-          open_or_shut (state g start).is_open (IsRefusal (RefusesCommitted g conn) (state g start) (state g back))
-          (λ was_open. elim (left.closes clean' was_open) [
+      shut_then : (e : Error) → HasCleanDisk (state g two) → Survives (state g start) (state g two) (λ _. ⊥) → (state g two).is_open ≡ false → FailsCommitted g conn back e
+      shut_then e clean left shut =
+          open_or_shut (state g start).is_open (FailsCommitted g conn back e)
+          (λ was_open. elim (left.closes clean was_open) [
             | inl is_open ↦ absurd (true≢false (sym is_open ∙ shut))
             | inr more ↦ by_disk (omega (arith, more, last.counts))
           ])
           (λ was_shut. as_shut was_shut)
 
-      go : IsUndone (state g start) (state g two) → Survives (state g start) (state g two) (λ _. ⊥) → IsRefusal (Refuses g two) (state g two) (state g back) → IsRefusal (RefusesCommitted g conn) (state g start) (state g back)
-      go undone left (by_disk more) = by_disk (omega (arith, left.counts, more))
-      go undone left (as_shut shut) = shut_then undone left shut
-      go undone left (at_limit some) = at_limit (subst IsSome left.limit some)
-      go undone left (as_refused why) =
-          open_or_shut (state g two).is_open (IsRefusal (RefusesCommitted g conn) (state g start) (state g back))
+      go : (e : Error) → HasCleanDisk (state g two) → IsUndone (state g start) (state g two) → Survives (state g start) (state g two) (λ _. ⊥) → wants_memory e ≡ false
+          → fails.FailsFor (Refuses g two) (state g two) (state g back) e → FailsCommitted g conn back e
+      go e clean undone left other (fails.for_memory is) = absurd (true≢false (sym (ap wants_memory is) ∙ other))
+      go e clean undone left other (fails.by_disk is more) = by_disk (omega (arith, left.counts, more))
+      go e clean undone left other (fails.as_shut is shut) = shut_then e clean left shut
+      go e clean undone left other (fails.at_limit is some) = absurd (true≢false (sym (subst IsSome left.limit some)))
+      go e clean undone left other (fails.as_refused why) =
+          open_or_shut (state g two).is_open (FailsCommitted g conn back e)
           (λ is_open. as_refused (two, undone.now is_open, why))
-          (λ shut. shut_then undone left shut)
+          (λ shut. shut_then e clean left shut)
 
   -- what was told as an error of the database
-  pub told_behind : {X : Type 0} (a b : Held S) (r : Result X AdoptFault) (e : Error) → IsErrAnd r (λ x. x ≡ failure_of e) → (wants_memory e ≡ false → HasCause g a b) → JudgingFails g a b r
-  told_behind a b r e is cause = if_err (λ fault. is_store fault ≡ true → HasCause g a b) r (failure_of e) is (λ store. cause (told_store e store))
+  pub told_behind : {X : Type 0} (a b : Held S) (r : Result X AdoptFault) (e : Error) → IsErrAnd r (λ x. x ≡ failure_of e) → HasCause g a b e → JudgingFails g a b r
+  told_behind a b r e is cause = if_err (OfStore (HasCause g a b)) r (failure_of e) is (of_failure (HasCause g a b) e cause)
 
   -- what no failure of the database is
   pub no_store : {X : Type 0} (a b : Held S) (r : Result X AdoptFault) (f : AdoptFault) → IsErrAnd r (λ x. x ≡ f) → is_store f ≡ false → JudgingFails g a b r
-  no_store a b r f is other = if_err (λ fault. is_store fault ≡ true → HasCause g a b) r f is (λ store. absurd (true≢false (sym store ∙ other)))
+  no_store a b r f is other = if_err (OfStore (HasCause g a b)) r f is (of_no_store (HasCause g a b) f other)
 
-  pub handed_fault : {X : Type 0} (a b : Held S) (r : Result X AdoptFault) (f : AdoptFault) → IsErrAnd r (λ x. x ≡ f) → (is_store f ≡ true → HasCause g a b) → JudgingFails g a b r
-  handed_fault a b r f is cause = if_err (λ fault. is_store fault ≡ true → HasCause g a b) r f is cause
+  pub handed_fault : {X : Type 0} (a b : Held S) (r : Result X AdoptFault) (f : AdoptFault) → IsErrAnd r (λ x. x ≡ f) → OfStore (HasCause g a b) f → JudgingFails g a b r
+  handed_fault a b r f is cause = if_err (OfStore (HasCause g a b)) r f is cause
 
-  pub handed_error : {X : Type 0} (a b : Held S) (r : Result X Error) (e : Error) → IsErrAnd r (λ x. x ≡ e) → (wants_memory e ≡ false → HasCause g a b) → ScanFails g a b r
-  handed_error a b r e is cause = if_err (λ x. wants_memory x ≡ false → HasCause g a b) r e is cause
+  pub handed_error : {X : Type 0} (a b : Held S) (r : Result X Error) (e : Error) → IsErrAnd r (λ x. x ≡ e) → HasCause g a b e → ScanFails g a b r
+  handed_error a b r e is cause = if_err (HasCause g a b) r e is cause
 
 -- ---- the row of meta, which is no failure of the database
 
@@ -217,4 +216,4 @@ meta_fails g a b rows r is = go r (subst IsNoStore (sym is) (meta_tells rows))
   where
     go : (r : Result Meta AdoptFault) → IsNoStore r → JudgingFails g a b r
     go (Ok m) none = tt
-    go (Err fault) none = λ store. absurd (true≢false (sym store ∙ none))
+    go (Err fault) none = of_no_store (HasCause g a b) fault none

@@ -17,14 +17,13 @@ use Rattle.csi_schema.specs.Tables.{no_schema, schema}
 use Rattle.csi_tables.specs.Holding.{IsEitherRows, IsFirstRows, IsFormat, IsRows, IsRowsIn, conn_doubt}
 use Rattle.csi_tables.specs.Keeping.{is_down, refusals, tables_model}
 use Rattle.csi_tables.specs.declared.tables.Tables.{Tables}
-use Rattle.csi_tables.specs.Refusing.{IsRefusal}
-use Rattle.csi_judging.specs.Faults.{is_failure, is_store}
+use Rattle.csi_judging.specs.Faults.{is_failure}
 use Rattle.csi_judging.specs.Seen.{sums_of}
 use Rattle.csi_judging.specs.declared.fault.AdoptFault.{AdoptFault}
 use Rattle.csi_judging.specs.declared.fault.AdoptFault.TheVariants.{Foreign}
 use Rattle.csi_judging.specs.declared.fault.Foreign.TheVariants as foreign
 use Rattle.csi_judging.specs.declared.seen.VolumesSeen.{VolumesSeen}
-use Rattle.csi_adoption.specs.Failing.{RefusesCommitted}
+use Rattle.csi_adoption.specs.Failing.{AdoptionFails}
 use Rattle.csi_adoption.specs.Judging.{total_in, IsFaultOf}
 
 -- the State of a database: the one whose rows it has, or the first one where it has no table yet
@@ -95,7 +94,7 @@ module _ {S : Type 0} (g : Ghosts S) (config : Config) (conn : Held S) where
     pub other : HasCleanDisk (state g back) → IsTrue (state g back).is_open → committed.schema ≢ schema → committed.schema ≢ no_schema → fault ≡ Foreign foreign.Schema
     -- a database without a table is refused only if something failed
     pub blank : HasCleanDisk (state g back) → IsTrue (state g back).is_open → committed.schema ≡ no_schema → is_failure fault ≡ true
-    -- the database fails for a cause: the disk failed once more, a fault had shut the connection, or what is asked of what was committed is refused. The limit on steps is taken away
-    pub failed : is_store fault ≡ true → HasCleanDisk (state g back) → IsRefusal (RefusesCommitted g conn) (state g (record conn { step_limit = None })) (state g back)
+    -- the database fails for a cause: the disk failed once more, a fault had shut the connection, or what is asked of what was committed is refused, with this error
+    pub failed : AdoptionFails g conn back fault
     -- and so are rows of a State that meets every constraint
     pub sound : HasCleanDisk (state g back) → IsTrue (state g back).is_open → IsNotRefused config committed fault

@@ -1,20 +1,24 @@
 -- Why adoption fails where no row is at fault: a failure of the database has a cause.
-use Rattle.std.specs.Prelude.{◌≡◌, ◌⊎◌, true, false, None, List, map, IfErr, Result}
+use Rattle.std.specs.Prelude.{◌≡◌, ◌⊎◌, false, None, List, map, IfErr, Result, ⊤}
 use Rattle.sqlite.specs.Held.{Held, state}
 use Rattle.sqlite.specs.Order.{Row}
 use Rattle.sqlite.specs.State.{HasCleanDisk}
 use Rattle.sqlite.specs.Store.{Ghosts}
 use Rattle.sqlite.specs.Tree.{Trees}
 use Rattle.sqlite.specs.declared.error.Error.{Error}
+use Rattle.sqlite.specs.declared.error.Error.TheVariants.{SqliteFailure}
+use Rattle.sqlite.specs.declared.error.ErrorCode.TheVariants.{DatabaseCorrupt}
+use Rattle.sqlite_disk.specs.Disk.{MoreFaults}
+use Rattle.csi_schema.specs.Failing.{FailsFor}
 use Rattle.csi_schema.specs.Making.{RefusesTables}
 use Rattle.csi_schema.specs.Rows.{seen_volume}
 use Rattle.csi_statements.specs.Failing.{RefusesFormat}
 use Rattle.csi_scans.specs.Failing.{HasTooMany}
 use Rattle.csi_scans.specs.Folds.{IsRising}
 use Rattle.csi_scans.specs.Scans.{IsInOrder, keyed_attachment}
-use Rattle.csi_tables.specs.Refusing.{IsRefusal}
-use Rattle.csi_judging.specs.Faults.{is_store, wants_memory}
+use Rattle.csi_judging.specs.Faults.{wants_memory}
 use Rattle.csi_judging.specs.declared.fault.AdoptFault.{AdoptFault}
+use Rattle.csi_judging.specs.declared.fault.AdoptFault.TheVariants.{Store}
 
 -- rows in the order of their first integers, which do not rise
 abbrev pub DoNotRise : List Row → Type 0
@@ -24,29 +28,45 @@ DoNotRise seen = (rows : List Row) × IsInOrder seen rows × (IsRising 0 None ro
 abbrev pub HasUnrisen : Trees → Type 0
 HasUnrisen db = DoNotRise (map seen_volume (db 1)) ⊎ DoNotRise (map keyed_attachment (db 3))
 
--- what the database refuses that is asked for, though the disk has not failed
-pub data Refuses {S : Type 0} (g : Ghosts S) (old : Held S) : Type 0 where
+-- what the database refuses that is asked for, with this error, though the disk has not failed
+pub data Refuses {S : Type 0} (g : Ghosts S) (old : Held S) (e : Error) : Type 0 where
   -- a scan has more rows than are read at most
-  too_many : (e : Error) → HasTooMany g old e → Refuses g old
-  unrisen : HasUnrisen (state g old).now.trees → Refuses g old
+  too_many : HasTooMany g old e → Refuses g old e
+  unrisen : e ≡ SqliteFailure DatabaseCorrupt → HasUnrisen (state g old).now.trees → Refuses g old e
   -- the UPDATE that makes tables of the first format ones of the latest
-  format : (e : Error) → RefusesFormat (state g old) e → Refuses g old
+  format : RefusesFormat (state g old) e → Refuses g old e
   -- a statement that makes new tables
-  tables : (e : Error) → RefusesTables (state g old) e → Refuses g old
+  tables : RefusesTables (state g old) e → Refuses g old e
+
+-- of an error of the database that is told as such, which no want of memory is
+abbrev pub OfStore : (Error → Type 0) → AdoptFault → Type 0
+OfStore P (Store e) = (wants_memory e ≡ false) × P e
+OfStore P _ = ⊤
 
 module _ {S : Type 0} (g : Ghosts S) (old new : Held S) where
-  -- the cause of a failure of the database, which is not want of memory
-  abbrev pub HasCause : Type 0
-  HasCause = HasCleanDisk (state g new) → IsRefusal (Refuses g old) (state g old) (state g new)
+  -- the cause of an error
+  abbrev pub HasCause : Error → Type 0
+  HasCause e = HasCleanDisk (state g new) → FailsFor (Refuses g old) (state g old) (state g new) e
 
   -- a scan that is answered an error
   abbrev pub ScanFails : {X : Type 0} → Result X Error → Type 0
-  ScanFails r = IfErr r (λ e. wants_memory e ≡ false → HasCause)
+  ScanFails r = IfErr r HasCause
 
   -- rows that are judged, or taken
   abbrev pub JudgingFails : {X : Type 0} → Result X AdoptFault → Type 0
-  JudgingFails r = IfErr r (λ fault. is_store fault ≡ true → HasCause)
+  JudgingFails r = IfErr r (OfStore HasCause)
 
 -- of what was committed on the connection
-abbrev pub RefusesCommitted : {S : Type 0} → Ghosts S → Held S → Type 0
-RefusesCommitted {S} g conn = (settled : Held S) × ((state g settled).now ≡ (state g conn).committed) × Refuses g settled
+abbrev pub RefusesCommitted : {S : Type 0} → Ghosts S → Held S → Error → Type 0
+RefusesCommitted {S} g conn e = (settled : Held S) × ((state g settled).now ≡ (state g conn).committed) × Refuses g settled e
+
+-- the cause of an error that ends an adoption; the limit on the connection's steps is taken away
+pub data FailsCommitted {S : Type 0} (g : Ghosts S) (conn back : Held S) (e : Error) : Type 0 where
+  -- the disk failed once more
+  by_disk : MoreFaults (state g (record conn { step_limit = None })).faults (state g back).faults → FailsCommitted g conn back e
+  -- a fault had shut the connection
+  as_shut : (state g (record conn { step_limit = None })).is_open ≡ false → FailsCommitted g conn back e
+  as_refused : RefusesCommitted g conn e → FailsCommitted g conn back e
+
+abbrev pub AdoptionFails : {S : Type 0} → Ghosts S → Held S → Held S → AdoptFault → Type 0
+AdoptionFails g conn back fault = OfStore (λ e. HasCleanDisk (state g back) → FailsCommitted g conn back e) fault

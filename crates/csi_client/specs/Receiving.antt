@@ -9,6 +9,7 @@ use Rattle.frames_core.specs.Framer.{ReplyFramerState, IsReplyFrame}
 use Rattle.csi_client.specs.declared.receiving.Received.{Received}
 use Rattle.csi_client.specs.declared.receiving.Received.TheVariants.{Reply, Nothing, Malformed, Failed, NoMemory}
 use Rattle.csi_client.specs.declared.receiving.ReceivedReply.{ReceivedReply}
+use Rattle.csi_client.specs.declared.receiving.TheConstants.{PIECE_BYTES}
 
 abbrev pub reply_of : ReceivedReply → ReplyBytes
 reply_of r = record { status = r.status; text = r.text.items; body = r.body.items }
@@ -20,7 +21,7 @@ HasFault bytes AtEnd f = FaultAt bytes f.why f.at × (f.why ≡ EndOfInput → A
 -- What the bytes that were read are: they begin with the first reply, or with none. Behind the reply they are fewer than
 -- a piece has, so no piece is read behind the one in which it ends.
 abbrev pub Comes : List ℕ → Type 0 → Received → Type 0
-Comes read AtEnd (Reply r) = (more : List ℕ) × IsReply (reply_of r) × (read ≡ reply (reply_of r) ++ more) × (length more < 4096)
+Comes read AtEnd (Reply r) = (more : List ℕ) × IsReply (reply_of r) × (read ≡ reply (reply_of r) ++ more) × (length more < PIECE_BYTES)
 Comes read AtEnd Nothing = (read ≡ []) × AtEnd
 Comes read AtEnd (Malformed f) = HasFault read AtEnd f
 Comes read AtEnd Failed = IsUnfinished read
@@ -41,8 +42,8 @@ pub record IsGathering (read : List ℕ) (s : ReplyFramerState) : Type 0 where
 pub record Gathered (read : List ℕ) (AtEnd : Type 0) (s : ReplyFramerState) : Type 0 where
   pub rest : List ℕ
   pub whole : read ≡ s.held ++ rest
-  -- the last piece, of at most 4,096 bytes, has some that it needs
-  pub few : length rest < 4096
+  -- the last piece has some that it needs
+  pub few : length rest < PIECE_BYTES
   pub faulty : (f : ReplyFault) → s.fault ≡ Some f → HasFault read AtEnd f
   -- without a reply or a fault nothing came
   pub nothing : s.fault ≡ None → ¬ IsReplyFrame s.held → (read ≡ []) × AtEnd

@@ -13,8 +13,10 @@ use std::io::{self, ErrorKind, Read};
 // At most this many reads are made for one reply.
 const MAX_READS: u64 = 1 << 32;
 
-// The most bytes of one read.
-const PIECE_BYTES: usize = 4096;
+/// The most bytes of one read: a piece.
+pub(crate) const PIECE_BYTES: usize = 4096;
+
+const _: () = prove!(PIECE_BYTES == 4096);
 
 /// A reply that was received, with its own copy of the text and the body.
 #[derive(Debug, Drop)]

@@ -11,6 +11,7 @@ ghost use Rattle.csi_client.specs.Replies.{first_line, body_lines};
 ghost use Rattle.csi_client.specs.Showing.{IsBad, is_refusal, Ended, Shows};
 ghost use Rattle.csi_client.specs.Live.{ShowsOne, end_of, IsReady, Live, Steps, AdvancesBy, IsAllFed};
 
+use crate::receiving::PIECE_BYTES;
 use crate::replies::{put_body_lines, put_reply_line};
 use csi_types::Method;
 use frames_core::{Reply, ReplyFault, ReplyFramer};
@@ -20,9 +21,6 @@ use std::io::{self, Read, Write};
 
 // At most this many reads are made in one run.
 const MAX_READS: u64 = 1 << 32;
-
-// The most bytes of one read.
-const PIECE_BYTES: usize = 4096;
 
 /// How a run of [`show_all`] ended.
 #[derive(Clone, Copy, Debug)]

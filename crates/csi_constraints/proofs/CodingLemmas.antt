@@ -1,14 +1,19 @@
 -- What is read of the canonical bytes of keys and of parameters.
-use Rattle.std.proofs.Common.{◌≡◌, ◌∙◌, refl, sym, ap, subst, ℕ, ◌≤◌, pos, nat_le, bytes_eq, List, [], ◌∷◌, map, length, Bool, true, false, not, cond, ◌&&◌, ◌||◌, ◌==◌, Option, Some, None, arith}
+use Rattle.std.proofs.Common.{◌≡◌, ◌∙◌, refl, sym, ap, subst, ℕ, ◌≤◌, pos, nat_le, bytes_eq, List, [], ◌∷◌, map, length, Bool, true, false, not, cond, ◌&&◌, ◌||◌, ◌==◌, Option, Some, None, Result, Ok, Err, arith}
 use Rattle.std.specs.Bool.{Decides}
 use Rattle.std.specs.FinMap.{empty, empty_of_len, len, len-empty}
 use Rattle.std.specs.List.{list_all}
 use Rattle.std.specs.Option.{option_and_then, option_map}
+use Rattle.std.specs.Result.{IsOk}
 use Rattle.std.proofs.lemmas.Bool.Decides.{nat_tests}
 use Rattle.std.proofs.lemmas.Slice.Eq.{bytes_eq-Decides}
 use Rattle.csi_types.specs.Checks.{is_known_mode, map_bytes}
 use Rattle.csi_types.specs.Maps.{TextMap}
 use Rattle.csi_types.specs.declared.limits.TheConstants.{MAX_MAP_BYTES}
+use Rattle.csi_types.specs.declared.method.Method.TheVariants as method
+use Rattle.csi_types.specs.declared.requests.CreateVolume as message
+use Rattle.csi_types.specs.declared.requests.Request.{Request}
+use Rattle.csi_codec.specs.Reading.{read_request}
 use Rattle.csi_keeper.specs.Texts.{Text, text_cmp}
 use Rattle.csi_keeper.specs.Capability.{access_of, capability_of, is_supported_key, key_of, key_with}
 use Rattle.csi_keeper.specs.Invariant.{AreKeys}
@@ -19,7 +24,7 @@ use Rattle.csi_keeper.specs.declared.capability.Kind.TheVariants.{Block, Mount}
 use Rattle.csi_schema.specs.declared.formats.TheConstants.{FIRST_FORMAT}
 use Rattle.csi_tables.specs.facts.Keys.{some_key}
 use Rattle.csi_tables.specs.Encoding.{caps_bytes, params_bytes, FitCaps, FitParams, ReadsBack, with_caps, with_params}
-use Rattle.csi_constraints.specs.Coding.{are_keys, are_params, is_small, created, each_key, in_front, key_in, keys_in, only, params_in, rise}
+use Rattle.csi_constraints.specs.Coding.{MeansMessage, are_keys, are_params, is_small, created, each_key, in_front, key_in, keys_in, message_in, only, params_in, rise}
 use Rattle.csi_constraints.specs.Values.{if_passes, is_some_and}
 use Rattle.csi_constraints.proofs.OrderLemmas.{both, ordered_rise, parts, rise-ordered}
 
@@ -54,6 +59,16 @@ each_same (k ∷ ks) js e = go (each_same ks) (key_of (capability_of k)) refl (e
     go more (Some j) first (Some is) rest e =
         let same : j ∷ is ≡ js = cc in
         sym same ∙ ap (λ x. x ∷ is) (some_key (is_known_mode (Some (pos k.mode))) k j first) ∙ ap (λ xs. k ∷ xs) (more is rest)
+
+-- ---- what is read
+
+-- bytes that say a message mean one
+pub is_meant : (bytes : List ℕ) (m : message.CreateVolume) → message_in bytes ≡ Some m → MeansMessage bytes
+is_meant bytes m is = go (read_request method.CreateVolume bytes) is
+  where
+    go : (r : Result Request ℕ) → created r ≡ Some m → IsOk r
+    go (Ok request) e = refl
+    go (Err at) e = absurd (cc)
 
 -- ---- what canonical bytes say
 

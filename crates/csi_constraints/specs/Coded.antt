@@ -1,13 +1,17 @@
 -- The constraints of bytes in a row of volumes (number, name, bytes, pool, caps, params) and of attachments (rowid, number, node, cap, readonly).
 use Rattle.std.specs.Prelude.{ℕ, Bool, List, Option}
-use Rattle.std.specs.Option.{option_and_then}
+use Rattle.std.specs.Option.{IsSomeAnd, option_and_then}
 use Rattle.sqlite.specs.Order.{Row, column}
 use Rattle.csi_types.specs.Maps.{TextMap}
 use Rattle.csi_keeper.specs.Capability.{is_supported_key}
 use Rattle.csi_keeper.specs.declared.capability.CapKey.{CapKey}
 use Rattle.csi_statements.specs.Cells.{as_blob}
-use Rattle.csi_constraints.specs.Coding.{are_keys, are_params, key_in, keys_in, params_in}
+use Rattle.csi_constraints.specs.Coding.{MeansMessage, are_keys, are_params, key_in, keys_in, params_in}
 use Rattle.csi_constraints.specs.Values.{is_some_and}
+
+-- a cell has bytes that mean a message
+abbrev pub SaysMessage : ℕ → Row → Type 0
+SaysMessage at row = IsSomeAnd (as_blob (column row at)) MeansMessage
 
 -- the keys that a cell says
 abbrev pub keys_at : ℕ → Row → Option (List CapKey)

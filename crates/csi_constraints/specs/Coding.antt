@@ -1,5 +1,5 @@
 -- What capabilities and parameters bytes say: those whose canonical bytes they are.
-use Rattle.std.specs.Prelude.{ℕ, ◌==◌, Bool, true, ◌&&◌, ◌||◌, not, nat_le, bytes_eq, List, [], ◌∷◌, Option, None, Some, Result, Ok}
+use Rattle.std.specs.Prelude.{ℕ, ◌==◌, Bool, true, ◌&&◌, ◌||◌, not, nat_le, bytes_eq, List, [], ◌∷◌, Option, None, Some, Result, Ok, IsOk}
 use Rattle.std.specs.FinMap.{len}
 use Rattle.std.specs.List.{list_all}
 use Rattle.std.specs.Option.{option_and_then, option_map}
@@ -29,6 +29,10 @@ created _ = None
 -- the CreateVolumeRequest that bytes say
 abbrev pub message_in : List ℕ → Option message.CreateVolume
 message_in bytes = created (read_request method.CreateVolume bytes)
+
+-- bytes that mean a CreateVolumeRequest, which takes memory to read
+abbrev pub MeansMessage : List ℕ → Type 0
+MeansMessage bytes = IsOk (read_request method.CreateVolume bytes)
 
 abbrev pub in_front : Option CapKey → Option (List CapKey) → Option (List CapKey)
 in_front (Some key) (Some «keys») = Some (key ∷ «keys»)

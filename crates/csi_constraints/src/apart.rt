@@ -1,6 +1,8 @@
 //! The constraint of attachments of one volume, by one that stands for all of them.
 
-ghost use Rattle.std.specs.Prelude.{◌≡◌, None, IfOk};
+ghost use Rattle.std.specs.Prelude.{◌≡◌, None, IfOk, IsSome, OnErr};
+ghost use Rattle.sqlite.specs.Order.{column};
+ghost use Rattle.csi_scans.specs.Folds.{as_integer};
 ghost use Rattle.csi_scans.specs.Failing.{FailsForMemory};
 ghost use Rattle.csi_constraints.specs.Apart.{AreLed, DoNotFall, admits, apart_named, are_beside, is_written, led_at, stays};
 ghost use Rattle.csi_constraints.specs.facts.Starts.{none_led};
@@ -26,6 +28,7 @@ pub struct Led {
 fn led_at(alloc: Global, row: &Row) -> Result<Option<Led>, Error>
     ensures value { IfOk result (λ led. led ≡ led_at row.now) }
     ensures memory { FailsForMemory result }
+    ensures sure { OnErr result (IsSome (as_integer (column row.now 0))) }
 {
     let Some(number) = integer_at(row, 0) else {
         return Ok(None);
@@ -90,6 +93,8 @@ pub struct FirstApart {
 impl Fold for FirstApart {
     ghost folds = { λ first rows now.
         first.found ≡ None → first.last ≡ None → DoNotFall rows → (now.found ≡ apart_named rows) × (now.found ≡ None → AreLed now.last rows) };
+
+    ghost takes_memory = { λ fold row. (fold.found ≡ None) × IsSome (as_integer (column row 0)) };
 
     ghost starts = { λ first found last falls. (found, λ none. none_led first.last last) };
 

@@ -1,9 +1,9 @@
 //! The constraints of a row that read capabilities or parameters of its bytes.
 
-ghost use Rattle.std.specs.Prelude.{◌≡◌, IfOk, IfSome, ◌∷◌, []};
+ghost use Rattle.std.specs.Prelude.{◌≡◌, IfOk, IfSome, OnErr, ◌∷◌, []};
 ghost use Rattle.csi_tables.specs.Encoding.{FitCaps, FitParams};
 ghost use Rattle.csi_scans.specs.Failing.{FailsForMemory};
-ghost use Rattle.csi_constraints.specs.Coded.{has_cap, has_caps, has_params, key_at, keys_at, params_at};
+ghost use Rattle.csi_constraints.specs.Coded.{SaysMessage, has_cap, has_caps, has_params, key_at, keys_at, params_at};
 
 use crate::coding::{are_keys, are_params, key_in, keys_in, params_in};
 use crate::trial::RowTrial;
@@ -18,6 +18,7 @@ pub(crate) fn keys_at(alloc: Global, row: &Row, at: usize) -> Result<Option<Item
     ensures value { IfOk result (λ keys. keys ≡ keys_at at row.now) }
     ensures fits { IfOk result (λ keys. IfSome keys FitCaps) }
     ensures memory { FailsForMemory result }
+    ensures sure { OnErr result (SaysMessage at row.now) }
 {
     match blob_at(row, at) {
         Some(bytes) => keys_in(alloc, bytes),
@@ -30,6 +31,7 @@ pub(crate) fn key_at(alloc: Global, row: &Row, at: usize) -> Result<Option<CapKe
     ensures value { IfOk result (λ key. key ≡ key_at at row.now) }
     ensures fits { IfOk result (λ key. IfSome key (λ k. FitCaps (k ∷ []))) }
     ensures memory { FailsForMemory result }
+    ensures sure { OnErr result (SaysMessage at row.now) }
 {
     match blob_at(row, at) {
         Some(bytes) => key_in(alloc, bytes),
@@ -41,6 +43,7 @@ fn params_at(alloc: Global, row: &Row, at: usize) -> Result<Option<(Map, Map)>, 
     ensures value { IfOk result (λ params. params ≡ params_at at row.now) }
     ensures fits { IfOk result (λ params. IfSome params (λ ms. FitParams ms.0 ms.1)) }
     ensures memory { FailsForMemory result }
+    ensures sure { OnErr result (SaysMessage at row.now) }
 {
     match blob_at(row, at) {
         Some(bytes) => params_in(alloc, bytes),
@@ -59,6 +62,8 @@ impl RowTrial for HasCaps {
     ghost accepts = { λ _ row. has_caps row };
 
     ghost knows = { λ _ row. IfSome (keys_at 4 row) FitCaps };
+
+    ghost takes_memory = { λ _ row. SaysMessage 4 row };
 
     fn try_test(&self, row: &Row) -> Result<bool, Error> {
         match keys_at(self.alloc, row, 4)? {
@@ -83,6 +88,8 @@ impl RowTrial for HasParams {
 
     ghost knows = { λ _ row. IfSome (params_at 5 row) (λ ms. FitParams ms.0 ms.1) };
 
+    ghost takes_memory = { λ _ row. SaysMessage 5 row };
+
     fn try_test(&self, row: &Row) -> Result<bool, Error> {
         match params_at(self.alloc, row, 5)? {
             Some((params, mutable)) => Ok(are_params(self.format, &params, &mutable)),
@@ -102,6 +109,8 @@ impl RowTrial for HasCap {
     ghost accepts = { λ _ row. has_cap row };
 
     ghost knows = { λ _ row. IfSome (key_at 3 row) (λ key. FitCaps (key ∷ [])) };
+
+    ghost takes_memory = { λ _ row. SaysMessage 3 row };
 
     fn try_test(&self, row: &Row) -> Result<bool, Error> {
         match key_at(self.alloc, row, 3)? {

@@ -1,6 +1,6 @@
 //! What capabilities and parameters bytes say: those whose canonical bytes they are.
 
-ghost use Rattle.std.specs.Prelude.{◌≡◌, ◌^◌, ◌-◌, ◌∷◌, [], min, Some, Ok, IfOk, IfSome, OnOk, bytes_eq, map};
+ghost use Rattle.std.specs.Prelude.{◌≡◌, ◌^◌, ◌-◌, ◌∷◌, [], min, Some, Ok, IfOk, IfSome, OnErr, OnOk, bytes_eq, map};
 ghost use Rattle.std.specs.List.{list_all};
 ghost use Rattle.csi_types.specs.Checks.{map_bytes};
 ghost use Rattle.csi_types.specs.declared.method.Method.TheVariants.{CreateVolume as Creating};
@@ -9,7 +9,7 @@ ghost use Rattle.csi_keeper.specs.Capability.{is_supported_key};
 ghost use Rattle.csi_tables.specs.Encoding.{caps_bytes, params_bytes, FitCaps, FitParams};
 ghost use Rattle.csi_scans.specs.Failing.{FailsForMemory};
 ghost use Rattle.csi_constraints.specs.Values.{if_passes};
-ghost use Rattle.csi_constraints.specs.Coding.{are_keys, are_params, is_small, each_key, is_before, key_in, keys_in, message_in, only, params_in, rise};
+ghost use Rattle.csi_constraints.specs.Coding.{MeansMessage, are_keys, are_params, is_small, each_key, is_before, key_in, keys_in, message_in, only, params_in, rise};
 
 use csi_codec::decode_create;
 use csi_keeper::{CapKey, cap_key, supported};
@@ -26,6 +26,7 @@ use std::cmp::Ordering;
 fn message_in(alloc: Global, bytes: &[u8]) -> Result<Option<CreateVolume>, Error>
     ensures value { IfOk result (λ message. message ≡ message_in bytes.now) }
     ensures memory { FailsForMemory result }
+    ensures sure { OnErr result (MeansMessage bytes.now) }
 {
     match decode_create(alloc, bytes) {
         Ok(message) => Ok(Some(message)),
@@ -76,6 +77,7 @@ pub(crate) fn keys_in(alloc: Global, bytes: &[u8]) -> Result<Option<Items<CapKey
     ensures value { IfOk result (λ keys. keys ≡ keys_in bytes.now) }
     ensures fits { IfOk result (λ keys. IfSome keys FitCaps) }
     ensures memory { FailsForMemory result }
+    ensures sure { OnErr result (MeansMessage bytes.now) }
 {
     match message_in(alloc, bytes)? {
         Some(message) => keys_of(alloc, message.capabilities.as_slice(), bytes),
@@ -116,6 +118,7 @@ pub(crate) fn key_in(alloc: Global, bytes: &[u8]) -> Result<Option<CapKey>, Erro
     ensures value { IfOk result (λ key. key ≡ key_in bytes.now) }
     ensures fits { IfOk result (λ key. IfSome key (λ k. FitCaps (k ∷ []))) }
     ensures memory { FailsForMemory result }
+    ensures sure { OnErr result (MeansMessage bytes.now) }
 {
     match keys_in(alloc, bytes)? {
         Some(keys) => Ok(only(keys)),
@@ -128,6 +131,7 @@ pub(crate) fn params_in(alloc: Global, bytes: &[u8]) -> Result<Option<(Map, Map)
     ensures value { IfOk result (λ params. params ≡ params_in bytes.now) }
     ensures fits { IfOk result (λ params. IfSome params (λ ms. FitParams ms.0 ms.1)) }
     ensures memory { FailsForMemory result }
+    ensures sure { OnErr result (MeansMessage bytes.now) }
 {
     let Some(message) = message_in(alloc, bytes)? else {
         return Ok(None);

@@ -1,6 +1,6 @@
 //! The first row that breaks a constraint, by its number and its text.
 
-ghost use Rattle.std.specs.Prelude.{◌≡◌, refl, None, IfOk};
+ghost use Rattle.std.specs.Prelude.{◌≡◌, ◌⊎◌, false, refl, None, IfOk, OnErr};
 ghost use Rattle.std.specs.List.{AllByRecursion};
 ghost use Rattle.std.specs.Str.{is_utf8};
 ghost use Rattle.sqlite.specs.Order.{column};
@@ -77,6 +77,7 @@ impl<T: RowTrial> FirstBroken<T> {
         ensures value { IfOk result (λ name. name ≡ name_if self.now.number self.now.text (T.accepts self.now.test) row.now) }
         ensures known { IfOk result (λ name. name ≡ None → T.knows self.now.test row.now) }
         ensures memory { FailsForMemory result }
+        ensures sure { OnErr result (T.takes_memory self.now.test row.now ⊎ (T.accepts self.now.test row.now ≡ false)) }
     {
         if self.test.try_test(row)? {
             return Ok(None);
@@ -92,6 +93,8 @@ impl<T: RowTrial> Fold for FirstBroken<T> {
         (now.test ≡ first.test) × (now.number ≡ first.number) × (now.text ≡ first.text)
         × (now.found ≡ named_out first.number first.text (T.accepts first.test) first.found rows)
         × (now.found ≡ None → AllByRecursion (T.knows first.test) rows) };
+
+    ghost takes_memory = { λ fold row. (fold.found ≡ None) × (T.takes_memory fold.test row ⊎ (T.accepts fold.test row ≡ false)) };
 
     ghost starts = { λ first. (refl, refl, refl, still_found first.found, λ none. tt) };
 
@@ -114,6 +117,8 @@ impl<T: RowTest> RowTrial for Sure<T> {
     ghost accepts = { λ sure row. T.accepts sure.test row };
 
     ghost knows = { λ _ _. Unit {0} };
+
+    ghost takes_memory = { λ _ _. ⊥ };
 
     fn try_test(&self, row: &Row) -> Result<bool, Error> {
         Ok(self.test.test(row))

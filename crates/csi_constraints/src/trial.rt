@@ -1,6 +1,6 @@
 //! A test of each row by itself that takes memory.
 
-ghost use Rattle.std.specs.Prelude.{◌≡◌, Bool, IfOk, IsTrue};
+ghost use Rattle.std.specs.Prelude.{◌≡◌, Bool, IfOk, IsTrue, OnErr};
 ghost use Rattle.sqlite.specs.Order.{Row as Values};
 ghost use Rattle.csi_scans.specs.Failing.{FailsForMemory};
 
@@ -14,6 +14,9 @@ pub trait RowTrial {
     /// What is known of a row that passes.
     ghost knows: { Self → Values → Type 0 };
 
+    /// Where it asks for memory to look at a row.
+    ghost takes_memory: { Self → Values → Type 0 };
+
     /// Whether the row passes.
     ///
     /// # Errors
@@ -22,5 +25,6 @@ pub trait RowTrial {
     fn try_test(&self, row: &Row) -> Result<bool, Error>
         ensures exact { IfOk result (λ passed. passed ≡ accepts self.now row.now) }
         ensures known { IfOk result (λ passed. IsTrue passed → knows self.now row.now) }
-        ensures memory { FailsForMemory result };
+        ensures memory { FailsForMemory result }
+        ensures sure { OnErr result (takes_memory self.now row.now) };
 }

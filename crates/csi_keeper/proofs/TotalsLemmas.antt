@@ -22,6 +22,11 @@ total_set es fs k t q h = ap or_zero (h ∙ ap (λ b. cond b (Some t) (lookup (i
     go true = refl
     go false = refl
 
+-- where one is set the others stay
+pub total_other : (es fs : List (Text × Total)) (k : Text) (t : Total) (q : Text) → lookup (is_at (text_cmp q)) fs ≡ cond (is_at (text_cmp k) q) (Some t) (lookup (is_at (text_cmp q)) es)
+    → same_text k q ≡ false → total_at fs q ≡ total_at es q
+total_other es fs k t q h other = total_set es fs k t q h ∙ ap (λ b. cond b t (total_at es q)) other
+
 -- a pool that is set to its own total
 pub same_set : (es fs : List (Text × Total)) (k q : Text) → lookup (is_at (text_cmp q)) fs ≡ cond (is_at (text_cmp k) q) (Some (total_at es k)) (lookup (is_at (text_cmp q)) es) → total_at fs q ≡ total_at es q
 same_set es fs k q h = total_set es fs k (total_at es k) q h ∙ go (same_text k q) refl

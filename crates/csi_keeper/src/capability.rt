@@ -202,6 +202,10 @@ fn key_with(alloc: Global, access: &Access, mode: u8) -> Result<Option<CapKey>, 
 }
 
 /// What a capability is known by; `None` without an access type, or with a mode that is not known.
+///
+/// # Errors
+///
+/// Where memory was refused.
 pub fn cap_key(alloc: Global, capability: &Capability) -> Result<Option<CapKey>, AllocError>
     ensures { IfOk result (λ key. key ≡ key_of capability.now) }
 {
@@ -228,6 +232,10 @@ fn access_of(alloc: Global, kind: &Kind) -> Result<Access, AllocError>
 }
 
 /// The capability of a key, without mount flags and mount group.
+///
+/// # Errors
+///
+/// Where memory was refused.
 pub fn capability_of(alloc: Global, key: &CapKey) -> Result<Capability, AllocError>
     ensures { IfOk result (λ capability. capability ≡ capability_of key.now) }
 {

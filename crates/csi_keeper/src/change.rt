@@ -44,7 +44,11 @@ impl Drop for Change {
 }
 
 impl Change {
-    /// The volume that is added. Any other change comes back.
+    /// The volume that is added.
+    ///
+    /// # Errors
+    ///
+    /// Any other change, as it was.
     pub fn into_added(self) -> Result<Volume, Change>
         ensures added { IfOk result (λ volume. self ≡ AddVolume volume) }
         ensures other { IfErr result (λ change. change ≡ self) }

@@ -8,6 +8,10 @@ use csi_types::{Items, copy_map, copy_text};
 use std::alloc::{AllocError, Global};
 
 /// A key equal to this one.
+///
+/// # Errors
+///
+/// Where memory was refused.
 pub fn copy_key(alloc: Global, key: &CapKey) -> Result<CapKey, AllocError>
     ensures { IfOk result (λ copy. copy ≡ key.now) }
 {
@@ -22,6 +26,10 @@ pub fn copy_key(alloc: Global, key: &CapKey) -> Result<CapKey, AllocError>
 }
 
 /// Keys equal to these.
+///
+/// # Errors
+///
+/// Where memory was refused.
 pub fn copy_keys(alloc: Global, keys: &Items<CapKey>) -> Result<Items<CapKey>, AllocError>
     ensures { IfOk result (λ copy. copy ≡ keys.now) }
 {
@@ -33,6 +41,10 @@ pub fn copy_keys(alloc: Global, keys: &Items<CapKey>) -> Result<Items<CapKey>, A
 }
 
 /// A volume equal to this one.
+///
+/// # Errors
+///
+/// Where memory was refused.
 pub fn copy_volume(alloc: Global, volume: &Volume) -> Result<Volume, AllocError>
     ensures { IfOk result (λ copy. copy ≡ volume.now) }
 {
@@ -48,6 +60,10 @@ pub fn copy_volume(alloc: Global, volume: &Volume) -> Result<Volume, AllocError>
 }
 
 /// An attachment equal to this one.
+///
+/// # Errors
+///
+/// Where memory was refused.
 pub fn copy_attachment(alloc: Global, attachment: &Attachment) -> Result<Attachment, AllocError>
     ensures { IfOk result (λ copy. copy ≡ attachment.now) }
 {

@@ -21,6 +21,10 @@ pub struct Listed {
 }
 
 /// What is told of a volume that is published at these nodes.
+///
+/// # Errors
+///
+/// Where memory was refused.
 #[inline(always)]
 pub fn listed_at(alloc: Global, volume: &Volume, nodes: Items<Text>) -> Result<Listed, AllocError>
     ensures { IfOk result (λ told. told ≡ listed_at volume.now nodes) }
@@ -34,6 +38,10 @@ pub fn listed_at(alloc: Global, volume: &Volume, nodes: Items<Text>) -> Result<L
 }
 
 /// What is told of volumes and the nodes of each, of as many as there are of both.
+///
+/// # Errors
+///
+/// Where memory was refused.
 pub fn listed_each(
     alloc: Global,
     volumes: &[Volume],

@@ -1,6 +1,6 @@
 //! Running totals: how many volumes each pool has, and their bytes.
 
-ghost use Rattle.std.specs.Prelude.{◌≡◌, ◌↔◌, List, ℕ, IsTrue, OnOk, OnErr, if◌then◌else◌};
+ghost use Rattle.std.specs.Prelude.{◌≡◌, ◌↔◌, List, ℕ, false, IsTrue, OnOk, OnErr, if◌then◌else◌};
 ghost use Rattle.csi_types.specs.Maps.{same_text};
 ghost use Rattle.csi_keeper.specs.Totals.{total_of, told, more, less, zero_total, HasRoom, IsReserved};
 
@@ -60,7 +60,11 @@ impl Totals {
         }
     }
 
-    /// Sets the total of a pool; the other pools stay. Where memory is refused each total stays.
+    /// Sets the total of a pool; the other pools stay.
+    ///
+    /// # Errors
+    ///
+    /// Where memory was refused; each total stays.
     #[tactic(auto, using(crate::proofs::TotalsLemmas::total_set))]
     pub fn set(&mut self, pool: Text, total: Total) -> Result<(), AllocError>
         ensures set { OnOk result ((q : List ℕ) → total_of self.new q ≡ (if same_text pool q then total else total_of self.old q)) }
@@ -70,13 +74,17 @@ impl Totals {
         Ok(())
     }
 
-    /// Counts a volume of this many bytes in a pool; the other pools stay. Where memory is refused
-    /// each total stays. Nothing is said where the pool has 2^64 - 1 volumes already, or the sum
-    /// would pass the greatest `u128`.
-    #[tactic(auto, using(crate::proofs::TotalsLemmas::total_set))]
+    /// Counts a volume of this many bytes in a pool; the other pools stay. Of the pool nothing is said
+    /// where it has 2^64 - 1 volumes already, or the sum would pass the greatest `u128`.
+    ///
+    /// # Errors
+    ///
+    /// Where memory was refused; each total stays.
+    #[tactic(auto, using(crate::proofs::TotalsLemmas::total_set, crate::proofs::TotalsLemmas::total_other))]
     pub fn add(&mut self, pool: Text, bytes: u64) -> Result<(), AllocError>
         ensures counted { OnOk result (HasRoom (total_of self.old pool) bytes → (q : List ℕ)
             → total_of self.new q ≡ (if same_text pool q then more (total_of self.old pool) bytes else total_of self.old q)) }
+        ensures others { OnOk result ((q : List ℕ) → same_text pool q ≡ false → total_of self.new q ≡ total_of self.old q) }
         ensures same { OnErr result ((q : List ℕ) → total_of self.new q ≡ total_of self.old q) }
     {
         let total = more_total(self.get(&pool), bytes);
@@ -94,6 +102,10 @@ impl Totals {
     }
 
     /// Takes the memory that [`count`](Totals::count) wants for a pool. Each total stays.
+    ///
+    /// # Errors
+    ///
+    /// Where memory was refused.
     #[tactic(auto, using(crate::proofs::TotalsLemmas::same_set, crate::proofs::TotalsLemmas::is_set))]
     pub fn reserve(&mut self, pool: Text) -> Result<(), AllocError>
         ensures reserved { OnOk result (IsReserved self.new pool) }

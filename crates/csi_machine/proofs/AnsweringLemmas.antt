@@ -1,5 +1,5 @@
 -- The answer to a request: reads that make a plan, the body of its response, its change, and what a keeper has then.
-use Rattle.std.proofs.Common.{◌≡◌, ◌∙◌, ◌⊎◌, inl, inr, ap, sym, subst, arith, refl, ℕ, ◌≤◌, ◌==◌, ◌&&◌, ◌||◌, ◌++◌, List, length, sum_by, nat_le, Bool, true, false, cond, Option, Some, None, Result, Ok, Err, IfSome, IsSome, OnOk, OnErr, append-nil}
+use Rattle.std.proofs.Common.{◌≡◌, ◌∙◌, ◌⊎◌, inl, inr, ap, sym, subst, arith, refl, ℕ, ◌≤◌, ◌==◌, ◌&&◌, ◌||◌, ◌++◌, List, length, sum_by, nat_le, Bool, true, false, cond, Option, Some, None, Result, Ok, Err, IfSome, IsSome, IsTrue, IfErr, OnOk, OnErr, append-nil}
 use Rattle.std.specs.FinMap as fin
 use Rattle.std.specs.List.{list_all}
 use Rattle.csi_types.specs.declared.reason.Reason.{Reason}
@@ -33,7 +33,7 @@ use Rattle.csi_keeper.specs.Model.{Model}
 use Rattle.csi_plans.specs.Plan.{after, refuse}
 use Rattle.csi_plans.specs.Size.{whole}
 use Rattle.csi_keeper.specs.State.{State, Allows}
-use Rattle.csi_machine.specs.Step.{plan, limited, limited_by, settled_plan, moved, step}
+use Rattle.csi_machine.specs.Step.{is_of_plugin, plan, limited, limited_by, settled_plan, moved, step}
 use Rattle.csi_plans.specs.Verdicts.{Told, Says, Denies, told_of, Appended, IsTold, verdict_of}
 use Rattle.csi_machine.specs.calls.Capacity.{capacity_of, served, greatest_size, tell_capacity}
 use Rattle.csi_machine.specs.calls.Listing.{list_after, start_of}
@@ -46,6 +46,7 @@ use Rattle.csi_machine.proofs.CheckedLemmas.{asked}
 use Rattle.csi_machine.proofs.CreateLemmas.{create_sound}
 use Rattle.csi_machine.proofs.DeleteLemmas.{delete_sound}
 use Rattle.csi_keeper.specs.facts.Finite.{none_some}
+use Rattle.csi_keeper.specs.facts.Reads.{quiet_then}
 use Rattle.csi_machine.proofs.ModifyLemmas.{modify_fits}
 use Rattle.csi_machine.proofs.PlanLemmas.{IsSound, sound_by, sound_still}
 use Rattle.csi_machine.proofs.PublishLemmas.{publish_fits}
@@ -76,6 +77,7 @@ carried config plan a b c p x y (Err e) sound q tells alone k before ok err smal
       state = tt;
       kept = tt;
       settled = tt;
+      quiet = λ d s h inv none. quiet_then q (k.quiet (ap (λ (x : Plan). x.change) (tells (mid d) s h) ∙ none));
       count = subst (λ n. c.refusals ≡ count_after {X = Verdict} n (Err e)) before k.count;
       same = λ d s h inv. k.same d s (q.state (mid d) s h) (may d s h inv);
       crash = λ d s h inv t u. left_of p (plan s) s t (a.survivors t) (tells (mid d) s h) (elim (k.crash d s (q.state (mid d) s h) (may d s h inv) t u) as (λ _. a.survivors t ⊎ (IsSome p.change × (t ≡ after s p.change))) [
@@ -105,6 +107,7 @@ carried config plan a b c p x y (Ok v) sound q tells alone k before ok err small
       idle = λ is d t u. q.crash (mid d) t (k.idle is d t u);
       stays = λ is. k.stays (q.down ∙ is);
       settled = λ d s h inv some t u. k.settled d s (q.state (mid d) s h) (may d s h inv) (subst (λ (x : Plan). IsSome x.change) (sym (tells (mid d) s h)) some) t u ∙ ap (λ (x : Plan). after s x.change) (tells (mid d) s h);
+      quiet = λ d s h inv none. quiet_then q (k.quiet (ap (λ (x : Plan). x.change) (tells (mid d) s h) ∙ none));
       ties = λ d s h inv t. k.ties d s (q.state (mid d) s h) (may d s h inv) (q.ties (mid d) t);
       down = record {
         down = λ is. absurd (cc);
@@ -124,6 +127,17 @@ limited_change p (Ok r) c e = go (nat_le (length (response_bytes r)) MAX_BODY_BY
     go : (b : Bool) → (cond b p (refuse ReplyTooLarge)).change ≡ Some c → p.change ≡ Some c
     go false h = absurd (none_some c h)
     go true h = h
+
+pub limited_none : (p : Plan) → p.change ≡ None → (limited p).change ≡ None
+limited_none p none = by p.outcome
+  where
+    go : (b : Bool) → (cond b p (refuse ReplyTooLarge)).change ≡ None
+    go false = refl
+    go true = none
+
+    by : (o : Result Response Reason) → (limited_by p o).change ≡ None
+    by (Err q) = refl
+    by (Ok r) = go (nat_le (length (response_bytes r)) MAX_BODY_BYTES)
 
 pub limited_sound : (config : Config) (plan : State → Plan) → IsSound config plan → IsSound config (λ s. limited (plan s))
 limited_sound config plan sound = sound_by config (λ s. limited (plan s)) (λ s c inv e.
@@ -209,14 +223,17 @@ alone config r a b x y (Ok v) did = record {
 }
 
 -- what is answered by the plan of a request performs it
-pub performed : (config : Config) (r : Request) (a b : Model State) (x y : List ℕ) (result : Result Verdict StoreFault) → Answered config (λ s. settled_plan config s r) a b x y result → Performs config r a b x y result
-performed config r a b x y result did = record {
+pub performed : (config : Config) (r : Request) (a b : Model State) (x y : List ℕ) (result : Result Verdict StoreFault) → (IsTrue (is_of_plugin r) → IsQuiet a b × IfErr result (λ e. e ≡ NoMemory))
+    → Answered config (λ s. settled_plan config s r) a b x y result → Performs config r a b x y result
+performed config r a b x y result unasked did = record {
   clean = did.clean;
   appended = did.appended;
   told = tells config r a b x y result did;
   state = state config r a b x y result did;
   counted = did.count;
   left = left config r a b x y result did;
+  quiet = did.quiet;
+  alone = unasked;
   ties = did.ties;
   down = alone config r a b x y result did;
   stays = did.stays;
@@ -231,14 +248,17 @@ still_step : (config : Config) (s : State) (r : Request) → (plan config s r).c
 still_step config s r still = ap (λ (o : Option Change). moved s (after s o) (told_of (plan config s r).outcome)) still ∙ still_moved s (told_of (plan config s r).outcome)
 
 -- a fault of reads performs a request
-pub fault_performed : {X : Type 0} {IsSo : State → X → Type 0} (config : Config) (r : Request) (a b : Model State) (x y : List ℕ) (e : StoreFault) → Finds {X = X} a b (Err e) IsSo → y ≡ x → Performs config r a b x y (Err e)
-fault_performed config r a b x y e found appended = record {
+pub fault_performed : {X : Type 0} {IsSo : State → X → Type 0} (config : Config) (r : Request) (a b : Model State) (x y : List ℕ) (e : StoreFault) → (IsTrue (is_of_plugin r) → ⊥)
+    → Finds {X = X} a b (Err e) IsSo → y ≡ x → Performs config r a b x y (Err e)
+fault_performed config r a b x y e asks found appended = record {
   clean = found.quiet.clean;
   appended = appended;
   told = λ d s h inv. tt;
   state = λ d s h inv. found.quiet.state d s h;
   counted = found.count;
   left = λ d s h inv. still_left e s _ (found.quiet.crash d);
+  quiet = λ d s h inv none. found.quiet;
+  alone = λ is. absurd (asks is);
   ties = λ d s h inv. found.quiet.ties d;
   down = record { down = λ is. found.down.down (same_fault e Down is); refused = λ is. found.down.refused (same_fault e Refused is); unasked = λ is. tt };
   stays = λ is. found.quiet.down ∙ is;
@@ -252,16 +272,19 @@ fault_performed config r a b x y e found appended = record {
     still_left Refused s t crash = λ u v. inl (crash u v)
     still_left Down s t crash = crash
 
-pub still_performed : (config : Config) (r : Request) (a b : Model State) (x y : List ℕ) (result : Result Verdict StoreFault) → ((s : State) → (plan config s r).change ≡ None)
+pub still_performed : (config : Config) (r : Request) (a b : Model State) (x y : List ℕ) (result : Result Verdict StoreFault) → (IsTrue (is_of_plugin r) → ⊥)
+    → ((s : State) → (plan config s r).change ≡ None)
     → Finds a b result (λ s v. IsTold {E = StoreFault} (told_of (plan config s r).outcome) x y (Ok v)) → Appended x y result → Performs config r a b x y result
-still_performed config r a b x y (Err e) still found appended = fault_performed config r a b x y e found appended
-still_performed config r a b x y (Ok v) still found appended = record {
+still_performed config r a b x y (Err e) asks still found appended = fault_performed config r a b x y e asks found appended
+still_performed config r a b x y (Ok v) asks still found appended = record {
   clean = found.quiet.clean;
   appended = appended;
   told = λ d s h inv. found.value d s h;
   state = λ d s h inv. subst b.holds (sym (still_step config s r (still s))) (found.quiet.state d s h);
   counted = found.count;
   left = λ d s h inv. inl (still_step config s r (still s), found.quiet.crash d);
+  quiet = λ d s h inv none. found.quiet;
+  alone = λ is. absurd (asks is);
   ties = λ d s h inv. found.quiet.ties d;
   down = record { down = found.down.down; refused = found.down.refused; unasked = λ is s. (found.down.unasked is s, still_step config s r (still s)) };
   stays = λ is. found.quiet.down ∙ is;

@@ -1,7 +1,8 @@
 -- A change that a keeper refuses leaves a plan that was not carried out.
-use Rattle.std.proofs.Common.{◌≡◌, ◌∙◌, ◌⊎◌, inl, inr, ap, sym, subst, refl, Bool, true, false, Option, Some, Result, Err, IfSome, IsSome}
+use Rattle.std.proofs.Common.{◌≡◌, ◌∙◌, ◌⊎◌, inl, inr, ap, sym, subst, refl, Bool, true, false, Option, Some, None, Result, Err, IfSome, IsSome}
 use Rattle.csi_keeper.specs.Keeper.{Applies}
 use Rattle.csi_keeper.specs.Model.{Model}
+use Rattle.csi_keeper.specs.facts.Finite.{none_some}
 use Rattle.csi_keeper.specs.State.{State, Allows, changed}
 use Rattle.csi_keeper.specs.declared.change.Change.{Change}
 use Rattle.csi_keeper.specs.declared.change.StoreFault.{StoreFault}
@@ -23,6 +24,10 @@ module _ (p : Plan) (change : Change) (has : p.change ≡ Some change) where
   left s t Old (inl old) = inl old
   left s t Old (inr new) = inr (subst (λ (o : Option Change). IsSome o) (sym has) refl, new ∙ sym (ap (λ (o : Option Change). after s o) has))
 
+  -- the plan has a change
+  asked : p.change ≡ None → ⊥
+  asked none = none_some change (sym none ∙ has)
+
 module _ {X : Type 0} (p : Plan) (change : Change) (a b : Model State) (has : p.change ≡ Some change) where
   refused : Applies {X = X} a b change (Err Refused) → Carries p a b (Err Refused)
   refused did = let is_up : a.is_down ≡ false = up a.is_down (λ is. let same = did.down.1 is in cc (same)) in record {
@@ -34,6 +39,8 @@ module _ {X : Type 0} (p : Plan) (change : Change) (a b : Model State) (has : p.
     crash = λ d s h allows t u. left p change has s t (a.survivors t) (did.changes.crash d s h (may p change has s allows) t u);
     idle = λ is. absurd (cc (is));
     settled = tt;
+    quiet = λ none. absurd (asked p change has none);
+    alone = λ none. absurd (asked p change has none);
     ties = λ d s h allows. did.changes.ties d s h (may p change has s allows);
     down = record { down = λ is. absurd (cc (is)); refused = λ is. is_up; unasked = λ is. tt };
     stays = λ is. absurd (cc (is, is_up));
@@ -49,6 +56,8 @@ module _ {X : Type 0} (p : Plan) (change : Change) (a b : Model State) (has : p.
     crash = λ d s h allows t u. left p change has s t (a.survivors t) (did.changes.crash d s h (may p change has s allows) t u);
     idle = λ is. absurd (cc (is));
     settled = tt;
+    quiet = λ none. absurd (asked p change has none);
+    alone = λ none. absurd (asked p change has none);
     ties = λ d s h allows. did.changes.ties d s h (may p change has s allows);
     down = record { down = λ is. absurd (cc (is)); refused = λ is. absurd (cc (is)); unasked = λ is. tt };
     stays = λ is. absurd (cc (is, is_up));
@@ -64,6 +73,8 @@ module _ {X : Type 0} (p : Plan) (change : Change) (a b : Model State) (has : p.
     crash = λ d s h allows t u. inl (did.changes.crash d t u);
     idle = λ is d t u. did.changes.crash d t u;
     settled = tt;
+    quiet = λ none. absurd (asked p change has none);
+    alone = λ none. absurd (asked p change has none);
     ties = λ d s h allows. did.changes.ties d;
     down = record { down = λ is. did.down.0 refl; refused = λ is. absurd (cc (is)); unasked = λ is. tt };
     stays = λ is. did.changes.down ∙ is;

@@ -1,5 +1,5 @@
 -- What a request does to a keeper, by the plan that the State gives it.
-use Rattle.std.specs.Prelude.{◌≡◌, ◌⊎◌, true, ℕ, ◌≤◌, ◌++◌, List, [], Result, Ok, Err, None, IsSome, IfSome, IfOk, OnOk, OnErr}
+use Rattle.std.specs.Prelude.{◌≡◌, ◌⊎◌, true, ℕ, ◌≤◌, ◌++◌, List, [], Result, Ok, Err, None, IsSome, IsTrue, IfSome, IfOk, IfErr, OnOk, OnErr}
 use Rattle.csi_types.specs.declared.reason.Reason.{Reason}
 use Rattle.csi_types.specs.declared.responses.Response.{Response}
 use Rattle.csi_codec.specs.Methods.{response_bytes}
@@ -10,12 +10,12 @@ use Rattle.csi_keeper.specs.declared.change.StoreFault.TheVariants.{NoMemory, Re
 use Rattle.csi_plans.specs.declared.body.Verdict.{Verdict}
 use Rattle.csi_plans.specs.declared.plan.Plan.{Plan}
 use Rattle.csi_keeper.specs.Invariant.{IsInvariant}
-use Rattle.csi_keeper.specs.Keeper.{count_after}
+use Rattle.csi_keeper.specs.Keeper.{IsQuiet, count_after}
 use Rattle.csi_keeper.specs.Model.{Model}
 use Rattle.csi_plans.specs.Down.{TellsDown}
 use Rattle.csi_plans.specs.Plan.{after}
 use Rattle.csi_keeper.specs.State.{State, Allows}
-use Rattle.csi_machine.specs.Step.{step}
+use Rattle.csi_machine.specs.Step.{step, settled_plan, is_of_plugin}
 use Rattle.csi_plans.specs.Verdicts.{Appended, IsTold, verdict_of}
 
 -- the body of an outcome that is written
@@ -58,6 +58,8 @@ pub record Answered (config : Config) (plan : State → Plan) (old new : Model S
   pub crash : Promises config old new (λ s. (t : State) → new.survivors t → old.survivors t ⊎ (IsSome (plan s).change × (t ≡ after s (plan s).change)))
   pub idle : result ≡ Err Down → new.doubt ≡ 0 → (t : State) → new.survivors t → old.survivors t
   pub settled : OnOk result (Promises config old new (λ s. IsSome (plan s).change → (t : State) → new.survivors t → t ≡ after s (plan s).change))
+  -- for a plan that changes nothing the keeper is only read
+  pub quiet : Promises config old new (λ s. (plan s).change ≡ None → IsQuiet old new)
   pub ties : Promises config old new (λ s. old.tied → new.tied)
   -- over a keeper that is down nothing is answered but what is so of each State
   pub down : TellsDown old.is_down (λ v. (s : State) → (v ≡ verdict_of (plan s).outcome) × (now ≡ out ++ body_of (plan s).outcome) × ((plan s).change ≡ None)) result
@@ -77,6 +79,9 @@ pub record Carries (plan : Plan) (old new : Model State) (result : Result Verdic
   pub crash : Allowed plan old new (λ s. (t : State) → new.survivors t → old.survivors t ⊎ (IsSome plan.change × (t ≡ after s plan.change)))
   pub idle : result ≡ Err Down → new.doubt ≡ 0 → (t : State) → new.survivors t → old.survivors t
   pub settled : OnOk result (Allowed plan old new (λ s. IsSome plan.change → (t : State) → new.survivors t → t ≡ after s plan.change))
+  -- one that changes nothing asks nothing of the keeper
+  pub quiet : plan.change ≡ None → IsQuiet old new
+  pub alone : plan.change ≡ None → IfErr result (λ e. e ≡ NoMemory)
   pub ties : Allowed plan old new (λ s. old.tied → new.tied)
   pub down : TellsDown old.is_down (λ v. plan.change ≡ None) result
   pub stays : old.is_down ≡ true → new.is_down ≡ true
@@ -90,6 +95,10 @@ pub record Performs (config : Config) (request : Request) (old new : Model State
   pub state : Promises config old new (λ s. new.holds (state_after s (step config s request).1 result))
   pub counted : new.refusals ≡ count_after old.refusals result
   pub left : Promises config old new (λ s. Leaves old.survivors new.survivors s (step config s request).1 result)
+  -- a request that changes nothing only reads the keeper
+  pub quiet : Promises config old new (λ s. (settled_plan config s request).change ≡ None → IsQuiet old new)
+  -- what the plugin is and can do is answered without the keeper
+  pub alone : IsTrue (is_of_plugin request) → IsQuiet old new × IfErr result (λ e. e ≡ NoMemory)
   pub ties : Promises config old new (λ s. old.tied → new.tied)
   pub down : TellsDown old.is_down (IsOfAll config request out now) result
   pub stays : old.is_down ≡ true → new.is_down ≡ true

@@ -54,6 +54,21 @@ is_planned (request.List r) = false
 is_planned (request.Capacity r) = true
 is_planned (request.Modify r) = true
 
+-- whether a request asks what the plugin is and can do, which no State says
+abbrev pub is_of_plugin : Request → Bool
+is_of_plugin request.PluginInfo = true
+is_of_plugin request.PluginCapabilities = true
+is_of_plugin request.Probe = true
+is_of_plugin request.ControllerCapabilities = true
+is_of_plugin (request.Create r) = false
+is_of_plugin (request.Delete r) = false
+is_of_plugin (request.Publish r) = false
+is_of_plugin (request.Unpublish r) = false
+is_of_plugin (request.Validate r) = false
+is_of_plugin (request.List r) = false
+is_of_plugin (request.Capacity r) = false
+is_of_plugin (request.Modify r) = false
+
 -- a refusal keeps the State
 abbrev pub moved : {S : Type 0} → S → S → Told → S
 moved s t (Says body) = t

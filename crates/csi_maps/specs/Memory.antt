@@ -1,5 +1,5 @@
 -- What rows in memory stand for.
-use Rattle.std.specs.Prelude.{◌≡◌, ℕ, ◌+◌, ◌-◌, ◌*◌, ◌^◌, ◌==◌, ◌&&◌, Bool, List, [], ◌∷◌, Option, Some, None, is_some, map, filter, length, take, drop, nat_lt, if◌then◌else◌}
+use Rattle.std.specs.Prelude.{◌≡◌, ℕ, ◌+◌, ◌-◌, ◌*◌, ◌^◌, ◌==◌, List, [], ◌∷◌, Option, Some, None, map, filter, length, take, drop, nat_lt, if◌then◌else◌}
 use Rattle.std.specs.BTreeMap.{is_at}
 use Rattle.std.specs.Int.{from_be_bytes, w32, w64}
 use Rattle.std.specs.FinMap.{FinMap, get, remove, entries, from_entries}
@@ -22,13 +22,13 @@ volumes_of es = from_entries es
 abbrev pub places_of : List (Place × Attachment) → FinMap place_cmp Attachment
 places_of es = from_entries es
 
-abbrev pub if_named : Text → Option Volume → Option Volume
-if_named name None = None
-if_named name (Some v) = if same_text v.name name then Some v else None
+-- the entries after a value was set at a key, or taken away there
+abbrev pub IsSetAt : {K X : Type 0} → (K → K → Ordering) → K → Option X → List (K × X) → List (K × X) → Type 0
+IsSetAt {K = K} R k x old new = (q : K) → lookup (is_at (R q)) new ≡ (if is_at (R k) q then x else lookup (is_at (R q)) old)
 
-abbrev pub at_number : FinMap nat_cmp Volume → Text → Option ℕ → Option Volume
-at_number volumes name None = None
-at_number volumes name (Some n) = if_named name (get volumes n)
+abbrev pub at_number : FinMap nat_cmp Volume → Option ℕ → Option Volume
+at_number volumes None = None
+at_number volumes (Some n) = get volumes n
 
 -- a number by which most names are told apart: the first eight bytes, or of a shorter name the first four and the last four
 unfoldable pub first_number : List ℕ → ℕ
@@ -41,9 +41,9 @@ first_number name =
 abbrev pub name_key : Text → Place
 name_key name = (first_number name, name)
 
--- the volume of a name, by an index that may be out of date
+-- the volume of a name, by the index
 abbrev pub named_by : List (Place × ℕ) → FinMap nat_cmp Volume → Text → Option Volume
-named_by names volumes name = at_number volumes name (lookup (is_at (place_cmp (name_key name))) names)
+named_by names volumes name = at_number volumes (lookup (is_at (place_cmp (name_key name))) names)
 
 -- the end of the places of a number that a u64 keeps
 abbrev pub place_end : ℕ → Bound Place
@@ -73,14 +73,15 @@ spot_cmp a b = ordering_then (text_cmp a.0 b.0) (nat_cmp a.1 b.1)
 abbrev pub spots_of : List (Spot × Unit {0}) → FinMap spot_cmp (Unit {0})
 spots_of es = from_entries es
 
--- what stands at a place is in the index of nodes, which may be ahead
+-- that something is there
+abbrev pub mark : {X : Type 0} → Option X → Option (Unit {0})
+mark None = None
+mark (Some x) = Some tt
+
+-- the index of nodes has a spot exactly where an attachment stands
 abbrev pub AreSpotted : List (Place × Attachment) → List (Spot × Unit {0}) → Type 0
-AreSpotted es spots = (n : ℕ) (node : Text) (a : Attachment) → get (places_of es) (n, node) ≡ Some a → lookup (is_at (spot_cmp (node, n))) spots ≡ Some tt
+AreSpotted es spots = (q : Spot) → lookup (is_at (spot_cmp q)) spots ≡ mark (get (places_of es) (q.1, q.0))
 
--- the number of a spot stands at its node
-abbrev pub stands_at : List (Place × Attachment) → Spot → Bool
-stands_at es spot = is_some (get (places_of es) (spot.1, spot.0))
-
--- the numbers at a node, by an index that may be ahead
-abbrev pub numbers_by : List (Spot × Unit {0}) → List (Place × Attachment) → Text → List ℕ
-numbers_by spots es node = map (λ e. e.0.1) (filter (λ e. same_text e.0.0 node && stands_at es e.0) spots)
+-- the numbers at a node, by the index
+abbrev pub numbers_by : List (Spot × Unit {0}) → Text → List ℕ
+numbers_by spots node = map (λ e. e.0.1) (filter (λ e. same_text e.0.0 node) spots)

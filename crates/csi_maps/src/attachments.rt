@@ -1,18 +1,18 @@
 //! The attachments in memory, by number and node.
 
-ghost use Rattle.std.specs.Prelude.{◌≡◌, ◌+◌, ◌<◌, ◌^◌, ◌==◌, [], ◌∷◌, ◌++◌, if◌then◌else◌, ℕ, IfOk, OnOk, OnErr, map, filter, not};
+ghost use Rattle.std.specs.Prelude.{◌≡◌, ◌+◌, ◌<◌, ◌^◌, ◌==◌, [], ◌∷◌, ◌++◌, if◌then◌else◌, ℕ, None, IfOk, IfErr, OnOk, OnErr, map, filter, not};
 ghost use Rattle.std.specs.BTreeMap.Range.{entries_between};
 ghost use Rattle.std.specs.Map.Iter.{ShowsInOrder, deref_pair};
 ghost use Rattle.csi_keeper.specs.declared.volume.Attachment.{Attachment as Row};
-ghost use Rattle.std.specs.FinMap.{insert, remove, entries, retain_keys};
+ghost use Rattle.std.specs.FinMap.{get, insert, remove, entries, retain_keys};
 ghost use Rattle.std.specs.declared.ops.Bound.TheVariants.{Included};
 ghost use Rattle.csi_maps.specs.Memory.{places_of, place_end, nodes_in, removed_each, AreSpotted};
 ghost use Rattle.csi_keeper.specs.State.{Place, place_cmp};
 
-use crate::nodes::drop_spot;
+use crate::nodes::{drop_spot, put_spot};
 use csi_keeper::{Attachment, copy_attachment};
 use csi_types::{Items, Text, copy_text};
-use std::alloc::{AllocError, Global};
+use std::alloc::{AllocError, AllocFailed, Global};
 use std::collections::BTreeMap;
 use std::collections::btree_map::Range;
 use std::ops::Bound;
@@ -104,19 +104,42 @@ pub(crate) fn nodes_of(
     Ok(nodes)
 }
 
-/// Adds a copy of an attachment. Where memory is refused the rows stay.
+// Where memory is refused the rows stay, and the attachment comes back with its place.
 #[tactic(auto, using(crate::specs::facts::Trees::one_place))]
-pub fn put_place(
+fn put_place(
+    attachments: &mut BTreeMap<(u64, Text), Attachment>,
+    place: (u64, Text),
+    attachment: Attachment,
+) -> Result<(), AllocFailed<((u64, Text), Attachment)>>
+    ensures ok { OnOk result (places_of attachments.new.entries ≡ insert (places_of attachments.old.entries) place attachment) }
+    ensures err { OnErr result (attachments.new.entries ≡ attachments.old.entries) }
+    ensures back { IfErr result (λ failed. failed.value ≡ (place, attachment)) }
+{
+    attachments.insert(place, attachment)?;
+    Ok(())
+}
+
+/// Adds a copy of an attachment where none stands, and its spot to the index. Where memory is refused both stay.
+pub fn put_attachment(
     alloc: Global,
     attachments: &mut BTreeMap<(u64, Text), Attachment>,
+    nodes: &mut BTreeMap<(Text, u64), ()>,
     number: u64,
     attachment: &Attachment,
 ) -> Result<(), AllocError>
     ensures ok { OnOk result (places_of attachments.new.entries ≡ insert (places_of attachments.old.entries) (number, attachment.now.node) attachment.now) }
     ensures err { OnErr result (attachments.new.entries ≡ attachments.old.entries) }
+    ensures spotted { get (places_of attachments.old.entries) (number, attachment.now.node) ≡ None
+        → AreSpotted attachments.old.entries nodes.old.entries → AreSpotted attachments.new.entries nodes.new.entries }
 {
     let place = (number, copy_text(alloc, attachment.node.as_str())?);
-    attachments.insert(place, copy_attachment(alloc, attachment)?)?;
+    let copy = copy_attachment(alloc, attachment)?;
+    put_spot(alloc, nodes, &attachment.node, number)?;
+    if let Err(failed) = put_place(attachments, place, copy) {
+        let (place, _) = failed.value;
+        drop_spot(nodes, &(place.1, place.0));
+        return Err(AllocError);
+    }
     Ok(())
 }
 

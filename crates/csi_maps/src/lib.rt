@@ -1,7 +1,7 @@
 //! The maps that a keeper in memory is made of, with their indexes.
 //!
-//! [`rows`] has the volumes by number, [`attachments`] the attachments by number and node, [`names`] the index of names and [`nodes`] that of nodes. Both
-//! indexes may be ahead of what stands, so what is found by them is asked for before it is answered. `walk.rt` is a walk over the attachments beside a
+//! [`rows`] has the volumes by number, [`attachments`] the attachments by number and node, [`names`] the index of names and [`nodes`] that of nodes. The
+//! indexes have what stands and nothing else, also after want of memory. `walk.rt` is a walk over the attachments beside a
 //! page of volumes. They are ordered maps of std, which the functions take lent: which of them a keeper has, and that they belong together, is said by
 //! the crate above, `csi_memory`.
 //!

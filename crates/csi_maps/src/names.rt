@@ -1,10 +1,7 @@
 //! The index of names in memory.
 
-ghost use Rattle.std.specs.BTreeMap.{is_at};
-ghost use Rattle.std.specs.Map.{lookup};
-ghost use Rattle.std.specs.Prelude.{◌≡◌, Some, None, List, ℕ, IfOk, OnOk, OnErr, if◌then◌else◌};
-ghost use Rattle.csi_types.specs.Maps.{same_text};
-ghost use Rattle.csi_maps.specs.Memory.{volumes_of, name_key, named_by, first_number};
+ghost use Rattle.std.specs.Prelude.{◌≡◌, Some, None, IfOk, OnOk, OnErr};
+ghost use Rattle.csi_maps.specs.Memory.{volumes_of, name_key, named_by, first_number, IsSetAt};
 ghost use Rattle.csi_keeper.specs.State.{place_cmp};
 
 use crate::rows::volume_at;
@@ -35,7 +32,7 @@ fn key_of(name: Text) -> (u64, Text)
     (first_number(name.as_bytes()), name)
 }
 
-/// A copy of the volume of a name, by an index that may be out of date.
+/// A copy of the volume of a name, by the index.
 pub fn volume_named(
     alloc: Global,
     names: &BTreeMap<(u64, Text), u64>,
@@ -44,32 +41,20 @@ pub fn volume_named(
 ) -> Result<Option<Volume>, AllocError>
     ensures { IfOk result (λ v. v ≡ named_by names.now.entries (volumes_of volumes.now.entries) name) }
 {
-    let key = key_of(name);
-    let Some(number) = names.get(&key) else {
-        return Ok(None);
-    };
-    match volume_at(alloc, volumes, *number)? {
-        Some(volume) => {
-            if volume.name == key.1 {
-                Ok(Some(volume))
-            } else {
-                Ok(None)
-            }
-        }
+    match names.get(&key_of(name)) {
+        Some(number) => volume_at(alloc, volumes, *number),
         None => Ok(None),
     }
 }
 
 /// Gives a name its number. Where memory is refused the names stay.
-#[tactic(auto, using(crate::proofs::ChangeLemmas::name_set))]
 pub fn set_name(
     alloc: Global,
     names: &mut BTreeMap<(u64, Text), u64>,
     name: &Text,
     number: u64,
 ) -> Result<(), AllocError>
-    ensures ok { OnOk result ((q : List ℕ) → lookup (is_at (place_cmp (name_key q))) names.new.entries
-        ≡ (if same_text name.now q then Some number else lookup (is_at (place_cmp (name_key q))) names.old.entries)) }
+    ensures ok { OnOk result (IsSetAt place_cmp (name_key name.now) (Some number) names.old.entries names.new.entries) }
     ensures err { OnErr result (names.new.entries ≡ names.old.entries) }
 {
     let key = key_of(copy_text(alloc, name.as_str())?);
@@ -78,10 +63,8 @@ pub fn set_name(
 }
 
 /// Takes a name out of the index.
-#[tactic(auto, using(crate::proofs::ChangeLemmas::name_gone))]
 pub fn drop_name(names: &mut BTreeMap<(u64, Text), u64>, name: Text)
-    ensures { (q : List ℕ) → lookup (is_at (place_cmp (name_key q))) names.new.entries
-        ≡ (if same_text name q then None else lookup (is_at (place_cmp (name_key q))) names.old.entries) }
+    ensures { IsSetAt place_cmp (name_key name) None names.old.entries names.new.entries }
 {
     names.remove(&key_of(name));
 }

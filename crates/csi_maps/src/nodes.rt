@@ -1,16 +1,13 @@
 //! The index of nodes in memory: where each attachment stands, by the node's id and then by number.
 
-ghost use Rattle.std.specs.BTreeMap.{is_at};
 ghost use Rattle.std.specs.BTreeMap.Range.{entries_between};
 ghost use Rattle.std.specs.FinMap.{entries};
-ghost use Rattle.std.specs.Map.{lookup};
 ghost use Rattle.std.specs.Map.Iter.{ShowsInOrder, deref_pair};
-ghost use Rattle.std.specs.Prelude.{◌≡◌, ◌∷◌, ◌++◌, [], Some, None, ℕ, List, IfOk, OnOk, OnErr, if◌then◌else◌, ◌&&◌};
+ghost use Rattle.std.specs.Prelude.{◌≡◌, ◌∷◌, ◌++◌, [], Some, None, ℕ, List, IfOk, OnOk, OnErr, if◌then◌else◌};
 ghost use Rattle.std.specs.declared.ops.Bound.TheVariants.{Included, Excluded};
 ghost use Rattle.csi_types.specs.Maps.{same_text};
-ghost use Rattle.csi_maps.specs.Memory.{Spot, spot_cmp, spots_of, stands_at, numbers_by};
+ghost use Rattle.csi_maps.specs.Memory.{Spot, spot_cmp, spots_of, numbers_by, IsSetAt};
 
-use csi_keeper::Attachment;
 use csi_types::{Items, Text, copy_text};
 use std::alloc::{AllocError, Global};
 use std::collections::BTreeMap;
@@ -18,14 +15,13 @@ use std::collections::btree_map::Range;
 use std::ops::Bound;
 
 /// Adds a spot. Where memory is refused the index stays.
-pub fn put_spot(
+pub(crate) fn put_spot(
     alloc: Global,
     nodes: &mut BTreeMap<(Text, u64), ()>,
     node: &Text,
     number: u64,
 ) -> Result<(), AllocError>
-    ensures ok { OnOk result ((q : Spot) → lookup (is_at (spot_cmp q)) nodes.new.entries
-        ≡ (if is_at (spot_cmp (node.now, number)) q then Some tt else lookup (is_at (spot_cmp q)) nodes.old.entries)) }
+    ensures ok { OnOk result (IsSetAt spot_cmp (node.now, number) (Some tt) nodes.old.entries nodes.new.entries) }
     ensures err { OnErr result (nodes.new.entries ≡ nodes.old.entries) }
 {
     nodes.insert((copy_text(alloc, node.as_str())?, number), ())?;
@@ -34,8 +30,7 @@ pub fn put_spot(
 
 /// Takes a spot out of the index.
 pub(crate) fn drop_spot(nodes: &mut BTreeMap<(Text, u64), ()>, spot: &(Text, u64))
-    ensures { (q : Spot) → lookup (is_at (spot_cmp q)) nodes.new.entries
-        ≡ (if is_at (spot_cmp spot.now) q then None else lookup (is_at (spot_cmp q)) nodes.old.entries) }
+    ensures { IsSetAt spot_cmp spot.now None nodes.old.entries nodes.new.entries }
 {
     nodes.remove(spot);
 }
@@ -61,29 +56,10 @@ fn spots_of_one(
     nodes.range((Bound::Included((node, 0)), Bound::Excluded((end, 0))))
 }
 
-#[tactic(auto, using(crate::specs::facts::Spots::get_place))]
-fn stands_at(
-    alloc: Global,
-    attachments: &BTreeMap<(u64, Text), Attachment>,
-    spot: &(Text, u64),
-) -> Result<bool, AllocError>
-    ensures { IfOk result (λ is. is ≡ stands_at attachments.now.entries spot.now) }
+fn push_number(numbers: &mut Items<u64>, spot: &(Text, u64), node: &str) -> Result<(), AllocError>
+    ensures { OnOk result (numbers.new ≡ numbers.old ++ (if same_text spot.now.0 node.now then spot.now.1 ∷ [] else [])) }
 {
-    let place = (spot.1, copy_text(alloc, spot.0.as_str())?);
-    Ok(attachments.get(&place).is_some())
-}
-
-fn push_number(
-    alloc: Global,
-    numbers: &mut Items<u64>,
-    attachments: &BTreeMap<(u64, Text), Attachment>,
-    spot: &(Text, u64),
-    node: &str,
-) -> Result<(), AllocError>
-    ensures { OnOk result (numbers.new ≡ numbers.old
-        ++ (if same_text spot.now.0 node.now && stands_at attachments.now.entries spot.now then spot.now.1 ∷ [] else [])) }
-{
-    if spot.0.as_str() == node && stands_at(alloc, attachments, spot)? {
+    if spot.0.as_str() == node {
         numbers.push(spot.1)?;
     }
     Ok(())
@@ -93,17 +69,16 @@ fn push_number(
 pub fn numbers_at(
     alloc: Global,
     nodes: &BTreeMap<(Text, u64), ()>,
-    attachments: &BTreeMap<(u64, Text), Attachment>,
     node: &str,
 ) -> Result<Items<u64>, AllocError>
-    ensures value { IfOk result (λ xs. xs ≡ numbers_by nodes.now.entries attachments.now.entries node.now) }
+    ensures value { IfOk result (λ xs. xs ≡ numbers_by nodes.now.entries node.now) }
     ensures ordered { OnOk result (entries (spots_of nodes.now.entries) ≡ nodes.now.entries) }
 {
     let first = copy_text(alloc, node)?;
     let end = next_text(alloc, node)?;
     let mut numbers = Items::new(alloc);
     for (spot, _) in spots_of_one(nodes, first, end) {
-        push_number(alloc, &mut numbers, attachments, spot, node)?;
+        push_number(&mut numbers, spot, node)?;
     }
     Ok(numbers)
 }

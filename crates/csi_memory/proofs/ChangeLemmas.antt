@@ -6,28 +6,26 @@ use Rattle.std.specs.FinMap as fin
 use Rattle.std.specs.List.{AllByRecursion}
 use Rattle.std.specs.Map.{lookup}
 use Rattle.std.specs.Ordering.{nat_cmp, eq_by_cmp}
-use lib.Pointwise.{bytes_decides}
 use Rattle.csi_types.specs.Maps.{TextMap, same_text}
 use Rattle.csi_keeper.specs.declared.volume.Attachment.{Attachment}
 use Rattle.csi_keeper.specs.declared.change.Change.TheVariants.{AddVolume, RemoveVolume, SetMutable}
 use Rattle.csi_keeper.specs.declared.volume.Volume.{Volume}
 use Rattle.csi_keeper.specs.declared.totals.Total.{Total}
 use Rattle.csi_keeper.specs.declared.totals.Totals.{Totals}
-use Rattle.csi_maps.specs.Memory.{Spot, volumes_of, name_key}
+use Rattle.csi_maps.specs.Memory.{Spot, IsSetAt, volumes_of, name_key}
 use Rattle.csi_memory.specs.Kept.{IsKept}
 use Rattle.csi_keeper.specs.Totals.{total_of, more, less, HasRoom}
 use Rattle.csi_keeper.specs.State.{State, Place, changed, Allows, mutable_set, place_cmp}
 use Rattle.csi_keeper.specs.Texts.{Text}
-use Rattle.csi_keeper.specs.facts.Finite.{same_some, removed, not_there, all_entries, put_there, tied}
-use Rattle.csi_memory.proofs.KeptLemmas.{kept_add, kept_remove}
-use Rattle.csi_keeper.specs.facts.Mutable.{stood, as_many, totals_kept}
+use Rattle.csi_keeper.specs.facts.Finite.{none_some, not_there, all_entries, put_there, tied}
+use Rattle.csi_memory.proofs.KeptLemmas.{kept_add, kept_remove, same_key}
+use Rattle.csi_keeper.specs.facts.Mutable.{stood, stands, as_many, totals_kept}
 use Rattle.csi_keeper.specs.facts.Names.{nobody}
 use Rattle.csi_keeper.specs.facts.Sums.{in_order, total_cons, count_cons}
 
 -- a name is taken out under another spelling of itself
-pub dropped_as : (index back : List (Place × ℕ)) (name other : Text) → other ≡ name → ((q : Text) → lookup (is_at (place_cmp (name_key q))) back ≡ cond (same_text other q) None (lookup (is_at (place_cmp (name_key q))) index))
-    → (q : Text) → lookup (is_at (place_cmp (name_key q))) back ≡ cond (same_text name q) None (lookup (is_at (place_cmp (name_key q))) index)
-dropped_as index back name other is h q = h q ∙ ap (λ (t : Text). cond (same_text t q) None (lookup (is_at (place_cmp (name_key q))) index)) is
+pub dropped_as : (index back : List (Place × ℕ)) (name other : Text) → other ≡ name → IsSetAt place_cmp (name_key other) None index back → IsSetAt place_cmp (name_key name) None index back
+dropped_as index back name other is h = subst (λ (t : Text). IsSetAt place_cmp (name_key t) None index back) is h
 
 -- the volume that was put into the rows stands there
 pub stands_now : (es rows : List (ℕ × Volume)) (v : Volume) → volumes_of rows ≡ fin.insert (volumes_of es) v.number v → fin.get (volumes_of rows) v.number ≡ Some v
@@ -70,25 +68,6 @@ module _ (next : ℕ) (volumes : List (ℕ × Volume)) (names : List (Place × �
       let sums = sum_most (fin.entries s.volumes) v.pool all in
       (omega (arith, n, most, len, few, first, number), omega (arith, m, most, len, few, first, number, sums, bytes))
 
-  -- the index is ahead of a volume that was not added
-  pub kept_name : (index : List (Place × ℕ)) (v : Volume) → IsKept next volumes names pools attachments spots s → Allows s (AddVolume v)
-      → ((q : Text) → lookup (is_at (place_cmp (name_key q))) index ≡ cond (same_text v.name q) (Some v.number) (lookup (is_at (place_cmp (name_key q))) names))
-      → IsKept next volumes index pools attachments spots s
-  kept_name index v k allows is_index = record {
-    next_is = k.next_is;
-    volumes_are = k.volumes_are;
-    attachments_are = k.attachments_are;
-    named = λ n w e. is_index w.name ∙ other n w e (same_text v.name w.name) refl;
-    totals = k.totals;
-    few = k.few;
-    small = k.small;
-    spotted = k.spotted;
-  }
-    where
-      other : (n : ℕ) (w : Volume) → fin.get s.volumes n ≡ Some w → (b : Bool) → same_text v.name w.name ≡ b → cond b (Some v.number) (lookup (is_at (place_cmp (name_key w.name))) names) ≡ Some n
-      other n w e true t = absurd (nobody s v.name n w allows.2 e (sym ((bytes_decides v.name w.name).0 t)))
-      other n w e false t = k.named n w e
-
   -- other rows of the same volumes
   pub kept_rows : (rows : List (ℕ × Volume)) → IsKept next volumes names pools attachments spots s → volumes_of rows ≡ volumes_of volumes → IsKept next rows names pools attachments spots s
   kept_rows rows k same = record {
@@ -96,6 +75,7 @@ module _ (next : ℕ) (volumes : List (ℕ × Volume)) (names : List (Place × �
     volumes_are = k.volumes_are ∙ sym same;
     attachments_are = k.attachments_are;
     named = k.named;
+    names_stand = k.names_stand;
     totals = k.totals;
     few = k.few;
     small = k.small;
@@ -124,35 +104,43 @@ module _ (next : ℕ) (volumes : List (ℕ × Volume)) (names : List (Place × �
 
   -- the name was set, a refused growth left the rows, and the name was taken out
   pub refused_rows : (rows : List (ℕ × Volume)) (index back : List (Place × ℕ)) (v : Volume) (name : Text) → name ≡ v.name → IsKept next volumes names pools attachments spots s → Allows s (AddVolume v)
-      → ((q : Text) → lookup (is_at (place_cmp (name_key q))) index ≡ cond (same_text name q) (Some v.number) (lookup (is_at (place_cmp (name_key q))) names))
-      → ((q : Text) → lookup (is_at (place_cmp (name_key q))) back ≡ cond (same_text v.name q) None (lookup (is_at (place_cmp (name_key q))) index))
+      → IsSetAt place_cmp (name_key name) (Some v.number) names index
+      → IsSetAt place_cmp (name_key v.name) None index back
       → volumes_of rows ≡ volumes_of volumes → IsKept next rows back pools attachments spots s
-  refused_rows rows index back v name is k allows is_index is_back same =
-      let ahead : IsKept next volumes index pools attachments spots s = kept_name index v k allows (λ q. is_index q ∙ ap (λ (t : Text). cond (same_text t q) (Some v.number) (lookup (is_at (place_cmp (name_key q))) names)) is) in
-      nameless rows index back v (kept_rows rows k same) allows ahead is_back same
+  refused_rows rows index back v name is k allows is_index is_back same = record {
+    next_is = k.next_is;
+    volumes_are = k.volumes_are ∙ sym same;
+    attachments_are = k.attachments_are;
+    named = λ n w e. again (name_key w.name) ∙ other n w e (is_at (place_cmp (name_key v.name)) (name_key w.name)) refl;
+    names_stand = λ p n e. whose p n (is_at (place_cmp (name_key v.name)) p) (sym (again p) ∙ e);
+    totals = k.totals;
+    few = k.few;
+    small = k.small;
+    spotted = k.spotted;
+  }
     where
-      nameless : (rows : List (ℕ × Volume)) (index back : List (Place × ℕ)) (v : Volume) → IsKept next rows names pools attachments spots s → Allows s (AddVolume v) → IsKept next volumes index pools attachments spots s
-          → ((q : Text) → lookup (is_at (place_cmp (name_key q))) back ≡ cond (same_text v.name q) None (lookup (is_at (place_cmp (name_key q))) index))
-          → volumes_of rows ≡ volumes_of volumes → IsKept next rows back pools attachments spots s
-      nameless rows index back v k allows ahead is_back same = record {
-        next_is = k.next_is;
-        volumes_are = k.volumes_are;
-        attachments_are = k.attachments_are;
-        named = λ n w e. is_back w.name ∙ other ahead n w e (same_text v.name w.name) refl;
-        totals = k.totals;
-        few = k.few;
-        small = k.small;
-        spotted = ahead.spotted;
-      }
+      again : (p : Place) → lookup (is_at (place_cmp p)) back ≡ cond (is_at (place_cmp (name_key v.name)) p) None (lookup (is_at (place_cmp p)) names)
+      again p =
+          is_back p
+          ∙ ap (cond (is_at (place_cmp (name_key v.name)) p) None) (is_index p ∙ ap (λ (t : Text). cond (is_at (place_cmp (name_key t)) p) (Some v.number) (lookup (is_at (place_cmp p)) names)) is)
+          ∙ by (is_at (place_cmp (name_key v.name)) p)
         where
-          other : IsKept next volumes index pools attachments spots s → (n : ℕ) (w : Volume) → fin.get s.volumes n ≡ Some w → (b : Bool) → same_text v.name w.name ≡ b → cond b None (lookup (is_at (place_cmp (name_key w.name))) index) ≡ Some n
-          other ahead n w e true t = absurd (nobody s v.name n w allows.2 e (sym ((bytes_decides v.name w.name).0 t)))
-          other ahead n w e false t = ahead.named n w e
+          by : (b : Bool) → cond b None (cond b (Some v.number) (lookup (is_at (place_cmp p)) names)) ≡ cond b None (lookup (is_at (place_cmp p)) names)
+          by true = refl
+          by false = refl
+
+      other : (n : ℕ) (w : Volume) → fin.get s.volumes n ≡ Some w → (b : Bool) → is_at (place_cmp (name_key v.name)) (name_key w.name) ≡ b → cond b None (lookup (is_at (place_cmp (name_key w.name))) names) ≡ Some n
+      other n w e true t = absurd (nobody s v.name n w allows.2 e (sym (same_key v.name w.name t)))
+      other n w e false t = k.named n w e
+
+      whose : (p : Place) (n : ℕ) (b : Bool) → cond b None (lookup (is_at (place_cmp p)) names) ≡ Some n → (w : Volume) × (fin.get s.volumes n ≡ Some w) × (name_key w.name ≡ p)
+      whose p n true h = absurd (none_some n h)
+      whose p n false h = k.names_stand p n h
 
   -- the volume was added, and taken back with its name
   pub refused_total : (taken rows : List (ℕ × Volume)) (index back : List (Place × ℕ)) (kept : Totals) (v copy : Volume) (name : Text) → copy ≡ v → name ≡ v.name → IsKept next volumes names pools attachments spots s → Allows s (AddVolume v)
-      → ((q : Text) → lookup (is_at (place_cmp (name_key q))) index ≡ cond (same_text name q) (Some v.number) (lookup (is_at (place_cmp (name_key q))) names))
-      → ((q : Text) → lookup (is_at (place_cmp (name_key q))) back ≡ cond (same_text v.name q) None (lookup (is_at (place_cmp (name_key q))) index))
+      → IsSetAt place_cmp (name_key name) (Some v.number) names index
+      → IsSetAt place_cmp (name_key v.name) None index back
       → volumes_of rows ≡ fin.insert (volumes_of volumes) copy.number copy
       → volumes_of taken ≡ fin.remove (volumes_of rows) v.number
       → ((q : Text) → total_of kept q ≡ total_of pools q) → IsKept next taken back kept attachments spots s
@@ -165,6 +153,7 @@ module _ (next : ℕ) (volumes : List (ℕ × Volume)) (names : List (Place × �
         volumes_are = rest.volumes_are;
         attachments_are = rest.attachments_are;
         named = rest.named;
+        names_stand = rest.names_stand;
         totals = λ pool. same pool ∙ rest.totals pool;
         few = rest.few;
         small = rest.small;
@@ -174,7 +163,7 @@ module _ (next : ℕ) (volumes : List (ℕ × Volume)) (names : List (Place × �
   -- the volume was added
   pub added : (rows : List (ℕ × Volume)) (index : List (Place × ℕ)) (kept : Totals) (v copy : Volume) (name pool : Text) → copy ≡ v → name ≡ v.name → pool ≡ v.pool → IsKept next volumes names pools attachments spots s → Allows s (AddVolume v)
       → v.number < 2 ^ 62 → v.bytes ≤ 2 ^ 62
-      → ((q : Text) → lookup (is_at (place_cmp (name_key q))) index ≡ cond (same_text name q) (Some v.number) (lookup (is_at (place_cmp (name_key q))) names))
+      → IsSetAt place_cmp (name_key name) (Some v.number) names index
       → volumes_of rows ≡ fin.insert (volumes_of volumes) copy.number copy
       → (HasRoom (total_of pools pool) v.bytes → (q : Text) → total_of kept q ≡ cond (same_text pool q) (more (total_of pools pool) v.bytes) (total_of pools q))
       → IsKept (v.number + 1) rows index kept attachments spots (changed s (AddVolume v))
@@ -183,7 +172,7 @@ module _ (next : ℕ) (volumes : List (ℕ × Volume)) (names : List (Place × �
       subst (λ (n : ℕ). IsKept (n + 1) rows index kept attachments spots (changed s (AddVolume v))) (sym k.next_is ∙ sym allows.0)
       (kept_add next volumes rows names pools kept attachments spots s index v k allows bytes
       (add ∙ ap (λ (w : Volume). fin.insert (volumes_of volumes) w.number w) one)
-      (λ q. is_index q ∙ ap (λ (t : Text). cond (same_text t q) (Some v.number) (lookup (is_at (place_cmp (name_key q))) names)) is)
+      (subst (λ (t : Text). IsSetAt place_cmp (name_key t) (Some v.number) names index) is is_index)
       (λ q. counted fits q ∙ ap (λ (p : Text). cond (same_text p q) (more (total_of pools p) v.bytes) (total_of pools q)) in_pool))
 
   -- the volume was taken away, out of its pool's total, and its name out of the index
@@ -191,30 +180,10 @@ module _ (next : ℕ) (volumes : List (ℕ × Volume)) (names : List (Place × �
       → fin.get (volumes_of volumes) n ≡ Some v
       → volumes_of rows ≡ fin.remove (volumes_of volumes) n
       → ((q : Text) → total_of kept q ≡ cond (same_text v.pool q) (less (total_of pools v.pool) v.bytes) (total_of pools q))
-      → ((q : Text) → lookup (is_at (place_cmp (name_key q))) index ≡ cond (same_text v.name q) None (lookup (is_at (place_cmp (name_key q))) names))
+      → IsSetAt place_cmp (name_key v.name) None names index
       → IsKept next rows index kept attachments spots (changed s (RemoveVolume n))
-  taken rows index kept n v k some is_rows is_totals is_index = record {
-    next_is = new.next_is;
-    volumes_are = new.volumes_are;
-    attachments_are = new.attachments_are;
-    named = λ m w e. is_index w.name ∙ other m w (removed nat_cmp_total fin.nat_cmp-IsAntisymmetric s.volumes n m w e) (same_text v.name w.name) refl;
-    totals = new.totals;
-    few = new.few;
-    small = new.small;
-    spotted = new.spotted;
-  }
-    where
-      stands : fin.get s.volumes n ≡ Some v
-      stands = ap (λ (m : fin.FinMap nat_cmp Volume). fin.get m n) k.volumes_are ∙ some
-
-      new : IsKept next rows names kept attachments spots (changed s (RemoveVolume n))
-      new = kept_remove next volumes rows names pools kept attachments spots s n v k stands is_rows is_totals
-
-      other : (m : ℕ) (w : Volume) → (m ≡ n → ⊥) × (fin.get s.volumes m ≡ Some w) → (b : Bool) → same_text v.name w.name ≡ b → cond b None (lookup (is_at (place_cmp (name_key w.name))) names) ≡ Some m
-      other m w old true t =
-          let is : v.name ≡ w.name = (bytes_decides v.name w.name).0 t in
-          absurd (old.0 (same_some m n (sym (k.named m w old.1) ∙ ap (λ (x : Text). lookup (is_at (place_cmp (name_key x))) names) (sym is) ∙ k.named n v stands)))
-      other m w old false t = k.named m w old.1
+  taken rows index kept n v k some is_rows is_totals is_index =
+      kept_remove next volumes rows names pools kept attachments spots s index n v k (ap (λ (m : fin.FinMap nat_cmp Volume). fin.get m n) k.volumes_are ∙ some) is_rows is_totals is_index
 
   -- a volume got other mutable parameters, or none stands
   pub kept_mutable : (rows : List (ℕ × Volume)) (n : ℕ) (m : TextMap) → IsKept next volumes names pools attachments spots s
@@ -228,6 +197,14 @@ module _ (next : ℕ) (volumes : List (ℕ × Volume)) (names : List (Place × �
       | inl a ↦ ap (λ (x : Volume). lookup (is_at (place_cmp (name_key x.name))) names) a ∙ k.named q old.0 old.1
       | inr b ↦ ap (λ (x : Volume). lookup (is_at (place_cmp (name_key x.name))) names) b.1 ∙ k.named q old.0 old.1
     ];
+    names_stand = λ p q e. let old = k.names_stand p q e in let new = stands s.volumes n m q old.0 old.1 in (
+      new.0,
+      new.1,
+      elim new.2 as (λ _. name_key new.0.name ≡ p) [
+        | inl a ↦ ap (λ (x : Volume). name_key x.name) a ∙ old.2
+        | inr b ↦ ap (λ (x : Volume). name_key x.name) b.1 ∙ old.2
+      ],
+    );
     totals = totals_kept pools s n m k.totals;
     few = let less = k.few in let same = as_many s.volumes n m in omega (arith, less, same);
     small = λ q w e. let old = stood s.volumes n m q w e in elim old.2 as (λ _. w.bytes ≤ 2 ^ 62) [

@@ -11,7 +11,7 @@ use Rattle.csi_types.specs.Maps.{same_text}
 use Rattle.csi_keeper.specs.declared.volume.Attachment.{Attachment}
 use Rattle.csi_keeper.specs.declared.volume.Volume.{Volume}
 use Rattle.csi_keeper.specs.declared.totals.Totals.{Totals}
-use Rattle.csi_maps.specs.Memory.{Spot, volumes_of, named_by, at_number, if_named, name_key}
+use Rattle.csi_maps.specs.Memory.{Spot, volumes_of, named_by, at_number, name_key}
 use Rattle.csi_memory.specs.Kept.{IsKept}
 use Rattle.csi_keeper.specs.State.{State, Place, named, place_cmp}
 use Rattle.csi_keeper.specs.Texts.{Text}
@@ -33,22 +33,15 @@ module _ (next : ℕ) (volumes : List (ℕ × Volume)) (names : List (Place × �
   pub named_kept : (name : Text) → IsKept next volumes names pools attachments spots s → named_by names (volumes_of volumes) name ≡ named s name
   named_kept name k = subst (λ (m : fin.FinMap nat_cmp Volume). named_by names m name ≡ named s name) k.volumes_are (go (named s name) refl)
     where
-      no_one : (o : Option ℕ) → named s name ≡ None → at_number s.volumes name o ≡ None
-      no_one None e = refl
-      no_one (Some n) e = at (fin.get s.volumes n) refl
-        where
-          at : (o : Option Volume) → fin.get s.volumes n ≡ o → if_named name o ≡ None
-          at None g = refl
-          at (Some w) g = elim (same_text w.name name) as (λ b. same_text w.name name ≡ b → cond b (Some w) None ≡ None) [
-            | true ↦ λ t. absurd (nobody s name n w e g ((bytes_decides w.name name).0 t))
-            | false ↦ λ t. refl
-          ] refl
+      no_one : (o : Option ℕ) → lookup (is_at (place_cmp (name_key name))) names ≡ o → named s name ≡ None → at_number s.volumes o ≡ None
+      no_one None i e = refl
+      no_one (Some n) i e = let one = k.names_stand (name_key name) n i in absurd (nobody s name n one.0 e one.1 (ap (λ (p : Place). p.1) one.2))
 
       go : (o : Option Volume) → named s name ≡ o → named_by names s.volumes name ≡ o
-      go None e = no_one (lookup (is_at (place_cmp (name_key name))) names) e
+      go None e = no_one (lookup (is_at (place_cmp (name_key name))) names) refl e
       go (Some v) e =
           let all = all_entries nat_cmp_total fin.nat_cmp-IsAntisymmetric (λ n v. fin.get s.volumes n ≡ Some v) s.volumes (λ n v g. g) in
           let one = found_number s.volumes (λ v. same_text v.name name) (fin.entries s.volumes) v all e in
           let is : v.name ≡ name = (bytes_decides v.name name).0 one.2 in
           let at : lookup (is_at (place_cmp (name_key name))) names ≡ Some one.0 = subst (λ (t : Text). lookup (is_at (place_cmp (name_key t))) names ≡ Some one.0) is (k.named one.0 v one.1) in
-          ap (at_number s.volumes name) at ∙ ap (if_named name) one.1 ∙ ap (λ b. cond b (Some v) None) one.2
+          ap (at_number s.volumes) at ∙ one.1

@@ -1,7 +1,9 @@
 -- What rows tell of a State that they are kept for.
-use Rattle.std.proofs.Common.{◌≡◌, ◌∙◌, ap, sym, subst, arith, refl, ℕ, ◌==◌, ◌≤◌, nat_lt, zero, suc, List, [], ◌∷◌, map, filter, take, length, sum}
+use Rattle.std.proofs.Common.{◌≡◌, ◌∙◌, ap, sym, arith, refl, ℕ, ◌==◌, ◌≤◌, nat_lt, zero, suc, List, [], ◌∷◌, map, filter, take, length, sum}
+use Rattle.std.specs.BTreeMap.{is_at}
 use Rattle.std.specs.BTreeMap.Range.{entries_between}
 use Rattle.std.specs.FinMap as fin
+use Rattle.std.specs.Map.{lookup}
 use Rattle.std.specs.Option.{option_map}
 use Rattle.std.specs.Ordering.{nat_cmp}
 use Rattle.std.specs.declared.ops.Bound.TheVariants.{Included, Excluded, Unbounded}
@@ -10,7 +12,7 @@ use Rattle.csi_keeper.specs.declared.volume.Attachment.{Attachment}
 use Rattle.csi_keeper.specs.declared.volume.Volume.{Volume}
 use Rattle.csi_keeper.specs.declared.totals.Totals.{Totals}
 use Rattle.csi_keeper.specs.Totals.{total_of, zero_total, the_total, told}
-use Rattle.csi_maps.specs.Memory.{Spot, spots_of, numbers_by, volumes_of, places_of, place_end, nodes_in, listed_in}
+use Rattle.csi_maps.specs.Memory.{Spot, spot_cmp, spots_of, mark, numbers_by, volumes_of, places_of, place_end, nodes_in, listed_in}
 use Rattle.csi_memory.specs.Kept.{IsKept}
 use Rattle.csi_keeper.specs.State.{State, Place, place_cmp, sizes, page, attached, attached_at, published_of_page, used, first_state}
 use Rattle.csi_keeper.specs.Listing.{listed_at, listing}
@@ -70,7 +72,7 @@ module _ (next : ℕ) (volumes : List (ℕ × Volume)) (names : List (Place × �
       ap (λ (es : List (Place × Attachment)). map (λ e. e.1) es) (place_rows attachments n)
       ∙ ap (λ (es : List (Place × Attachment)). map (λ e. e.1) (filter (λ e. e.0.0 == n) es)) (places k o)
 
-  pub held_at : (node : Text) → fin.entries (spots_of spots) ≡ spots → IsKept next volumes names pools attachments spots s → numbers_by spots attachments node ≡ attached_at s node
+  pub held_at : (node : Text) → fin.entries (spots_of spots) ≡ spots → IsKept next volumes names pools attachments spots s → numbers_by spots node ≡ attached_at s node
   held_at node o k =
       numbers_spotted attachments spots node k.spotted o
       ∙ ap (λ (m : fin.FinMap place_cmp Attachment). map (λ e. e.0.0) (filter (λ e. same_text e.0.1 node) (fin.entries m))) (sym k.attachments_are)
@@ -81,18 +83,20 @@ module _ (next : ℕ) (volumes : List (ℕ × Volume)) (names : List (Place × �
 
 -- trees with no entries, and totals of nothing, stand for the first State
 pub first_held : (first : ℕ) → 1 ≤ first → (volumes : List (ℕ × Volume)) (names : List (Place × ℕ)) (pools : Totals) (attachments : List (Place × Attachment)) (spots : List (Spot × Unit {0}))
-    → volumes ≡ [] → attachments ≡ [] → ((q : Text) → total_of pools q ≡ zero_total) → IsKept first volumes names pools attachments spots (first_state first)
-first_held first least volumes names pools attachments spots v a none = subst (λ (es : List (ℕ × Volume)). IsKept first es names pools attachments spots (first_state first)) (sym v)
-    (subst (λ (es : List (Place × Attachment)). IsKept first [] names pools es spots (first_state first)) (sym a) (record {
-      next_is = refl;
-      volumes_are = refl;
-      attachments_are = refl;
-      named = λ n v e. absurd (none_some v (sym (fin.get-empty {X = Volume} nat_cmp n) ∙ e));
-      totals = λ pool. none pool ∙ sym (ap (λ (es : List (ℕ × Volume)). the_total (length (in_order es pool)) (sum (in_order es pool))) no_rows);
-      few = let z = fin.len-empty nat_cmp Volume in omega (arith, z, least);
-      small = λ n v e. absurd (none_some v (sym (fin.get-empty {X = Volume} nat_cmp n) ∙ e));
-      spotted = λ n node v e. absurd (none_some v (sym (fin.get-empty {X = Attachment} place_cmp (n, node)) ∙ e));
-    }))
+    → volumes ≡ [] → names ≡ [] → attachments ≡ [] → spots ≡ [] → ((q : Text) → total_of pools q ≡ zero_total) → IsKept first volumes names pools attachments spots (first_state first)
+first_held first least volumes names pools attachments spots no_volumes no_names no_attachments no_spots none = record {
+  next_is = refl;
+  volumes_are = sym (ap (λ (es : List (ℕ × Volume)). volumes_of es) no_volumes);
+  attachments_are = sym (ap (λ (es : List (Place × Attachment)). places_of es) no_attachments);
+  named = λ n v e. absurd (none_some v (sym (fin.get-empty {X = Volume} nat_cmp n) ∙ e));
+  names_stand = λ p n e. absurd (none_some n (sym (ap (λ (es : List (Place × ℕ)). lookup (is_at (place_cmp p)) es) no_names) ∙ e));
+  totals = λ pool. none pool ∙ sym (ap (λ (es : List (ℕ × Volume)). the_total (length (in_order es pool)) (sum (in_order es pool))) no_rows);
+  few = let z = fin.len-empty nat_cmp Volume in omega (arith, z, least);
+  small = λ n v e. absurd (none_some v (sym (fin.get-empty {X = Volume} nat_cmp n) ∙ e));
+  spotted = λ q.
+      ap (λ (es : List (Spot × Unit {0})). lookup (is_at (spot_cmp q)) es) no_spots
+      ∙ sym (ap (λ (es : List (Place × Attachment)). mark (fin.get (places_of es) (q.1, q.0))) no_attachments ∙ ap mark (fin.get-empty {X = Attachment} place_cmp (q.1, q.0)));
+}
   where
     no_rows : fin.entries (fin.empty {X = Volume} {R = nat_cmp}) ≡ []
     no_rows = none_listed nat_cmp

@@ -16,6 +16,8 @@ pub record IsKept (next : ℕ) (volumes : List (ℕ × Volume)) (names : List (P
   pub volumes_are : s.volumes ≡ volumes_of volumes
   pub attachments_are : s.attachments ≡ places_of attachments
   pub named : (n : ℕ) (v : Volume) → get s.volumes n ≡ Some v → lookup (is_at (place_cmp (name_key v.name))) names ≡ Some n
+  -- and each name in the index is that of a volume that stands
+  pub names_stand : (p : Place) (n : ℕ) → lookup (is_at (place_cmp p)) names ≡ Some n → (v : Volume) × (get s.volumes n ≡ Some v) × (name_key v.name ≡ p)
   pub totals : AreTotals pools s
   pub spotted : AreSpotted attachments spots
   -- so that neither total passes what it is kept in

@@ -9,9 +9,9 @@ ghost use Rattle.csi_memory.specs.Restoring.{CanRestore, from_number, restored};
 use csi_keeper::{
     Attachment, CapKey, Change, Keeper, Listed, StoreFault, Totals, Usage, Volume, copy_volume,
 };
-use csi_maps::attachments::{attached_to, put_place, take_attachment, take_places};
+use csi_maps::attachments::{attached_to, put_attachment, take_attachment, take_places};
 use csi_maps::names::{drop_name, set_name, volume_named};
-use csi_maps::nodes::{numbers_at, put_spot};
+use csi_maps::nodes::numbers_at;
 use csi_maps::rows::{
     caps_at, listed_after, nodes_after, put_volume, set_mutable, sizes_of, take_volume, volume_at,
     volumes_after,
@@ -26,7 +26,7 @@ use std::collections::BTreeMap;
 /// Each volume is there once. For n volumes and m attachments a volume is found by its number or
 /// name in O(log n), the attachments of a volume in O(log m) and their number, and a page in
 /// O(log n) and its entries, for its nodes O(log m) more and their number; what a pool has used
-/// costs O(log p) for p pools. What is attached at a node costs O(log m) for each of its numbers;
+/// costs O(log p) for p pools. What is attached at a node costs O(log m) and the numbers there;
 /// `sizes_in` looks through all volumes. A change costs O(log n + log m), and `DetachAll` the
 /// attachments that it takes away. What is answered is a copy.
 #[derive(Drop)]
@@ -34,11 +34,11 @@ pub struct MemKeeper {
     next: u64,
     volumes: BTreeMap<u64, Volume>,
     // The number of a name's volume, by the first bytes of the name as a number, which are compared fast and tell most names apart, and by
-    // the name. A volume is asked for its name before it is answered.
+    // the name.
     names: BTreeMap<(u64, Text), u64>,
     pools: Totals,
     attachments: BTreeMap<(u64, Text), Attachment>,
-    // Where an attachment stands, by node. It is asked for before its number is answered.
+    // Where an attachment stands, by node.
     nodes: BTreeMap<(Text, u64), ()>,
 }
 
@@ -128,9 +128,13 @@ impl MemKeeper {
             → Holds self.new (changed s (Attach number attachment.now))) }
         ensures same { OnErr result ((s : State) → Holds self.old s → Allows s (Attach number attachment.now) → Holds self.new s) }
     {
-        put_spot(alloc, &mut self.nodes, &attachment.node, number)?;
-        put_place(alloc, &mut self.attachments, number, attachment)?;
-        Ok(())
+        put_attachment(
+            alloc,
+            &mut self.attachments,
+            &mut self.nodes,
+            number,
+            attachment,
+        )
     }
 
     fn detach(&mut self, alloc: Global, number: u64, node: &Text) -> Result<(), AllocError>
@@ -198,7 +202,7 @@ impl Keeper for MemKeeper {
 
     #[tactic(auto, using(csi_keeper::specs::facts::Reads::quiet_same, crate::proofs::ReadLemmas::held_at))]
     fn attached_at(&mut self, alloc: Global, node: &str) -> Result<Items<u64>, StoreFault> {
-        Ok(numbers_at(alloc, &self.nodes, &self.attachments, node)?)
+        Ok(numbers_at(alloc, &self.nodes, node)?)
     }
 
     #[tactic(auto, using(csi_keeper::specs::facts::Reads::quiet_same, crate::proofs::ReadLemmas::held_sizes))]

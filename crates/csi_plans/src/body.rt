@@ -7,7 +7,7 @@ ghost use Rattle.csi_plans.specs.Verdicts.{within, Appended, IsTold};
 
 use csi_codec::encode_response;
 use csi_types::{Reason, Response};
-use frames_core::MAX_BODY_BYTES;
+use envelope::MAX_BODY_BYTES;
 use std::alloc::AllocError;
 
 /// How a request is answered.

@@ -46,6 +46,10 @@ fn key_alone(alloc: Global, capability: &Capability) -> Result<Items<CapKey>, Al
 }
 
 /// The keys of capabilities, in order and without doubles: O(n log n) for n capabilities.
+///
+/// # Errors
+///
+/// Where memory was refused.
 pub fn keys_of(alloc: Global, capabilities: &[Capability]) -> Result<Items<CapKey>, AllocError>
     ensures { IfOk result (λ keys. keys ≡ keys_of capabilities.now) }
 {
@@ -130,6 +134,10 @@ fn few_have(alloc: Global, keys: &[CapKey], capabilities: &[Capability]) -> Resu
 
 /// Whether they have the key of each capability: O((n + m) log m) for n capabilities and m
 /// keys, which need no order.
+///
+/// # Errors
+///
+/// Where memory was refused.
 #[tactic(auto, using(crate::specs::facts::Capability::have_ordered))]
 pub fn have_keys(
     alloc: Global,

@@ -10,6 +10,10 @@ use csi_types::{Items, Text};
 use std::alloc::Global;
 
 /// The volume of an id, with its number; `None` where none of that id stands.
+///
+/// # Errors
+///
+/// What the keeper answers.
 #[tactic(auto, using(csi_keeper::specs::facts::Reads::quiet_same, csi_keeper::specs::facts::Reads::quiet_then))]
 pub fn volume_of<K: Keeper>(
     alloc: Global,
@@ -28,6 +32,10 @@ pub fn volume_of<K: Keeper>(
 }
 
 /// The capability keys of the volume of an id, with its number; `None` where none of that id stands.
+///
+/// # Errors
+///
+/// What the keeper answers.
 #[tactic(auto, using(csi_keeper::specs::facts::Reads::quiet_same, csi_keeper::specs::facts::Reads::quiet_then))]
 pub fn caps_of<K: Keeper>(
     alloc: Global,

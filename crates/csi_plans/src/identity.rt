@@ -13,6 +13,10 @@ use csi_types::{Items, Response, copy_text};
 use std::alloc::{AllocError, Global};
 
 /// The plan of GetPluginInfo: the name and version of the configuration.
+///
+/// # Errors
+///
+/// Where memory was refused.
 pub fn plan_plugin_info(alloc: Global, config: &Config) -> Result<Plan, AllocError>
     ensures none { IfOk result (λ p. p.change ≡ None) }
     ensures value { IfOk result (λ p. p ≡ plugin_info config.now) }
@@ -32,6 +36,10 @@ fn items_of(alloc: Global, types: &[Option<i32>]) -> Result<Items<Option<i32>>, 
 }
 
 /// The plan of GetPluginCapabilities: `CONTROLLER_SERVICE` and `VOLUME_ACCESSIBILITY_CONSTRAINTS`.
+///
+/// # Errors
+///
+/// Where memory was refused.
 pub fn plan_plugin_capabilities(alloc: Global) -> Result<Plan, AllocError>
     ensures none { IfOk result (λ p. p.change ≡ None) }
     ensures value { IfOk result (λ p. p ≡ plugin_capabilities) }
@@ -41,6 +49,10 @@ pub fn plan_plugin_capabilities(alloc: Global) -> Result<Plan, AllocError>
 }
 
 /// Answers Probe: ready. It is asked so often that its response is not kept as one of a plan.
+///
+/// # Errors
+///
+/// Where memory was refused; the vector is as it was.
 pub fn append_ready(out: &mut Vec<u8>) -> Result<Verdict, AllocError>
     ensures appended { Appended out.old.items out.new.items result }
     ensures told { IsTold (told_of probe.outcome) out.old.items out.new.items result }
@@ -51,6 +63,10 @@ pub fn append_ready(out: &mut Vec<u8>) -> Result<Verdict, AllocError>
 /// The plan of ControllerGetCapabilities: `CREATE_DELETE_VOLUME`, `PUBLISH_UNPUBLISH_VOLUME`,
 /// `LIST_VOLUMES`, `GET_CAPACITY`, `PUBLISH_READONLY`, `LIST_VOLUMES_PUBLISHED_NODES`,
 /// `SINGLE_NODE_MULTI_WRITER` and `MODIFY_VOLUME`.
+///
+/// # Errors
+///
+/// Where memory was refused.
 pub fn plan_controller_capabilities(alloc: Global) -> Result<Plan, AllocError>
     ensures none { IfOk result (λ p. p.change ≡ None) }
     ensures value { IfOk result (λ p. p ≡ controller_capabilities) }

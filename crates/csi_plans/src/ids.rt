@@ -13,6 +13,10 @@ use std::alloc::{AllocError, Global};
 pub const ID_PREFIX: &str = "vol-";
 
 /// The number in decimal, without leading zeros.
+///
+/// # Errors
+///
+/// Where memory was refused.
 pub fn decimal_of(alloc: Global, number: u64) -> Result<Text, AllocError>
     ensures { IfOk result (λ t. t ≡ decimal number) }
 {

@@ -14,6 +14,10 @@ use std::alloc::{AllocError, Global};
 pub const CONTEXT_KEY: &str = "pool";
 
 /// The context of a volume.
+///
+/// # Errors
+///
+/// Where memory was refused.
 pub fn context_of(alloc: Global, pool: &Text) -> Result<Map, AllocError>
     ensures { IfOk result (λ m. m ≡ insert empty (codes "pool") pool.now) }
 {
@@ -26,6 +30,10 @@ pub fn context_of(alloc: Global, pool: &Text) -> Result<Map, AllocError>
 }
 
 /// The topology of a volume: the segments of its pool, if there are any.
+///
+/// # Errors
+///
+/// Where memory was refused.
 pub fn topology_of(alloc: Global, segments: &Map) -> Result<Items<Map>, AllocError>
     ensures { IfOk result (λ ms. ms ≡ topology_of segments.now) }
 {

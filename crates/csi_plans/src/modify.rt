@@ -38,6 +38,10 @@ fn modify_own(alloc: Global, number: u64, own: &Map, given: &Map) -> Result<Plan
 ///
 /// The given parameters are laid over the volume's own, whether it is published or not. A result of
 /// more than 4,096 bytes is refused. Where the volume has each given one already nothing changes.
+///
+/// # Errors
+///
+/// What the keeper answers, or want of memory.
 #[tactic(auto, using(csi_keeper::specs::facts::Reads::quiet_same, csi_keeper::specs::facts::Reads::quiet_then))]
 pub fn plan_modify<K: Keeper>(alloc: Global, keeper: &mut K, request: &Modify) -> Planning
     ensures bounded { IfOk result (λ p. IfSome p.change IsBounded) }

@@ -62,6 +62,10 @@ pub fn refuse(reason: Reason) -> Plan
 }
 
 /// A response behind a change. Who calls it knows which change it is, so it is not moved whole.
+///
+/// # Errors
+///
+/// Where memory was refused.
 #[inline(always)]
 pub fn make(alloc: Global, answer: Answer, change: Change) -> Result<Plan, AllocError>
     ensures { IfOk result (λ plan. plan ≡ make answer change) }

@@ -68,6 +68,10 @@ impl Model for Answer {
 
 impl Answer {
     /// This response, in memory of its own.
+    ///
+    /// # Errors
+    ///
+    /// Where memory was refused.
     #[inline(always)]
     pub fn of(alloc: Global, response: Response) -> Result<Answer, AllocError>
         ensures { IfOk result (λ answer. answer ≡ response) }
@@ -110,6 +114,10 @@ impl Answer {
     }
 
     /// Appends its body, as [`append_body`] does.
+    ///
+    /// # Errors
+    ///
+    /// As of [`append_body`].
     pub fn append(&self, out: &mut Vec<u8>) -> Result<Verdict, AllocError>
         ensures appended { Appended out.old.items out.new.items result }
         ensures told { IsTold (within (response_bytes self.now)) out.old.items out.new.items result }

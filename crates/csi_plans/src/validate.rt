@@ -91,6 +91,10 @@ fn validate_volume(alloc: Global, request: &Validate, volume: &Volume) -> Result
 ///
 /// The request's capabilities and parameters are confirmed where the volume has the key of each capability, and the parameters, if any are given,
 /// are the volume's. Nothing changes.
+///
+/// # Errors
+///
+/// What the keeper answers, or want of memory.
 #[tactic(auto, using(csi_keeper::specs::facts::Reads::quiet_same, csi_keeper::specs::facts::Reads::quiet_then))]
 pub fn plan_validate<K: Keeper>(alloc: Global, keeper: &mut K, request: &Validate) -> Planning
     ensures bounded { IfOk result (λ p. IfSome p.change IsBounded) }

@@ -10,7 +10,8 @@ use Rattle.sqlite.specs.Term.{col, holds}
 use Rattle.sqlite.specs.Tree.{Trees}
 use Rattle.csi_schema.specs.Tables.{schema}
 use Rattle.csi_scans.specs.Scans.{IsInOrder, owns, with_owner, owners}
-use Rattle.csi_scans.proofs.TableLemmas.{IsKeyed, Owners, answer_of, owner_on, query, sorted_by_first, text}
+use Rattle.csi_scans.specs.Texts.{Owners, text}
+use Rattle.csi_scans.proofs.TableLemmas.{IsKeyed, answer_of, owner_on, query, sorted_by_first}
 
 abbrev owners_query : Query
 owners_query = query Owners

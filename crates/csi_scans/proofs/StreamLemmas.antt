@@ -19,6 +19,7 @@ use Rattle.csi_schema.specs.Tables.{schema}
 use Rattle.csi_schema.specs.facts.Failing.{IsSure, fails_behind, fails_weaker, query_fails, sure_fails}
 use Rattle.csi_scans.specs.Failing.{HasTooMany, RefusesRows}
 use Rattle.csi_scans.specs.Scans.{FoldsOver, HasFolded}
+use Rattle.csi_scans.specs.Texts.{Scan, text}
 
 pub commits_nothing : (sql : List ℕ) (params : Row) (old new : State) → (HasCleanDisk new → IsPlain (understood old.now.schema sql)) → Survives old new (CommitsShowing sql params old) → Survives old new (λ _. ⊥)
 commits_nothing sql params old new plain = survives_weaker old new _ _ (λ clean db. never_commits sql params old db (plain clean))
@@ -94,28 +95,28 @@ dropped {g = g} {old = old} {folds = folds} {before = before} {after = after} {R
     subst (λ (h : Held _). FoldsOver g old h folds before after (Shown text [] (state g old) (state g h)) Refuses r) (sym is ∙ at)
 
 -- a scan is refused for nothing but its rows
-scan_fails : {S X : Type 0} (g : Ghosts S) (text : List ℕ) → IsSure schema text [] → (old : Held S) (new : State) (r : Result X Error) → old.schema ≡ schema
-    → IfErr r (FailsFor (RefusesRows g text old) (state g old) new) → IfErr r (FailsFor (HasTooMany g old) (state g old) new)
-scan_fails g text sure old new (Ok x) has h = tt
-scan_fails g text sure old new (Err e) has h = go h
+scan_fails : {S X : Type 0} (g : Ghosts S) (scan : Scan) → IsSure schema (text scan) [] → (old : Held S) (new : State) (r : Result X Error) → old.schema ≡ schema
+    → IfErr r (FailsFor (RefusesRows g (text scan) old) (state g old) new) → IfErr r (FailsFor (HasTooMany g old) (state g old) new)
+scan_fails g scan sure old new (Ok x) has h = tt
+scan_fails g scan sure old new (Err e) has h = go h
   where
-    go : FailsFor (RefusesRows g text old) (state g old) new e → FailsFor (HasTooMany g old) (state g old) new e
+    go : FailsFor (RefusesRows g (text scan) old) (state g old) new e → FailsFor (HasTooMany g old) (state g old) new e
     go (for_memory is) = for_memory is
     go (by_disk is more) = by_disk is more
     go (as_shut is shut) = as_shut is shut
     go (at_limit is some) = at_limit is some
-    go (as_refused (inl why)) = fails_weaker Unrefused (HasTooMany g old) (state g old) new e (λ none. absurd none) (sure_fails schema text [] sure (state g old) new e has (as_refused why))
-    go (as_refused (inr many)) = as_refused (text, many)
+    go (as_refused (inl why)) = fails_weaker Unrefused (HasTooMany g old) (state g old) new e (λ none. absurd none) (sure_fails schema (text scan) [] sure (state g old) new e has (as_refused why))
+    go (as_refused (inr many)) = as_refused (scan, many)
 
 -- ---- a scan: a query of a fixed text
 
 pub looks_as : {S F X : Type 0} {g : Ghosts S} {old new : Held S} {folds : F → List Row → F → Type 0} {before after : F} {What : List Row → Type 0} {r : Result X Error}
-    → (text : List ℕ) → IsSure schema text [] → (HasCleanDisk (state g old) → old.schema ≡ schema) → ((rows : List Row) → old.schema ≡ schema → Shown text [] (state g old) (state g new) rows → What rows)
-    → FoldsOver g old new folds before after (Shown text [] (state g old) (state g new)) (RefusesRows g text old) r → FoldsOver g old new folds before after What (HasTooMany g old) r
-looks_as {g = g} {old = old} {new = new} {folds = folds} {before = before} {after = after} {r = r} text sure ours shows h = record {
+    → (scan : Scan) → IsSure schema (text scan) [] → (HasCleanDisk (state g old) → old.schema ≡ schema) → ((rows : List Row) → old.schema ≡ schema → Shown (text scan) [] (state g old) (state g new) rows → What rows)
+    → FoldsOver g old new folds before after (Shown (text scan) [] (state g old) (state g new)) (RefusesRows g (text scan) old) r → FoldsOver g old new folds before after What (HasTooMany g old) r
+looks_as {g = g} {old = old} {new = new} {folds = folds} {before = before} {after = after} {r = r} scan sure ours shows h = record {
   idle = h.idle;
   ok = λ clean. scanned folds before after _ _ r (λ rows. shows rows (ours (omega (arith, h.survives.clean)))) (h.ok clean);
-  failed = λ clean. scan_fails g text sure old (state g new) r (ours (omega (arith, h.survives.clean))) (h.failed clean);
+  failed = λ clean. scan_fails g scan sure old (state g new) r (ours (omega (arith, h.survives.clean))) (h.failed clean);
   same = h.same;
   kept = h.kept;
   survives = h.survives;

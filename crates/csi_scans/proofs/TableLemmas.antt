@@ -25,15 +25,9 @@ use Rattle.csi_schema.specs.facts.Compiling.{Compiles, is_alone, is_select, sele
 use Rattle.csi_schema.specs.facts.Failing.{IsNeverRefused, IsSure, only_limit, sure_of}
 use Rattle.csi_statements.specs.Statements.{plain_query, rising}
 use Rattle.csi_scans.specs.Scans.{IsInOrder, first_cmp, keyed_attachment}
+use Rattle.csi_scans.specs.Texts.{Scan, Meta, Volumes, Attachments, Places, Owners, text}
 
--- ---- the scans, their texts and what these compute to
-
-pub data Scan : Type 0 where
-  Meta : Scan
-  Volumes : Scan
-  Attachments : Scan
-  Places : Scan
-  Owners : Scan
+-- ---- the queries that the texts of the scans are
 
 abbrev pub table_query : ℕ → List Term → List (Term × Key) → Query
 table_query t shown order = record plain_query { from = inner t end; project = shown; order = order }
@@ -45,22 +39,12 @@ ordered_query t first more = table_query t (first ∷ more) ((first, rising) ∷
 abbrev pub owner_on : List Term
 owner_on = op2 (Compare Eq Binary) (col 2 0) (col 1 1) ∷ []
 
--- the text, and the query that it is
-abbrev pub asks : Scan → List ℕ × Query
-asks Meta = (codes "SELECT k, format_no, next_number FROM meta", table_query 0 (col 1 0 ∷ col 1 2 ∷ col 1 3 ∷ []) [])
-asks Volumes = (codes "SELECT number, name, bytes, pool, caps, params FROM volumes ORDER BY number", ordered_query 1 (col 1 0) (col 1 2 ∷ col 1 3 ∷ col 1 4 ∷ col 1 5 ∷ col 1 6 ∷ []))
-asks Attachments = (codes "SELECT rowid, number, node, cap, readonly FROM attachments ORDER BY rowid", ordered_query 3 (col 1 0) (col 1 1 ∷ col 1 2 ∷ col 1 3 ∷ col 1 4 ∷ []))
-asks Places = (codes "SELECT number, node, cap, readonly FROM attachments ORDER BY number", ordered_query 3 (col 1 1) (col 1 2 ∷ col 1 3 ∷ col 1 4 ∷ []))
-asks Owners = (
-  codes "SELECT a.number, a.node, a.cap, a.readonly, v.caps FROM attachments AS a LEFT JOIN volumes AS v ON v.number = a.number ORDER BY a.number",
-  record (ordered_query 3 (col 1 1) (col 1 2 ∷ col 1 3 ∷ col 1 4 ∷ col 2 5 ∷ [])) { from = inner 3 (left 1 owner_on end) },
-)
-
-abbrev pub text : Scan → List ℕ
-text scan = (asks scan).0
-
 abbrev pub query : Scan → Query
-query scan = (asks scan).1
+query Meta = table_query 0 (col 1 0 ∷ col 1 2 ∷ col 1 3 ∷ []) []
+query Volumes = ordered_query 1 (col 1 0) (col 1 2 ∷ col 1 3 ∷ col 1 4 ∷ col 1 5 ∷ col 1 6 ∷ [])
+query Attachments = ordered_query 3 (col 1 0) (col 1 1 ∷ col 1 2 ∷ col 1 3 ∷ col 1 4 ∷ [])
+query Places = ordered_query 3 (col 1 1) (col 1 2 ∷ col 1 3 ∷ col 1 4 ∷ [])
+query Owners = record (ordered_query 3 (col 1 1) (col 1 2 ∷ col 1 3 ∷ col 1 4 ∷ col 2 5 ∷ [])) { from = inner 3 (left 1 owner_on end) }
 
 -- what the columns are called that a scan shows
 abbrev shown_names : Scan → List (List ℕ)

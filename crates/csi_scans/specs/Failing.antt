@@ -9,6 +9,7 @@ use Rattle.sqlite.specs.declared.error.Error.{Error}
 use Rattle.sqlite.specs.declared.error.Error.TheVariants.{SqliteFailure}
 use Rattle.sqlite.specs.declared.error.ErrorCode.TheVariants.{OperationInterrupted, OutOfMemory}
 use Rattle.csi_schema.specs.Failing.{SqlRefusesToRead}
+use Rattle.csi_scans.specs.Texts.{Scan, text}
 pub use Rattle.csi_schema.specs.Failing.{FailsFor}
 
 -- only by want of memory
@@ -28,6 +29,6 @@ module _ {S : Type 0} (g : Ghosts S) (text : List ℕ) (old : Held S) where
   RefusesRows e = SqlRefusesToRead text [] (state g old) e ⊎ GivesTooMany e
 
 module _ {S : Type 0} (g : Ghosts S) (old : Held S) where
-  -- a scan has too many rows
+  -- one of the scans has too many rows
   abbrev pub HasTooMany : Error → Type 0
-  HasTooMany e = (text : List ℕ) × GivesTooMany g text old e
+  HasTooMany e = (scan : Scan) × GivesTooMany g (text scan) old e

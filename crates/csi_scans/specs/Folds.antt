@@ -1,5 +1,5 @@
 -- What a fold over rows has become.
-use Rattle.std.specs.Prelude.{◌≡◌, ◌↔◌, ℕ, ◌+◌, ◌-◌, ◌^◌, min, sum_by, ℤ, int_lt, Bool, true, false, if◌then◌else◌, IsTrue, unwrap_or, List, [], ◌∷◌, ◌++◌, map, Option, Some, None}
+use Rattle.std.specs.Prelude.{◌≡◌, ◌⊎◌, ◌↔◌, ℕ, ◌+◌, ◌-◌, ◌^◌, min, sum_by, ℤ, int_lt, Bool, true, false, if◌then◌else◌, IsTrue, unwrap_or, List, [], ◌∷◌, ◌++◌, map, Option, Some, None}
 use Rattle.std.specs.List.{AllByRecursion}
 use Rattle.std.specs.Ordering.{is_eq, nat_cmp}
 use Rattle.std.specs.Cmp.Lexicographic.{slice_cmp}
@@ -12,6 +12,11 @@ use Rattle.sqlite.specs.declared.types.Value.TheVariants.{Int, Text}
 use Rattle.csi_statements.specs.Cells.{as_number}
 use Rattle.csi_scans.specs.declared.sums.Weight.{Weight}
 use Rattle.csi_scans.specs.declared.sums.Weight.TheVariants.{One, Number}
+
+-- one of some is such
+abbrev pub HasSome : {X : Type 0} → (X → Type 0) → List X → Type 0
+HasSome P [] = ⊥
+HasSome P (x ∷ xs) = P x ⊎ HasSome P xs
 
 -- ---- sums
 

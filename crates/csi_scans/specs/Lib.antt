@@ -1,4 +1,5 @@
 pub mod Failing
 pub mod Folds
 pub mod Scans
+pub mod Texts
 pub mod facts

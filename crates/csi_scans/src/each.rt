@@ -2,6 +2,7 @@
 
 ghost use Rattle.std.specs.Prelude.{[]};
 ghost use Rattle.std.specs.List.{AllZip};
+ghost use Rattle.csi_scans.specs.Folds.{HasSome};
 ghost use Rattle.csi_scans.specs.facts.Starts.{each_itself};
 
 use crate::fold::Fold;
@@ -16,6 +17,8 @@ pub struct Each<F> {
 
 impl<F: Fold> Fold for Each<F> {
     ghost folds = { λ first rows now. AllZip (λ a b. F.folds a rows b) first.parts.items now.parts.items };
+
+    ghost takes_memory = { λ fold row. HasSome (λ part. F.takes_memory part row) fold.parts.items };
 
     ghost starts = { λ first. each_itself (λ a b. F.folds a [] b) F.starts first.parts.items };
 

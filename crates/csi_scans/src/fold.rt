@@ -1,6 +1,6 @@
 //! The rows of a query, one at a time.
 
-ghost use Rattle.std.specs.Prelude.{◌≡◌, ◌++◌, ◌∷◌, [], List, false, OnOk};
+ghost use Rattle.std.specs.Prelude.{◌≡◌, ◌++◌, ◌∷◌, [], List, false, OnErr, OnOk};
 ghost use Rattle.sqlite.specs.Given.{IsPlain};
 ghost use Rattle.sqlite.specs.Held.{state};
 ghost use Rattle.sqlite.specs.Listing.{understood};
@@ -16,6 +16,9 @@ pub trait Fold {
     /// What a fold becomes over rows, in their order.
     ghost folds: { Self → List Values → Self → Type 0 };
 
+    /// Where it asks for memory to take a row; anywhere, if it does not say.
+    ghost takes_memory: { Self → Values → Type 0 } = { λ _ _. Unit {0} };
+
     /// Takes the next row.
     ///
     /// # Errors
@@ -23,7 +26,8 @@ pub trait Fold {
     /// Where memory was refused.
     fn take(&mut self, row: &Row) -> Result<(), Error>
         ensures folded { OnOk result ((first : Self) (rows : List Values) → folds first rows self.old → folds first (rows ++ row.now ∷ []) self.new) }
-        ensures memory { FailsForMemory result };
+        ensures memory { FailsForMemory result }
+        ensures sure { OnErr result (takes_memory self.old row.now) };
 
     /// Over no row a fold stays what it is.
     ghost starts: { (fold : Self) → folds fold [] fold };

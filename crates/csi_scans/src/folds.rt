@@ -1,6 +1,6 @@
 //! A test of each row by itself, and two folds over the same rows.
 
-ghost use Rattle.std.specs.Prelude.{◌≡◌, Bool};
+ghost use Rattle.std.specs.Prelude.{◌≡◌, ◌⊎◌, Bool};
 ghost use Rattle.sqlite.specs.Order.{Row as Values};
 
 use crate::fold::Fold;
@@ -27,6 +27,8 @@ pub struct Both<F, G> {
 
 impl<F: Fold, G: Fold> Fold for Both<F, G> {
     ghost folds = { λ first rows now. F.folds first.first rows now.first × G.folds first.second rows now.second };
+
+    ghost takes_memory = { λ fold row. F.takes_memory fold.first row ⊎ G.takes_memory fold.second row };
 
     ghost starts = { λ first. (F.starts first.first, G.starts first.second) };
 

@@ -31,6 +31,8 @@ pub struct Rising {
 impl Fold for Rising {
     ghost folds = { λ first rows now. (now.column ≡ first.column) × Rises first.column first.good first.last rows now.good now.last };
 
+    ghost takes_memory = { λ _ _. ⊥ };
+
     ghost starts = { λ first. (refl, rises_none first.column first.good first.last) };
 
     fn take(&mut self, row: &Row) -> Result<(), Error> {

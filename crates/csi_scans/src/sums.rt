@@ -63,6 +63,8 @@ impl Fold for TextSum {
         (now.column ≡ first.column) × (now.text ≡ first.text) × (now.weight ≡ first.weight)
         × (first.sum < 2 ^ 64 → now.sum ≡ sum_after first.column first.text.items first.weight first.sum rows) };
 
+    ghost takes_memory = { λ _ _. ⊥ };
+
     ghost starts = { λ first. (refl, refl, refl, still_sum first.sum) };
 
     fn take(&mut self, row: &Row) -> Result<(), Error> {

@@ -24,18 +24,19 @@ module _ {first second : Schema} {One : Database → Database → Type 0} (made 
   }
   both_steps Two (Err e) one two = tt
 
-  later_told : {Y : Type 0} (r : Result Y Error) (text : List ℕ) (R : State → Error → Type 0) → ((s : State) (db : Database) (e : Error) → db.schema ≡ second → SqlRefuses text [] (record s { now = db }) e → R s e)
+  later_told : {Y : Type 0} (r : Result Y Error) (text : List ℕ) (R : State → Error → Type 0) → ((s : State) (db : Database) (e : Error) → One s.now db → SqlRefuses text [] (record s { now = db }) e → R s e)
       → a.faults ≤ b.faults → b.step_limit ≡ a.step_limit → StepsFrom first One a b → FailsOver second (SqlRefuses text []) b c r → FailsOver first R a c r
   later_told (Ok y) text R why up limit one failed has = tt
   later_told (Err e) text R why up limit one failed has =
-      let is = made a.now b.now (one.effect has) in
+      let did = one.effect has in
+      let is = made a.now b.now did in
       fails_behind (SqlRefuses text [] b) (R a) a b c e up one.shown.is_open limit
-      (λ refused. why a b.now e is (subst (λ (l : Option ℕ). SqlRefuses text [] (record a { now = b.now; step_limit = l }) e) limit refused)) (failed is)
+      (λ refused. why a b.now e did (subst (λ (l : Option ℕ). SqlRefuses text [] (record a { now = b.now; step_limit = l }) e) limit refused)) (failed is)
 
 module _ {S X : Type 0} {g : Ghosts S} {a b c : Held S} {first second : Schema} {One : Database → Database → Type 0} {P : State → Error → Type 0} {x : X}
     (one : RunsOver g a b first One P (Ok x)) (made : (old new : Database) → One old new → new.schema ≡ second) where
   pub runs_behind : {Y : Type 0} {Two : Database → Database → Type 0} (text : List ℕ) (R : State → Error → Type 0) (r : Result Y Error)
-      → ((s : State) (db : Database) (e : Error) → db.schema ≡ second → SqlRefuses text [] (record s { now = db }) e → R s e) → RunsOver g b c second Two (SqlRefuses text []) r → RunsOver g a c first (Both One Two) R r
+      → ((s : State) (db : Database) (e : Error) → One s.now db → SqlRefuses text [] (record s { now = db }) e → R s e) → RunsOver g b c second Two (SqlRefuses text []) r → RunsOver g a c first (Both One Two) R r
   runs_behind {Two = Two} text R r why two =
       let earlier : HasCleanDisk (state g c) → HasCleanDisk (state g b) = λ clean. omega (arith, two.survives.clean) in
       record {

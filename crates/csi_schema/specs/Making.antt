@@ -54,10 +54,20 @@ pub record MakesTables (old new : Database) : Type 0 where
   pub volumes : new.trees 1 ≡ []
   pub attachments : new.trees 3 ≡ []
 
+-- the tables so far, in which there is no row
+abbrev pub HasMeta : Database → Type 0
+HasMeta db = (db.schema ≡ one_schema) × (db.trees 0 ≡ [])
+
+abbrev pub HasVolumes : Database → Type 0
+HasVolumes db = (db.schema ≡ two_schema) × (db.trees 0 ≡ []) × (db.trees 1 ≡ [])
+
+abbrev pub HasAttachments : Database → Type 0
+HasAttachments db = (db.schema ≡ schema) × (db.trees 0 ≡ []) × (db.trees 1 ≡ []) × (db.trees 3 ≡ [])
+
 -- a statement of those that make the tables is refused, behind those before it
 abbrev pub RefusesTables : State → Error → Type 0
 RefusesTables s e =
     SqlRefuses meta_text [] s e
-    ⊎ (((db : Database) × (db.schema ≡ one_schema) × SqlRefuses volumes_text [] (record s { now = db }) e)
-    ⊎ (((db : Database) × (db.schema ≡ two_schema) × SqlRefuses attachments_text [] (record s { now = db }) e)
-    ⊎ ((db : Database) × (db.schema ≡ schema) × SqlRefuses first_text [] (record s { now = db }) e)))
+    ⊎ (((db : Database) × HasMeta db × SqlRefuses volumes_text [] (record s { now = db }) e)
+    ⊎ (((db : Database) × HasVolumes db × SqlRefuses attachments_text [] (record s { now = db }) e)
+    ⊎ ((db : Database) × HasAttachments db × SqlRefuses first_text [] (record s { now = db }) e)))

@@ -104,8 +104,8 @@ module _ {S : Type 0} (answer : S → Request → Told × S) (short : (s : S) (r
   formed_path s (Some m) message few = formed_read s m message few (read_request m message) (reading m message)
 
   -- each reply is one of the envelope's table
-  pub formed_reply : (method : List ℕ → Option Method) (s : S) (call : CallBytes) → length call.message ≤ MAX_MESSAGE_BYTES → IsReply ((requests method answer).respond s call).0
-  formed_reply method s call few = formed_path s (method call.path) call.message few
+  pub formed_reply : (method : List ℕ → Option Method) (asks : Request → Bool) (s : S) (call : CallBytes) → length call.message ≤ MAX_MESSAGE_BYTES → IsReply ((requests method asks answer).respond s call).0
+  formed_reply method asks s call few = formed_path s (method call.path) call.message few
 
 -- ---- the reply that answers a malformed frame
 

@@ -12,7 +12,7 @@ use Rattle.csi_codec.specs.Reading.{read_request}
 use Rattle.csi_server.specs.Machine.{Event, IsAllowed, IsDue, state_after}
 use Rattle.csi_types.specs.Methods.{method_at}
 use Rattle.csi_server.specs.Requests.{IsRequest, after_path, after_read, after_check}
-use Rattle.csi_server.specs.Volumes.{volumes, IsPending}
+use Rattle.csi_server.specs.Volumes.{asks_keeper, volumes, IsPending}
 use Rattle.csi_server.proofs.Runs.{due_state}
 
 middle : (P : Event → Type 0) (before : List Event) (e : Event) (after : List Event) → AllByRecursion P (before ++ e ∷ after) → P e
@@ -50,9 +50,9 @@ pending config s events allowed t d = by (method_at d.refused.call.path) refl (m
           ∙ ap (λ (p : Option Reason). (after_check (step config) (state_after (volumes config) s d.before) r p).1) passed));
     })
 
-    by : (p : Option Method) → method_at d.refused.call.path ≡ p → IsRequest (method_at d.refused.call.path) d.refused.call.message → (t ≡ state_after (volumes config) s events) ⊎ IsPending config s events t
-    by None path q = absurd (subst (λ (o : Option Method). IsRequest o d.refused.call.message) path q)
-    by (Some m) path q = let r = subst (λ (o : Option Method). IsRequest o d.refused.call.message) path q in last m r.0 path r.1 (checked r.0) refl
+    by : (p : Option Method) → method_at d.refused.call.path ≡ p → IsRequest asks_keeper (method_at d.refused.call.path) d.refused.call.message d.refused.mark → (t ≡ state_after (volumes config) s events) ⊎ IsPending config s events t
+    by None path q = absurd (subst (λ (o : Option Method). IsRequest asks_keeper o d.refused.call.message d.refused.mark) path q)
+    by (Some m) path q = let r = subst (λ (o : Option Method). IsRequest asks_keeper o d.refused.call.message d.refused.mark) path q in last m r.0 path r.1 (checked r.0) refl
 
 pub either : (config : Config) (s : State) (events : List Event) → AllByRecursion (IsAllowed (volumes config)) events → (t : State) → (t ≡ state_after (volumes config) s events) ⊎ IsDue (volumes config) s events t → (t ≡ state_after (volumes config) s events) ⊎ IsPending config s events t
 either config s events allowed t (inl is) = inl is

@@ -1,6 +1,5 @@
 -- A keeper's answers, as the volume machine responds.
-use Rattle.std.proofs.Common.{◌≡◌, ◌⊎◌, true, ℕ, List, [], ◌++◌, ◌+◌, drop, length, length-append, None, Result, Ok, Err, refl, sym, ap, subst, ◌∙◌, inl, inr, arith}
-use Rattle.std.specs.Prelude.{⊤}
+use Rattle.std.proofs.Common.{◌≡◌, ◌⊎◌, Bool, true, false, not, IsTrue, ℕ, List, [], ◌++◌, ◌+◌, drop, length, length-append, None, Result, Ok, Err, refl, sym, ap, subst, ◌∙◌, inl, inr, arith}
 use Rattle.csi_types.specs.declared.requests.Request.{Request}
 use Rattle.envelope.specs.Envelope.{ReplyBytes}
 use Rattle.envelope.specs.declared.limits.TheConstants.{REPLY_HEAD_BYTES}
@@ -13,12 +12,12 @@ use Rattle.csi_keeper.specs.declared.change.StoreFault.TheVariants as fault
 use Rattle.csi_machine.specs.Answering.{IsOfAll, Performs}
 use Rattle.csi_keeper.specs.Invariant.{IsInvariant}
 use Rattle.csi_keeper.specs.State.{State}
-use Rattle.csi_machine.specs.Step.{step}
+use Rattle.csi_machine.specs.Step.{is_of_plugin, step}
 use Rattle.csi_plans.specs.Verdicts.{Appended}
 use Rattle.csi_server.specs.Machine.{Mark, Unmarked, OutOfMemory, StoreRefused, StoreDown, KnowsDown, RoseBy, marked, store_mark}
-use Rattle.csi_server.specs.Requests.{AnswersBy, LeavesBy, after_check, told}
+use Rattle.csi_server.specs.Requests.{AnswersBy, LeavesBy, MayBe, after_check, told}
 use Rattle.csi_server.specs.Service.{HasBody, room}
-use Rattle.csi_server.specs.Volumes.{RepliesTo, seen}
+use Rattle.csi_server.specs.Volumes.{RepliesTo, asks_keeper, seen}
 
 -- what was appended behind the room for a head is a body
 pub holds_body : (old out : List ℕ) (v : Result Verdict StoreFault) → old ≡ room → Appended old out v → v ≡ Ok verdict.Done → HasBody out
@@ -50,10 +49,10 @@ module _ (config : Config) (request : Request) (a b : Model State) where
       → ((((step config s request).1 ≡ s) × ((u : State) → b.survivors u → a.survivors u)) ⊎ ((u : State) → b.survivors u → u ≡ (step config s request).1))
       → (a.tied → b.tied)
       → (a.is_down ≡ true → (t : State) → to_request t ≡ (r, t)) → (a.is_down ≡ true → b.is_down ≡ true)
-      → AnswersBy to_request ⊤ before behind s r
+      → AnswersBy to_request (MayBe (asks_keeper request)) before behind s r
   done_by s r e held inv count left ties alone stays = record {
     mark = Unmarked;
-    allowed = λ is_marked. tt;
+    allowed = λ is_marked. absurd (is_marked refl);
     reply = e;
     held = (held, inv);
     counted = inl (refl, count);
@@ -71,15 +70,23 @@ module _ (config : Config) (request : Request) (a b : Model State) where
   told_all (verdict.Refused q) old out r begun e all t =
       ap (λ (x : ReplyBytes). (x, (step config t request).1)) (ap told (all t).0 ∙ sym e) ∙ ap (λ (u : State). (r, u)) (all t).1
 
+  -- whoever is told of a fault of the keeper asked something of it
+  asked : (e : StoreFault) → (IsTrue (is_of_plugin request) → e ≡ fault.NoMemory) → (e ≡ fault.NoMemory → ⊥) → asks_keeper request ≡ true
+  asked e only never = by (is_of_plugin request) only
+    where
+      by : (b : Bool) → (IsTrue b → e ≡ fault.NoMemory) → not b ≡ true
+      by true h = absurd (never (h refl))
+      by false h = refl
+
   -- a fault of the keeper
-  failed_by : (s : State) (r : ReplyBytes) (e : StoreFault) → r ≡ (marked s (to_request s) (mark_of e)).0 → (marked s (to_request s) (mark_of e)).1 ≡ s → b.holds s → IsInvariant config s
+  failed_by : (s : State) (r : ReplyBytes) (e : StoreFault) → MayBe (asks_keeper request) (mark_of e) → r ≡ (marked s (to_request s) (mark_of e)).0 → (marked s (to_request s) (mark_of e)).1 ≡ s → b.holds s → IsInvariant config s
       → RoseBy (a.refusals) (b.refusals) (store_mark (mark_of e))
       → LeavesBy (to_request s) (a.survivors) (b.survivors) s (mark_of e)
       → (a.tied → b.tied) → KnowsDown to_request before behind r (mark_of e)
-      → AnswersBy to_request ⊤ before behind s r
-  failed_by s r e reply kept held inv counted left ties knows = record {
+      → AnswersBy to_request (MayBe (asks_keeper request)) before behind s r
+  failed_by s r e may reply kept held inv counted left ties knows = record {
     mark = mark_of e;
-    allowed = λ is_marked. tt;
+    allowed = λ is_marked. may;
     reply = reply;
     held = subst (λ (u : State). b.holds u × IsInvariant config u) (sym kept) (held, inv);
     counted = counted;
@@ -90,7 +97,7 @@ module _ (config : Config) (request : Request) (a b : Model State) where
 
   -- an answer from a State of the invariant is one of the machine's
   pub answered_by : (v : Result Verdict StoreFault) (old out : List ℕ) (s : State) (r : ReplyBytes) → old ≡ room → Performs config request a b old out v → b.doubt ≡ 0 → a.holds s → IsInvariant config s
-      → IsInvariant config (step config s request).1 → RepliesTo out r v → AnswersBy to_request ⊤ before behind s r
+      → IsInvariant config (step config s request).1 → RepliesTo out r v → AnswersBy to_request (MayBe (asks_keeper request)) before behind s r
   answered_by (Ok verdict.Done) old out s r begun did d h inv next e =
       let tells = did.told d s h inv in
       done_by s r (e ∙ ap (λ (o : List ℕ). record { status = 0; text = []; body = drop REPLY_HEAD_BYTES o }) (tells.2 ∙ ap (λ (o : List ℕ). o ++ tells.0) begun) ∙ ap told (sym tells.1))
@@ -99,11 +106,11 @@ module _ (config : Config) (request : Request) (a b : Model State) where
       done_by s r (e ∙ ap told (sym (did.told d s h inv))) (did.state d s h inv) next did.counted (did.left d s h inv) (did.ties d s h inv)
       (λ is. told_all (verdict.Refused q) old out r begun e (did.down.unasked is)) did.stays
   answered_by (Err fault.NoMemory) old out s r begun did d h inv next e =
-      failed_by s r fault.NoMemory e refl (did.state d s h inv) inv (inl (refl, did.counted)) (did.left d s h inv) (did.ties d s h inv)
+      failed_by s r fault.NoMemory tt e refl (did.state d s h inv) inv (inl (refl, did.counted)) (did.left d s h inv) (did.ties d s h inv)
       (record { down = λ is. absurd (cc); refused = λ is. absurd (cc); unasked = λ is unmarked. absurd (cc); stays = did.stays })
   answered_by (Err fault.Refused) old out s r begun did d h inv next e =
-      failed_by s r fault.Refused e refl (did.state d s h inv) inv (inr (omega arith, did.counted)) (did.left d s h inv) (did.ties d s h inv)
+      failed_by s r fault.Refused (asked fault.Refused (λ is. (did.alone is).1) (λ is. absurd (cc (is)))) e refl (did.state d s h inv) inv (inr (omega arith, did.counted)) (did.left d s h inv) (did.ties d s h inv)
       (record { down = λ is. absurd (cc); refused = λ is. did.down.refused refl; unasked = λ is unmarked. absurd (cc); stays = did.stays })
   answered_by (Err fault.Down) old out s r begun did d h inv next e =
-      failed_by s r fault.Down e refl (did.state d s h inv) inv (inr (omega arith, did.counted)) (did.left d s h inv) (did.ties d s h inv)
+      failed_by s r fault.Down (asked fault.Down (λ is. (did.alone is).1) (λ is. absurd (cc (is)))) e refl (did.state d s h inv) inv (inr (omega arith, did.counted)) (did.left d s h inv) (did.ties d s h inv)
       (record { down = λ is. did.down.down refl; refused = λ is. absurd (cc); unasked = λ is unmarked. absurd (cc); stays = did.stays })

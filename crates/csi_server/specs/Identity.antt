@@ -31,9 +31,9 @@ abbrev pub outcome_of : Option Response → Result Response Reason
 outcome_of None = Err UnknownMethod
 outcome_of (Some r) = Ok r
 
--- its state says nothing
+-- its state says nothing, and no store is asked
 abbrev pub identity : List ℕ → List ℕ → Machine ⊤
-identity name version = requests (λ path. known (method_at path)) (λ s r. (told_of (said name version r), s))
+identity name version = requests (λ path. known (method_at path)) (λ r. false) (λ s r. (told_of (said name version r), s))
 
 abbrev pub still : Model ⊤
 still = record { holds = λ s. ⊤; doubt = 0; refusals = 0; survivors = λ s. ⊤; tied = ⊤; is_down = false }

@@ -1,5 +1,5 @@
 -- A machine that answers requests: the path of a call names a method, its message is read, its arguments are checked, and then it is answered.
-use Rattle.std.specs.Prelude.{◌≡◌, ◌≢◌, ◌⊎◌, ℕ, List, [], ◌++◌, Option, Some, None, Result, Ok, Err, codes, decimal}
+use Rattle.std.specs.Prelude.{◌≡◌, ◌≢◌, ◌⊎◌, ℕ, Bool, true, List, [], ◌++◌, Option, Some, None, Result, Ok, Err, codes, decimal}
 use Rattle.csi_types.specs.declared.method.Method.{Method}
 use Rattle.csi_types.specs.declared.reason.Reason.{Reason}
 use Rattle.csi_types.specs.declared.reason.Reason.TheVariants as reason
@@ -42,14 +42,24 @@ IsUnread m message r =
     ⊎ ((q : Request) × (why : Reason) × (read_request m message ≡ Ok q) × (checked q ≡ Some why) × (r ≡ refused why))
     ⊎ ((q : Request) × (read_request m message ≡ Ok q) × (r ≡ refused reason.OutOfMemory))
 
--- a call may be refused for memory or by the store where its path names a method and its message means a request
-abbrev pub IsRequest : Option Method → List ℕ → Type 0
-IsRequest None message = ⊥
-IsRequest (Some m) message = (r : Request) × (read_request m message ≡ Ok r)
+-- any request may be refused for memory, and by the store one that asks something of it
+abbrev pub MayBe : Bool → Mark → Type 0
+MayBe asks Unmarked = Unit {0}
+MayBe asks OutOfMemory = Unit {0}
+MayBe asks StoreRefused = asks ≡ true
+MayBe asks StoreDown = asks ≡ true
 
--- the machine that knows these paths
-abbrev pub requests : {S : Type 0} → (List ℕ → Option Method) → (S → Request → Told × S) → Machine S
-requests method answer = record { respond = λ s call. after_path answer s (method call.path) call.message; may_fail = λ call. IsRequest (method call.path) call.message }
+-- a call may be marked so where its path names a method and its message means a request, which may be refused so
+abbrev pub IsRequest : (Request → Bool) → Option Method → List ℕ → Mark → Type 0
+IsRequest asks None message mark = ⊥
+IsRequest asks (Some m) message mark = (r : Request) × (read_request m message ≡ Ok r) × MayBe (asks r) mark
+
+-- the machine that knows these paths, where these requests ask something of the store
+abbrev pub requests : {S : Type 0} → (List ℕ → Option Method) → (Request → Bool) → (S → Request → Told × S) → Machine S
+requests method asks answer = record {
+  respond = λ s call. after_path answer s (method call.path) call.message;
+  may_fail = λ call mark. IsRequest asks (method call.path) call.message mark;
+}
 
 -- what a call may leave behind a stop: as `Leaves`, over what it responds
 abbrev pub LeavesBy : {S : Type 0} → ReplyBytes × S → (S → Type 0) → (S → Type 0) → S → Mark → Type 0
@@ -59,9 +69,9 @@ LeavesBy {S} x old new s StoreRefused = (t : S) → new t → old t ⊎ (t ≡ x
 LeavesBy {S} x old new s StoreDown = (t : S) → new t → old t
 
 -- One answer from the state s, with the reply r, to what responds so to each state.
-pub record AnswersBy {S : Type 0} (respond : S → ReplyBytes × S) (MayFail : Type 0) (old new : Model S) (s : S) (r : ReplyBytes) : Type 0 where
+pub record AnswersBy {S : Type 0} (respond : S → ReplyBytes × S) (MayFail : Mark → Type 0) (old new : Model S) (s : S) (r : ReplyBytes) : Type 0 where
   pub mark : Mark
-  pub allowed : mark ≢ Unmarked → MayFail
+  pub allowed : mark ≢ Unmarked → MayFail mark
   pub reply : r ≡ (marked s (respond s) mark).0
   pub held : new.holds (marked s (respond s) mark).1
   pub counted : RoseBy old.refusals new.refusals (store_mark mark)

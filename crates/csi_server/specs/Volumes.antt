@@ -1,5 +1,5 @@
 -- The volume machine over calls, and what is seen of a keeper.
-use Rattle.std.specs.Prelude.{◌≡◌, ◌≢◌, ℕ, List, [], ◌∷◌, ◌++◌, drop, Some, None, Result, Ok, Err}
+use Rattle.std.specs.Prelude.{◌≡◌, ◌≢◌, ℕ, Bool, not, List, [], ◌∷◌, ◌++◌, drop, Some, None, Result, Ok, Err}
 use Rattle.std.specs.List.{AllByRecursion}
 use Rattle.envelope.specs.Envelope.{ReplyBytes}
 use Rattle.envelope.specs.declared.limits.TheConstants.{REPLY_HEAD_BYTES}
@@ -15,16 +15,20 @@ use Rattle.csi_keeper.specs.Model.{Model}
 use Rattle.csi_keeper.specs.State.{State}
 use Rattle.csi_keeper.specs.declared.change.StoreFault.{StoreFault}
 use Rattle.csi_keeper.specs.declared.change.StoreFault.TheVariants as fault
-use Rattle.csi_machine.specs.Step.{step}
+use Rattle.csi_machine.specs.Step.{is_of_plugin, step}
 use Rattle.csi_plans.specs.declared.body.Verdict.{Verdict}
 use Rattle.csi_plans.specs.declared.body.Verdict.TheVariants as verdict
 use Rattle.csi_server.specs.Machine.{Machine, Event, Unmarked, refused, state_after}
 use Rattle.csi_server.specs.Machine.{step as call_step}
 use Rattle.csi_server.specs.Requests.{requests}
 
+-- whether a request asks something of the keeper; what the plugin is and can do is answered without it
+abbrev pub asks_keeper : Request → Bool
+asks_keeper r = not (is_of_plugin r)
+
 -- the volume machine under a configuration
 abbrev pub volumes : Config → Machine State
-volumes config = requests method_at (step config)
+volumes config = requests method_at asks_keeper (step config)
 
 -- a keeper as a run sees it: of the States that it may have those of the invariant, and the rest as the keeper has it
 abbrev pub seen : Config → Model State → Model State

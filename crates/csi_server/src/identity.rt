@@ -1,11 +1,11 @@
-ghost use Rattle.std.specs.Prelude.{◌≡◌, ◌≤◌, ⊤, ℕ, List, length, None, Ok, IfOk};
+ghost use Rattle.std.specs.Prelude.{◌≡◌, ◌≤◌, ℕ, false, List, length, None, Ok, IfOk};
 ghost use Rattle.std.specs.Io.KnownBytes.{Consumes, IsAtEnd, Keeps};
 ghost use Rattle.csi_types.specs.declared.requests.Request.{Request as AnyRequest};
 ghost use Rattle.csi_types.specs.Methods.{method_at};
 ghost use Rattle.csi_codec.specs.Reading.{read_request};
 ghost use Rattle.csi_plans.specs.Verdicts.{told_of, Appended, IsTold};
 ghost use Rattle.csi_server.specs.Identity.{said, known, outcome_of, identity, still};
-ghost use Rattle.csi_server.specs.Requests.{after_check, after_read, AnswersBy};
+ghost use Rattle.csi_server.specs.Requests.{after_check, after_read, AnswersBy, MayBe};
 ghost use Rattle.csi_server.specs.Serving.{Ended};
 ghost use Rattle.csi_server.specs.Service.{reply_of, HoldsBody, room};
 
@@ -74,7 +74,7 @@ fn answer_request(
     request: &Request,
     reply: &mut Vec<u8>,
 ) -> Answer
-    ensures step { AnswersBy (λ t. after_check (λ s r. (told_of (said names.now.name.now names.now.version.now r), s)) t request.now None) ⊤ still still tt
+    ensures step { AnswersBy (λ t. after_check (λ s r. (told_of (said names.now.name.now names.now.version.now r), s)) t request.now None) (MayBe false) still still tt
         (reply_of result reply.new.items) }
     ensures room { HoldsBody result reply.new.items }
 {
@@ -94,7 +94,7 @@ fn answer_message(
     reply: &mut Vec<u8>,
 ) -> Answer
     ensures step { AnswersBy (λ t. after_read (λ s r. (told_of (said names.now.name.now names.now.version.now r), s)) t (read_request method message.now))
-        ((r : AnyRequest) × (read_request method message.now ≡ Ok r)) still still tt (reply_of result reply.new.items) }
+        (λ mark. (r : AnyRequest) × (read_request method message.now ≡ Ok r) × MayBe false mark) still still tt (reply_of result reply.new.items) }
     ensures room { HoldsBody result reply.new.items }
 {
     match read_message(alloc, method, message) {

@@ -1,14 +1,14 @@
 //! The volume machine over a keeper.
 
-ghost use Rattle.std.specs.Prelude.{◌≡◌, ◌≤◌, ⊤, ℕ, List, None, Ok};
+ghost use Rattle.std.specs.Prelude.{◌≡◌, ◌≤◌, ℕ, List, None, Ok};
 ghost use Rattle.std.specs.Io.KnownBytes.{Consumes, IsAtEnd, Keeps};
 ghost use Rattle.csi_keeper.specs.State.{State};
 ghost use Rattle.csi_machine.specs.Step.{step};
 ghost use Rattle.csi_types.specs.Checks.{checked};
-ghost use Rattle.csi_server.specs.Requests.{after_check, AnswersBy};
+ghost use Rattle.csi_server.specs.Requests.{after_check, AnswersBy, MayBe};
 ghost use Rattle.csi_server.specs.Service.{reply_of, HasBody, HoldsBody};
 ghost use Rattle.csi_server.specs.Serving.{Serves};
-ghost use Rattle.csi_server.specs.Volumes.{volumes, seen, RepliesTo};
+ghost use Rattle.csi_server.specs.Volumes.{asks_keeper, volumes, seen, RepliesTo};
 
 use crate::end::RunEnd;
 use crate::message::{read_message, refuse};
@@ -49,7 +49,7 @@ fn answer_request<K: Keeper>(
     requires { checked request.now ≡ None }
     ensures clean { (K.model keeper.old).doubt ≤ (K.model keeper.new).doubt }
     ensures step { (K.model keeper.new).doubt ≡ 0 → (s : State) → (seen config.now (K.model keeper.old)).holds s
-        → AnswersBy (λ t. after_check (step config.now) t request.now None) ⊤ (seen config.now (K.model keeper.old)) (seen config.now (K.model keeper.new)) s (reply_of result reply.new.items) }
+        → AnswersBy (λ t. after_check (step config.now) t request.now None) (MayBe (asks_keeper request.now)) (seen config.now (K.model keeper.old)) (seen config.now (K.model keeper.new)) s (reply_of result reply.new.items) }
     ensures room { HoldsBody result reply.new.items }
 {
     match begin_body(reply) {

@@ -1,4 +1,5 @@
 mod DeleteLemmas
+mod DoneLemmas
 mod FailLemmas
 mod FilterLemmas
 mod InsertLemmas

@@ -11,5 +11,5 @@ pub mod volumes;
 
 use sqlite::Error;
 
-/// How many rows a statement changed, or why it was refused.
-pub type Changed = Result<usize, Error>;
+/// Whether a statement ran, or why it was refused. Its contract says which rows it changed.
+pub type Changed = Result<(), Error>;

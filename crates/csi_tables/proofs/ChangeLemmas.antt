@@ -1,5 +1,5 @@
 -- What a change over a connection does, from what the calls below it do.
-use Rattle.std.proofs.Common.{◌≡◌, refl, arith, IsTrue, Result, Ok, Err, OnOk, OnErr}
+use Rattle.std.proofs.Common.{◌≡◌, ◌∙◌, refl, arith, IsTrue, Result, Ok, Err, OnOk, OnErr}
 use Rattle.std.specs.Result.{IsErrAnd}
 use Rattle.sqlite.specs.Effect.{Database}
 use Rattle.sqlite.specs.Held.{Held, state}
@@ -17,7 +17,7 @@ use Rattle.csi_schema.specs.Tables.{schema}
 use Rattle.csi_schema.specs.Transactions.{CommitsOver}
 use Rattle.csi_tables.specs.Answers.{of_database}
 use Rattle.csi_tables.specs.Encoding.{ReadsBack}
-use Rattle.csi_tables.specs.Holding.{IsRows, IsStorable, conn_doubt, conn_holds}
+use Rattle.csi_tables.specs.Holding.{IsRows, IsStorable, Shows, conn_doubt, conn_holds}
 use Rattle.csi_tables.specs.Refusing.{ConnChanges, ConnReads, ConnStays, StoreChanges}
 use Rattle.csi_tables.specs.declared.fault.Fault.{Fault}
 use Rattle.csi_tables.specs.declared.fault.Fault.TheVariants.{Refused}
@@ -45,6 +45,7 @@ module _ {S X : Type 0} {g : Ghosts S} {old new : Held S} {Why : Type 0} where
     made = on_ok_so (λ made. made change same) r h.made;
     failed = on_err_so (λ failed. failed change) r h.failed;
     refused = λ clean is s held known. refused_so ⊥ Why (state g old) (state g new) (λ none. absurd none) (h.refused clean is s held known);
+    limit = h.limit;
   }
 
   -- a change behind a read that failed
@@ -54,6 +55,7 @@ module _ {S X : Type 0} {g : Ghosts S} {old new : Held S} {Why : Type 0} where
     made = never_ok r _ _ is;
     failed = on_err r (fails_quiet g change old new (is_quiet g old new h.undone h.survives));
     refused = λ clean told s held known. refused_so ⊥ Why (state g old) (state g new) (λ none. absurd none) (h.refused clean (handed_on r (Err fault) fault Refused is told refl) s held known);
+    limit = h.survives.limit;
   }
 
   -- a change that a read finds not allowed
@@ -64,6 +66,7 @@ module _ {S X : Type 0} {g : Ghosts S} {old new : Held S} {Why : Type 0} where
     made = makes_never g change old new (is_quiet g old new h.undone h.survives) never;
     failed = tt;
     refused = λ clean is. made_unrefused x _ is;
+    limit = h.survives.limit;
   }
 
   -- a change beside totals that are moved with it
@@ -75,12 +78,14 @@ module _ {S X : Type 0} {g : Ghosts S} {old new : Held S} {Why : Type 0} where
     made = store_makes g change (old, a) (new, b) totals storable h.made;
     failed = tt;
     refused = λ clean is s held known. h.refused clean is s held.0 known;
+    limit = h.limit;
   }
   beside (Err fault) change {a = a} {b = b} totals storable same h = record {
     idle = h.idle;
     made = tt;
     failed = store_fails g change (old, a) (new, b) same h.failed;
     refused = λ clean is s held known. h.refused clean is s held.0 known;
+    limit = h.limit;
   }
 
 -- by one transaction
@@ -88,7 +93,7 @@ module _ {S : Type 0} (g : Ghosts S) (back : ReadsBack) (change : Change) (Effec
     (steps : (s : State) (db after : Database) → db.schema ≡ schema → IsRows s db.trees → Allows s change → Effect db after → IsRows (changed s change) after.trees)
     {X Y : Type 0} {old new : Held S} {Refuses : sql.State → Error → Type 0} {Why : Type 0} where
   pub changes : {x : X} {y : Y} → ((s : S) (db : Trees) → IsTrue (g.view s).is_open → g.recovers s db → db ≡ (g.view s).committed) → CommitsOver g old new schema Effect Refuses (Ok x) → ConnChanges g old new change Why (Ok y)
-  changes {y = y} settled h = record { idle = h.idle; made = makes g back change Effect keeps steps old new h.survives settled h.ok; failed = tt; refused = λ clean is. made_unrefused y _ is }
+  changes {y = y} settled h = record { idle = h.idle; made = makes g back change Effect keeps steps old new h.survives settled h.ok; failed = tt; refused = λ clean is. made_unrefused y _ is; limit = h.survives.limit }
 
   pub changes_not : (r : Result Y Fault) (e : Error) → (Refuses (state g old) e → Why) → CommitsOver g old new {X = X} schema Effect Refuses (Err e) → IsErrAnd r (λ y. y ≡ of_database e) → ConnChanges g old new change Why r
   changes_not r e why h is = record {
@@ -96,6 +101,7 @@ module _ {S : Type 0} (g : Ghosts S) (back : ReadsBack) (change : Change) (Effec
     made = never_ok r _ _ is;
     failed = on_err r (fails g back change Effect keeps steps old new h.survives h.err);
     refused = λ clean told s held known. call_refused g old new Refuses Why e s (λ shows. why) (told_as r e is told) (h.failed clean) held;
+    limit = h.survives.limit;
   }
 
 -- by one transaction behind a read
@@ -108,9 +114,10 @@ module _ {S : Type 0} (g : Ghosts S) (back : ReadsBack) (change : Change) (Effec
     made = makes_behind g back change Effect keeps before old new (is_quiet g before old read.undone read.survives) steps h.survives settled h.ok;
     failed = tt;
     refused = λ clean is. made_unrefused y _ is;
+    limit = h.survives.limit ∙ read.survives.limit;
   }
 
-  pub changes_not_behind : (r : Result Y Fault) (e : Error) → ((state g old).now ≡ (state g before).now → (state g old).step_limit ≡ (state g before).step_limit → Refuses (state g old) e → Why)
+  pub changes_not_behind : (r : Result Y Fault) (e : Error) → (HasCleanDisk (state g old) → (s : State) → conn_holds g before s → Shows (state g before) s → (state g old).now ≡ (state g before).now → (state g old).step_limit ≡ (state g before).step_limit → Refuses (state g old) e → Why)
       → CommitsOver g old new {X = X} schema Effect Refuses (Err e) → IsErrAnd r (λ y. y ≡ of_database e) → ConnChanges g before new change Why r
   changes_not_behind r e why h is = record {
     idle = h.idle;
@@ -118,5 +125,6 @@ module _ {S : Type 0} (g : Ghosts S) (back : ReadsBack) (change : Change) (Effec
     failed = on_err r (fails_behind g back change Effect keeps before old new (is_quiet g before old read.undone read.survives) steps h.survives h.err);
     refused = λ clean told s held known.
         let mid : HasCleanDisk (state g old) = omega (arith, h.survives.clean) in
-        refused_after g before old new Why Refuses e s (read.undone mid) read.survives mid h.survives.counts why (told_as r e is told) (h.failed clean) held;
+        refused_after g before old new Why Refuses e s (read.undone mid) read.survives mid h.survives.counts (why mid s held) (told_as r e is told) (h.failed clean) held;
+    limit = h.survives.limit ∙ read.survives.limit;
   }

@@ -75,4 +75,5 @@ module _ {S : Type 0} (g : Ghosts S) (back : ReadsBack) (settled : (s : S) (db :
         ties = λ clean blank _ db may. (first_state 1, subst (IsRows (first_state 1)) (sym (left clean db may)) (rows clean blank));
         up = up;
         uncounted = uncounted;
+        limit = survives.limit;
       }

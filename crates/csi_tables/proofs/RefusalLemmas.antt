@@ -118,7 +118,7 @@ module _ {S : Type 0} (g : Ghosts S) (a b d : Held S) (Why : Type 0) where
   before_read left is_open (as_refused why) = as_refused why
 
   pub refused_after : (R : sql.State → Error → Type 0) (e : Error) (s : State) → IsUndone (state g a) (state g b) → Survives (state g a) (state g b) (λ _. ⊥) → HasCleanDisk (state g b) → (state g b).faults ≤ (state g d).faults
-      → ((state g b).now ≡ (state g a).now → (state g b).step_limit ≡ (state g a).step_limit → R (state g b) e → Why) → of_database e ≡ Refused
+      → (Shows (state g a) s → (state g b).now ≡ (state g a).now → (state g b).step_limit ≡ (state g a).step_limit → R (state g b) e → Why) → of_database e ≡ Refused
       → (b.schema ≡ schema → FailsFor (R (state g b)) (state g b) (state g d) e) → conn_holds g a s → IsRefusal Why (state g a) (state g d)
   refused_after R e s undone left clean up f told failed held =
       open_or_shut (state g a).is_open (IsRefusal Why (state g a) (state g d))
@@ -127,7 +127,7 @@ module _ {S : Type 0} (g : Ghosts S) (a b d : Held S) (Why : Type 0) where
             let shows = held was_open in
             let same : (state g b).now ≡ (state g a).now = undone.now is_open ∙ sym shows.settled in
             let has : b.schema ≡ schema = ap (λ (db : Database). db.schema) same ∙ shows.schema in
-            before_read left is_open (refusal (R (state g b)) Why (state g b) (state g d) e (f same left.limit) told (failed has))
+            before_read left is_open (refusal (R (state g b)) Why (state g b) (state g d) e (f shows same left.limit) told (failed has))
         | inr more ↦ by_disk (omega (arith, more, up))
       ])
       (λ shut. as_shut shut)

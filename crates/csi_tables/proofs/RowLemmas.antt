@@ -10,7 +10,7 @@ use Rattle.std.proofs.lemmas.List.Sorted.{IsPermutation-cons, IsPermutation-tran
 use Rattle.sqlite.specs.declared.types.Value.TheVariants.{Int, Text}
 use Rattle.sqlite.specs.Effect.{Database}
 use Rattle.sqlite.specs.Order.{Row, column, value_cmp}
-use Rattle.sqlite.specs.Tree.{rowid, IsAscending}
+use Rattle.sqlite.specs.Tree.{rowid, IsAscending, Trees}
 use Rattle.sqlite.specs.View.{is_int}
 use Rattle.sqlite_catalog.specs.Listing.{IsSound}
 use Rattle.sqlite_keyed.proofs.ListLemmas.{IsPermutation-filter, filter-map, filter_same}
@@ -231,11 +231,16 @@ rows_added s v old new has p low name pool caps params allowed h = record {
   sound = sound_after new (h.schema ∙ has) h.sound;
 }
 
+-- the row of a volume of the State
+pub stands_in : (s : State) (n : ℕ) (v : Volume) (db : Trees) → IsRows s db → get s.volumes n ≡ Some v → Has (map seen_volume (db 1)) (volume_entry (n, v))
+stands_in s n v db p stands =
+    has_permuted _ _ (volume_entry (n, v)) (IsPermutation-sym _ _ p.volumes) (mapped_has volume_entry (entries s.volumes) (n, v) (found_has nat_cmp-IsAntisymmetric s.volumes n v stands))
+
 -- the row of the volume goes, and the one with the map comes
 pub rows_mutable : (s : State) (n : ℕ) (m : TextMap) (v : Volume) (old new : Database) → old.schema ≡ schema → IsRows s old.trees → get s.volumes n ≡ Some v → FitParams v.params m → SetsParams n (params_bytes v.params m) old new
     → IsRows (changed s (SetMutable n m)) new.trees
 rows_mutable s n m v old new has p stands fit h =
-    let there = has_permuted _ _ (volume_entry (n, v)) (IsPermutation-sym _ _ p.volumes) (mapped_has volume_entry (entries s.volumes) (n, v) (found_has nat_cmp-IsAntisymmetric s.volumes n v stands)) in
+    let there = stands_in s n v old.trees p stands in
     let rows = h.rows (volumes_keyed s.volumes (old.trees 1) p.volumes) v.name v.bytes v.pool (caps_bytes v.caps) (params_bytes v.params v.mutable) there in
     let left = filtered_rows volume_entry seen_volume (entries s.volumes) _ (old.trees 1) _ (λ e. not (eq_by_cmp nat_cmp n e.0)) (is_numbered n) (λ x. is_same (column x 0) (Int (pos n))) (λ e. ap not (same_numbers e.0 n)) (λ r. refl) refl refl p.volumes in
     record {

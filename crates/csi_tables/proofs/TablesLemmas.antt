@@ -37,6 +37,7 @@ pub keeps_read : {S X : Type 0} {g : Ghosts S} {a b : Held S} {before between be
     (totals : Totals) → Begins before between (Ok tt) → ConnReads g a b What answer → Ends between behind answer r → record {
       reads : Reads (model_with g (a, totals) before) (model_with g (b, totals) behind) r What;
       refused : StoreRefuses g (a, totals) (b, totals) store.Refused ⊥ r;
+      limit : b.step_limit ≡ a.step_limit;
     }
 keeps_read {g = g} {a = a} {b = b} {answer = answer} {r = r} totals begun read end = record {
   reads =
@@ -48,6 +49,7 @@ keeps_read {g = g} {a = a} {b = b} {answer = answer} {r = r} totals begun read e
         down = (λ is. absurd (end.up is), λ down. absurd (cc (begun.down.1 down)));
       };
   refused = λ clean is s held known. read.refused clean (told_refused answer r end.told is) s held.0 known;
+  limit = read.survives.limit;
 }
 
 -- a read that needs none, since no row has such a number

@@ -46,3 +46,4 @@ module _ {S : Type 0} (g : Ghosts S) where
     pub ties : (tables_model t).doubt ≡ 0 → (state g conn).now.schema ≡ no_schema → (tables_model t).tied
     pub up : is_down t ≡ false
     pub uncounted : refusals t ≡ 0
+    pub limit : t.conn.step_limit ≡ conn.step_limit

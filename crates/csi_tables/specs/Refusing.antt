@@ -1,5 +1,5 @@
 -- Why a call over the tables is refused: want of memory is no reason.
-use Rattle.std.specs.Prelude.{◌≡◌, ◌⊎◌, ℕ, ◌≤◌, ◌^◌, ◌+◌, false, [], ◌∷◌, List, IfOk, IsErrOf, IsSome, OnErr, OnOk, Result}
+use Rattle.std.specs.Prelude.{◌≡◌, ◌⊎◌, ℕ, ◌≤◌, ◌^◌, ◌+◌, false, [], ◌∷◌, List, IfOk, IsErrOf, IsSome, OnErr, OnOk, Result, map}
 use Rattle.std.specs.FinMap.{entries}
 use Rattle.std.specs.List.{AllByRecursion}
 use Rattle.sqlite.specs.Held.{Held, state}
@@ -8,6 +8,7 @@ use Rattle.sqlite.specs.State.{HasCleanDisk}
 use Rattle.sqlite.specs.Store.{Ghosts}
 use Rattle.sqlite.specs.declared.error.Error.{Error}
 use Rattle.sqlite_disk.specs.Disk.{MoreFaults}
+use Rattle.sqlite_rules.specs.Lists.{Has}
 use Rattle.csi_types.specs.Maps.{TextMap}
 use Rattle.csi_keeper.specs.State.{State, changed}
 use Rattle.csi_keeper.specs.Totals.{HasRoom, total_of}
@@ -18,9 +19,9 @@ use Rattle.csi_keeper.specs.declared.volume.Attachment.{Attachment}
 use Rattle.csi_keeper.specs.declared.volume.Volume.{Volume}
 use Rattle.csi_statements.specs.Failing.{RefusesAttachment, RefusesDetaching, RefusesDetachingAll, RefusesNumbered, RefusesParams, RefusesRemoval}
 use Rattle.csi_schema.specs.Transactions.{LeavesNothingNew}
-use Rattle.csi_statements.specs.Rows.{IsUndone, attachment_row, volume_row}
+use Rattle.csi_statements.specs.Rows.{IsUndone, attachment_row, seen_volume, volume_row}
 use Rattle.csi_tables.specs.Encoding.{caps_bytes, params_bytes, AreKnown}
-use Rattle.csi_tables.specs.Holding.{IsStorable, Store, conn_doubt, conn_holds, store_doubt, store_holds, ConnFails, ConnMakes, ConnTells, StoreFails, StoreMakes}
+use Rattle.csi_tables.specs.Holding.{IsStorable, Store, conn_doubt, conn_holds, store_doubt, store_holds, ConnFails, ConnMakes, ConnTells, StoreFails, StoreMakes, volume_entry}
 use Rattle.csi_tables.specs.declared.fault.Fault.{Fault}
 use Rattle.csi_tables.specs.declared.fault.Fault.TheVariants.{Refused}
 
@@ -61,9 +62,9 @@ RefusesDetach n node s = (e : Error) × RefusesDetaching n node s e
 abbrev pub RefusesDetachAll : ℕ → sql.State → Type 0
 RefusesDetachAll n s = (e : Error) × RefusesDetachingAll n s e
 
--- with parameters that the volume has beside them
+-- with the parameters beside them of the volume whose row stands
 abbrev pub RefusesMutable : ℕ → TextMap → sql.State → Type 0
-RefusesMutable n m s = (params : TextMap) × (e : Error) × RefusesParams n (params_bytes params m) s e
+RefusesMutable n m s = (v : Volume) × Has (map seen_volume (s.now.trees 1)) (volume_entry (n, v)) × (e : Error) × RefusesParams n (params_bytes v.params m) s e
 
 abbrev pub RefusesChange : Change → Totals → sql.State → Type 0
 RefusesChange (AddVolume v) totals s = RefusesAdding v totals s
@@ -88,12 +89,13 @@ module _ {S : Type 0} (g : Ghosts S) (old new : Held S) where
     pub undone : HasCleanDisk (state g new) → IsUndone (state g old) (state g new)
     pub survives : LeavesNothingNew g old new
 
-  -- A change: it is made, or it fails and may be left by a stop; and why it is refused.
+  -- A change: it is made, or it fails and may be left by a stop; and why it is refused. The limit on steps stays.
   pub record ConnChanges {X : Type 0} (change : Change) (Why : Type 0) (r : Result X Fault) : Type 0 where
     pub idle : new.in_transaction ≡ false
     pub made : OnOk r (ConnMakes g old new change)
     pub failed : OnErr r (ConnFails g old new change)
     pub refused : ConnRefuses Why r
+    pub limit : new.step_limit ≡ old.step_limit
 
   -- a call that makes any change that changes nothing
   pub record ConnStays {X : Type 0} (r : Result X Fault) : Type 0 where
@@ -101,6 +103,7 @@ module _ {S : Type 0} (g : Ghosts S) (old new : Held S) where
     pub made : OnOk r ((change : Change) → ((s : State) → IsStorable s → changed s change ≡ s) → ConnMakes g old new change)
     pub failed : OnErr r ((change : Change) → ConnFails g old new change)
     pub refused : ConnRefuses ⊥ r
+    pub limit : new.step_limit ≡ old.step_limit
 
 module _ {S : Type 0} (g : Ghosts S) (old new : Store S) where
   -- and beside it the totals
@@ -113,3 +116,4 @@ module _ {S : Type 0} (g : Ghosts S) (old new : Store S) where
     pub made : OnOk r (StoreMakes g old new change)
     pub failed : OnErr r (StoreFails g old new change)
     pub refused : StoreRefuses Refused Why r
+    pub limit : new.0.step_limit ≡ old.0.step_limit

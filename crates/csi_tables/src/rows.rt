@@ -1,6 +1,6 @@
 //! Volumes, attachments and numbers of the rows that show them.
 
-ghost use Rattle.std.specs.Prelude.{◌≡◌, ◌≢◌, ℕ, List, [], ◌∷◌, Option, IfOk, IfSome, IsErrOf, IsUtf8, map, option_map};
+ghost use Rattle.std.specs.Prelude.{◌≡◌, ◌≢◌, ℕ, List, [], ◌∷◌, Option, Some, IfOk, IfSome, IsErrOf, IsUtf8, map, option_map};
 ghost use Rattle.std.specs.List.{AllByRecursion};
 ghost use Rattle.sqlite.specs.declared.types.Value.TheVariants.{Text as Words, Blob};
 ghost use Rattle.sqlite.specs.Order.{column};
@@ -9,6 +9,7 @@ ghost use Rattle.csi_keeper.specs.State.{Place};
 ghost use Rattle.csi_keeper.specs.declared.capability.CapKey.{CapKey as Key};
 ghost use Rattle.csi_keeper.specs.declared.volume.Attachment.{Attachment as Placed};
 ghost use Rattle.csi_keeper.specs.declared.volume.Volume.{Volume as Stored};
+ghost use Rattle.csi_statements.specs.Cells.{as_flag};
 ghost use Rattle.csi_statements.specs.Rows.{number_value};
 ghost use Rattle.csi_tables.specs.Encoding.{caps_bytes, params_bytes, AreKnown, FitCaps, FitParams};
 ghost use Rattle.csi_tables.specs.Holding.{volume_entry, node_entry, IsStored, IsPlaced, IsReadable, IsReadablePlace};
@@ -101,10 +102,11 @@ fn cap_in(alloc: Global, row: &Row, at: usize) -> Result<CapKey, Fault>
     }
 }
 
-/// The attachment that a row of those of its volume shows.
+/// The attachment that a row of those of its volume shows. A `readonly` that is neither 0 nor 1 is refused.
 pub(crate) fn attachment_from(alloc: Global, row: &Row) -> Result<Attachment, Fault>
     ensures ok { IfOk result (λ a. (e : Place × Placed) → IsPlaced e → row.now ≡ node_entry e → a ≡ e.1) }
     ensures refused { IsErrOf result Refused → (e : Place × Placed) → IsReadablePlace e → row.now ≢ node_entry e }
+    ensures flag { IfOk result (λ a. as_flag (column row.now 2) ≡ Some a.readonly) }
 {
     let Some(readonly) = flag_at(row, 2) else {
         return Err(Fault::Refused);

@@ -1,6 +1,6 @@
 //! The keeper over the tables.
 
-ghost use Rattle.std.specs.Prelude.{◌≡◌, false, IsTrue, OnErr};
+ghost use Rattle.std.specs.Prelude.{◌≡◌, ◌≤◌, ◌^◌, false, IsTrue, OnErr};
 ghost use Rattle.std.specs.FinMap.{get};
 ghost use Rattle.std.specs.Option.{option_map};
 ghost use Rattle.csi_keeper.specs.Listing.{listing};
@@ -20,7 +20,8 @@ use std::alloc::Global;
 /// stop leaves it whole or not at all: after `Ok` a stop leaves the State, after a refusal what it
 /// could leave before, or the State with the change. After a change that was refused, also for memory,
 /// each further call is answered `Down`; a read that is refused stops nothing. `Refused` has its cause,
-/// as a fault of the disk, and is never want of memory.
+/// as a fault of the disk, and is never want of memory. No call moves the connection's limit on steps, and a
+/// read of a number from 2^63 on, which no row has, asks for no memory.
 ///
 /// All of that is promised while the database has returned what was written to it: while the store's
 /// `HasCleanDisk` holds as the call ends. A call is one transaction, a removal and a listing two; what a pool has used
@@ -72,6 +73,7 @@ impl<S: Alter> Keeper for Tables<S> {
     fn next_number(&mut self) -> Result<u64, StoreFault>
         ensures reads { Reads (tables_model S.Store self.old) (tables_model S.Store self.new) result (λ s n. n ≡ s.next) }
         ensures refused { TablesRefuses S.Store self.old self.new ⊥ result }
+        ensures limit { self.new.conn.step_limit ≡ self.old.conn.step_limit }
     {
         self.health.begin()?;
         let answer = read::next_number(&mut self.conn);
@@ -81,6 +83,7 @@ impl<S: Alter> Keeper for Tables<S> {
     fn by_name(&mut self, alloc: Global, name: &str) -> Result<Option<Volume>, StoreFault>
         ensures reads { Reads (tables_model S.Store self.old) (tables_model S.Store self.new) result (λ s v. v ≡ named s name.now) }
         ensures refused { TablesRefuses S.Store self.old self.new ⊥ result }
+        ensures limit { self.new.conn.step_limit ≡ self.old.conn.step_limit }
     {
         self.health.begin()?;
         let answer = read::by_name(alloc, &mut self.conn, name);
@@ -90,6 +93,8 @@ impl<S: Alter> Keeper for Tables<S> {
     fn by_number(&mut self, alloc: Global, number: u64) -> Result<Option<Volume>, StoreFault>
         ensures reads { Reads (tables_model S.Store self.old) (tables_model S.Store self.new) result (λ s v. v ≡ get s.volumes number) }
         ensures refused { TablesRefuses S.Store self.old self.new ⊥ result }
+        ensures limit { self.new.conn.step_limit ≡ self.old.conn.step_limit }
+        ensures sure { 2 ^ 63 ≤ number → OnErr result (IsTrue self.old.health.is_down) }
     {
         self.health.begin()?;
         if number >= NUMBERS {
@@ -102,6 +107,8 @@ impl<S: Alter> Keeper for Tables<S> {
     fn caps_of(&mut self, alloc: Global, number: u64) -> Result<Option<Items<CapKey>>, StoreFault>
         ensures reads { Reads (tables_model S.Store self.old) (tables_model S.Store self.new) result (λ s keys. keys ≡ option_map (λ v. v.caps) (get s.volumes number)) }
         ensures refused { TablesRefuses S.Store self.old self.new ⊥ result }
+        ensures limit { self.new.conn.step_limit ≡ self.old.conn.step_limit }
+        ensures sure { 2 ^ 63 ≤ number → OnErr result (IsTrue self.old.health.is_down) }
     {
         match self.by_number(alloc, number)? {
             Some(volume) => Ok(Some(volume.caps)),
@@ -112,6 +119,8 @@ impl<S: Alter> Keeper for Tables<S> {
     fn attachments(&mut self, alloc: Global, number: u64) -> Result<Items<Attachment>, StoreFault>
         ensures reads { Reads (tables_model S.Store self.old) (tables_model S.Store self.new) result (λ s xs. xs ≡ attached s number) }
         ensures refused { TablesRefuses S.Store self.old self.new ⊥ result }
+        ensures limit { self.new.conn.step_limit ≡ self.old.conn.step_limit }
+        ensures sure { 2 ^ 63 ≤ number → OnErr result (IsTrue self.old.health.is_down) }
     {
         self.health.begin()?;
         if number >= NUMBERS {
@@ -124,6 +133,7 @@ impl<S: Alter> Keeper for Tables<S> {
     fn attached_at(&mut self, alloc: Global, node: &str) -> Result<Items<u64>, StoreFault>
         ensures reads { Reads (tables_model S.Store self.old) (tables_model S.Store self.new) result (λ s xs. xs ≡ attached_at s node.now) }
         ensures refused { TablesRefuses S.Store self.old self.new ⊥ result }
+        ensures limit { self.new.conn.step_limit ≡ self.old.conn.step_limit }
     {
         self.health.begin()?;
         let answer = read::attached_at(alloc, &mut self.conn, node);
@@ -133,6 +143,7 @@ impl<S: Alter> Keeper for Tables<S> {
     fn sizes_in(&mut self, alloc: Global, pool: &str) -> Result<Items<u64>, StoreFault>
         ensures reads { Reads (tables_model S.Store self.old) (tables_model S.Store self.new) result (λ s xs. xs ≡ sizes s pool.now) }
         ensures refused { TablesRefuses S.Store self.old self.new ⊥ result }
+        ensures limit { self.new.conn.step_limit ≡ self.old.conn.step_limit }
     {
         self.health.begin()?;
         let answer = read::sizes_in(alloc, &mut self.conn, pool);
@@ -142,6 +153,7 @@ impl<S: Alter> Keeper for Tables<S> {
     fn used_in(&mut self, pool: &Text) -> Result<Usage, StoreFault>
         ensures reads { Reads (tables_model S.Store self.old) (tables_model S.Store self.new) result (λ s u. u ≡ used s pool.now) }
         ensures sure { OnErr result (IsTrue self.old.health.is_down) }
+        ensures limit { self.new.conn.step_limit ≡ self.old.conn.step_limit }
     {
         self.health.begin()?;
         Ok(self.totals.usage(pool))
@@ -150,6 +162,8 @@ impl<S: Alter> Keeper for Tables<S> {
     fn page(&mut self, alloc: Global, after: u64, count: u32) -> Result<Items<Volume>, StoreFault>
         ensures reads { Reads (tables_model S.Store self.old) (tables_model S.Store self.new) result (λ s xs. xs ≡ page s after count) }
         ensures refused { TablesRefuses S.Store self.old self.new ⊥ result }
+        ensures limit { self.new.conn.step_limit ≡ self.old.conn.step_limit }
+        ensures sure { 2 ^ 63 ≤ after → OnErr result (IsTrue self.old.health.is_down) }
     {
         self.health.begin()?;
         if after >= NUMBERS {
@@ -167,6 +181,8 @@ impl<S: Alter> Keeper for Tables<S> {
     ) -> Result<Items<Items<Text>>, StoreFault>
         ensures reads { Reads (tables_model S.Store self.old) (tables_model S.Store self.new) result (λ s xs. xs ≡ published_of_page s after count) }
         ensures refused { TablesRefuses S.Store self.old self.new ⊥ result }
+        ensures limit { self.new.conn.step_limit ≡ self.old.conn.step_limit }
+        ensures sure { 2 ^ 63 ≤ after → OnErr result (IsTrue self.old.health.is_down) }
     {
         self.health.begin()?;
         if after >= NUMBERS {
@@ -184,6 +200,8 @@ impl<S: Alter> Keeper for Tables<S> {
     ) -> Result<Items<Listed>, StoreFault>
         ensures reads { Reads (tables_model S.Store self.old) (tables_model S.Store self.new) result (λ s xs. xs ≡ listing s after count) }
         ensures refused { TablesRefuses S.Store self.old self.new ⊥ result }
+        ensures limit { self.new.conn.step_limit ≡ self.old.conn.step_limit }
+        ensures sure { 2 ^ 63 ≤ after → OnErr result (IsTrue self.old.health.is_down) }
     {
         self.health.begin()?;
         if after >= NUMBERS {
@@ -198,6 +216,7 @@ impl<S: Alter> Keeper for Tables<S> {
         ensures applies { Applies (tables_model S.Store self.old) (tables_model S.Store self.new) change.now result }
         ensures stops { OnErr result (IsTrue self.new.health.is_down) }
         ensures refused { TablesRefuses S.Store self.old self.new (refuses_change S.Store self.old change.now) result }
+        ensures limit { self.new.conn.step_limit ≡ self.old.conn.step_limit }
     {
         if let Err(fault) = self.health.begin() {
             return Err(fault);
@@ -211,6 +230,7 @@ impl<S: Alter> Keeper for Tables<S> {
         ensures applies { Applies (tables_model S.Store self.old) (tables_model S.Store self.new) change result }
         ensures stops { OnErr result (IsTrue self.new.health.is_down) }
         ensures refused { TablesRefuses S.Store self.old self.new (refuses_change S.Store self.old change) result }
+        ensures limit { self.new.conn.step_limit ≡ self.old.conn.step_limit }
     {
         self.apply(alloc, &change)
     }

@@ -1,3 +1,4 @@
 mod CopyLemmas
+mod FaultLemmas
 mod OpeningLemmas
 mod StoppedLemmas

@@ -1,13 +1,16 @@
 -- What a copy of a keeper has, so far.
-use Rattle.std.specs.Prelude.{◌≡◌, ℕ, ◌+◌, ◌<◌, ◌≤◌, not, nat_lt, List, [], ◌∷◌, map, Some, ⊤}
+use Rattle.std.specs.Prelude.{◌≡◌, ◌↔◌, ℕ, ◌+◌, ◌<◌, ◌≤◌, not, nat_lt, List, [], ◌∷◌, map, Some, ⊤, Err, IsTrue}
 use Rattle.std.specs.FinMap.{get, retain_keys}
 use Rattle.csi_config.specs.declared.config.Config.{Config}
 use Rattle.csi_memory.specs.Holding.{Holds}
 use Rattle.csi_keeper.specs.Invariant.{IsInvariant}
+use Rattle.csi_keeper.specs.Keeper.{count_after}
 use Rattle.csi_keeper.specs.Model.{Model}
 use Rattle.csi_keeper.specs.State.{State, Allows, changed, published}
 use Rattle.csi_keeper.specs.Texts.{Text}
 use Rattle.csi_keeper.specs.declared.change.Change.TheVariants.{Attach}
+use Rattle.csi_keeper.specs.declared.change.StoreFault.{StoreFault}
+use Rattle.csi_keeper.specs.declared.change.StoreFault.TheVariants.{Down}
 use Rattle.csi_memory.specs.declared.mem.MemKeeper.{MemKeeper}
 use Rattle.csi_keeper.specs.declared.volume.Attachment.{Attachment}
 use Rattle.csi_keeper.specs.declared.volume.Volume.{Volume}
@@ -64,3 +67,15 @@ CopiesAll old new memory copy =
 -- it is a copy
 abbrev pub IsCopy : Model State → Model State → MemKeeper → Type 0
 IsCopy old new copy = new.doubt ≡ 0 → (config : Config) (s : State) → old.holds s → IsInvariant config s → Holds copy s
+
+-- Why a read of the keeper gave nothing, or there was no memory. That it is down is told only where it is; and of each State of the invariant of which P is so,
+-- a refusal is one that the keeper counted, and nothing else is counted.
+pub record IsToldFor (P : State → Type 0) (old new : Model State) (fault : StoreFault) : Type 0 where
+  pub down : fault ≡ Down → IsTrue old.is_down
+  pub count : new.doubt ≡ 0 → (config : Config) (s : State) → old.holds s → IsInvariant config s → P s → new.refusals ≡ count_after {X = Unit {0}} old.refusals (Err fault)
+
+-- Why there is no copy: that the keeper is down is told where it is, and nowhere else; and of a State of the invariant a refusal is one that the keeper counted, and
+-- nothing else is counted.
+pub record IsWhy (old new : Model State) (fault : StoreFault) : Type 0 where
+  pub down : (fault ≡ Down) ↔ IsTrue old.is_down
+  pub count : new.doubt ≡ 0 → (config : Config) (s : State) → old.holds s → IsInvariant config s → new.refusals ≡ count_after {X = Unit {0}} old.refusals (Err fault)

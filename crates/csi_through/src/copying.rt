@@ -1,12 +1,13 @@
 //! A copy in memory of what a keeper has.
 
-ghost use Rattle.std.specs.Prelude.{◌≡◌, ◌<◌, ◌+◌, ℕ, [], false, length, get_or, IfOk, OnOk};
+ghost use Rattle.std.specs.Prelude.{◌≡◌, ◌≢◌, ◌<◌, ◌+◌, ℕ, [], false, length, get_or, Err, IfErr, IfOk, IsTrue, OnOk, ⊤};
 ghost use Rattle.csi_config.specs.declared.config.Config.{Config};
 ghost use Rattle.csi_memory.specs.Holding.{Holds};
 ghost use Rattle.csi_keeper.specs.Invariant.{IsInvariant};
-ghost use Rattle.csi_keeper.specs.Keeper.{IsQuiet};
+ghost use Rattle.csi_keeper.specs.Keeper.{IsQuiet, count_after};
 ghost use Rattle.csi_keeper.specs.State.{State, attached};
-ghost use Rattle.csi_through.specs.Copying.{AllowsEach, AreNext, CopiesAll, CopiesTo, IsCopy, IsNext, attached_each, last_number, up_to};
+ghost use Rattle.csi_keeper.specs.declared.change.StoreFault.TheVariants.{Down, NoMemory};
+ghost use Rattle.csi_through.specs.Copying.{AllowsEach, AreNext, CopiesAll, CopiesTo, IsCopy, IsNext, IsToldFor, IsWhy, attached_each, last_number, up_to};
 
 use csi_keeper::{Attachment, Change, Keeper, StoreFault, Volume};
 use csi_memory::MemKeeper;
@@ -24,7 +25,8 @@ fn attach_each(
     number: u64,
     attachments: Items<Attachment>,
 ) -> Result<(), StoreFault>
-    ensures { OnOk result ((s : State) → Holds memory.old s → AllowsEach s number attachments → Holds memory.new (attached_each s number attachments)) }
+    ensures attached { OnOk result ((s : State) → Holds memory.old s → AllowsEach s number attachments → Holds memory.new (attached_each s number attachments)) }
+    ensures fault { IfErr result (λ fault. fault ≡ NoMemory) }
 {
     for attachment in attachments.into_vec() {
         memory.apply(alloc, &Change::Attach(number, attachment))?;
@@ -39,8 +41,10 @@ fn restore(
     volume: &Volume,
     attachments: Items<Attachment>,
 ) -> Result<(), StoreFault>
-    ensures { OnOk result ((config : Config) (s : State) (n : ℕ) → IsInvariant config s → IsNext s n volume.now → attachments ≡ attached s volume.now.number
+    ensures restored { OnOk result ((config : Config) (s : State) (n : ℕ) → IsInvariant config s → IsNext s n volume.now → attachments ≡ attached s volume.now.number
         → Holds memory.old (up_to s n) → Holds memory.new (up_to s volume.now.number)) }
+    ensures up { IfErr result (λ fault. fault ≢ Down) }
+    ensures fault { IfErr result (λ fault. (config : Config) (s : State) (n : ℕ) → IsInvariant config s → IsNext s n volume.now → fault ≡ NoMemory) }
 {
     if (volume.number >= MAX_NUMBER) | (volume.bytes > MAX_POOL_BYTES) {
         return Err(StoreFault::Refused);
@@ -69,6 +73,8 @@ fn attachments_of<K: Keeper>(
     ensures quiet { IsQuiet (K.model keeper.old) (K.model keeper.new) }
     ensures value { IfOk result (λ rows. (K.model keeper.new).doubt ≡ 0 → (s : State) → (K.model keeper.old).holds s
         → (is_published ≡ false → attached s number ≡ []) → rows ≡ attached s number) }
+    ensures count { (K.model keeper.new).refusals ≡ count_after (K.model keeper.old).refusals result }
+    ensures down { result ≡ Err Down → IsTrue (K.model keeper.old).is_down }
 {
     if !is_published {
         return Ok(Items::new(alloc));
@@ -87,6 +93,9 @@ fn restore_page<K: Keeper>(
 ) -> Result<u64, StoreFault>
     ensures quiet { IsQuiet (K.model keeper.old) (K.model keeper.new) }
     ensures copies { IfOk result (λ last. CopiesTo (K.model keeper.old) (K.model keeper.new) memory.old memory.new after volumes.now nodes.now last) }
+    ensures last { IfOk result (λ last. last ≡ last_number after volumes.now) }
+    ensures count { OnOk result ((K.model keeper.new).refusals ≡ (K.model keeper.old).refusals) }
+    ensures why { IfErr result (λ fault. IsToldFor (λ s. AreNext s after volumes.now) (K.model keeper.old) (K.model keeper.new) fault) }
 {
     let mut last = after;
     let mut index = 0;
@@ -108,9 +117,10 @@ fn restore_all<K: Keeper>(
 ) -> Result<(), StoreFault>
     ensures quiet { IsQuiet (K.model keeper.old) (K.model keeper.new) }
     ensures copied { OnOk result (CopiesAll (K.model keeper.old) (K.model keeper.new) memory.old memory.new) }
+    ensures why { IfErr result (λ fault. IsToldFor (λ _. ⊤) (K.model keeper.old) (K.model keeper.new) fault) }
 {
     let mut after = 0;
-    for _ in 0..u64::MAX {
+    for turn in 0..u64::MAX {
         let volumes = keeper.page(alloc, after, PAGE)?;
         if volumes.is_empty() {
             return Ok(());
@@ -136,10 +146,11 @@ fn restore_all<K: Keeper>(
 /// # Errors
 ///
 /// What the keeper answers, or want of memory; `Refused` also where a number or a size is none that a volume has,
-/// as only a store gives that does not tell the truth.
+/// as only a store gives that does not tell the truth. So of a State of the invariant each refusal is the keeper's.
 pub(crate) fn copy_of<K: Keeper>(alloc: Global, keeper: &mut K) -> Result<MemKeeper, StoreFault>
     ensures quiet { IsQuiet (K.model keeper.old) (K.model keeper.new) }
     ensures copy { IfOk result (λ memory. IsCopy (K.model keeper.old) (K.model keeper.new) memory) }
+    ensures why { IfErr result (λ fault. IsWhy (K.model keeper.old) (K.model keeper.new) fault) }
 {
     let next = keeper.next_number()?;
     if next > MAX_NUMBER {

@@ -7,7 +7,7 @@ ghost use Rattle.csi_memory.specs.Holding.{mem_model};
 ghost use Rattle.csi_keeper.specs.Keeper.{Applies, IsQuiet, Reads};
 ghost use Rattle.csi_keeper.specs.Listing.{listing};
 ghost use Rattle.csi_keeper.specs.State.{IsBounded, attached, attached_at, named, page, published_of_page, sizes, used};
-ghost use Rattle.csi_through.specs.Copying.{IsCopy};
+ghost use Rattle.csi_through.specs.Copying.{IsCopy, IsWhy};
 ghost use Rattle.csi_through.specs.Through.{HasMissed, Opens, through_model};
 
 use crate::copying::copy_of;
@@ -100,6 +100,7 @@ impl<K: Keeper> Through<MemKeeper, Logged<K>> {
         ensures current { IfOk result (λ through. through.health.is_current ≡ true) }
         ensures opens { IfOk result (λ through. Opens (K.model keeper) (through_model mem_model (λ logged. K.model logged.keeper) through)) }
         ensures stays { IfErr result (λ error. IsQuiet (K.model keeper) (K.model error.keeper)) }
+        ensures why { IfErr result (λ error. IsWhy (K.model keeper) (K.model error.keeper) error.fault) }
     {
         match copy_of(alloc, &mut keeper) {
             Ok(memory) => Ok(Through::new(memory, Logged::new(keeper))),
@@ -122,6 +123,7 @@ impl<D: Log + Drop> Through<MemKeeper, D> {
     ) -> Result<Through<MemKeeper, D>, StoreFault>
         ensures quiet { IsQuiet (K.model keeper.old) (K.model keeper.new) }
         ensures copy { IfOk result (λ through. IsCopy (K.model keeper.old) (K.model keeper.new) through.memory) }
+        ensures why { IfErr result (λ fault. IsWhy (K.model keeper.old) (K.model keeper.new) fault) }
         ensures log { IfOk result (λ through. through.log ≡ log) }
         ensures fresh { IfOk result (λ through. (through.health.refusals ≡ 0) × (through.health.is_current ≡ true) × (through.health.is_down ≡ false)) }
     {

@@ -163,7 +163,7 @@ static VECTORS: [CommandOption; 1] = [CommandOption {
 /// # Errors
 ///
 /// Where the command line does not have them, printing fails, or memory is refused.
-pub(crate) fn matches<'a>(
+pub(crate) fn read_arguments<'a>(
     rt: &HostRuntime,
     arguments: &'a [String],
 ) -> Result<Option<ArgMatches<'a>>, ArgumentsFault> {

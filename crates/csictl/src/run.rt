@@ -1,6 +1,6 @@
 //! What the program does.
 
-use crate::command::matches;
+use crate::command::read_arguments;
 use crate::failure::{Ended, Failure};
 use crate::{call, frame, show, vectors};
 use clap::ArgMatches;
@@ -24,7 +24,7 @@ fn obey(rt: &HostRuntime, arguments: &ArgMatches<'_>) -> Result<Ended, Failure> 
 /// Why the program ends otherwise than well. It is not said yet.
 pub(crate) fn run(rt: &HostRuntime) -> Result<Ended, Failure> {
     let arguments = arguments(rt)?;
-    match matches(rt, arguments.as_slice())? {
+    match read_arguments(rt, arguments.as_slice())? {
         Some(matches) => obey(rt, &matches),
         None => Ok(Ended::Done),
     }

@@ -1,5 +1,5 @@
 -- The exit statuses.
-use Rattle.std.specs.Prelude.{◌≡◌, ◌⊎◌, ℕ}
+use Rattle.std.specs.Prelude.{◌≡◌, ◌⊎◌, ℕ, Option, Some, None}
 use Rattle.csi_server.specs.declared.end.RunEnd.{RunEnd}
 use Rattle.csi_server.specs.declared.end.RunEnd.TheVariants as end
 use Rattle.command_line.specs.Statuses.{arguments_status}
@@ -38,3 +38,15 @@ status_of end.ReadFailed = 5
 status_of end.TurnsSpent = 5
 status_of end.WriteFailed = 5
 status_of end.NoMemory = 6
+
+-- the end of a run that a failure tells of
+abbrev pub end_of : Failure → Option RunEnd
+end_of (failure.Malformed fault) = Some (end.Malformed fault)
+end_of (failure.Arguments fault) = None
+end_of (failure.Unusable thing cause) = None
+end_of failure.NoTablesPath = None
+end_of (failure.ReadFailed source) = Some end.ReadFailed
+end_of (failure.WriteFailed sink) = Some end.WriteFailed
+end_of failure.TurnsSpent = Some end.TurnsSpent
+end_of failure.NoMemory = Some end.NoMemory
+end_of failure.NoSocketPath = None

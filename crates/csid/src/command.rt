@@ -154,7 +154,7 @@ static SERVE: [CommandOption; 9] = [
 /// # Errors
 ///
 /// Where the command line does not have them, printing fails, or memory is refused.
-pub(crate) fn matches<'a>(
+pub(crate) fn read_arguments<'a>(
     rt: &HostRuntime,
     arguments: &'a [String],
 ) -> Result<Option<ArgMatches<'a>>, ArgumentsFault> {
@@ -248,7 +248,7 @@ fn asked_plainly<'a>(arguments: &ArgMatches<'a>) -> Task<'a> {
     }
 }
 
-/// What arguments that [`matches`] takes ask for.
+/// What arguments that [`read_arguments`] takes ask for.
 pub(crate) fn asked<'a>(matches: &ArgMatches<'a>) -> Task<'a> {
     match matches.subcommand() {
         Some(("serve", arguments)) => Task::Serve(asked_of_serve(arguments)),

@@ -1,7 +1,8 @@
 //! Why the program ends otherwise than well, and the status that it ends with.
 
-ghost use Rattle.std.specs.Prelude.{◌≡◌, IfErr, IfOk};
-ghost use Rattle.csid.specs.Statuses.{IsOrNoMemory, failure_status, status_of, thing_status};
+ghost use Rattle.std.specs.Prelude.{◌≡◌, IfErr, IfOk, Some};
+ghost use Rattle.csid.specs.Statuses.{IsOrNoMemory, end_of, failure_status, status_of, thing_status};
+ghost use Rattle.csid.specs.declared.failure.Failure.TheVariants.{NoMemory, Unusable};
 
 use command_line::{ArgumentsFault, Cause, cause};
 use csi_server::RunEnd;
@@ -95,11 +96,13 @@ impl From<AllocError> for Failure {
 }
 
 impl Failure {
-    // What cannot be had, and why.
-    fn of<T: Display>(alloc: Global, thing: Thing, name: &str, why: &T) -> Failure
-        ensures { IsOrNoMemory (thing_status thing) result }
+    // What cannot be had, and why; want of memory, where there was none to say so.
+    fn of(thing: Thing, cause: Result<Cause, AllocError>) -> Failure
+        ensures told { IfOk cause (λ why. result ≡ Unusable thing why) }
+        ensures memory { IfErr cause (λ _. result ≡ NoMemory) }
+        ensures status { IsOrNoMemory (thing_status thing) result }
     {
-        match cause(alloc, name, why) {
+        match cause {
             Ok(cause) => Failure::Unusable(thing, cause),
             Err(_) => Failure::NoMemory,
         }
@@ -109,21 +112,21 @@ impl Failure {
     pub(crate) fn of_configuration<T: Display>(alloc: Global, path: &str, why: &T) -> Failure
         ensures { IsOrNoMemory 3 result }
     {
-        Failure::of(alloc, Thing::Configuration, path, why)
+        Failure::of(Thing::Configuration, cause(alloc, path, why))
     }
 
     /// The tables in a file cannot be had.
     pub(crate) fn of_tables<T: Display>(alloc: Global, path: &str, why: &T) -> Failure
         ensures { IsOrNoMemory 4 result }
     {
-        Failure::of(alloc, Thing::Tables, path, why)
+        Failure::of(Thing::Tables, cause(alloc, path, why))
     }
 
     /// The socket at a path cannot be made for a group, or fails: the path or the group is named.
     pub(crate) fn of_socket<T: Display>(alloc: Global, name: &str, why: &T) -> Failure
         ensures { IsOrNoMemory 7 result }
     {
-        Failure::of(alloc, Thing::Socket, name, why)
+        Failure::of(Thing::Socket, cause(alloc, name, why))
     }
 
     /// The exit status.
@@ -171,6 +174,7 @@ impl Peer {
 pub(crate) fn outcome(peer: Peer, end: RunEnd) -> Result<(), Failure>
     ensures done { IfOk result (λ _. status_of end ≡ 0) }
     ensures failed { IfErr result (λ failure. failure_status failure ≡ status_of end) }
+    ensures told { IfErr result (λ failure. end_of failure ≡ Some end) }
 {
     match end {
         RunEnd::Done => Ok(()),

@@ -4,7 +4,7 @@ ghost use Rattle.std.specs.Prelude.{IfErr};
 ghost use Rattle.csid.specs.Statuses.{IsOrNoMemory};
 
 use crate::check::{check_config, check_tables};
-use crate::command::{Piped, Serving, Task, asked, matches, odd_number, odd_store};
+use crate::command::{Piped, Serving, Task, asked, odd_number, odd_store, read_arguments};
 use crate::config::configuration;
 use crate::failure::{Failure, Peer, outcome};
 use crate::keeping::{OverKeeper, Place, over_keeper};
@@ -181,7 +181,7 @@ fn obey(rt: &HostRuntime, arguments: &ArgMatches<'_>) -> Result<(), Failure> {
 /// Why the program ends with a status other than 0. It is not said yet.
 pub(crate) fn run(rt: &HostRuntime) -> Result<(), Failure> {
     let arguments = arguments(rt)?;
-    match matches(rt, arguments.as_slice())? {
+    match read_arguments(rt, arguments.as_slice())? {
         Some(matches) => obey(rt, &matches),
         None => Ok(()),
     }

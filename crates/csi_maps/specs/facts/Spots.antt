@@ -1,5 +1,5 @@
 -- The index of nodes in memory.
-use Rattle.std.proofs.Common.{◌≡◌, ◌∙◌, inl, inr, ap, ap₂, sym, subst, cond, refl, ℕ, zero, suc, List, [], ◌∷◌, ◌++◌, map, filter, Bool, true, false, ◌&&◌, T, not, Option, Some, None, is_some, Ordering, Less, Equal, Greater, arith}
+use Rattle.std.proofs.Common.{◌≡◌, ◌∙◌, ap, ap₂, sym, subst, cond, refl, ℕ, zero, suc, List, [], ◌∷◌, ◌++◌, map, filter, Bool, true, false, ◌&&◌, T, not, Option, Some, None, Ordering, Less, Equal, Greater, arith}
 use Rattle.std.specs.BTreeMap.{is_at}
 use Rattle.std.specs.BTreeMap.Range.{entries_between, range_contains}
 use Rattle.std.specs.Cmp.{IsTotalOrder, nat_cmp_total, nat_cmp_is}
@@ -13,13 +13,13 @@ use Rattle.std.proofs.lemmas.Cmp.{then_total, on_total, nat_list_cmp_total, tied
 use lib.Pointwise.{bytes_decides}
 use Rattle.csi_types.specs.Maps.{same_text}
 use Rattle.csi_keeper.specs.declared.volume.Attachment.{Attachment}
-use Rattle.csi_maps.specs.Memory.{Spot, spot_cmp, spots_of, places_of, AreSpotted, stands_at, numbers_by}
+use Rattle.csi_maps.specs.Memory.{Spot, spot_cmp, spots_of, places_of, mark, AreSpotted, IsSetAt, numbers_by}
 use Rattle.csi_keeper.specs.State.{Place, place_cmp}
 use Rattle.csi_keeper.specs.Texts.{Text, text_cmp}
-use Rattle.csi_keeper.specs.facts.Finite.{tied, inserted, removed}
+use Rattle.csi_keeper.specs.facts.Finite.{tied}
 use Rattle.csi_maps.specs.facts.Listing.{entries_are, filter_after}
 use Rattle.csi_keeper.specs.facts.Orders.{place_total, place_exact, text_exact, both_equal}
-use Rattle.csi_maps.specs.facts.Trees.{tree_get, find_lookup}
+use Rattle.csi_maps.specs.facts.Trees.{find_lookup}
 
 pub spot_total : IsTotalOrder spot_cmp
 spot_total = then_total (on_total (λ (p : Spot). p.0) nat_list_cmp_total) (on_total (λ (p : Spot). p.1) nat_cmp_total)
@@ -37,52 +37,66 @@ Row = Place × Attachment
 abbrev Entry : Type 0
 Entry = Spot × Unit {0}
 
-pub get_place : (es : List Row) (q : Place) → fin.get (places_of es) q ≡ lookup (is_at (place_cmp q)) es
-get_place es q = tree_get place_total place_exact es q
-
 pub spots_are : (es : List Entry) → IsStrictlySortedBy spot_cmp (keys_of es) → fin.entries (spots_of es) ≡ es
 spots_are es h = entries_are spot_total es h
 
 -- Changes
 
+-- a place and a spot are of the same volume and node
+spot_place : (p : Place) (q : Spot) → is_at (spot_cmp (p.1, p.0)) q ≡ eq_by_cmp place_cmp (q.1, q.0) p
+spot_place p q = go (is_at (spot_cmp (p.1, p.0)) q) refl (eq_by_cmp place_cmp (q.1, q.0) p) refl
+  where
+    go : (a : Bool) → is_at (spot_cmp (p.1, p.0)) q ≡ a → (b : Bool) → eq_by_cmp place_cmp (q.1, q.0) p ≡ b → a ≡ b
+    go true s true t = refl
+    go false s false t = refl
+    go true s false t =
+        let same : (p.1, p.0) ≡ q = spot_exact (p.1, p.0) q (tied _ s) in
+        let here : eq_by_cmp place_cmp (q.1, q.0) p ≡ true = subst (λ (x : Spot). eq_by_cmp place_cmp (x.1, x.0) p ≡ true) same (ap is_eq (tied_itself place_total p)) in
+        absurd (cc (here, t))
+    go false s true t =
+        let same : (q.1, q.0) ≡ p = place_exact (q.1, q.0) p (tied _ t) in
+        let here : is_at (spot_cmp (p.1, p.0)) q ≡ true = subst (λ (x : Place). is_at (spot_cmp (x.1, x.0)) q ≡ true) same (ap is_eq (tied_itself spot_total q)) in
+        absurd (cc (here, s))
+
 -- one attachment less, and its spot
 pub spotted_less : (es fs : List Row) (spots ts : List Entry) (place : Place) → places_of fs ≡ fin.remove (places_of es) place
-    → ((q : Spot) → lookup (is_at (spot_cmp q)) ts ≡ cond (is_at (spot_cmp (place.1, place.0)) q) None (lookup (is_at (spot_cmp q)) spots))
-    → AreSpotted es spots → AreSpotted fs ts
-spotted_less es fs spots ts place less gone old n node a e =
-    let was = removed place_total place_exact (places_of es) place (n, node) a (sym (ap (λ (m : fin.FinMap place_cmp Attachment). fin.get m (n, node)) less) ∙ e) in
-    gone (node, n) ∙ far was.0 (is_at (spot_cmp (place.1, place.0)) (node, n)) refl ∙ old n node a was.1
+    → IsSetAt spot_cmp (place.1, place.0) None spots ts → AreSpotted es spots → AreSpotted fs ts
+spotted_less es fs spots ts place less gone old q =
+    gone q
+    ∙ ap (cond (is_at (spot_cmp (place.1, place.0)) q) None) (old q)
+    ∙ by (is_at (spot_cmp (place.1, place.0)) q) (fin.get (places_of es) (q.1, q.0))
+    ∙ ap (λ b. mark (cond b None (fin.get (places_of es) (q.1, q.0)))) (spot_place place q)
+    ∙ sym (ap (λ (m : fin.FinMap place_cmp Attachment). mark (fin.get m (q.1, q.0))) less ∙ ap mark (fin.get-remove place_total (places_of es) place (q.1, q.0)))
   where
-    far : ((n, node) ≡ place → ⊥) → (b : Bool) → is_at (spot_cmp (place.1, place.0)) (node, n) ≡ b → cond b None (lookup (is_at (spot_cmp (node, n))) spots) ≡ lookup (is_at (spot_cmp (node, n))) spots
-    far apart true t =
-        let same = spot_exact (place.1, place.0) (node, n) (tied _ t) in
-        let here : node ≡ place.1 = sym (ap (λ (p : Spot). p.0) same) in
-        let number : n ≡ place.0 = sym (ap (λ (p : Spot). p.1) same) in
-        absurd (apart (λ i. (number i, here i)))
-    far apart false t = refl
-
--- one spot more
-pub spotted_ahead : (es : List Row) (spots ts : List Entry) (spot : Spot)
-    → ((q : Spot) → lookup (is_at (spot_cmp q)) ts ≡ cond (is_at (spot_cmp spot) q) (Some tt) (lookup (is_at (spot_cmp q)) spots))
-    → AreSpotted es spots → AreSpotted es ts
-spotted_ahead es spots ts spot more old n node a e = more (node, n) ∙ by (is_at (spot_cmp spot) (node, n))
-  where
-    by : (b : Bool) → cond b (Some tt) (lookup (is_at (spot_cmp (node, n))) spots) ≡ Some tt
-    by true = refl
-    by false = old n node a e
+    by : (b : Bool) (o : Option Attachment) → cond b None (mark o) ≡ mark (cond b None o)
+    by true o = refl
+    by false o = refl
 
 -- one attachment more, and its spot
 pub spotted_more : (es fs : List Row) (spots ts : List Entry) (place : Place) (v : Attachment) → places_of fs ≡ fin.insert (places_of es) place v
-    → ((q : Spot) → lookup (is_at (spot_cmp q)) ts ≡ cond (is_at (spot_cmp (place.1, place.0)) q) (Some tt) (lookup (is_at (spot_cmp q)) spots))
-    → AreSpotted es spots → AreSpotted fs ts
-spotted_more es fs spots ts place v more spot old n node a e =
-    elim (inserted place_total place_exact (places_of es) place v (n, node) a (sym (ap (λ (m : fin.FinMap place_cmp Attachment). fin.get m (n, node)) more) ∙ e)) as (λ _. lookup (is_at (spot_cmp (node, n))) ts ≡ Some tt) [
-      | inl new ↦
-          let same : (place.1, place.0) ≡ (node, n) = ap (λ (p : Place). (p.1, p.0)) (sym new.0) in
-          let here : is_at (spot_cmp (place.1, place.0)) (node, n) ≡ true = subst (λ (p : Spot). is_at (spot_cmp (place.1, place.0)) p ≡ true) same (ap is_eq (tied_itself spot_total (place.1, place.0))) in
-          spot (node, n) ∙ ap (λ b. cond b (Some tt) (lookup (is_at (spot_cmp (node, n))) spots)) here
-      | inr was ↦ spotted_ahead es spots ts (place.1, place.0) spot old n node a was
-    ]
+    → IsSetAt spot_cmp (place.1, place.0) (Some tt) spots ts → AreSpotted es spots → AreSpotted fs ts
+spotted_more es fs spots ts place v more here old q =
+    here q
+    ∙ ap (cond (is_at (spot_cmp (place.1, place.0)) q) (Some tt)) (old q)
+    ∙ by (is_at (spot_cmp (place.1, place.0)) q) (fin.get (places_of es) (q.1, q.0))
+    ∙ ap (λ b. mark (cond b (Some v) (fin.get (places_of es) (q.1, q.0)))) (spot_place place q)
+    ∙ sym (ap (λ (m : fin.FinMap place_cmp Attachment). mark (fin.get m (q.1, q.0))) more ∙ ap mark (fin.get-insert place_total (places_of es) place v (q.1, q.0)))
+  where
+    by : (b : Bool) (o : Option Attachment) → cond b (Some tt) (mark o) ≡ mark (cond b (Some v) o)
+    by true o = refl
+    by false o = refl
+
+-- a spot that was put where nothing stands, and taken out again
+pub spotted_again : (es : List Row) (spots ts us : List Entry) (place : Place) → fin.get (places_of es) place ≡ None
+    → IsSetAt spot_cmp (place.1, place.0) (Some tt) spots ts → IsSetAt spot_cmp (place.1, place.0) None ts us → AreSpotted es spots → AreSpotted es us
+spotted_again es spots ts us place none here gone old q =
+    gone q
+    ∙ ap (cond (is_at (spot_cmp (place.1, place.0)) q) None) (here q)
+    ∙ by (is_at (spot_cmp (place.1, place.0)) q) refl
+  where
+    by : (b : Bool) → is_at (spot_cmp (place.1, place.0)) q ≡ b → cond b None (cond b (Some tt) (lookup (is_at (spot_cmp q)) spots)) ≡ mark (fin.get (places_of es) (q.1, q.0))
+    by true t = sym (subst (λ (x : Spot). mark (fin.get (places_of es) (x.1, x.0)) ≡ None) (spot_exact (place.1, place.0) q (tied _ t)) (ap mark none))
+    by false t = old q
 
 -- The spots of a node
 
@@ -113,17 +127,9 @@ in_range node q t =
     (ap (λ r. is_le (ordering_then r (nat_cmp 0 q.1))) low ∙ least_number q.1)
     (ap (λ r. not (is_le (ordering_then r (nat_cmp 0 q.1)))) up)
 
-first_both : (a b : Bool) → (a && b) ≡ true → a ≡ true
-first_both true b h = refl
-first_both false b h = absurd (cc)
-
-second_both : (a b : Bool) → (a && b) ≡ true → b ≡ true
-second_both true b h = h
-second_both false b h = absurd (cc)
-
-pub spot_rows : (es : List Row) (spots : List Entry) (node : Text)
-    → filter (λ (e : Entry). same_text e.0.0 node && stands_at es e.0) (entries_between spot_cmp (Included (node, 0)) (Excluded (node ++ 0 ∷ [], 0)) spots) ≡ filter (λ (e : Entry). same_text e.0.0 node && stands_at es e.0) spots
-spot_rows es spots node = filter_after _ _ (λ e t. in_range node e.0 (first_both _ (stands_at es e.0) t)) spots
+pub spot_rows : (spots : List Entry) (node : Text)
+    → filter (λ (e : Entry). same_text e.0.0 node) (entries_between spot_cmp (Included (node, 0)) (Excluded (node ++ 0 ∷ [], 0)) spots) ≡ filter (λ (e : Entry). same_text e.0.0 node) spots
+spot_rows spots node = filter_after _ _ (λ e t. in_range node e.0 t) spots
 
 -- The numbers at a node: both lists rise, and the same numbers are found in them
 
@@ -134,10 +140,6 @@ both false b h = absurd h
 with_both : (a b : Bool) → T a → T b → T (a && b)
 with_both true b h k = k
 with_both false b h k = absurd h
-
-abbrev mark : {X : Type 0} → Option X → Option (Unit {0})
-mark None = None
-mark (Some x) = Some tt
 
 abbrev alone : ℕ → ℕ × Unit {0}
 alone n = (n, tt)
@@ -164,21 +166,17 @@ module _ {K X : Type 0} (R : K → K → Ordering) (p : K × X → Bool) (f : K 
         by here more true u = with_both _ _ (below_up e es u here) more
         by here more false u = more
 
-  -- a number is found where its key is, if the key passes
-  found_number : (n : ℕ) (k : K) (ok : Bool) → ((e : K × X) → p e ≡ true → eq_by_cmp nat_cmp n (f e.0) ≡ eq_by_cmp R k e.0)
-      → ((e : K × X) → eq_by_cmp R k e.0 ≡ true → p e ≡ ok) → (es : List (K × X)) → fin.find nat_cmp n (numbered p f es) ≡ cond ok (mark (fin.find R k es)) None
-  found_number n k ok tie key [] = by ok
+  -- a number is found where its key is
+  found_number : (n : ℕ) (k : K) → ((e : K × X) → p e ≡ true → eq_by_cmp nat_cmp n (f e.0) ≡ eq_by_cmp R k e.0)
+      → ((e : K × X) → eq_by_cmp R k e.0 ≡ true → p e ≡ true) → (es : List (K × X)) → fin.find nat_cmp n (numbered p f es) ≡ mark (fin.find R k es)
+  found_number n k tie key [] = refl
+  found_number n k tie key (e ∷ es) = by (p e) refl (eq_by_cmp R k e.0) refl (found_number n k tie key es)
     where
-      by : (b : Bool) → ◌≡◌ {A = Option (Unit {0})} None (cond b None None)
-      by true = refl
-      by false = refl
-  found_number n k ok tie key (e ∷ es) = by (p e) refl (eq_by_cmp R k e.0) refl (found_number n k ok tie key es)
-    where
-      by : (a : Bool) → p e ≡ a → (b : Bool) → eq_by_cmp R k e.0 ≡ b → fin.find nat_cmp n (numbered p f es) ≡ cond ok (mark (fin.find R k es)) None
-          → fin.find nat_cmp n (map (λ e. alone (f e.0)) (cond a (e ∷ filter p es) (filter p es))) ≡ cond ok (mark (cond b (Some e.1) (fin.find R k es))) None
-      by true t true u more = ap (λ d. cond d (Some tt) (fin.find nat_cmp n (numbered p f es))) (tie e t ∙ u) ∙ sym (ap (λ d. cond d (Some tt) None) (sym (key e u) ∙ t))
+      by : (a : Bool) → p e ≡ a → (b : Bool) → eq_by_cmp R k e.0 ≡ b → fin.find nat_cmp n (numbered p f es) ≡ mark (fin.find R k es)
+          → fin.find nat_cmp n (map (λ e. alone (f e.0)) (cond a (e ∷ filter p es) (filter p es))) ≡ mark (cond b (Some e.1) (fin.find R k es))
+      by true t true u more = ap (λ d. cond d (Some tt) (fin.find nat_cmp n (numbered p f es))) (tie e t ∙ u)
       by true t false u more = ap (λ d. cond d (Some tt) (fin.find nat_cmp n (numbered p f es))) (tie e t ∙ u) ∙ more
-      by false t true u more = more ∙ ap (λ d. cond d (mark (fin.find R k es)) None) (sym (key e u) ∙ t) ∙ sym (ap (λ d. cond d (Some tt) None) (sym (key e u) ∙ t))
+      by false t true u more = let passes = key e u in absurd (cc (passes, t))
       by false t false u more = more
 
 -- lists that rise, in which the same is found
@@ -197,15 +195,15 @@ map_map g f (x ∷ xs) = ap (λ ys. g (f x) ∷ ys) (map_map g f xs)
 
 module _ (attachments : List Row) (spots : List Entry) (node : Text) where
   abbrev by_spot : Entry → Bool
-  by_spot e = same_text e.0.0 node && stands_at attachments e.0
+  by_spot e = same_text e.0.0 node
 
   abbrev by_place : Row → Bool
   by_place e = same_text e.0.1 node
 
   spots_up : (a b : Entry) → by_spot a ≡ true → by_spot b ≡ true → T (is_lt (spot_cmp a.0 b.0)) → T (is_lt (nat_cmp a.0.1 b.0.1))
   spots_up a b s t h =
-      let here : a.0.0 ≡ node = (bytes_decides a.0.0 node).0 (first_both _ _ s) in
-      let there : b.0.0 ≡ node = (bytes_decides b.0.0 node).0 (first_both _ _ t) in
+      let here : a.0.0 ≡ node = (bytes_decides a.0.0 node).0 s in
+      let there : b.0.0 ≡ node = (bytes_decides b.0.0 node).0 t in
       let tie : text_cmp a.0.0 b.0.0 ≡ Equal = ap₂ text_cmp here there ∙ tied_itself nat_list_cmp_total node in
       subst (λ r. T (is_lt (ordering_then r (nat_cmp a.0.1 b.0.1)))) tie h
 
@@ -226,22 +224,21 @@ module _ (attachments : List Row) (spots : List Entry) (node : Text) where
       let tie : text_cmp a.0.1 b.0.1 ≡ Equal = ap₂ text_cmp here there ∙ tied_itself nat_list_cmp_total node in
       lesser (nat_cmp a.0.0 b.0.0) (subst (λ r. T (is_lt (ordering_then (nat_cmp a.0.0 b.0.0) r))) tie h)
 
-  spot_found : (n : ℕ) (es : List Entry) → fin.find nat_cmp n (map (λ e. alone e.0.1) (filter by_spot es)) ≡ cond (stands_at attachments (node, n)) (mark (fin.find spot_cmp (node, n) es)) None
-  spot_found n es = found_number spot_cmp by_spot (λ (k : Spot). k.1) n (node, n) (stands_at attachments (node, n)) tie key es
+  spot_found : (n : ℕ) (es : List Entry) → fin.find nat_cmp n (map (λ e. alone e.0.1) (filter by_spot es)) ≡ mark (fin.find spot_cmp (node, n) es)
+  spot_found n es = found_number spot_cmp by_spot (λ (k : Spot). k.1) n (node, n) tie key es
     where
       tie : (e : Entry) → by_spot e ≡ true → eq_by_cmp nat_cmp n e.0.1 ≡ eq_by_cmp spot_cmp (node, n) e.0
       tie e t =
-          let there : e.0.0 ≡ node = (bytes_decides e.0.0 node).0 (first_both _ _ t) in
+          let there : e.0.0 ≡ node = (bytes_decides e.0.0 node).0 t in
           sym (ap (λ r. is_eq (ordering_then r (nat_cmp n e.0.1))) (ap (text_cmp node) there ∙ tied_itself nat_list_cmp_total node))
 
-      key : (e : Entry) → eq_by_cmp spot_cmp (node, n) e.0 ≡ true → by_spot e ≡ stands_at attachments (node, n)
+      key : (e : Entry) → eq_by_cmp spot_cmp (node, n) e.0 ≡ true → by_spot e ≡ true
       key e t =
           let same : (node, n) ≡ e.0 = spot_exact (node, n) e.0 (tied _ t) in
-          sym (ap (λ (q : Spot). same_text q.0 node && stands_at attachments q) same)
-          ∙ ap (λ b. b && stands_at attachments (node, n)) ((bytes_decides node node).1 refl)
+          sym (ap (λ (q : Spot). same_text q.0 node) same) ∙ (bytes_decides node node).1 refl
 
   place_found : (n : ℕ) (es : List Row) → fin.find nat_cmp n (map (λ e. alone e.0.0) (filter by_place es)) ≡ mark (fin.find place_cmp (n, node) es)
-  place_found n es = found_number place_cmp by_place (λ (k : Place). k.0) n (n, node) true tie key es
+  place_found n es = found_number place_cmp by_place (λ (k : Place). k.0) n (n, node) tie key es
     where
       tie : (e : Row) → by_place e ≡ true → eq_by_cmp nat_cmp n e.0.0 ≡ eq_by_cmp place_cmp (n, node) e.0
       tie e t =
@@ -254,21 +251,18 @@ module _ (attachments : List Row) (spots : List Entry) (node : Text) where
           sym (ap (λ (q : Place). same_text q.1 node) same) ∙ (bytes_decides node node).1 refl
 
   -- the index tells what is attached at the node
-  pub numbers_spotted : AreSpotted attachments spots → fin.entries (spots_of spots) ≡ spots → numbers_by spots attachments node ≡ map (λ e. e.0.0) (filter (λ e. same_text e.0.1 node) (fin.entries (places_of attachments)))
+  pub numbers_spotted : AreSpotted attachments spots → fin.entries (spots_of spots) ≡ spots → numbers_by spots node ≡ map (λ e. e.0.0) (filter (λ e. same_text e.0.1 node) (fin.entries (places_of attachments)))
   numbers_spotted spotted ordered =
       let us = map (λ (e : Entry). alone e.0.1) (filter by_spot spots) in
       let vs = map (λ (e : Row). alone e.0.0) (filter by_place (fin.entries (places_of attachments))) in
       let in_order : T (fin.is_sorted spot_cmp spots) = subst (λ (es : List Entry). T (fin.is_sorted spot_cmp es)) ordered (fin.entries_sorted (spots_of spots)) in
       let all : us ≡ vs = same_list us vs (rising spot_cmp by_spot (λ (k : Spot). k.1) spots_up spots in_order)
       (rising place_cmp by_place (λ (k : Place). k.0) places_up (fin.entries (places_of attachments)) (fin.entries_sorted (places_of attachments)))
-      (λ n. spot_found n spots ∙ same n (fin.get (places_of attachments) (n, node)) refl ∙ sym (place_found n (fin.entries (places_of attachments)) ∙ ap mark (sym (fin.get-entries (places_of attachments) (n, node))))) in
+      (λ n. spot_found n spots ∙ ap mark (find_lookup spot_total spot_exact spots (node, n) ∙ spotted (node, n)) ∙ once (fin.get (places_of attachments) (n, node)) ∙ sym (place_found n (fin.entries (places_of attachments)) ∙ ap mark (sym (fin.get-entries (places_of attachments) (n, node))))) in
       sym (map_map (λ (e : ℕ × Unit {0}). e.0) (λ (e : Entry). alone e.0.1) (filter by_spot spots))
       ∙ ap (map (λ (e : ℕ × Unit {0}). e.0)) all
       ∙ map_map (λ (e : ℕ × Unit {0}). e.0) (λ (e : Row). alone e.0.0) (filter by_place (fin.entries (places_of attachments)))
     where
-      same : (n : ℕ) (o : Option Attachment) → fin.get (places_of attachments) (n, node) ≡ o → cond (stands_at attachments (node, n)) (mark (fin.find spot_cmp (node, n) spots)) None ≡ mark (fin.get (places_of attachments) (n, node))
-      same n None e = ap (λ (o : Option Attachment). cond (is_some o) (mark (fin.find spot_cmp (node, n) spots)) None) e ∙ sym (ap mark e)
-      same n (Some a) e =
-          ap (λ (o : Option Attachment). cond (is_some o) (mark (fin.find spot_cmp (node, n) spots)) None) e
-          ∙ ap mark (find_lookup spot_total spot_exact spots (node, n) ∙ spotted n node a e)
-          ∙ sym (ap mark e)
+      once : (o : Option Attachment) → mark (mark o) ≡ mark o
+      once None = refl
+      once (Some a) = refl

@@ -35,6 +35,7 @@ pub fn insert_attachment<S: Alter>(
             flag(readonly),
         ],
     )
+    .and(Ok(()))
 }
 
 /// Takes away the attachment of a volume, whose number is below 2^63, at a node. Where none stands
@@ -49,6 +50,7 @@ pub fn delete_attachment<S: Alter>(tx: &mut Transaction<'_, S>, volume: u64, nod
         "DELETE FROM attachments WHERE number = ?1 AND node = ?2",
         &[integer(volume), ValueRef::Text(node.as_bytes())],
     )
+    .and(Ok(()))
 }
 
 /// Takes away all attachments of a volume, whose number is below 2^63.
@@ -61,4 +63,5 @@ pub fn delete_attachments<S: Alter>(tx: &mut Transaction<'_, S>, volume: u64) ->
         "DELETE FROM attachments WHERE number = ?1",
         &[integer(volume)],
     )
+    .and(Ok(()))
 }

@@ -18,6 +18,7 @@ pub fn set_next<S: Alter>(tx: &mut Transaction<'_, S>, next: u64) -> Changed
     ensures runs { RunsOver S.Store tx.old.conn.now tx.new.conn.now schema (SetsNext next) (RefusesNext next) result }
 {
     tx.execute("UPDATE meta SET next_number = ?1", &[integer(next)])
+        .and(Ok(()))
 }
 
 /// Sets the format to `csi_schema::LATEST_FORMAT`. The next number stays.
@@ -25,7 +26,7 @@ pub fn update_format<S: Alter>(tx: &mut Transaction<'_, S>) -> Changed
     ensures same_reference { tx.new.conn.ghost_name ≡ tx.old.conn.ghost_name }
     ensures runs { RunsOver S.Store tx.old.conn.now tx.new.conn.now schema SetsFormat RefusesFormat result }
 {
-    tx.execute("UPDATE meta SET format_no = 2", &[])
+    tx.execute("UPDATE meta SET format_no = 2", &[]).and(Ok(()))
 }
 
 /// The next number.

@@ -49,6 +49,7 @@ pub fn insert_volume<S: Alter>(tx: &mut Transaction<'_, S>, row: &VolumeRow<'_>)
             ValueRef::Blob(row.params),
         ],
     )
+    .and(Ok(()))
 }
 
 /// Sets the params of the volume of a number, which is below 2^63; all else of it stays. Where no
@@ -62,6 +63,7 @@ pub fn update_params<S: Alter>(tx: &mut Transaction<'_, S>, volume: u64, params:
         "UPDATE volumes SET params = ?2 WHERE number = ?1",
         &[integer(volume), ValueRef::Blob(params)],
     )
+    .and(Ok(()))
 }
 
 /// Takes away the volume of a number, which is below 2^63; its attachments are left alone. Where no
@@ -72,4 +74,5 @@ pub fn delete_volume<S: Alter>(tx: &mut Transaction<'_, S>, volume: u64) -> Chan
     ensures runs { RunsOver S.Store tx.old.conn.now tx.new.conn.now schema (Drops 1 seen_volume (is_numbered volume)) (RefusesRemoval volume) result }
 {
     tx.execute("DELETE FROM volumes WHERE number = ?1", &[integer(volume)])
+        .and(Ok(()))
 }

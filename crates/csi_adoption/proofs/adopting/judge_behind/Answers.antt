@@ -5,7 +5,7 @@ use Rattle.csi_adoption.specs.Judging.{JudgesRows, JudgesSeen}
 use Rattle.csi_adoption.proofs.JudgedLemmas.{judged_failure}
 use Rattle.csi_adoption.proofs.FaultLemmas.{is_err}
 use Rattle.csi_adoption.proofs.ChainLemmas.{clean_before, ended, failed, same_trees, chained}
-use Rattle.csi_adoption.proofs.FailingLemmas.{cause_behind, handed_fault, told_behind}
+use Rattle.csi_adoption.proofs.FailingLemmas.{fault_behind, handed_fault, told_behind}
 use Rattle.csi_adoption.proofs.adopting.judge_behind.Goals as goal
 
 pub returns-in_err-tables-clause-judged : goal.returns-in_err-tables-clause-judged
@@ -46,4 +46,4 @@ returns-in_err-tables-clause-failed g c = told_behind g.S.Store c.args.conn.now 
 pub returns-in_err-judge_seen-clause-failed : goal.returns-in_err-judge_seen-clause-failed
 returns-in_err-judge_seen-clause-failed g c =
     handed_fault g.S.Store c.args.conn.now c.judge_seen.new.conn c.from_residual-in_err-judge_seen.result c.in_err-judge_seen.field-0.0 c.from_residual-in_err-judge_seen.ensures.1
-    (λ store. cause_behind g.S.Store c.args.conn.now c.see_tables.new.conn c.judge_seen.new.conn c.in_ok-tables.tables c.in_ok-tables.ensures.scans c.in_err-judge_seen.ensures.scans.survives (c.in_err-judge_seen.ensures.failed store))
+    (fault_behind g.S.Store c.args.conn.now c.see_tables.new.conn c.judge_seen.new.conn c.in_ok-tables.tables c.in_err-judge_seen.field-0.0 c.in_ok-tables.ensures.scans c.in_err-judge_seen.ensures.scans.survives c.in_err-judge_seen.ensures.failed)

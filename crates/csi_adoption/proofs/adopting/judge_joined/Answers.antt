@@ -74,7 +74,7 @@ returns-in_err-check_attachment-clause-failed g c =
 pub returns-in_err-see_apart-clause-failed : goal.returns-in_err-see_apart-clause-failed
 returns-in_err-see_apart-clause-failed g c =
     told_behind g.S.Store c.args.conn.now c.see_apart.new.conn c.from_residual-in_err-see_apart.result c.in_err-see_apart.field-0.0 c.from_residual-in_err-see_apart.ensures.1
-    (λ other. cause_behind g.S.Store c.args.conn.now c.see_owners.new.conn c.see_apart.new.conn _ c.in_ok-see_owners.ensures.scans c.in_err-see_apart.ensures.scans.survives (c.in_err-see_apart.ensures.failed other))
+    (cause_behind g.S.Store c.args.conn.now c.see_owners.new.conn c.see_apart.new.conn _ c.in_err-see_apart.field-0.0 c.in_ok-see_owners.ensures.scans c.in_err-see_apart.ensures.scans.survives c.in_err-see_apart.ensures.failed)
 
 pub returns-in_err-check_counts-clause-failed : goal.returns-in_err-check_counts-clause-failed
 returns-in_err-check_counts-clause-failed g c =

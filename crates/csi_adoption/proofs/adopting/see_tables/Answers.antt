@@ -33,7 +33,7 @@ returns-clause-seen g c = λ clean.
 pub returns-in_err-attachments-clause-failed : goal.returns-in_err-attachments-clause-failed
 returns-in_err-attachments-clause-failed g c =
     handed_error g.S.Store c.args.conn.now c.see_attachments.new.conn c.from_residual-in_err-attachments.result c.in_err-attachments.field-0.0 c.from_residual-in_err-attachments.ensures.1
-    (λ other. cause_behind g.S.Store c.args.conn.now c.see_volumes.new.conn c.see_attachments.new.conn c.in_ok-volumes.volumes c.in_ok-volumes.ensures.scans c.in_err-attachments.ensures.scans.survives (c.in_err-attachments.ensures.failed other))
+    (cause_behind g.S.Store c.args.conn.now c.see_volumes.new.conn c.see_attachments.new.conn c.in_ok-volumes.volumes c.in_err-attachments.field-0.0 c.in_ok-volumes.ensures.scans c.in_err-attachments.ensures.scans.survives c.in_err-attachments.ensures.failed)
 
 pub returns-in_err-volumes-clause-failed : goal.returns-in_err-volumes-clause-failed
 returns-in_err-volumes-clause-failed g c = handed_error g.S.Store c.args.conn.now c.see_volumes.new.conn c.from_residual.result c.in_err-volumes.field-0.0 c.from_residual.ensures.1 c.in_err-volumes.ensures.failed

@@ -28,8 +28,8 @@ pub returns-in_err-upgrade-clause-failed : goal.returns-in_err-upgrade-clause-fa
 returns-in_err-upgrade-clause-failed g c =
     let judged = c.in_ok-judged.ensures in
     told_behind g.S.Store c.args.conn.now c.upgrade.new.conn c.from_residual-in_err-upgrade.result c.in_err-upgrade.field-0.0 c.from_residual-in_err-upgrade.ensures.1
-    (λ other. cause_behind g.S.Store c.args.conn.now c.judge.new.conn c.upgrade.new.conn c.in_ok-judged.judged judged.scans c.upgrade.ensures.survives
-    (format_cause g.S.Store c.judge.new.conn c.upgrade.new.conn c.in_err-upgrade.field-0.0 other (λ clean. c.in_err-upgrade.ensures.failed clean
+    (cause_behind g.S.Store c.args.conn.now c.judge.new.conn c.upgrade.new.conn c.in_ok-judged.judged c.in_err-upgrade.field-0.0 judged.scans c.upgrade.ensures.survives
+    (format_cause g.S.Store c.judge.new.conn c.upgrade.new.conn c.in_err-upgrade.field-0.0 (λ clean. c.in_err-upgrade.ensures.failed clean
     (let before : HasCleanDisk (state g.S.Store c.judge.new.conn) = omega (arith, clean, c.upgrade.ensures.survives.clean) in
     ours g.S.Store c.args.conn.now c.judge.new.conn (judged.found before).schema_is (judged.scans.same before)))))
 

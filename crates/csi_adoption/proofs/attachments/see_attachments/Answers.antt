@@ -36,7 +36,7 @@ returns-in_err-scanned-clause-failed g c =
     scan_failed g.S.Store c.args.conn.now c.scan_attachments-scanned.new.conn c.from_residual-in_err-scanned.result c.in_err-scanned.field-0.0 (rw c.in_err-scanned.was at c.scan_attachments-scanned.ensures.failed) c.from_residual-in_err-scanned.ensures.1
 
 pub returns-then-not-rises-clause-failed : goal.returns-then-not-rises-clause-failed
-returns-then-not-rises-clause-failed g c other =
+returns-then-not-rises-clause-failed g c =
     let kinds = c.kinds.ensures in
     unrisen_attachments g.S.Store c.args.conn.now c.scan_attachments-scanned.new.conn (λ clean.
     let seen = rw c.in_ok-scanned.was at (c.scan_attachments-scanned.ensures.ok clean) in

@@ -12,7 +12,7 @@ use Rattle.csi_tables.specs.Encoding.{params_bytes, FitParams}
 use Rattle.csi_tables.specs.Holding.{IsStorable}
 use Rattle.csi_tables.proofs.ChangeLemmas.{changes_behind, changes_never, changes_not_behind, stays, unmade}
 use Rattle.csi_tables.proofs.KeepLemmas.{is_quiet, fails_quiet, on_err, on_ok_so}
-use Rattle.csi_tables.proofs.RowLemmas.{none_set, nothing_set, rows_mutable, storable_mutable}
+use Rattle.csi_tables.proofs.RowLemmas.{none_set, nothing_set, rows_mutable, stands_in, storable_mutable}
 use Rattle.csi_tables.proofs.RefusalLemmas.{refuses_same}
 use Rattle.csi_tables.proofs.changes.make_mutable.Goals as goal
 
@@ -51,6 +51,7 @@ returns-in_err-params-clause-changes g c = record {
   made = search rules;
   failed = on_err c.from_residual-in_err-params.result (fails_quiet g.S.Store (SetMutable c.args.number c.args.mutable.now) c.args.conn.now c.by_number.new.conn (is_quiet g.S.Store c.args.conn.now c.by_number.new.conn c.by_number.ensures.undone c.by_number.ensures.survives));
   refused = search rules;
+  limit = c.by_number.ensures.survives.limit;
 }
 
 pub returns-in_err-set_params-clause-changes : goal.returns-in_err-set_params-clause-changes
@@ -65,7 +66,7 @@ returns-in_err-set_params-clause-changes g c =
     changes_not_behind g.S.Store c.read_back.ensures (SetMutable n m) (SetsParams n (params_bytes v.params m)) (λ old new h. h.schema) c.by_number.ensures
     (λ clean s held old new has p allowed h. rows_mutable s n m v old new has p (sym (c.in_ok-stands.ensures.value (omega (arith, clean, c.set_params.ensures.survives.clean)) s held) ∙ found.1) fits h)
     c.from_residual-in_err-set_params.result e
-    (λ now limit why. (v.params, e, refuses_same (texts.text texts.SetParams) (number_value n ∷ Blob (params_bytes v.params m) ∷ []) (state g.S.Store c.args.conn.now) (state g.S.Store c.by_number.new.conn) e now limit why))
+    (λ clean s held shows now limit why. (v, stands_in s n v (state g.S.Store c.args.conn.now).now.trees shows.rows (sym (c.in_ok-stands.ensures.value clean s held) ∙ found.1), e, refuses_same (texts.text texts.SetParams) (number_value n ∷ Blob (params_bytes v.params m) ∷ []) (state g.S.Store c.args.conn.now) (state g.S.Store c.by_number.new.conn) e now limit why))
     (rw bytes at c.in_err-set_params.ensures) c.from_residual-in_err-set_params.ensures.1
 
 pub returns-clause-changes : goal.returns-clause-changes

@@ -11,6 +11,7 @@ returns-in_err-next_number g c =
       made = search rules;
       failed = on_err c.from_residual.result (λ change. fails_quiet g.S.Store change c.args.conn.now c.next_number.new.conn (is_quiet g.S.Store c.args.conn.now c.next_number.new.conn h.undone h.survives));
       refused = h.refused;
+      limit = h.survives.limit;
     }
 
 pub returns : goal.returns
@@ -22,4 +23,5 @@ returns g c =
           (is_quiet g.S.Store c.args.conn.now c.next_number.new.conn h.undone h.survives) (λ clean. (h.ok clean).was_open);
       failed = tt;
       refused = search rules;
+      limit = h.survives.limit;
     }

@@ -33,7 +33,7 @@ returns-in_err-remove_volume g c =
     let r = c.from_residual-in_err-remove_volume.result in
     let is = c.from_residual-in_err-remove_volume.ensures.1 in
     beside r (RemoveVolume n) (never_ok r _ _ is) (never_ok r _ _ is) (on_err r (λ q. refl)) (changes_not_behind g.S.Store c.read_back.ensures (RemoveVolume n) (Drops 1 seen_volume (is_numbered n)) (λ old new h. h.schema) c.by_number.ensures (λ clean s held old new has p allowed h. rows_removed s n old new has p h)
-    r e (λ now limit why. (e, refuses_same (texts.text texts.RemoveVolume) (number_value n ∷ []) (state g.S.Store c.args.conn.now) (state g.S.Store c.by_number.new.conn) e now limit why)) c.in_err-remove_volume.ensures is)
+    r e (λ clean s held shows now limit why. (e, refuses_same (texts.text texts.RemoveVolume) (number_value n ∷ []) (state g.S.Store c.args.conn.now) (state g.S.Store c.by_number.new.conn) e now limit why)) c.in_err-remove_volume.ensures is)
 
 pub returns-in_default : goal.returns-in_default
 returns-in_default g c =

@@ -1,10 +1,11 @@
-use Rattle.std.proofs.Common.{◌≡◌, ◌∙◌, ◌+◌, ◌++◌, ap, arith, subst, sym, take, get_or, false, [], ◌∷◌}
-use Rattle.std.proofs.lemmas.List.{take_more}
+use Rattle.std.proofs.Common.{rules, ◌≡◌, ◌∙◌, ◌+◌, ◌++◌, ap, arith, subst, sym, take, get_or, false, [], ◌∷◌}
+use Rattle.std.proofs.lemmas.List.{take_all, take_more}
 use Rattle.csi_memory.specs.Holding.{Holds}
 use Rattle.csi_keeper.specs.State.{attached}
 use Rattle.csi_keeper.specs.facts.Reads.{quiet_then}
 use Rattle.csi_through.specs.Copying.{AreNext, last_number, up_to}
 use Rattle.csi_through.proofs.CopyLemmas.{last_more, next_more, none_attached}
+use Rattle.csi_through.proofs.FaultLemmas.{next_at, of_memory, of_read, ok_count, on_err, told_later}
 use Rattle.csi_through.proofs.copying.restore_page.Goals as goal
 
 pub loop-volume-preserved : goal.loop-volume-preserved
@@ -18,6 +19,7 @@ loop-volume-preserved g c =
     let last : last_number after (take (c.loop-volume.volume-index + 1) c.args.volumes.now) ≡ volume.number = ap (last_number after) more ∙ last_more after done volume in
     record {
       quiet = quiet_then old.quiet c.attachments_of.ensures.quiet;
+      refusals = ok_count (g.K.Keeper.model c.loop-volume.keeper).refusals (g.K.Keeper.model c.attachments_of.new.keeper).refusals c.attachments_of.result c.in_ok-attachments.attachments (search rules) c.attachments_of.ensures.count ∙ old.refusals;
       index = ap (λ i. i + 1) old.index;
       last = sym last;
       copies = λ clean config s held inv next are had.
@@ -29,5 +31,34 @@ loop-volume-preserved g c =
           (ap (λ i. get_or c.args.nodes.now i []) (sym old.index) ∙ at.1) in
           let theirs = c.in_ok-attachments.ensures.value clean s (old.quiet.state before s held) none in
           subst (λ n. Holds c.restore.new.memory (up_to s n)) (sym last)
-          (c.in_ok-restore.ensures config s _ inv two.1 theirs (old.copies before config s held inv two.0 are had));
+          (c.in_ok-restore.ensures.restored config s _ inv two.1 theirs (old.copies before config s held inv two.0 are had));
     }
+
+pub returns-in_err-attachments-clause-why : goal.returns-in_err-attachments-clause-why
+returns-in_err-attachments-clause-why g c =
+    let model = g.K.Keeper.model in
+    let old = c.loop-volume.invariant in
+    let fault = c.in_err-attachments.field-0.0 in
+    on_err _ c.from_residual.result fault (search rules)
+    (told_later (model c.args.keeper.now) (model c.loop-volume.keeper) (model c.attachments_of.new.keeper) fault old.quiet c.attachments_of.ensures.quiet.clean old.refusals (λ d config s held inv next. next)
+    (of_read (model c.loop-volume.keeper) (model c.attachments_of.new.keeper) c.attachments_of.result fault (search rules) c.attachments_of.ensures.count c.attachments_of.ensures.down))
+
+pub returns-in_err-restore-clause-why : goal.returns-in_err-restore-clause-why
+returns-in_err-restore-clause-why g c =
+    let model = g.K.Keeper.model in
+    let old = c.loop-volume.invariant in
+    let volume = c.volume-item.result in
+    let fault = c.in_err-restore.field-0.0 in
+    let same : (model c.attachments_of.new.keeper).refusals ≡ (model c.args.keeper.now).refusals =
+    ok_count (model c.loop-volume.keeper).refusals (model c.attachments_of.new.keeper).refusals c.attachments_of.result c.in_ok-attachments.attachments (search rules) c.attachments_of.ensures.count ∙ old.refusals in
+    on_err _ c.from_residual-in_err-restore.result fault (search rules)
+    (of_memory (model c.args.keeper.now) (model c.attachments_of.new.keeper) fault c.in_err-restore.ensures.up same (λ config s inv next.
+    c.in_err-restore.ensures.fault config s _ inv (next_at s c.args.after c.args.volumes.now c.loop-volume.volume-index volume (omega arith) c.volume-item.is next)))
+
+pub returns-clause-copies : goal.returns-clause-copies
+returns-clause-copies g c clean config s held inv next are had =
+    let old = c.loop-volume.invariant in
+    let whole : take c.loop-volume.volume-index c.args.volumes.now ≡ c.args.volumes.now = take_all c.loop-volume.volume-index c.args.volumes.now (omega (arith, c.loop-volume-test.false)) in (
+      old.last ∙ ap (last_number c.args.after) whole,
+      subst (λ n. Holds c.loop-volume.memory (up_to s n)) (sym old.last) (old.copies clean config s held inv (subst (AreNext s c.args.after) (sym whole) next) are had),
+    )

@@ -10,6 +10,7 @@ use Rattle.csi_through.proofs.copying.restore_page.Given as goal
 abbrev pub invariant-loop-volume : goal.invariant-loop-volume
 invariant-loop-volume g l = record {
   quiet : IsQuiet (g.K.Keeper.model l.fn.keeper) (g.K.Keeper.model l.keeper);
+  refusals : (g.K.Keeper.model l.keeper).refusals ≡ (g.K.Keeper.model l.fn.keeper).refusals;
   index : l.index ≡ l.volume-index;
   last : l.last ≡ last_number l.after (take l.volume-index l.volumes);
   copies : (g.K.Keeper.model l.keeper).doubt ≡ 0 → (config : Config) (s : State) → (g.K.Keeper.model l.fn.keeper).holds s → IsInvariant config s → AreNext s l.after (take l.volume-index l.volumes)

@@ -1,7 +1,11 @@
-use Rattle.std.proofs.Common.{refl}
-use Rattle.csi_memory.proofs.KeptLemmas.{kept_attached}
+use Rattle.std.proofs.lemmas.Result.{on_ok_weaker, on_err_weaker}
+use Rattle.csi_memory.proofs.KeptLemmas.{kept_attached, kept_unattached}
 use Rattle.csi_memory.proofs.mem.MemKeeper.attach.Goals as goal
 
 pub returns-clause-made : goal.returns-clause-made
-returns-clause-made c s k a =
-    kept_attached _ _ _ _ _ _ s _ _ c.args.number c.args.attachment.now _ _ _ k refl refl refl c.in_ok-put_place.ensures.ok c.in_ok-put_spot.ensures.ok
+returns-clause-made c =
+    on_ok_weaker c.put_attachment.result (λ rows s k a. kept_attached _ _ _ _ _ _ s _ _ c.args.number c.args.attachment.now k a rows c.put_attachment.ensures.spotted) c.put_attachment.ensures.ok
+
+pub returns-clause-same : goal.returns-clause-same
+returns-clause-same c =
+    on_err_weaker c.put_attachment.result (λ rows s k a. kept_unattached _ _ _ _ _ _ s _ _ c.args.number c.args.attachment.now k a rows c.put_attachment.ensures.spotted) c.put_attachment.ensures.err

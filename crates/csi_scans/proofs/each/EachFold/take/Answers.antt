@@ -2,7 +2,8 @@ use Rattle.std.proofs.Common.{◌≡◌, ◌∙◌, ◌++◌, ◌∷◌, [], Lis
 use Rattle.std.proofs.lemmas.List.{length-set}
 use Rattle.std.proofs.Math.Seq.{take-append_seam}
 use Rattle.sqlite.specs.Order.{Row as Values}
-use Rattle.csi_scans.proofs.EachLemmas.{zip_moved, moved_below, kept_above}
+use Rattle.csi_scans.specs.Folds.{HasSome}
+use Rattle.csi_scans.proofs.EachLemmas.{asks_at, kept_above, moved_below, on_err, zip_moved}
 use Rattle.csi_scans.proofs.each.EachFold.take.Goals as goal
 
 pub loop-part-preserved : goal.loop-part-preserved
@@ -30,3 +31,10 @@ returns-clause-folded g c first rows all =
     let many : c.args.self.now.parts.len ≡ length items = omega (arith, c.deref_mut-part-items.ensures.len, c.loop-part.invariant.0) in
     subst (λ n. Rattle.std.specs.List.AllZip (λ a b. g.F.Fold.folds a (rows ++ c.args.row.now ∷ []) b) first.parts.items (take n (items ++ drop (length items) olds))) (sym many)
     (subst (Rattle.std.specs.List.AllZip (λ a b. g.F.Fold.folds a (rows ++ c.args.row.now ∷ []) b) first.parts.items) (sym (take-append_seam items (drop (length items) olds))) whole)
+
+pub returns-in_err-take-clause-sure : goal.returns-in_err-take-clause-sure
+returns-in_err-take-clause-sure g c =
+    let Asks = λ (part : g.row.F.Denot). g.F.Fold.takes_memory part c.args.row.now in
+    let low : c.loop-part.part-index < length c.loop-part.part-items = omega (arith, c.loop-part-test.true, c.loop-part.invariant.0) in
+    on_err c.from_residual.result (subst (HasSome Asks) c.deref_mut-part-items.ensures.value
+    (asks_at Asks c.deref_mut-part-items.result.now c.loop-part.part-items c.loop-part.part-index low c.loop-part.invariant.0 c.loop-part.invariant.2 _ c.in_err-take.ensures.sure))

@@ -21,3 +21,6 @@ returns-clause-applies g c = record {
 
 pub returns-clause-refused : goal.returns-clause-refused
 returns-clause-refused g c clean is = c.make-answer.ensures.refused clean (told_refused c.make-answer.result c.end_change.result c.end_change.ensures.told is)
+
+pub returns-clause-limit : goal.returns-clause-limit
+returns-clause-limit g c = c.make-answer.ensures.limit

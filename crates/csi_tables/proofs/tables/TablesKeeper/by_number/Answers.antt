@@ -1,4 +1,4 @@
-use Rattle.std.proofs.Common.{sym}
+use Rattle.std.proofs.Common.{sym, arith}
 use Rattle.csi_tables.proofs.RowLemmas.{no_volume}
 use Rattle.csi_tables.proofs.TablesLemmas.{keeps_none, keeps_read}
 use Rattle.csi_tables.proofs.tables.TablesKeeper.by_number.Goals as goal
@@ -7,4 +7,6 @@ pub returns-then-number-ge-NUMBERS-clause-reads : goal.returns-then-number-ge-NU
 returns-then-number-ge-NUMBERS-clause-reads g c = keeps_none g.S.Store c.args.self.now.conn c.args.self.now.totals _ c.in_ok-begin.ensures (λ s stored. sym (no_volume s c.args.number c.if-number-ge-NUMBERS.true stored))
 
 pub returns : goal.returns
-returns g c = keeps_read c.args.self.now.totals c.in_ok-begin.ensures c.by_number-answer.ensures c.end.ensures
+returns g c =
+    let it = keeps_read c.args.self.now.totals c.in_ok-begin.ensures c.by_number-answer.ensures c.end.ensures in
+    record { reads = it.reads; refused = it.refused; limit = it.limit; sure = λ far. absurd (omega (arith, far, c.if-number-ge-NUMBERS.false)) }

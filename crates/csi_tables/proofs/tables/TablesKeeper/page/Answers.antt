@@ -1,4 +1,4 @@
-use Rattle.std.proofs.Common.{◌∙◌}
+use Rattle.std.proofs.Common.{◌∙◌, arith}
 use Rattle.csi_tables.proofs.TablesLemmas.{keeps_none, keeps_read, no_page}
 use Rattle.csi_tables.proofs.tables.TablesKeeper.page.Goals as goal
 
@@ -6,4 +6,6 @@ pub returns-then-after-ge-NUMBERS-clause-reads : goal.returns-then-after-ge-NUMB
 returns-then-after-ge-NUMBERS-clause-reads g c = keeps_none g.S.Store c.args.self.now.conn c.args.self.now.totals _ c.in_ok-begin.ensures (λ s stored. c.new.ensures ∙ no_page s c.args.after c.args.count c.if-after-ge-NUMBERS.true stored)
 
 pub returns : goal.returns
-returns g c = keeps_read c.args.self.now.totals c.in_ok-begin.ensures c.page-answer.ensures c.end.ensures
+returns g c =
+    let it = keeps_read c.args.self.now.totals c.in_ok-begin.ensures c.page-answer.ensures c.end.ensures in
+    record { reads = it.reads; refused = it.refused; limit = it.limit; sure = λ far. absurd (omega (arith, far, c.if-after-ge-NUMBERS.false)) }
