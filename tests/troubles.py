@@ -216,7 +216,11 @@ class Stack:
             count += 1
             call = ("remove", source.choice(mine)) if mine and source.random() < 0.4 else ("make", "c%d-%d" % (number, count))
             done, end = False, time.monotonic() + 4 * SECONDS
-            while done is not True and self.run.check("service is back", time.monotonic() < end, repr(call)):
+            # What is late is a finding, but no call is given up: it may have been made, and the record would not know it.
+            while done is not True:
+                if time.monotonic() > end:
+                    self.run.check("service is back", False, repr(call))
+                    end = time.monotonic() + 4 * SECONDS
                 try:
                     client = client or Grpc(self.front.socket, 10)
                     done = self.record.does(lambda method, message: (client.call(b"/csi.v1.Controller/" + method.encode(), message), "refused"), *call)
