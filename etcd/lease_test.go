@@ -86,6 +86,22 @@ func TestLeaseCounts(t *testing.T) {
 	}
 }
 
+// A lease is kept four times in its length: a request comes a quarter of it behind the answer before, and not twice as late.
+func TestRenewedInTime(t *testing.T) {
+	const length = 6 * time.Second
+	server := &lender{length: 600, came: make(chan time.Time, 99), answered: 99}
+	l := &lease{client: startServer(t, server, 1), length: length, until: time.Now()}
+	ctx, cancel := context.WithCancel(context.Background())
+	ended := make(chan error, 1)
+	go func() { ended <- l.renew(ctx) }()
+	first := <-server.came
+	if took := (<-server.came).Sub(first); took < length/5 || took > length/2 {
+		t.Errorf("it was kept again behind %v", took)
+	}
+	cancel()
+	<-ended
+}
+
 // A lease that etcd does not know any more, or that no answer kept in time, is over.
 func TestLeaseOver(t *testing.T) {
 	rows := []struct {

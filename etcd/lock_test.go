@@ -1,9 +1,15 @@
 package main
 
 import (
+	"context"
+	"errors"
 	"fmt"
 	"reflect"
 	"testing"
+	"time"
+
+	pb "go.etcd.io/etcd/etcdserver/etcdserverpb"
+	"go.etcd.io/etcd/mvcc/mvccpb"
 )
 
 // Who leads and sees an older snapshot closes the connection of csid and refuses its calls, whatever is seen behind that. A line that would be the one
@@ -29,5 +35,82 @@ func TestOlderWhileLeading(t *testing.T) {
 	want := []string{"leads, from revision 110 on, by the key lock/1", "leads no more: " + older, "no lock: " + older}
 	if !reflect.DeepEqual(said, want) {
 		t.Errorf("%q, wanted %q", said, want)
+	}
+}
+
+// waiters is an etcd that takes each key, and answers who waits for the lock by what a test says, at last by the end of the term.
+type waiters struct {
+	pb.KVServer
+	looks []look
+	came  int
+	state *leadership
+	end   context.CancelFunc
+	// Whether this program led when each look came.
+	led []bool
+}
+
+// look is the revisions of the making of the keys of others and of this program, 0 where one is not there, or an error.
+type look struct {
+	others, own int64
+	err         error
+}
+
+func (w *waiters) Txn(context.Context, *pb.TxnRequest) (*pb.TxnResponse, error) {
+	return &pb.TxnResponse{Header: &pb.ResponseHeader{}, Succeeded: true}, nil
+}
+
+func (w *waiters) Range(context.Context, *pb.RangeRequest) (*pb.RangeResponse, error) {
+	held, _ := w.state.current()
+	w.led = append(w.led, held != nil)
+	if w.came == len(w.looks) {
+		w.end()
+		return nil, errors.New("the end")
+	}
+	seen := w.looks[w.came]
+	w.came++
+	if seen.err != nil {
+		return nil, seen.err
+	}
+	read := &pb.RangeResponse{Header: &pb.ResponseHeader{Revision: 100}}
+	if seen.others != 0 {
+		read.Kvs = append(read.Kvs, &mvccpb.KeyValue{Key: []byte("other"), Value: []byte("other"), CreateRevision: seen.others})
+	}
+	if seen.own != 0 {
+		read.Kvs = append(read.Kvs, &mvccpb.KeyValue{Key: []byte("own"), Value: []byte("me"), CreateRevision: seen.own})
+	}
+	return read, nil
+}
+
+// A key that is gone ends the term, whether this program leads or waits; a look that failed does not, and who leads then leads on.
+func TestHold(t *testing.T) {
+	failed := errors.New("any")
+	rows := []struct {
+		name  string
+		looks []look
+		led   []bool
+		want  error
+	}{
+		{"it waits, and then leads", []look{{5, 6, nil}, {0, 6, nil}}, []bool{false, false, true}, context.Canceled},
+		{"gone while it waits", []look{{5, 6, nil}, {5, 0, nil}}, []bool{false, false}, errKeyGone},
+		{"gone while it leads", []look{{0, 6, nil}, {0, 0, nil}}, []bool{false, true}, errKeyGone},
+		{"made anew while it leads", []look{{0, 6, nil}, {0, 7, nil}}, []bool{false, true}, errKeyGone},
+		{"a key of before while it leads", []look{{0, 6, nil}, {5, 6, nil}}, []bool{false, true}, errKeyGone},
+		{"a look that failed while it leads", []look{{0, 6, nil}, {0, 0, failed}}, []bool{false, true, true}, context.Canceled},
+		{"a look that failed while it waits", []look{{5, 6, nil}, {0, 0, failed}, {0, 6, nil}}, []bool{false, false, false, true}, context.Canceled},
+	}
+	for _, row := range rows {
+		row := row
+		t.Run(row.name, func(t *testing.T) {
+			t.Parallel()
+			state := &leadership{}
+			ctx, cancel := context.WithTimeout(context.Background(), 20*time.Second)
+			defer cancel()
+			server := &waiters{looks: row.looks, state: state, end: cancel}
+			c := &candidate{keys: sampleKeys, revisions: &revisions{}, state: state, drop: func() {}, say: t.Logf}
+			err := c.hold(&term{client: startServer(t, server, 1), keys: sampleKeys, lease: &lease{}, revisions: c.revisions, timeout: 5 * time.Second, ctx: ctx, end: cancel, key: "own", id: "me"})
+			if err != row.want || !reflect.DeepEqual(server.led, row.led) {
+				t.Errorf("%v, and it led %v, wanted %v", err, server.led, row.led)
+			}
+		})
 	}
 }

@@ -66,8 +66,8 @@ func (m *moody) start(t *testing.T, options ...grpc.DialOption) *clientv3.Client
 	return startServer(t, m, 1, options...)
 }
 
-// startServer starts an etcd, and makes a client to which it is so many members.
-func startServer(t *testing.T, kv pb.KVServer, members int, options ...grpc.DialOption) *clientv3.Client {
+// listening starts an etcd, and tells where it answers.
+func listening(t *testing.T, kv pb.KVServer) (address string) {
 	t.Helper()
 	listener, err := net.Listen("tcp", "127.0.0.1:0")
 	if err != nil {
@@ -80,9 +80,16 @@ func startServer(t *testing.T, kv pb.KVServer, members int, options ...grpc.Dial
 	}
 	go server.Serve(listener)
 	t.Cleanup(server.Stop)
+	return listener.Addr().String()
+}
+
+// startServer starts an etcd, and makes a client to which it is so many members.
+func startServer(t *testing.T, kv pb.KVServer, members int, options ...grpc.DialOption) *clientv3.Client {
+	t.Helper()
+	address := listening(t, kv)
 	var endpoints []string
 	for i := 0; i < members; i++ {
-		endpoints = append(endpoints, listener.Addr().String())
+		endpoints = append(endpoints, address)
 	}
 	client, err := clientv3.New(clientv3.Config{Endpoints: endpoints, DialOptions: options,
 		LogConfig: &zap.Config{Level: zap.NewAtomicLevelAt(zap.FatalLevel), Encoding: "json"}})
@@ -93,8 +100,8 @@ func startServer(t *testing.T, kv pb.KVServer, members int, options ...grpc.Dial
 	return client
 }
 
-// A transaction goes to etcd once, unless it was refused for its token. By itself etcd's client sends it again where the server says that it was
-// canceled, or that its deadline is over.
+// A transaction of the program's own client goes to etcd once, unless it was refused for its token. By itself etcd's client sends it again where the
+// server says that it was canceled, or that its deadline is over.
 func TestSentOnce(t *testing.T) {
 	rows := []struct {
 		name   string
@@ -108,15 +115,20 @@ func TestSentOnce(t *testing.T) {
 		{"late", status.Error(codes.DeadlineExceeded, "any"), true, 1},
 		{"unavailable", status.Error(codes.Unavailable, "etcdserver: leader changed"), true, 1},
 		{"of the token", rpctypes.ErrGRPCAuthOldRevision, true, 2},
+		{"of a token that etcd does not know", rpctypes.ErrGRPCInvalidAuthToken, true, 2},
 	}
 	for _, row := range rows {
 		server := &moody{errors: []error{row.err}}
-		client := server.start(t, grpc.WithChainUnaryInterceptor(sendOnce))
+		client, err := connect(options{endpoints: []string{listening(t, server)}, timeout: 5 * time.Second})
+		if err != nil {
+			t.Fatal(err)
+		}
+		t.Cleanup(func() { client.Close() })
 		ctx, cancel := context.WithTimeout(context.Background(), 5*time.Second)
 		if row.isOnce {
 			ctx = sentOnce(ctx)
 		}
-		_, err := client.Txn(ctx).Then(clientv3.OpPut("a", "b")).Commit()
+		_, err = client.Txn(ctx).Then(clientv3.OpPut("a", "b")).Commit()
 		cancel()
 		if came := atomic.LoadInt32(&server.came); came != row.came || (err == nil) != (row.came == 2) {
 			t.Errorf("%s, once %v: it came %d times, %v", row.name, row.isOnce, came, err)

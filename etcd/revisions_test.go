@@ -146,6 +146,71 @@ func TestSaveAgain(t *testing.T) {
 	}
 }
 
+// A file that could not be written whole does not take the place of the old one.
+func TestNotWrittenWhole(t *testing.T) {
+	if _, err := os.Stat("/dev/full"); err != nil {
+		t.Skipf("left out: a full disk: %v", err)
+	}
+	path := filepath.Join(t.TempDir(), "revision")
+	r := &revisions{path: path}
+	for _, row := range []struct {
+		revision int64
+		isFull   bool
+		want     string
+	}{{7, false, "7\n"}, {8, true, "7\n"}, {9, false, "9\n"}} {
+		if row.isFull {
+			if err := os.Symlink("/dev/full", path+".new"); err != nil {
+				t.Fatal(err)
+			}
+		}
+		r.answered(row.revision)
+		if err := r.save(); (err != nil) != row.isFull {
+			t.Errorf("%d: %v", row.revision, err)
+		}
+		if at, err := os.Lstat(path); err != nil || !at.Mode().IsRegular() {
+			t.Fatalf("%d: another thing stands in its place, %v", row.revision, err)
+		}
+		if text, err := os.ReadFile(path); err != nil || string(text) != row.want {
+			t.Errorf("%d: the file has %q, %v", row.revision, text, err)
+		}
+		os.Remove(path + ".new")
+	}
+}
+
+// Each time that the file cannot be written any more is told, once.
+func TestFailuresAreTold(t *testing.T) {
+	folder := filepath.Join(t.TempDir(), "none")
+	r := &revisions{path: filepath.Join(folder, "revision"), noticed: make(chan struct{})}
+	lines := 0
+	end, ended := make(chan struct{}), make(chan struct{})
+	go func() {
+		defer close(ended)
+		r.keep(end, func(string, ...interface{}) { lines++ })
+	}()
+	for i, step := range []struct {
+		begin func() error
+		want  int
+	}{
+		{func() error { return nil }, 1},
+		{func() error { return os.Mkdir(folder, 0o700) }, 1},
+		{func() error { return os.RemoveAll(folder) }, 2},
+		{func() error { return os.Mkdir(folder, 0o700) }, 2},
+	} {
+		if err := step.begin(); err != nil {
+			t.Fatal(err)
+		}
+		r.answered(int64(i) + 1)
+		// What is noticed is taken when nothing is written: the second one behind the writing of the first.
+		r.noticed <- struct{}{}
+		r.noticed <- struct{}{}
+		if lines != step.want {
+			t.Errorf("step %d: %d lines, wanted %d", i, lines, step.want)
+		}
+	}
+	close(end)
+	<-ended
+}
+
 // The file is written at the end, and a failure is told once.
 func TestKeepRevisions(t *testing.T) {
 	folder := filepath.Join(t.TempDir(), "none")

@@ -32,6 +32,7 @@ func TestSpelling(t *testing.T) {
 	}{
 		{volume{7, "pvc-7", 1048576, "ssd", block, nil}, `{"name":"pvc-7","bytes":1048576,"pool":"ssd","caps":"1a060a001a020801","params":""}`},
 		{volume{7, "", 0, "", nil, []byte{0, 255}}, `{"name":"","bytes":0,"pool":"","caps":"","params":"00ff"}`},
+		{volume{7, " a ~", 1, "b !", nil, nil}, `{"name":" a ~","bytes":1,"pool":"b !","caps":"","params":""}`},
 		{volume{1, "a\"\\/<>&é\u2028\x7f𝄞", 1<<63 - 1, "\b\t\n\r\x00\x1f", nil, nil},
 			`{"name":"a\"\\/<>&é` + "\u2028\x7f𝄞" + `","bytes":9223372036854775807,"pool":"\u0008\t\n\r\u0000\u001f","caps":"","params":""}`},
 	}

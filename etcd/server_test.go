@@ -4,6 +4,7 @@ import (
 	"bufio"
 	"context"
 	"errors"
+	"io"
 	"net"
 	"syscall"
 	"testing"
@@ -41,6 +42,49 @@ func TestReplyNotTaken(t *testing.T) {
 	reply, err := frames.ReadReply(bufio.NewReader(second))
 	if took := time.Since(begin); err != nil || reply.Text != "waiting" || took > replyTime/2 {
 		t.Errorf("%v, %v, behind %v", reply, err, took)
+	}
+}
+
+// Of connections that wait for the end of a call the newest alone is answered.
+func TestReplacedWhileItWaits(t *testing.T) {
+	state := &leadership{}
+	state.set(nil, refuse("waiting"))
+	s := &server{state: state, say: t.Logf}
+	var all [3]net.Conn
+	for i := range all {
+		own, other := net.Pipe()
+		defer own.Close()
+		own.SetDeadline(time.Now().Add(replyTime))
+		all[i] = own
+		s.take(other)
+		if _, err := own.Write(frames.RequestHead(leadPath, 0)); err != nil {
+			t.Fatal(err)
+		}
+		if i == 0 {
+			// Of the reply one byte is taken: what is left of it is under way, while the others come.
+			if _, err := own.Read(make([]byte, 1)); err != nil {
+				t.Fatal(err)
+			}
+		}
+	}
+	go io.Copy(io.Discard, all[0])
+	if reply, err := frames.ReadReply(bufio.NewReader(all[1])); err != io.EOF {
+		t.Errorf("the one before the newest: %v, %v", reply, err)
+	}
+	if reply, err := frames.ReadReply(bufio.NewReader(all[2])); err != nil || reply.Text != "waiting" {
+		t.Errorf("the newest: %v, %v", reply, err)
+	}
+}
+
+// A reply that is begun only when another connection waits for its end holds that up no longer than a moment either.
+func TestReplyBehindReplacement(t *testing.T) {
+	own, other := net.Pipe()
+	defer own.Close()
+	c := &connection{Conn: other, replaced: make(chan struct{})}
+	c.replace()
+	begin := time.Now()
+	if err, took := c.reply(frames.Reply{Text: "a"}), time.Since(begin); err == nil || took > replyTime/2 {
+		t.Errorf("%v, behind %v", err, took)
 	}
 }
 

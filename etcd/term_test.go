@@ -14,6 +14,7 @@ import (
 	"go.etcd.io/etcd/mvcc/mvccpb"
 	"google.golang.org/grpc"
 	"google.golang.org/grpc/codes"
+	"google.golang.org/grpc/metadata"
 	"google.golang.org/grpc/status"
 )
 
@@ -23,8 +24,9 @@ type scripted struct {
 	mutex   sync.Mutex
 	answers []answer
 	came    int
-	// The revision at which any key was put that is read.
-	put int64
+	// The revision at which any key was put that is read, or what its reading is answered with.
+	put    int64
+	unread error
 	// What each transaction supposes of the key of the lock.
 	held []string
 }
@@ -67,6 +69,9 @@ func (s *scripted) Txn(_ context.Context, asked *pb.TxnRequest) (*pb.TxnResponse
 }
 
 func (s *scripted) Range(context.Context, *pb.RangeRequest) (*pb.RangeResponse, error) {
+	if s.unread != nil {
+		return nil, s.unread
+	}
 	return &pb.RangeResponse{Header: &pb.ResponseHeader{Revision: 200}, Kvs: []*mvccpb.KeyValue{{Key: []byte("a"), ModRevision: s.put}}}, nil
 }
 
@@ -125,6 +130,32 @@ func TestOutcomes(t *testing.T) {
 		}
 		if code != row.code || text != row.text || held.isOpen != row.isOpen || (held.ctx.Err() != nil) != row.isOver || server.came != len(row.answers) {
 			t.Errorf("%s: %v %q, %v, open %v, over %v, %d came", row.name, code, text, err, held.isOpen, held.ctx.Err(), server.came)
+		}
+	}
+}
+
+// A change of which etcd says that it has no space is refused only where what it puts was read, and is not newer than what was seen before, at revision
+// 100. What it takes away leaves nothing that tells whether it was made.
+func TestWithoutSpace(t *testing.T) {
+	puts, takes := &attach{attachment{7, "n", nil, false}}, &detach{7, "n"}
+	rows := []struct {
+		name      string
+		asked     change
+		put       int64
+		unread    error
+		isRefused bool
+	}{
+		{"older", puts, 99, nil, true}, {"what was seen last", puts, 100, nil, true}, {"newer", puts, 101, nil, false},
+		{"taken away", takes, 99, nil, false},
+		{"read with an error that is certain of a change", puts, 0, rpctypes.ErrGRPCPermissionDenied, false},
+		{"read with any other error", puts, 0, rpctypes.ErrGRPCLeaderChanged, false},
+	}
+	for _, row := range rows {
+		server := &scripted{answers: []answer{{err: rpctypes.ErrGRPCNoSpace}}, put: row.put, unread: row.unread}
+		err := server.begin(t).commit(context.Background(), row.asked)
+		var why refusal
+		if isRefused := errors.As(err, &why); err == nil || isRefused != row.isRefused || (isRefused && why.code != codes.ResourceExhausted) {
+			t.Errorf("%s: %v", row.name, err)
 		}
 	}
 }
@@ -222,6 +253,73 @@ func TestAskedBefore(t *testing.T) {
 		held := &term{client: client, keys: sampleKeys, lease: &lease{}, revisions: server.revisions, timeout: 5 * time.Second, ctx: ctx, end: func() {}, key: "k"}
 		if err := ask(held); err != nil {
 			t.Errorf("%s: %v", name, err)
+		}
+	}
+}
+
+// strict is an etcd that counts the requests which a member without a leader would not refuse at once.
+type strict struct {
+	pb.KVServer
+	pb.LeaseServer
+	came, patient int
+}
+
+func (s *strict) count(ctx context.Context) *pb.ResponseHeader {
+	s.came++
+	said, _ := metadata.FromIncomingContext(ctx)
+	if !reflect.DeepEqual(said.Get("hasleader"), []string{"true"}) {
+		s.patient++
+	}
+	return &pb.ResponseHeader{Revision: 200}
+}
+
+func (s *strict) Range(ctx context.Context, _ *pb.RangeRequest) (*pb.RangeResponse, error) {
+	return &pb.RangeResponse{Header: s.count(ctx)}, nil
+}
+
+func (s *strict) Txn(ctx context.Context, _ *pb.TxnRequest) (*pb.TxnResponse, error) {
+	return &pb.TxnResponse{Header: s.count(ctx), Succeeded: true}, nil
+}
+
+func (s *strict) LeaseKeepAlive(stream pb.Lease_LeaseKeepAliveServer) error {
+	s.count(stream.Context())
+	if _, err := stream.Recv(); err != nil {
+		return err
+	}
+	return stream.Send(&pb.LeaseKeepAliveResponse{})
+}
+
+// Each request is one that a member without a leader refuses at once, so that another one can be asked.
+func TestRefusedWithoutLeader(t *testing.T) {
+	ctx := context.Background()
+	asks := map[string]func(t *term) error{
+		"the key of the lock":    func(t *term) error { return t.putKey() },
+		"who waits for the lock": func(t *term) error { _, err := t.queue(); return err },
+		"a reading":              func(t *term) error { _, err := t.get(ctx, "a"); return err },
+		"a look":                 func(t *term) error { _, err := t.look(ctx); return err },
+		"a change":               func(t *term) error { return t.commit(ctx, &detach{7, "n"}) },
+		"a fence":                func(t *term) error { t.isOpen = true; return t.fence(ctx) },
+		"an import": func(t *term) error {
+			return (&importing{client: t.client, keys: t.keys, timeout: t.timeout}).write([]line{{"a", nil}})
+		},
+		"an export": func(t *term) error {
+			_, err := (&reading{client: t.client, timeout: t.timeout}).get("a")
+			return err
+		},
+		"a lease that is kept": func(t *term) error {
+			if err := t.lease.renewOver(ctx); err != errLeaseOver {
+				return err
+			}
+			return nil
+		},
+	}
+	server := &strict{}
+	client := startServer(t, server, 1)
+	for name, ask := range asks {
+		server.came, server.patient = 0, 0
+		held := &term{client: client, keys: sampleKeys, lease: &lease{client: client, length: time.Minute}, revisions: &revisions{}, timeout: 5 * time.Second, ctx: ctx, end: func() {}, key: "k"}
+		if err := ask(held); err != nil || server.came == 0 || server.patient > 0 {
+			t.Errorf("%s: %v, %d requests, of which %d are not refused at once", name, err, server.came, server.patient)
 		}
 	}
 }

@@ -98,6 +98,16 @@ func sized(t *testing.T, number uint64, size int) volume {
 	return row
 }
 
+// A row that fills a page to its last byte, 3 MiB, is one; one of a byte more is none.
+func TestLongestRow(t *testing.T) {
+	for size, want := range map[int]error{3 << 20: nil, 3<<20 + 1: errLong} {
+		row := sized(t, 7, size)
+		if _, field, err := sampleKeys.rowInPage(sampleKeys.volume(7), row.spelled()); err != want || (err == nil && len(field) != size) {
+			t.Errorf("%d bytes: a field of %d, %v", size, len(field), err)
+		}
+	}
+}
+
 // closest is attachments whose keys have none between them: wherever a reading ends, the next key has a row.
 func closest() (rows []attachment) {
 	for count := 0; count < 100; count++ {
@@ -146,5 +156,56 @@ func TestPages(t *testing.T) {
 			t.Errorf("rows of %d bytes: all pages have %d, wanted %d", size, len(got), len(want))
 		}
 		server.wantsOneRevision(t)
+	}
+}
+
+// A token is that of the page before, over the same connection and in the same term. Behind a page that could not be read there is none, and none is
+// waited for.
+func TestTokens(t *testing.T) {
+	server := &written{rows: map[string]string{}}
+	for n := uint64(1); n <= 8; n++ {
+		server.rows[sampleKeys.volume(n)] = string(sized(t, n, 1<<20).spelled())
+	}
+	held := &term{client: startServer(t, server, 1), keys: sampleKeys, lease: &lease{}, revisions: &revisions{}, timeout: 10 * time.Second, ctx: context.Background(), key: "k"}
+	later := *held
+	c := &connection{}
+	reads := func(in *term, token []byte) error {
+		ended := make(chan error, 1)
+		go func() {
+			_, err := c.read(context.Background(), in, appendBytes(nil, 1, token))
+			c.walk.settle()
+			ended <- err
+		}()
+		select {
+		case err := <-ended:
+			return err
+		case <-time.After(20 * time.Second):
+			t.Fatal("it is waited for a page")
+			return nil
+		}
+	}
+	if err := reads(held, nil); err != nil {
+		t.Fatal(err)
+	}
+	first := c.walk.token
+	if err := reads(&later, first); err != errToken {
+		t.Errorf("in a later term: %v", err)
+	}
+	// The second page was read before, and the third one is not there any more.
+	server.isCompacted = true
+	if err := reads(held, first); err != nil {
+		t.Errorf("the second page: %v", err)
+	}
+	second := c.walk.token
+	if err := reads(held, first); err != errToken {
+		t.Errorf("the token of a page that was given: %v", err)
+	}
+	if err := reads(held, second); err == nil || err == errToken {
+		t.Errorf("the third page: %v", err)
+	}
+	for _, token := range [][]byte{second, first} {
+		if err := reads(held, token); err != errToken {
+			t.Errorf("behind a page that could not be read, with the token %s: %v", token, err)
+		}
 	}
 }

@@ -143,6 +143,7 @@ func TestMoves(t *testing.T) {
 		"lock":                               "no row has such a key",
 		"lock0":                              "no row has such a key",
 		"more":                               "no row has such a key",
+		"volumes0":                           "no row has such a key",
 	} {
 		put(t, client, name+"/"+key, " {}")
 		got := moves(t, "", "--export", cluster.Endpoints())
@@ -178,18 +179,23 @@ func TestMovesWithoutEtcd(t *testing.T) {
 			"csid-etcd: "+how+": --cacert: open /none: no such file or directory"+map[string]string{"--import": "; nothing was written"}[how]+"\n")
 	}
 	cluster := clusters.Start(t, 1)
-	moves(t, threeRows, "--import", cluster.Endpoints()).wants(t, "an import", 0, threeSaid, "")
 	full, err := os.OpenFile("/dev/full", os.O_WRONLY, 0)
 	if err != nil {
 		t.Skipf("left out: a full disk: %v", err)
 	}
 	defer full.Close()
-	command := exec.Command(processes.EtcdProgram(t), "--export", "--name", name, "--endpoints", cluster.Endpoints())
-	var fail strings.Builder
-	command.Stdout, command.Stderr = full, &fail
-	command.Run()
-	if fail.String() != "csid-etcd: --export: write /dev/stdout: no space left on device\n" || command.ProcessState.ExitCode() != 1 {
-		t.Errorf("%d %q", command.ProcessState.ExitCode(), fail.String())
+	// The second --new finds the row that stands, and the export the rows of the import.
+	for _, how := range []string{"--new", "--new", "--import", "--export"} {
+		if how == "--import" {
+			cluster.Ctl(t, "del", name+"/meta")
+		}
+		command := exec.Command(processes.EtcdProgram(t), how, "--name", name, "--endpoints", cluster.Endpoints())
+		var fail strings.Builder
+		command.Stdin, command.Stdout, command.Stderr = strings.NewReader(threeRows), full, &fail
+		command.Run()
+		if fail.String() != "csid-etcd: "+how+": write /dev/stdout: no space left on device\n" || command.ProcessState.ExitCode() != 1 {
+			t.Errorf("%s: %d %q", how, command.ProcessState.ExitCode(), fail.String())
+		}
 	}
 }
 

@@ -104,6 +104,23 @@ func TestBeforeEtcd(t *testing.T) {
 	l.wants(t, readPath, "", codes.OK, "2200")
 }
 
+// Until etcd was asked for the first time each call is refused, also whether the program leads.
+func TestBeforeTheFirstAnswer(t *testing.T) {
+	t.Parallel()
+	// It takes connections, and answers nothing.
+	silent, err := net.Listen("tcp", "127.0.0.1:0")
+	if err != nil {
+		t.Fatal(err)
+	}
+	defer silent.Close()
+	l := start(t, silent.Addr().String(), "--timeout", "20s").dial(t)
+	const want = "waiting for the lock: etcd was not asked yet"
+	for _, path := range []string{leadPath, readPath, makePath} {
+		l.wants(t, path, "", codes.FailedPrecondition, want)
+	}
+	l.refuses(t, addVolume(1, "a"), codes.FailedPrecondition, want)
+}
+
 // Where etcd does not answer, an end waits for the change that is under way, as long as that may take; a second signal does not wait.
 func TestEndWithoutEtcd(t *testing.T) {
 	t.Parallel()

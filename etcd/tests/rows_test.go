@@ -94,6 +94,7 @@ func TestSuppositions(t *testing.T) {
 	l.wants(t, readPath, "0a0131", codes.InvalidArgument, "the token is not the last one that this connection was given")
 	l.wants(t, readPath, "0a02", codes.InvalidArgument, "malformed message")
 	l.wants(t, makePath, "00", codes.InvalidArgument, "malformed message")
+	l.wants(t, leadPath, "00", codes.InvalidArgument, "malformed message")
 	l.wants(t, "/fomaheti.log.v1.Log/Other", "", codes.Unimplemented, "unknown method")
 	cluster.Ctl(t, "del", name+"/meta")
 	l.refuses(t, addVolume(2, "b"), precondition, "meta is not there")
@@ -101,9 +102,9 @@ func TestSuppositions(t *testing.T) {
 	if after := cluster.Ctl(t, "get", "--prefix", name); after != before {
 		t.Errorf("etcd has\n%s, and had\n%s", after, before)
 	}
-	// The greatest number that a volume can have.
+	// The greatest number, and the most bytes, that a volume can have.
 	cluster.Ctl(t, "put", name+"/meta", `{"format_no":2,"next_number":9223372036854775806}`)
-	l.commits(t, addVolume(1<<63-2, "c"))
+	l.commits(t, addVolumeWith(1<<63-2, "c", 1<<63-1, "", "", ""))
 	if got := cluster.Ctl(t, "get", name+"/meta"); got != name+"/meta\n{\"format_no\":2,\"next_number\":9223372036854775807}\n" {
 		t.Errorf("meta: %s", got)
 	}

@@ -1,0 +1,60 @@
+package main
+
+import (
+	"io"
+	"log"
+	"net"
+	"os"
+	"path/filepath"
+	"syscall"
+	"testing"
+	"time"
+
+	"fomaheti/sockets"
+)
+
+// A socket on which no connection can be taken any more ends the program, with the status of a socket that could not be made.
+func TestSocketThatFails(t *testing.T) {
+	folder := t.TempDir()
+	socket, err := sockets.Listen(filepath.Join(folder, "log.sock"))
+	if err != nil {
+		t.Fatal(err)
+	}
+	defer socket.Close()
+	// A file that is no socket takes its place under its number: no connection comes of it, and the program has not closed it.
+	null, err := os.Open(os.DevNull)
+	if err != nil {
+		t.Fatal(err)
+	}
+	defer null.Close()
+	raw, err := socket.SyscallConn()
+	if err == nil {
+		err = raw.Control(func(file uintptr) {
+			if err := syscall.Dup3(int(null.Fd()), int(file), 0); err != nil {
+				t.Error(err)
+			}
+		})
+	}
+	if err != nil {
+		t.Fatal(err)
+	}
+	// An etcd that takes connections, and answers nothing.
+	silent, err := net.Listen("tcp", "127.0.0.1:0")
+	if err != nil {
+		t.Fatal(err)
+	}
+	defer silent.Close()
+	asked := options{name: "a", endpoints: []string{silent.Addr().String()}, timeout: 200 * time.Millisecond, lease: 2, id: "me"}
+	ended := make(chan int, 1)
+	go func() {
+		ended <- serve(asked, socket, &revisions{noticed: make(chan struct{}, 1)}, make(chan os.Signal), log.New(io.Discard, "", 0))
+	}()
+	select {
+	case status := <-ended:
+		if status != 7 {
+			t.Errorf("it ended with %d", status)
+		}
+	case <-time.After(20 * time.Second):
+		t.Error("it did not end")
+	}
+}
