@@ -35,6 +35,7 @@ pub record IsSettled {S : Type 0} (g : Ghosts S) (old new : Held S) : Type 0 whe
   pub now : HasCleanDisk (state g new) → IsTrue (state g new).is_open → (state g new).now ≡ (state g old).committed
   pub kept : HasCleanDisk (state g new) → IsTrue (state g new).is_open → (state g new).committed ≡ (state g old).committed
   pub crash : HasCleanDisk (state g new) → (db : Trees) → (state g new).may_leave db → (state g old).may_leave db
+  pub unlimited : new.step_limit ≡ None
 
 module _ {S : Type 0} (g : Ghosts S) (conn one two : Held S) (limit : one ≡ record conn { step_limit = None }) where
   pub is_settled : (HasCleanDisk (state g two) → IsUndone (state g one) (state g two)) → Survives (state g one) (state g two) (λ _. ⊥) → IsSettled g conn two
@@ -47,6 +48,7 @@ module _ {S : Type 0} (g : Ghosts S) (conn one two : Held S) (limit : one ≡ re
         now = λ clean is_open. (undone clean).now is_open;
         kept = λ clean is_open. (undone clean).committed is_open;
         crash = λ clean db may. elim (survives.crash clean db may) [ inl before ↦ before | inr none ↦ absurd none ];
+        unlimited = survives.limit;
       }
 
 -- what is committed behind it stays
@@ -107,6 +109,7 @@ module _ {S : Type 0} (g : Ghosts S) (config : Config) (conn two three : Held S)
         ties = λ z. subst (λ (x : Held S × Totals). store_tied g x) (sym over) (λ clean db may. let it = the_state clean in (it.0, subst (IsRows it.0) (sym (left clean db may)) it.4));
         up = fresh.0;
         uncounted = fresh.1;
+        unlimited = subst (λ (x : Held S × Totals). x.0.step_limit ≡ None) (sym over) (survives.limit ∙ settled.unlimited);
       }
 
 -- ---- a fault of the tables
@@ -122,6 +125,7 @@ module _ {S : Type 0} (g : Ghosts S) (config : Config) (conn two back : Held S) 
       let seen : HasCleanDisk (state g back) → IsTrue (state g back).is_open → (state g two).now ≡ (state g conn).committed = λ clean is_open. settled.now (before clean) ((keeps clean).was_open is_open) in
       record {
         idle = idle;
+        unlimited = survives.limit ∙ settled.unlimited;
         clean = omega (arith, settled.clean, survives.clean);
         kept = still_kept settled back before keeps;
         crash = λ clean db may. elim (survives.crash clean db may) [
@@ -154,6 +158,7 @@ module _ {S : Type 0} (g : Ghosts S) (config : Config) (conn two : Held S) (sett
         ties = λ z. made.ties z blank;
         up = made.up;
         uncounted = made.uncounted;
+        unlimited = made.limit ∙ settled.unlimited;
       }
 
   -- a failure to make them
@@ -164,6 +169,7 @@ module _ {S : Type 0} (g : Ghosts S) (config : Config) (conn two : Held S) (sett
       let before : HasCleanDisk (state g back) → HasCleanDisk (state g two) = λ clean. omega (arith, survives.clean) in
       record {
         idle = idle;
+        unlimited = survives.limit ∙ settled.unlimited;
         clean = omega (arith, settled.clean, survives.clean);
         kept = still_kept settled back before (λ clean. record { was_open = (undone clean).was_open; committed = (undone clean).committed });
         crash = λ clean db may. elim (survives.crash clean db may) [

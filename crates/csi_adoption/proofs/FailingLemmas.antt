@@ -1,9 +1,10 @@
 -- Why adoption fails, one call behind another.
-use Rattle.std.proofs.Common.{◌≡◌, ◌∙◌, inl, inr, refl, sym, ap, subst, arith, ℕ, pos, not, ◌||◌, int_lt, Bool, true, false, true≢false, List, map, Option, None, Some, ℤ, Result, Ok, Err, IfErr, IsErrAnd, IsSome, cond}
+use Rattle.std.proofs.Common.{◌≡◌, ◌∙◌, inl, inr, refl, sym, ap, subst, arith, ℕ, pos, not, ◌||◌, int_lt, Bool, true, false, true≢false, List, map, Option, None, Some, ℤ, Result, Ok, Err, IfErr, IsErrAnd, IsSome, IsTrue, cond}
 use Rattle.sqlite.proofs.Callers.{unchanged_then}
 use Rattle.sqlite.specs.Effect.{Database}
 use Rattle.sqlite.specs.Held.{Held, state}
 use Rattle.sqlite.specs.Order.{Row}
+use Rattle.sqlite.specs.Schema.{Schema}
 use Rattle.sqlite.specs.State.{HasCleanDisk, IsUnchanged, Survives}
 use Rattle.sqlite.specs.State as sql
 use Rattle.sqlite.specs.Store.{Ghosts}
@@ -13,7 +14,7 @@ use Rattle.sqlite.specs.declared.error.Error.TheVariants.{SqliteFailure}
 use Rattle.sqlite.specs.declared.error.ErrorCode.TheVariants.{DatabaseCorrupt, OutOfMemory}
 use Rattle.csi_schema.specs.Failing as fails
 use Rattle.csi_schema.specs.Making.{RefusesTables}
-use Rattle.csi_schema.specs.Tables.{schema}
+use Rattle.csi_schema.specs.Tables.{no_schema, schema}
 use Rattle.csi_statements.specs.Failing.{RefusesFormat}
 use Rattle.csi_statements.specs.Rows.{IsUndone}
 use Rattle.csi_schema.specs.Rows.{seen_volume}
@@ -26,7 +27,7 @@ use Rattle.csi_judging.specs.declared.fault.AdoptFault.TheVariants.{Foreign, New
 use Rattle.csi_judging.specs.declared.fault.Foreign.TheVariants as foreign
 use Rattle.std.specs.Ordering.{int_eq}
 use Rattle.csi_schema.specs.declared.formats.TheConstants.{FIRST_FORMAT, LATEST_FORMAT}
-use Rattle.csi_adoption.specs.Failing.{AdoptionFails, DoNotRise, FailsCommitted, HasCause, HasUnrisen, JudgingFails, OfStore, Refuses, ScanFails, too_many, unrisen, format, tables, by_disk, as_shut, as_refused}
+use Rattle.csi_adoption.specs.Failing.{AdoptionFails, DoNotRise, FailsCommitted, HasCause, HasUnrisen, JudgingFails, OfStore, Refuses, ScanFails, too_many, unrisen, format, tables, by_disk, as_shut, as_refused, refused_shut, WasShut}
 use Rattle.csi_adoption.specs.Judging.{integers_judged, meta_judged, row_judged, valid_format, valid_next}
 use Rattle.csi_adoption.specs.Scanning.{Scans}
 use Rattle.csi_adoption.specs.declared.meta.Meta.{Meta}
@@ -98,12 +99,15 @@ module _ {S : Type 0} (g : Ghosts S) where
   pub scan_short : {X : Type 0} (a b : Held S) (r : Result X Error) → IsErrAnd r (λ x. x ≡ SqliteFailure OutOfMemory) → ScanFails g a b r
   scan_short a b r is = if_err (HasCause g a b) r (SqliteFailure OutOfMemory) is (λ clean. fails.for_memory refl)
 
+  schema_before : {is : Schema} (a b : Held S) → IsUnchanged (state g a) (state g b) → (state g b).now.schema ≡ is → (state g a).now.schema ≡ is
+  schema_before a b same has = sym (ap (λ (d : Database). d.schema) same.0.now_is) ∙ has
+
   -- what is refused behind a scan is refused before it
   same_refuses : (a b : Held S) (e : Error) → IsUnchanged (state g a) (state g b) → (state g b).step_limit ≡ (state g a).step_limit → Refuses g b e → Refuses g a e
   same_refuses a b e same limit (too_many why) = too_many (why.0, (why.1.0, why.1.1, why.1.2, unchanged_then (state g a) (state g b) (state g why.1.1) same why.1.3, why.1.4, why.1.5))
-  same_refuses a b e same limit (unrisen is why) = unrisen is (subst HasUnrisen (ap (λ (d : Database). d.trees) same.0.now_is) why)
-  same_refuses a b e same limit (format why) = format (refuses_format (state g a) (state g b) e same.0.now_is limit why)
-  same_refuses a b e same limit (tables why) = tables (refuses_tables (state g a) (state g b) e same.0.now_is limit why)
+  same_refuses a b e same limit (unrisen is_open is why) = unrisen same.0.was_open is (subst HasUnrisen (ap (λ (d : Database). d.trees) same.0.now_is) why)
+  same_refuses a b e same limit (format is_open ours why) = format same.0.was_open (schema_before a b same ours) (refuses_format (state g a) (state g b) e same.0.now_is limit why)
+  same_refuses a b e same limit (tables blank why) = tables (schema_before a b same blank) (refuses_tables (state g a) (state g b) e same.0.now_is limit why)
 
   cause_before : (a b c : Held S) (e : Error) → IsUnchanged (state g a) (state g b) → Survives (state g a) (state g b) (λ _. ⊥) → fails.FailsFor (Refuses g b) (state g b) (state g c) e → fails.FailsFor (Refuses g a) (state g a) (state g c) e
   cause_before a b c e same left (fails.for_memory is) = fails.for_memory is
@@ -124,19 +128,21 @@ module _ {S : Type 0} (g : Ghosts S) where
   judging_behind a b c x (Err fault) one two failed = fault_behind a b c x fault one two failed
 
   -- rows that do not rise
-  pub unrisen_volumes : (a b : Held S) → (HasCleanDisk (state g b) → DoNotRise (map seen_volume ((state g a).now.trees 1))) → HasCause g a b (SqliteFailure DatabaseCorrupt)
-  unrisen_volumes a b found clean = fails.as_refused (unrisen refl (inl (found clean)))
+  pub unrisen_volumes : (a b : Held S) → (HasCleanDisk (state g b) → IsUnchanged (state g a) (state g b)) → (HasCleanDisk (state g b) → DoNotRise (map seen_volume ((state g a).now.trees 1))) → HasCause g a b (SqliteFailure DatabaseCorrupt)
+  unrisen_volumes a b same found clean = fails.as_refused (unrisen (same clean).0.was_open refl (inl (found clean)))
 
-  pub unrisen_attachments : (a b : Held S) → (HasCleanDisk (state g b) → DoNotRise (map keyed_attachment ((state g a).now.trees 3))) → HasCause g a b (SqliteFailure DatabaseCorrupt)
-  unrisen_attachments a b found clean = fails.as_refused (unrisen refl (inr (found clean)))
+  pub unrisen_attachments : (a b : Held S) → (HasCleanDisk (state g b) → IsUnchanged (state g a) (state g b)) → (HasCleanDisk (state g b) → DoNotRise (map keyed_attachment ((state g a).now.trees 3))) → HasCause g a b (SqliteFailure DatabaseCorrupt)
+  unrisen_attachments a b same found clean = fails.as_refused (unrisen (same clean).0.was_open refl (inr (found clean)))
 
   -- the UPDATE of the format
-  pub format_cause : (a b : Held S) (e : Error) → (HasCleanDisk (state g b) → fails.FailsFor (RefusesFormat (state g a)) (state g a) (state g b) e) → HasCause g a b e
-  format_cause a b e failed clean = refused_as a b e format (failed clean)
+  pub format_cause : (a b : Held S) (e : Error) → (HasCleanDisk (state g b) → IsTrue (state g a).is_open × ((state g a).now.schema ≡ schema))
+      → (HasCleanDisk (state g b) → (state g a).now.schema ≡ schema → fails.FailsFor (RefusesFormat (state g a)) (state g a) (state g b) e) → HasCause g a b e
+  format_cause a b e stands failed clean = let it = stands clean in refused_as a b e (format it.0 it.1) (failed clean it.1)
 
   -- a statement that makes tables
-  pub tables_cause : (a b : Held S) (e : Error) (fault : AdoptFault) → fault ≡ failure_of e → (HasCleanDisk (state g b) → fails.FailsFor (RefusesTables (state g a)) (state g a) (state g b) e) → OfStore (HasCause g a b) fault
-  tables_cause a b e fault is failed = subst (OfStore (HasCause g a b)) (sym is) (of_failure (HasCause g a b) e (λ clean. refused_as a b e tables (failed clean)))
+  pub tables_cause : (a b : Held S) (e : Error) (fault : AdoptFault) → fault ≡ failure_of e → (state g a).now.schema ≡ no_schema
+      → (HasCleanDisk (state g b) → fails.FailsFor (RefusesTables (state g a)) (state g a) (state g b) e) → OfStore (HasCause g a b) fault
+  tables_cause a b e fault is blank failed = subst (OfStore (HasCause g a b)) (sym is) (of_failure (HasCause g a b) e (λ clean. refused_as a b e (tables blank) (failed clean)))
 
   pub ours : (a b : Held S) → (state g a).now.schema ≡ schema → IsUnchanged (state g a) (state g b) → (state g b).now.schema ≡ schema
   ours a b is same = ap (λ (d : Database). d.schema) same.0.now_is ∙ is
@@ -153,25 +159,32 @@ module _ {S : Type 0} (g : Ghosts S) where
       start : Held S
       start = record conn { step_limit = None }
 
-      shut_then : (e : Error) → HasCleanDisk (state g two) → Survives (state g start) (state g two) (λ _. ⊥) → (state g two).is_open ≡ false → FailsCommitted g conn back e
-      shut_then e clean left shut =
-          open_or_shut (state g start).is_open (FailsCommitted g conn back e)
+      shut_by : HasCleanDisk (state g two) → Survives (state g start) (state g two) (λ _. ⊥) → (state g two).is_open ≡ false → WasShut g conn back
+      shut_by clean left shut =
+          open_or_shut (state g conn).is_open _
           (λ was_open. elim (left.closes clean was_open) [
             | inl is_open ↦ absurd (true≢false (sym is_open ∙ shut))
-            | inr more ↦ by_disk (omega (arith, more, last.counts))
+            | inr more ↦ inr (omega (arith, more, last.counts))
           ])
-          (λ was_shut. as_shut was_shut)
+          (λ was_shut. inl was_shut)
+
+      -- an open connection alone refuses what is asked of rows
+      refused : (e : Error) → two.step_limit ≡ None → (state g two).is_open ≡ false → WasShut g conn back → Refuses g two e → FailsCommitted g conn back e
+      refused e limit shut by (too_many why) = absurd (true≢false (sym why.1.3.0.was_open ∙ shut))
+      refused e limit shut by (unrisen is_open is why) = absurd (true≢false (sym is_open ∙ shut))
+      refused e limit shut by (format is_open ours why) = absurd (true≢false (sym is_open ∙ shut))
+      refused e limit shut by (tables blank why) = refused_shut by (two, limit, shut, blank, why)
 
       go : (e : Error) → HasCleanDisk (state g two) → IsUndone (state g start) (state g two) → Survives (state g start) (state g two) (λ _. ⊥) → wants_memory e ≡ false
           → fails.FailsFor (Refuses g two) (state g two) (state g back) e → FailsCommitted g conn back e
       go e clean undone left other (fails.for_memory is) = absurd (true≢false (sym (ap wants_memory is) ∙ other))
-      go e clean undone left other (fails.by_disk is more) = by_disk (omega (arith, left.counts, more))
-      go e clean undone left other (fails.as_shut is shut) = shut_then e clean left shut
+      go e clean undone left other (fails.by_disk is more) = by_disk is (omega (arith, left.counts, more))
+      go e clean undone left other (fails.as_shut is shut) = as_shut is (shut_by clean left shut)
       go e clean undone left other (fails.at_limit is some) = absurd (true≢false (sym (subst IsSome left.limit some)))
       go e clean undone left other (fails.as_refused why) =
           open_or_shut (state g two).is_open (FailsCommitted g conn back e)
-          (λ is_open. as_refused (two, undone.now is_open, why))
-          (λ shut. shut_then e clean left shut)
+          (λ is_open. as_refused (two, left.limit, undone.now is_open, why))
+          (λ shut. refused e left.limit shut (shut_by clean left shut) why)
 
   -- what was told as an error of the database
   pub told_behind : {X : Type 0} (a b : Held S) (r : Result X AdoptFault) (e : Error) → IsErrAnd r (λ x. x ≡ failure_of e) → HasCause g a b e → JudgingFails g a b r

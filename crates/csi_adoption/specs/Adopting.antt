@@ -15,7 +15,7 @@ use Rattle.csi_keeper.specs.declared.totals.Totals.{Totals}
 use Rattle.csi_schema.specs.Making.{MakesTables}
 use Rattle.csi_schema.specs.Tables.{no_schema, schema}
 use Rattle.csi_tables.specs.Holding.{IsEitherRows, IsFirstRows, IsFormat, IsRows, IsRowsIn, conn_doubt}
-use Rattle.csi_tables.specs.Keeping.{is_down, refusals, tables_model}
+use Rattle.csi_tables.specs.Keeping.{connection_of, is_down, refusals, tables_model}
 use Rattle.csi_tables.specs.declared.tables.Tables.{Tables}
 use Rattle.csi_judging.specs.Faults.{is_failure}
 use Rattle.csi_judging.specs.Seen.{sums_of}
@@ -78,10 +78,12 @@ module _ {S : Type 0} (g : Ghosts S) (config : Config) (conn : Held S) where
     pub ties : (tables_model g t).doubt ≡ 0 → (tables_model g t).tied
     pub up : is_down g t ≡ false
     pub uncounted : refusals g t ≡ 0
+    pub unlimited : (connection_of g t).step_limit ≡ None
 
   -- a fault, and the connection that is given back
   pub record IsUnadopted (fault : AdoptFault) (back : Held S) : Type 0 where
     pub idle : back.in_transaction ≡ false
+    pub unlimited : back.step_limit ≡ None
     pub clean : conn_doubt g conn ≤ conn_doubt g back
     -- what was committed stays
     pub kept : HasCleanDisk (state g back) → KeepsCommit (state g conn) (state g back)
@@ -94,7 +96,7 @@ module _ {S : Type 0} (g : Ghosts S) (config : Config) (conn : Held S) where
     pub other : HasCleanDisk (state g back) → IsTrue (state g back).is_open → committed.schema ≢ schema → committed.schema ≢ no_schema → fault ≡ Foreign foreign.Schema
     -- a database without a table is refused only if something failed
     pub blank : HasCleanDisk (state g back) → IsTrue (state g back).is_open → committed.schema ≡ no_schema → is_failure fault ≡ true
-    -- the database fails for a cause: the disk failed once more, a fault had shut the connection, or what is asked of what was committed is refused, with this error
+    -- the database fails for a cause, with an error of that cause: the disk failed once more, a fault had shut the connection or shut it since, or what is asked of what was committed is refused
     pub failed : AdoptionFails g conn back fault
     -- and so are rows of a State that meets every constraint
     pub sound : HasCleanDisk (state g back) → IsTrue (state g back).is_open → IsNotRefused config committed fault

@@ -1,17 +1,18 @@
 -- Why adoption fails where no row is at fault: a failure of the database has a cause.
-use Rattle.std.specs.Prelude.{◌≡◌, ◌⊎◌, false, None, List, map, IfErr, Result, ⊤}
+use Rattle.std.specs.Prelude.{◌≡◌, ◌⊎◌, false, None, List, map, IfErr, IsTrue, Result, ⊤}
 use Rattle.sqlite.specs.Held.{Held, state}
 use Rattle.sqlite.specs.Order.{Row}
-use Rattle.sqlite.specs.State.{HasCleanDisk}
+use Rattle.sqlite.specs.State.{HasCleanDisk, is_disk_error}
 use Rattle.sqlite.specs.Store.{Ghosts}
 use Rattle.sqlite.specs.Tree.{Trees}
 use Rattle.sqlite.specs.declared.error.Error.{Error}
 use Rattle.sqlite.specs.declared.error.Error.TheVariants.{SqliteFailure}
-use Rattle.sqlite.specs.declared.error.ErrorCode.TheVariants.{DatabaseCorrupt}
+use Rattle.sqlite.specs.declared.error.ErrorCode.TheVariants.{Closed, DatabaseCorrupt}
 use Rattle.sqlite_disk.specs.Disk.{MoreFaults}
 use Rattle.csi_schema.specs.Failing.{FailsFor}
 use Rattle.csi_schema.specs.Making.{RefusesTables}
 use Rattle.csi_schema.specs.Rows.{seen_volume}
+use Rattle.csi_schema.specs.Tables.{no_schema, schema}
 use Rattle.csi_statements.specs.Failing.{RefusesFormat}
 use Rattle.csi_scans.specs.Failing.{HasTooMany}
 use Rattle.csi_scans.specs.Folds.{IsRising}
@@ -32,11 +33,11 @@ HasUnrisen db = DoNotRise (map seen_volume (db 1)) ⊎ DoNotRise (map keyed_atta
 pub data Refuses {S : Type 0} (g : Ghosts S) (old : Held S) (e : Error) : Type 0 where
   -- a scan has more rows than are read at most
   too_many : HasTooMany g old e → Refuses g old e
-  unrisen : e ≡ SqliteFailure DatabaseCorrupt → HasUnrisen (state g old).now.trees → Refuses g old e
+  unrisen : IsTrue (state g old).is_open → e ≡ SqliteFailure DatabaseCorrupt → HasUnrisen (state g old).now.trees → Refuses g old e
   -- the UPDATE that makes tables of the first format ones of the latest
-  format : RefusesFormat (state g old) e → Refuses g old e
+  format : IsTrue (state g old).is_open → (state g old).now.schema ≡ schema → RefusesFormat (state g old) e → Refuses g old e
   -- a statement that makes new tables
-  tables : RefusesTables (state g old) e → Refuses g old e
+  tables : (state g old).now.schema ≡ no_schema → RefusesTables (state g old) e → Refuses g old e
 
 -- of an error of the database that is told as such, which no want of memory is
 abbrev pub OfStore : (Error → Type 0) → AdoptFault → Type 0
@@ -56,17 +57,25 @@ module _ {S : Type 0} (g : Ghosts S) (old new : Held S) where
   abbrev pub JudgingFails : {X : Type 0} → Result X AdoptFault → Type 0
   JudgingFails r = IfErr r (OfStore HasCause)
 
--- of what was committed on the connection
+-- of what was committed on the connection; the limit on its steps is taken away
 abbrev pub RefusesCommitted : {S : Type 0} → Ghosts S → Held S → Error → Type 0
-RefusesCommitted {S} g conn e = (settled : Held S) × ((state g settled).now ≡ (state g conn).committed) × Refuses g settled e
+RefusesCommitted {S} g conn e = (settled : Held S) × (settled.step_limit ≡ None) × ((state g settled).now ≡ (state g conn).committed) × Refuses g settled e
 
--- the cause of an error that ends an adoption; the limit on the connection's steps is taken away
+-- where the connection is shut nothing is known of the rows; what is refused then is a statement that makes new tables
+abbrev pub RefusesShut : {S : Type 0} → Ghosts S → Error → Type 0
+RefusesShut {S} g e = (settled : Held S) × (settled.step_limit ≡ None) × ((state g settled).is_open ≡ false) × ((state g settled).now.schema ≡ no_schema) × RefusesTables (state g settled) e
+
+-- a fault had shut the connection, or shut it since
+abbrev pub WasShut : {S : Type 0} → Ghosts S → Held S → Held S → Type 0
+WasShut g conn back = ((state g conn).is_open ≡ false) ⊎ MoreFaults (state g conn).faults (state g back).faults
+
+-- the error that ends an adoption, and its cause
 pub data FailsCommitted {S : Type 0} (g : Ghosts S) (conn back : Held S) (e : Error) : Type 0 where
   -- the disk failed once more
-  by_disk : MoreFaults (state g (record conn { step_limit = None })).faults (state g back).faults → FailsCommitted g conn back e
-  -- a fault had shut the connection
-  as_shut : (state g (record conn { step_limit = None })).is_open ≡ false → FailsCommitted g conn back e
+  by_disk : IsTrue (is_disk_error e) → MoreFaults (state g conn).faults (state g back).faults → FailsCommitted g conn back e
+  as_shut : e ≡ SqliteFailure Closed → WasShut g conn back → FailsCommitted g conn back e
   as_refused : RefusesCommitted g conn e → FailsCommitted g conn back e
+  refused_shut : WasShut g conn back → RefusesShut g e → FailsCommitted g conn back e
 
 abbrev pub AdoptionFails : {S : Type 0} → Ghosts S → Held S → Held S → AdoptFault → Type 0
 AdoptionFails g conn back fault = OfStore (λ e. HasCleanDisk (state g back) → FailsCommitted g conn back e) fault

@@ -318,8 +318,8 @@ fn settle<S: Alter>(conn: &mut Connection<S>)
 ///
 /// The first constraint that is broken, with the row that a scan finds first; or that the database or memory
 /// failed, which says nothing of the rows: those of a State that meets every constraint are refused for
-/// nothing else. That the database failed has a cause: its disk, a fault that had shut the connection, or that
-/// it refuses what is asked. What was committed stays, and the connection is given back.
+/// nothing else. That the database failed has a cause, of which its error tells: its disk, a fault that shut the
+/// connection, or that it refuses what is asked. What was committed stays, and the connection is given back.
 pub fn adopt<S: Alter>(
     alloc: Global,
     mut conn: Connection<S>,

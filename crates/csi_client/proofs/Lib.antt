@@ -3,4 +3,5 @@ pub mod Gathering
 pub mod Paths
 pub mod Pauses
 pub mod Printing
+pub mod Sending
 pub mod Statuses

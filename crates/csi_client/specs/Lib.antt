@@ -4,4 +4,5 @@ pub mod Lines
 pub mod Live
 pub mod Receiving
 pub mod Replies
+pub mod Sending
 pub mod Showing

@@ -1,1 +1,3 @@
 pub mod ConfigFile
+pub mod Document
+pub mod Unknown

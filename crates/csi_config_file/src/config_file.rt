@@ -1,7 +1,14 @@
 //! A configuration from its text, a TOML document (TOML 1.0).
 
-ghost use Rattle.csi_config_file.specs.ConfigFile.{IsOfDocument, IsOfText};
-ghost use Rattle.std.specs.Prelude.{IfErr};
+ghost use Rattle.std.specs.Prelude.{◌≡◌, IfOk, OnOk, Some, None, if◌then◌else◌, option_and_then, option_map};
+ghost use Rattle.std.specs.FinMap.{insert};
+ghost use Rattle.toml.specs.Data.{as_array, get_member};
+ghost use Rattle.toml.specs.View.{items_view, members_view, table_view, view};
+ghost use Rattle.csi_config_file.specs.ConfigFile.{IsOfDocument, IsOfText, IsRead};
+ghost use Rattle.csi_config_file.specs.Document.{count_at, each, key_text, node_at, node_in, nodes_in, plugin_in, pool_at, pool_in, pools_in, sizes_in, table_in, text_at, texts_of, value_at, with_texts};
+ghost use Rattle.csi_config_file.specs.declared.config_file.ConfigError.TheVariants as error;
+ghost use Rattle.csi_config_file.specs.declared.config_file.Key.TheVariants as key_of;
+ghost use Rattle.csi_config_file.specs.declared.config_file.Section.TheVariants as section_of;
 
 use csi_config::{Config, ConfigFault, Node, Plugin, Pool, Sizes};
 use csi_types::{Map, Text};
@@ -58,7 +65,9 @@ pub enum Key {
 
 impl Key {
     // How it is written.
-    pub(crate) fn text(self) -> &'static str {
+    pub(crate) fn text(self) -> &'static str
+        ensures { result.now ≡ key_text self }
+    {
         match self {
             Key::Name => "name",
             Key::VendorVersion => "vendor_version",
@@ -154,21 +163,36 @@ fn insert_segment(
     segments: &mut Map,
     key: &str,
     value: &str,
-) -> Result<(), AllocError> {
+) -> Result<(), AllocError>
+    ensures { OnOk result (segments.new ≡ insert segments.old key.now value.now) }
+{
     let key = Text::from_str(alloc, key)?;
     segments.insert(key, Text::from_str(alloc, value)?)
 }
 
+// Adds the texts of a table, or says that it has something else.
+fn insert_texts(alloc: Global, table: &Table, texts: &mut Map) -> Result<bool, AllocError>
+    ensures { IfOk result (λ all. with_texts texts.old (table_view table.now) ≡ (if all then Some texts.new else None)) }
+{
+    for (key, value) in table {
+        let Some(text) = value.as_str() else {
+            return Ok(false);
+        };
+        insert_segment(alloc, texts, key.as_str(), text)?;
+    }
+    Ok(true)
+}
+
 // Reads the keys of one table.
 #[derive(Clone, Copy)]
-struct Keys<'a> {
-    section: Section,
-    table: &'a Table,
+pub(crate) struct Keys<'a> {
+    pub(crate) section: Section,
+    pub(crate) table: &'a Table,
 }
 
 impl<'a> Keys<'a> {
     fn error(&self, key: Key, rule: KeyRule) -> ConfigError
-        ensures { IsOfDocument result }
+        ensures { result ≡ error.Key self.now.section key rule }
     {
         ConfigError::Key {
             section: self.section,
@@ -177,17 +201,34 @@ impl<'a> Keys<'a> {
         }
     }
 
-    fn value(&self, key: Key) -> Result<&'a Value, ConfigError>
-        ensures { IfErr result (λ e. IsOfDocument e) }
+    // The value of a key, if it is there.
+    fn find(&self, key: Key) -> Option<&'a Value>
+        ensures { option_map (λ value. view value.now) result ≡ get_member (key_text key) (table_view self.now.table.now) }
     {
-        match self.table.get(key.text()) {
+        self.table.get(key.text())
+    }
+
+    // The array that a key has, if it has one.
+    pub(crate) fn array(&self, key: Key) -> Option<&'a [Value]>
+        ensures { option_map (λ array. items_view array.now) result ≡ option_and_then as_array (get_member (key_text key) (table_view self.now.table.now)) }
+    {
+        match self.find(key)?.as_array() {
+            Some(array) => Some(array.as_slice()),
+            None => None,
+        }
+    }
+
+    fn value(&self, key: Key) -> Result<&'a Value, ConfigError>
+        ensures { IsRead (λ value. view value.now) (value_at self.now.section (table_view self.now.table.now) key) result }
+    {
+        match self.find(key) {
             Some(value) => Ok(value),
             None => Err(self.error(key, KeyRule::Missing)),
         }
     }
 
     fn text(&self, alloc: Global, key: Key) -> Result<Text, ConfigError>
-        ensures { IfErr result (λ e. IsOfDocument e) }
+        ensures { IsRead (λ read. read) (text_at self.now.section (table_view self.now.table.now) key) result }
     {
         match self.value(key)?.as_str() {
             Some(text) => Ok(Text::from_str(alloc, text)?),
@@ -196,7 +237,7 @@ impl<'a> Keys<'a> {
     }
 
     fn count(&self, key: Key) -> Result<u64, ConfigError>
-        ensures { IfErr result (λ e. IsOfDocument e) }
+        ensures { IsRead (λ read. read) (count_at self.now.section (table_view self.now.table.now) key) result }
     {
         match self.value(key)?.as_integer() {
             Some(number) if number >= 0 => Ok(number as u64),
@@ -204,37 +245,25 @@ impl<'a> Keys<'a> {
         }
     }
 
-    // Adds the segments of a pool; none where the key is missing.
-    fn insert_segments(&self, alloc: Global, segments: &mut Map) -> Result<(), ConfigError>
-        ensures { IfErr result (λ e. IsOfDocument e) }
-    {
-        let Some(value) = self.table.get(Key::Segments.text()) else {
-            return Ok(());
-        };
-        let Some(table) = value.as_table() else {
-            return Err(self.error(Key::Segments, KeyRule::Texts));
-        };
-        for (key, value) in table {
-            let Some(text) = value.as_str() else {
-                return Err(self.error(Key::Segments, KeyRule::Texts));
-            };
-            insert_segment(alloc, segments, key.as_str(), text)?;
-        }
-        Ok(())
-    }
-
+    // The segments of a pool; none where the key is missing.
     fn segments(&self, alloc: Global) -> Result<Map, ConfigError>
-        ensures { IfErr result (λ e. IsOfDocument e) }
+        ensures { IsRead (λ read. read) (texts_of self.now.section (get_member (key_text key_of.Segments) (table_view self.now.table.now))) result }
     {
         let mut segments = Map::new(alloc);
-        self.insert_segments(alloc, &mut segments)?;
-        Ok(segments)
+        let Some(value) = self.find(Key::Segments) else {
+            return Ok(segments);
+        };
+        match value.as_table() {
+            Some(table) if insert_texts(alloc, table, &mut segments)? => Ok(segments),
+            _ => Err(self.error(Key::Segments, KeyRule::Texts)),
+        }
     }
 }
 
 // The table that an element of an array of tables is.
 fn element<'a>(value: &'a Value, key: Key, section: Section) -> Result<Keys<'a>, ConfigError>
-    ensures { IfErr result (λ e. IsOfDocument e) }
+    ensures table { IsRead (λ keys. table_view keys.table.now) (table_in key (view value.now)) result }
+    ensures section { IfOk result (λ keys. keys.section ≡ section) }
 {
     match value.as_table() {
         Some(table) => Ok(Keys { section, table }),
@@ -247,7 +276,7 @@ fn element<'a>(value: &'a Value, key: Key, section: Section) -> Result<Keys<'a>,
 }
 
 fn pool(alloc: Global, keys: Keys<'_>) -> Result<Pool, ConfigError>
-    ensures { IfErr result (λ e. IsOfDocument e) }
+    ensures { IsRead (λ read. read) (pool_in keys.entry.section (table_view keys.entry.table.now)) result }
 {
     Ok(Pool {
         name: keys.text(alloc, Key::Name)?,
@@ -257,7 +286,7 @@ fn pool(alloc: Global, keys: Keys<'_>) -> Result<Pool, ConfigError>
 }
 
 fn node(alloc: Global, keys: Keys<'_>) -> Result<Node, ConfigError>
-    ensures { IfErr result (λ e. IsOfDocument e) }
+    ensures { IsRead (λ read. read) (node_in keys.entry.section (table_view keys.entry.table.now)) result }
 {
     Ok(Node {
         id: keys.text(alloc, Key::Id)?,
@@ -265,40 +294,67 @@ fn node(alloc: Global, keys: Keys<'_>) -> Result<Node, ConfigError>
     })
 }
 
-fn pools(alloc: Global, top: Keys<'_>) -> Result<Vec<Pool>, ConfigError>
-    ensures { IfErr result (λ e. IsOfDocument e) }
+// The pool that an element of the array is.
+fn pool_at(alloc: Global, value: &Value, number: usize) -> Result<Pool, ConfigError>
+    ensures { IsRead (λ pool. pool) (pool_at number (view value.now)) result }
 {
-    let Some(array) = top.value(Key::Pool)?.as_array() else {
-        return Err(top.error(Key::Pool, KeyRule::Tables));
-    };
+    pool(alloc, element(value, Key::Pool, Section::Pool(number))?)
+}
+
+fn pools_of(alloc: Global, array: &[Value]) -> Result<Vec<Pool>, ConfigError>
+    ensures { IsRead (λ pools. pools.items) (each pool_at 1 (items_view array.now)) result }
+{
     let mut pools = Vec::new(alloc);
     for (index, value) in array.iter().enumerate() {
-        let section = Section::Pool(index.saturating_add(1));
-        pools.push(pool(alloc, element(value, Key::Pool, section)?)?)?;
+        pools.push(pool_at(alloc, value, index.saturating_add(1))?)?;
     }
     Ok(pools)
 }
 
-// The nodes; none where the key is missing.
-fn nodes(alloc: Global, top: Keys<'_>) -> Result<Vec<Node>, ConfigError>
-    ensures { IfErr result (λ e. IsOfDocument e) }
+fn pools(alloc: Global, top: Keys<'_>) -> Result<Vec<Pool>, ConfigError>
+    requires { top.section ≡ section_of.Top }
+    ensures { IsRead (λ pools. pools.items) (pools_in (table_view top.entry.table.now)) result }
+{
+    match top.value(Key::Pool)?.as_array() {
+        Some(array) => pools_of(alloc, array.as_slice()),
+        None => Err(top.error(Key::Pool, KeyRule::Tables)),
+    }
+}
+
+// The node that an element of the array is.
+fn node_at(alloc: Global, value: &Value, number: usize) -> Result<Node, ConfigError>
+    ensures { IsRead (λ node. node) (node_at number (view value.now)) result }
+{
+    node(alloc, element(value, Key::Node, Section::Node(number))?)
+}
+
+fn nodes_of(alloc: Global, array: &[Value]) -> Result<Vec<Node>, ConfigError>
+    ensures { IsRead (λ nodes. nodes.items) (each node_at 1 (items_view array.now)) result }
 {
     let mut nodes = Vec::new(alloc);
-    let Some(value) = top.table.get(Key::Node.text()) else {
-        return Ok(nodes);
-    };
-    let Some(array) = value.as_array() else {
-        return Err(top.error(Key::Node, KeyRule::Tables));
-    };
     for (index, value) in array.iter().enumerate() {
-        let section = Section::Node(index.saturating_add(1));
-        nodes.push(node(alloc, element(value, Key::Node, section)?)?)?;
+        nodes.push(node_at(alloc, value, index.saturating_add(1))?)?;
     }
     Ok(nodes)
 }
 
+// The nodes; none where the key is missing.
+fn nodes(alloc: Global, top: Keys<'_>) -> Result<Vec<Node>, ConfigError>
+    requires { top.section ≡ section_of.Top }
+    ensures { IsRead (λ nodes. nodes.items) (nodes_in (get_member (key_text key_of.Node) (table_view top.entry.table.now))) result }
+{
+    let Some(value) = top.find(Key::Node) else {
+        return Ok(Vec::new(alloc));
+    };
+    match value.as_array() {
+        Some(array) => nodes_of(alloc, array.as_slice()),
+        None => Err(top.error(Key::Node, KeyRule::Tables)),
+    }
+}
+
 fn plugin(alloc: Global, top: Keys<'_>) -> Result<Plugin, ConfigError>
-    ensures { IfErr result (λ e. IsOfDocument e) }
+    requires { top.section ≡ section_of.Top }
+    ensures { IsRead (λ read. read) (plugin_in (table_view top.entry.table.now)) result }
 {
     Ok(Plugin {
         name: top.text(alloc, Key::Name)?,
@@ -307,7 +363,8 @@ fn plugin(alloc: Global, top: Keys<'_>) -> Result<Plugin, ConfigError>
 }
 
 fn sizes(top: Keys<'_>) -> Result<Sizes, ConfigError>
-    ensures { IfErr result (λ e. IsOfDocument e) }
+    requires { top.section ≡ section_of.Top }
+    ensures { IsRead (λ read. read) (sizes_in (table_view top.entry.table.now)) result }
 {
     Ok(Sizes {
         default_bytes: top.count(Key::DefaultBytes)?,
@@ -316,7 +373,8 @@ fn sizes(top: Keys<'_>) -> Result<Sizes, ConfigError>
 }
 
 fn config(alloc: Global, top: Keys<'_>) -> Result<Config, ConfigError>
-    ensures { IfErr result (λ e. IsOfDocument e) }
+    requires { top.section ≡ section_of.Top }
+    ensures { IsOfDocument (table_view top.entry.table.now) result }
 {
     let plugin = plugin(alloc, top)?;
     let sizes = sizes(top)?;

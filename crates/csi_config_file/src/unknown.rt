@@ -1,22 +1,34 @@
 //! Keys of a configuration that are not known.
 
-use crate::config_file::{Key, Section};
+ghost use Rattle.std.specs.Prelude.{◌≡◌, ◌++◌, [], map, IfOk, OnOk, IsUtf8};
+ghost use Rattle.toml.specs.Parse.{parse_document};
+ghost use Rattle.toml.specs.Data.{as_table};
+ghost use Rattle.toml.specs.View.{items_view, table_view, view};
+ghost use Rattle.csi_config_file.specs.Unknown.{is_known, known_in, of_table, of_tables, place_of, unknown_if, unknown_in, unknown_of};
+ghost use Rattle.csi_config_file.specs.declared.config_file.Section.TheVariants as section_of;
+
+use crate::config_file::{Key, Keys, Section};
 use std::alloc::{AllocError, Global};
 use std::fmt;
 use toml::{Table, Value};
 
-const TOP: &[Key] = &[
-    Key::Name,
-    Key::VendorVersion,
-    Key::DefaultBytes,
-    Key::GreatestBytes,
-    Key::Pool,
-    Key::Node,
-];
-
-const POOL: &[Key] = &[Key::Name, Key::Bytes, Key::Segments];
-
-const NODE: &[Key] = &[Key::Id, Key::MaxVolumes];
+// The keys that a table may have.
+fn known_in(section: Section) -> &'static [Key]
+    ensures { result.now ≡ known_in section }
+{
+    match section {
+        Section::Top => &[
+            Key::Name,
+            Key::VendorVersion,
+            Key::DefaultBytes,
+            Key::GreatestBytes,
+            Key::Pool,
+            Key::Node,
+        ],
+        Section::Pool(_) => &[Key::Name, Key::Bytes, Key::Segments],
+        Section::Node(_) => &[Key::Id, Key::MaxVolumes],
+    }
+}
 
 /// A key that is not known, which reading a configuration passes over. Its `Display` says where it is.
 #[derive(Debug, Drop)]
@@ -35,6 +47,12 @@ impl fmt::Display for UnknownKey {
     }
 }
 
+fn is_known(known: &[Key], key: &str) -> bool
+    ensures { result ≡ is_known known.now key.now }
+{
+    known.iter().any(|one| one.text() == key)
+}
+
 // Adds the keys of a table that are none of these.
 fn add_unknown(
     alloc: Global,
@@ -42,9 +60,11 @@ fn add_unknown(
     section: Section,
     table: &Table,
     known: &[Key],
-) -> Result<(), AllocError> {
+) -> Result<(), AllocError>
+    ensures { OnOk result (map place_of found.new.items ≡ map place_of found.old.items ++ unknown_of section known.now (table_view table.now)) }
+{
     for (key, _) in table {
-        if !known.iter().any(|one| one.text() == key.as_str()) {
+        if !is_known(known, key.as_str()) {
             let key = String::from_str(alloc, key.as_str())?;
             found.push(UnknownKey { section, key })?;
         }
@@ -52,26 +72,62 @@ fn add_unknown(
     Ok(())
 }
 
-// Adds those of each table of an array, where there is one: that of the pools, or that of the nodes.
-fn add_of_each(
+// Adds those of an element of an array, where it is a table.
+fn add_of_table(
     alloc: Global,
     found: &mut Vec<UnknownKey>,
-    top: &Table,
-    array: Key,
-    known: &[Key],
-) -> Result<(), AllocError> {
-    let Some(Value::Array(elements)) = top.get(array.text()) else {
-        return Ok(());
+    section: Section,
+    value: &Value,
+) -> Result<(), AllocError>
+    ensures { OnOk result (map place_of found.new.items ≡ map place_of found.old.items ++ of_table section (as_table (view value.now))) }
+{
+    match value.as_table() {
+        Some(table) => add_unknown(alloc, found, section, table, known_in(section)),
+        None => Ok(()),
+    }
+}
+
+// Adds those of the pools.
+fn add_of_pools(
+    alloc: Global,
+    found: &mut Vec<UnknownKey>,
+    array: &[Value],
+) -> Result<(), AllocError>
+    ensures { OnOk result (map place_of found.new.items ≡ map place_of found.old.items ++ of_tables section_of.Pool 1 (items_view array.now)) }
+{
+    for (index, value) in array.iter().enumerate() {
+        add_of_table(alloc, found, Section::Pool(index.saturating_add(1)), value)?;
+    }
+    Ok(())
+}
+
+// Adds those of the nodes.
+fn add_of_nodes(
+    alloc: Global,
+    found: &mut Vec<UnknownKey>,
+    array: &[Value],
+) -> Result<(), AllocError>
+    ensures { OnOk result (map place_of found.new.items ≡ map place_of found.old.items ++ of_tables section_of.Node 1 (items_view array.now)) }
+{
+    for (index, value) in array.iter().enumerate() {
+        add_of_table(alloc, found, Section::Node(index.saturating_add(1)), value)?;
+    }
+    Ok(())
+}
+
+fn add_all(alloc: Global, found: &mut Vec<UnknownKey>, top: &Table) -> Result<(), AllocError>
+    ensures { OnOk result (map place_of found.new.items ≡ map place_of found.old.items ++ unknown_in (table_view top.now)) }
+{
+    let keys = Keys {
+        section: Section::Top,
+        table: top,
     };
-    for (index, value) in elements.as_slice().iter().enumerate() {
-        if let Some(table) = value.as_table() {
-            let number = index.saturating_add(1);
-            let section = match array {
-                Key::Pool => Section::Pool(number),
-                _ => Section::Node(number),
-            };
-            add_unknown(alloc, found, section, table, known)?;
-        }
+    add_unknown(alloc, found, Section::Top, top, known_in(Section::Top))?;
+    if let Some(array) = keys.array(Key::Pool) {
+        add_of_pools(alloc, found, array)?;
+    }
+    if let Some(array) = keys.array(Key::Node) {
+        add_of_nodes(alloc, found, array)?;
     }
     Ok(())
 }
@@ -82,13 +138,15 @@ fn add_of_each(
 /// # Errors
 ///
 /// Where memory was refused.
-pub fn unknown_keys(alloc: Global, bytes: &[u8]) -> Result<Vec<UnknownKey>, AllocError> {
+pub fn unknown_keys(alloc: Global, bytes: &[u8]) -> Result<Vec<UnknownKey>, AllocError>
+    ensures found { IfOk result (λ found. IsUtf8 bytes.now → map place_of found.items ≡ unknown_if (parse_document bytes.now)) }
+    ensures none { IfOk result (λ found. ¬ IsUtf8 bytes.now → found.items ≡ []) }
+{
     let mut found = Vec::new(alloc);
-    let Ok(top) = toml::table_from_slice(alloc, bytes) else {
-        return Ok(found);
-    };
-    add_unknown(alloc, &mut found, Section::Top, &top, TOP)?;
-    add_of_each(alloc, &mut found, &top, Key::Pool, POOL)?;
-    add_of_each(alloc, &mut found, &top, Key::Node, NODE)?;
+    match toml::table_from_slice(alloc, bytes) {
+        Ok(top) => add_all(alloc, &mut found, &top)?,
+        Err(error) if error.span().is_none() => return Err(AllocError),
+        Err(_) => {}
+    }
     Ok(found)
 }

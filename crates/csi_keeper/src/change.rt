@@ -1,7 +1,8 @@
 //! How what is kept changes, what is told of it, and why a call fails.
 
-ghost use Rattle.std.specs.Prelude.{◌≡◌, IfErr, IfOk};
+ghost use Rattle.std.specs.Prelude.{◌≡◌, ◌≢◌, IfErr, IfOk};
 ghost use Rattle.csi_keeper.specs.declared.change.Change.TheVariants.{AddVolume};
+ghost use Rattle.csi_keeper.specs.declared.volume.Volume.{Volume as AnyVolume};
 
 use crate::volume::{Attachment, Volume};
 use csi_types::{Map, Text};
@@ -51,7 +52,7 @@ impl Change {
     /// Any other change, as it was.
     pub fn into_added(self) -> Result<Volume, Change>
         ensures added { IfOk result (λ volume. self ≡ AddVolume volume) }
-        ensures other { IfErr result (λ change. change ≡ self) }
+        ensures other { IfErr result (λ change. (change ≡ self) × ((volume : AnyVolume) → self ≢ AddVolume volume)) }
     {
         match self {
             Change::AddVolume(volume) => Ok(volume),

@@ -117,12 +117,13 @@ impl Totals {
     }
 
     /// Counts a volume of this many bytes in a pool that is reserved; the other pools stay. It takes
-    /// no memory. Nothing is said where [`has_room`](Totals::has_room) is false.
-    #[tactic(auto, using(crate::proofs::TotalsLemmas::total_set))]
+    /// no memory. Of the pool nothing is said where [`has_room`](Totals::has_room) is false.
+    #[tactic(auto, using(crate::proofs::TotalsLemmas::total_set, crate::proofs::TotalsLemmas::total_other))]
     pub fn count(&mut self, pool: &Text, bytes: u64)
         requires { IsReserved self.old pool.now }
-        ensures { HasRoom (total_of self.old pool.now) bytes → (q : List ℕ)
+        ensures counted { HasRoom (total_of self.old pool.now) bytes → (q : List ℕ)
             → total_of self.new q ≡ (if same_text pool.now q then more (total_of self.old pool.now) bytes else total_of self.old q) }
+        ensures others { (q : List ℕ) → same_text pool.now q ≡ false → total_of self.new q ≡ total_of self.old q }
     {
         if let Some(total) = self.tree.get_mut(pool) {
             *total = more_total(*total, bytes);

@@ -1,6 +1,6 @@
 //! The calls of a log, as frames.
 
-ghost use Rattle.std.specs.Prelude.{◌≡◌, ◌≢◌, ◌<◌, Err, IfErr, IfOk, IsErrOf, length};
+ghost use Rattle.std.specs.Prelude.{◌≡◌, ◌≢◌, ◌<◌, ◌≤◌, Err, IfErr, IfOk, IsErrOf, OnOk, length};
 ghost use Rattle.envelope.specs.Envelope.{frame};
 ghost use Rattle.envelope.specs.declared.limits.TheConstants.{MAX_MESSAGE_BYTES};
 ghost use Rattle.csi_keeper.specs.declared.change.StoreFault.TheVariants.{Down, NoMemory, Refused};
@@ -47,6 +47,8 @@ pub(crate) fn frame_of(alloc: Global, call: Call, message: &[u8]) -> Result<Vec<
     ensures frame { IfOk result (λ out. out.items ≡ frame (record { path = path_of call; message = message.now })) }
     ensures fault { result ≢ Err Down }
     ensures refused { IsErrOf result Refused → MAX_MESSAGE_BYTES < length message.now }
+    ensures memory { IsErrOf result NoMemory → length message.now ≤ MAX_MESSAGE_BYTES }
+    ensures fits { OnOk result (length message.now ≤ MAX_MESSAGE_BYTES) }
 {
     if message.len() > MAX_MESSAGE_BYTES {
         return Err(StoreFault::Refused);
@@ -66,6 +68,7 @@ pub fn read_frame(alloc: Global, token: &[u8]) -> Result<Vec<u8>, StoreFault>
     ensures frame { IfOk result (λ frame. frame.items ≡ read_frame token.now) }
     ensures fault { result ≢ Err Down }
     ensures refused { IsErrOf result Refused → MAX_MESSAGE_BYTES < length (token_bytes token.now) }
+    ensures fits { OnOk result (length (token_bytes token.now) ≤ MAX_MESSAGE_BYTES) }
 {
     let mut message = Vec::new(alloc);
     put_bytes(&mut message, 1, token)?;

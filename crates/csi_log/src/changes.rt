@@ -1,6 +1,6 @@
 //! The frame that asks for a change.
 
-ghost use Rattle.std.specs.Prelude.{◌≡◌, ◌≢◌, ◌++◌, ◌∷◌, ◌<◌, [], Err, IfOk, IsErrOf, OnOk, length};
+ghost use Rattle.std.specs.Prelude.{◌≡◌, ◌≢◌, ◌++◌, ◌∷◌, ◌<◌, ◌≤◌, [], Err, IfOk, IsErrOf, OnOk, length};
 ghost use Rattle.envelope.specs.declared.limits.TheConstants.{MAX_MESSAGE_BYTES};
 ghost use Rattle.pbwire.specs.Writing.{spellings};
 ghost use Rattle.csi_keeper.specs.declared.change.StoreFault.TheVariants.{Down, Refused};
@@ -110,6 +110,7 @@ pub(crate) fn commit_frame(alloc: Global, change: &Change) -> Result<Vec<u8>, St
     ensures frame { IfOk result (λ frame. frame.items ≡ commit_frame change.now) }
     ensures fault { result ≢ Err Down }
     ensures refused { IsErrOf result Refused → MAX_MESSAGE_BYTES < length (change_bytes change.now) }
+    ensures fits { OnOk result (length (change_bytes change.now) ≤ MAX_MESSAGE_BYTES) }
 {
     let message = message_of(alloc, change)?;
     frame_of(alloc, Call::Commit, message.as_slice())

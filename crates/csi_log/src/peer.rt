@@ -1,9 +1,10 @@
 //! The other end of a connection.
 
-ghost use Rattle.std.specs.Prelude.{◌≡◌};
+ghost use Rattle.std.specs.Prelude.{◌≡◌, List, ℕ};
 ghost use Rattle.csi_keeper.specs.Model.{Model};
 ghost use Rattle.csi_keeper.specs.State.{State};
-ghost use Rattle.csi_log.specs.Remote.{Answers, Exchanges, channel_model};
+ghost use Rattle.csi_client.specs.declared.receiving.Received.{Received};
+ghost use Rattle.csi_log.specs.Remote.{Answers, channel_exchanges, channel_model};
 
 use csi_client::{Received, receive, send};
 use std::alloc::Global;
@@ -16,12 +17,16 @@ pub trait Peer {
     // What contracts see of it.
     ghost model: { Self → Model State };
 
+    // What one exchange does to it: before and after, for a frame and what came. Nothing else says so, so who promises it has asked once.
+    ghost exchanged: { Self → Self → List ℕ → Received → Type 0 };
+
     /// Sends a frame, and waits for the reply.
     ///
     /// Where the frame asks for a change, the change is made where the reply has status 0. With another status it is
     /// not made; where no reply came it may have been, and a stop leaves one or the other.
     fn exchange(&mut self, alloc: Global, frame: &[u8]) -> Received
-        ensures { Answers (model self.old) (model self.new) frame.now result };
+        ensures answers { Answers (model self.old) (model self.new) frame.now result }
+        ensures asked { exchanged self.old self.new frame.now result };
 }
 
 /// The other end of a reader and a writer.
@@ -50,9 +55,11 @@ impl<R: Read, W: Write> Channel<R, W> {
 impl<R: Read, W: Write> Peer for Channel<R, W> {
     ghost model = { channel_model };
 
+    ghost exchanged = { channel_exchanges R.remaining W.contents };
+
     fn exchange(&mut self, alloc: Global, frame: &[u8]) -> Received
         ensures answers { Answers (channel_model self.old) (channel_model self.new) frame.now result }
-        ensures bytes { Exchanges (W.contents self.old.writer) (W.contents self.new.writer) (R.remaining self.old.reader) (R.remaining self.new.reader) frame.now result }
+        ensures asked { channel_exchanges R.remaining W.contents self.old self.new frame.now result }
     {
         self.exchanges = self.exchanges.saturating_add(1);
         if send(&mut self.writer, frame).is_err() {

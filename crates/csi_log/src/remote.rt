@@ -1,11 +1,11 @@
 //! A log behind a connection.
 
-ghost use Rattle.std.specs.Prelude.{◌≡◌, ◌≢◌, Err, IsTrue, OnErr, false};
+ghost use Rattle.std.specs.Prelude.{◌≡◌, Err, IsTrue, OnErr, false};
 ghost use Rattle.csi_keeper.specs.Keeper.{Changes};
 ghost use Rattle.csi_keeper.specs.State.{IsBounded};
 ghost use Rattle.csi_keeper.specs.declared.change.StoreFault.TheVariants.{Down};
 ghost use Rattle.csi_log.specs.Asking.{answer_of};
-ghost use Rattle.csi_log.specs.Remote.{remote_model};
+ghost use Rattle.csi_log.specs.Remote.{Asks, remote_model};
 
 use crate::changes::commit_frame;
 use crate::peer::Peer;
@@ -29,7 +29,7 @@ fn answer_of(received: &Received) -> Result<(), StoreFault>
 fn ask<P: Peer>(alloc: Global, peer: &mut P, change: &Change) -> Result<(), StoreFault>
     requires { IsBounded change.now }
     ensures changes { Changes (P.model peer.old) (P.model peer.new) change.now result }
-    ensures fault { result ≢ Err Down }
+    ensures asked { Asks P.exchanged peer.old peer.new change.now result }
 {
     let frame = commit_frame(alloc, change)?;
     answer_of(&peer.exchange(alloc, frame.as_slice()))
@@ -62,6 +62,7 @@ impl<P: Peer> Log for RemoteLog<P> {
     fn commit(&mut self, alloc: Global, change: &Change) -> Result<(), StoreFault>
         requires { IsBounded change.now }
         ensures changes { Changes (remote_model P.model self.old) (remote_model P.model self.new) change.now result }
+        ensures asked { (self.old.is_down ≡ false) → Asks P.exchanged self.old.peer self.new.peer change.now result }
         ensures stops { OnErr result (IsTrue self.new.is_down) }
         ensures down { IsTrue self.old.is_down → (result ≡ Err Down) × (self.new ≡ self.old) }
     {

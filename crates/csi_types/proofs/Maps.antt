@@ -12,7 +12,7 @@ use Rattle.std.specs.Ordering.{is_eq, is_lt}
 use Rattle.std.specs.List.{AllByRecursion}
 use Rattle.std.specs.Option.{option_or}
 use Rattle.std.proofs.lemmas.Bool.{ltb-true, ltb-false}
-use Rattle.std.proofs.lemmas.List.{reverse-append}
+use Rattle.std.proofs.lemmas.List.{append-nil, reverse-append}
 use Rattle.std.specs.declared.cmp.Ordering.TheVariants.{Less, Equal, Greater}
 use Rattle.std.specs.Prelude.{T, ◌&&◌}
 use Rattle.csi_types.specs.Maps.{IsRising, AreBelow}
@@ -122,6 +122,11 @@ both_so false b p q = p
 -- the entries of a map are those that it holds
 pub entries_of : (es : List (Text × Text)) (m : FinMap text_cmp Text) → IsRising es → from_sorted es ≡ m → entries m ≡ es
 entries_of es m h e = ap entries (sym e) ∙ entries-from_sorted text_cmp es h
+
+-- the list has them all where the tree has none
+pub all_listed : (es fs : List (Text × Text)) (m : FinMap text_cmp Text) → IsRising (es ++ fs) → from_sorted (es ++ fs) ≡ m → length fs ≡ 0 → es ≡ entries m
+all_listed es [] m h e none = sym (entries_of (es ++ []) m h e ∙ append-nil es)
+all_listed es (f ∷ fs) m h e none = absurd (omega arith)
 
 pub none_held : from_sorted {R = text_cmp} [] ≡ empty {X = Text}
 none_held = same_entries_map _ _ (entries-from_sorted text_cmp [] tt ∙ sym empty_entries)

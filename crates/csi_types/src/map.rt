@@ -3,7 +3,7 @@
 mod entering;
 mod entries;
 
-ghost use Rattle.std.specs.Prelude.{◌≡◌, ◌==◌, ◌++◌, ◌∷◌, List, [], OnOk, OnErr, IfOk, length};
+ghost use Rattle.std.specs.Prelude.{◌≡◌, ◌==◌, ◌++◌, ◌∷◌, List, [], OnOk, OnErr, IfOk, IfSome, length};
 ghost use Rattle.std.specs.Option.{option_copied};
 ghost use Rattle.std.specs.FinMap as map;
 ghost use Rattle.std.specs.Ordering.{nat_cmp};
@@ -109,6 +109,18 @@ impl Map {
     {
         enter(&mut self.listed, &mut self.tree, key, value)?;
         Ok(())
+    }
+
+    // The entries, where all of them stand in the list.
+    #[inline(always)]
+    pub(crate) fn listed(&self) -> Option<&[(Text, Text)]>
+        ensures { IfSome result (λ listed. listed.now ≡ map.entries self.now) }
+    {
+        if self.tree.is_empty() {
+            Some(self.listed.as_slice())
+        } else {
+            None
+        }
     }
 
     /// The entries, in byte order of their keys.

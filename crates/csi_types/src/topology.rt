@@ -101,13 +101,18 @@ pub fn is_within(inner: &Map, outer: &Map) -> bool
     }
 }
 
-// Compares each segment with each.
+// Compares each segment with each. Nearly all maps are a list, whose entries are gone over by fewer steps.
 fn is_within_few(inner: &Map, outer: &Map) -> bool
     ensures { result ≡ is_within inner.now outer.now }
 {
-    inner
-        .iter()
-        .all(|(key, value)| has_segment(outer, key, value))
+    match inner.listed() {
+        Some(segments) => segments
+            .iter()
+            .all(|(key, value)| has_segment(outer, key, value)),
+        None => inner
+            .iter()
+            .all(|(key, value)| has_segment(outer, key, value)),
+    }
 }
 
 // Looks for each segment among those in order, which are a large local.
@@ -151,9 +156,14 @@ fn is_among(segments: &[Segment<'_>], key: &Text, value: &Text) -> bool
 fn has_segment(topology: &Map, key: &Text, value: &Text) -> bool
     ensures { result ≡ list_any (λ f. alike key.now f.0 && same_text value.now f.1) (entries topology.now) }
 {
-    topology
-        .iter()
-        .any(|(other, set)| are_alike(key, other) && value == set)
+    match topology.listed() {
+        Some(segments) => segments
+            .iter()
+            .any(|(other, set)| are_alike(key, other) && value == set),
+        None => topology
+            .iter()
+            .any(|(other, set)| are_alike(key, other) && value == set),
+    }
 }
 
 /// Whether topologies are equal when their keys are folded. Neither has two keys that are alike.

@@ -1,5 +1,5 @@
 -- Faults that are handed on.
-use Rattle.std.proofs.Common.{◌≡◌, ◌∙◌, Bool, true, false, true≢false, Result, Ok, Err, IsErrAnd, ap, refl, sym, subst}
+use Rattle.std.proofs.Common.{◌≡◌, ◌∙◌, Bool, true, false, true≢false, Result, Ok, Err, IsErrAnd, ap, refl, sym}
 use Rattle.csi_vectors.specs.declared.vector.LineFault.{LineFault}
 use Rattle.csi_vectors.specs.declared.vector.LineFault.TheVariants as fault
 use Rattle.csi_vectors.specs.declared.running.Halt.{Halt}
@@ -9,10 +9,6 @@ use Rattle.csi_vectors.specs.Running.{halt_of}
 pub is_err : {X E : Type 0} (r : Result X E) (x : E) → IsErrAnd r (λ e. e ≡ x) → r ≡ Err x
 is_err (Ok y) x h = absurd h
 is_err (Err e) x h = ap Err h
-
--- the fault that is answered is the one that was handed on
-pub same_fault : {X E : Type 0} (r : Result X E) (x y : E) → IsErrAnd r (λ e. e ≡ x) → r ≡ Err y → x ≡ y
-same_fault {X} {E} r x y h is = sym (subst (λ (s : Result X E). IsErrAnd s (λ e. e ≡ x)) is h)
 
 abbrev is_bad : Result Bool Halt → Bool
 is_bad (Ok failed) = false

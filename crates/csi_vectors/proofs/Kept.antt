@@ -6,10 +6,10 @@ use Rattle.std.specs.Io.KnownBytes.{Appends, Keeps, prepend_known}
 use Rattle.std.proofs.KnownBytes.{Keeps-trans, Appends-kept}
 use Rattle.csi_config.specs.declared.config.Config.{Config}
 use Rattle.csi_vectors.specs.declared.running.VectorsEnd.{VectorsEnd}
-use Rattle.csi_vectors.specs.declared.running.VectorsEnd.TheVariants.{Done, BadLine, ReadFailed, WriteFailed, NoMemory}
+use Rattle.csi_vectors.specs.declared.running.VectorsEnd.TheVariants.{Done, BadLine, LinesSpent, ReadFailed, WriteFailed, NoMemory}
 use Rattle.csi_vectors.specs.declared.running.Halt.{Halt}
 use Rattle.csi_vectors.specs.declared.running.Halt.TheVariants as halt
-use Rattle.csi_vectors.specs.Running.{AreRun, EndsAs, IsDone, IsNoVector, IsTextOf, Takes, end_of}
+use Rattle.csi_vectors.specs.Running.{AreRun, EndsAs, IsDone, IsJudged, IsNoVector, IsTextOf, Takes, end_of}
 
 pub none_before : (known : Option (List ℕ)) → prepend_known [] known ≡ known
 none_before None = refl
@@ -26,6 +26,7 @@ run_kept config unread held (suc n) left a b failed run kept = record {
   text = run.text;
   lines = run.lines;
   now = run.now;
+  some = run.some;
   taken = run.taken;
   is_text = run.is_text;
   done = run.done;
@@ -37,7 +38,8 @@ pub end_kept : (config : Config) (unread held a b : Option (List ℕ)) (end : Ve
 end_kept config unread held a b (Done failed) h kept = (h.0, h.1, run_kept config unread held h.0 h.1 a b failed h.2 kept, h.3)
 end_kept config unread held a b (BadLine number) h kept = (h.0, h.1, h.2, h.3, h.4, run_kept config unread held h.0 h.1 a b h.2 h.5 kept, h.6, h.7, h.8)
 end_kept config unread held a b ReadFailed h kept = (h.0, h.1, h.2, run_kept config unread held h.0 h.1 a b h.2 h.3 kept)
-end_kept config unread held a b WriteFailed h kept = tt
+end_kept config unread held a b LinesSpent h kept = (h.0, h.1, h.2, run_kept config unread held h.0 h.1 a b h.2 h.3 kept, h.4)
+end_kept config unread held a b WriteFailed h kept = h
 end_kept config unread held a b NoMemory h kept = (h.0, h.1, h.2, run_kept config unread held h.0 h.1 a b h.2 h.3 kept)
 
 -- a buffer that holds nothing leaves what its reader leaves
@@ -49,8 +51,8 @@ fresh remaining r inner i b k =
 
 -- one line more was run
 pub one_more : (config : Config) (unread held mid left written holds : Option (List ℕ)) (count : ℕ) (already now all : Bool) (line given text lines : List ℕ) → AreRun config unread held count mid written already
-    → Takes mid left line → given ≡ line → IsTextOf given text → IsDone config text lines now → Appends written holds lines → all ≡ (already || now) → AreRun config unread held (count + 1) left holds all
-one_more config unread held mid left written holds count already now all line given text lines run taken same is_text done wrote either =
+    → Takes mid left line → line ≢ [] → given ≡ line → IsTextOf given text → IsDone config text lines now → Appends written holds lines → all ≡ (already || now) → AreRun config unread held (count + 1) left holds all
+one_more config unread held mid left written holds count already now all line given text lines run taken some same is_text done wrote either =
     let more : AreRun config unread held (suc count) left holds all = record {
       mid = mid;
       held = written;
@@ -60,6 +62,7 @@ one_more config unread held mid left written holds count already now all line gi
       text = text;
       lines = lines;
       now = now;
+      some = some;
       taken = taken;
       is_text = subst (λ (l : List ℕ). IsTextOf l text) same is_text;
       done = done;
@@ -87,8 +90,8 @@ unwritten why is e = true≢false (sym (ap is_write e) ∙ is)
 -- a line ended the run
 pub halted : (config : Config) (unread held left after holds now : Option (List ℕ)) (count number : ℕ) (failed : Bool) (line given : List ℕ) (why : Halt) (end : VectorsEnd)
     → AreRun config unread held count left holds failed → Takes left after line → given ≡ line → (why ≢ halt.WriteFailed → now ≡ holds) → (IsErrOf {T = Bool} {E = Halt} (Err why) halt.BadLine → IsNoVector given)
-    → number ≡ count + 1 → end ≡ end_of why number → EndsAs config unread held now end
-halted config unread held left after holds now count number failed line given halt.BadLine end run taken same kept bad is e =
+    → (IsErrOf {T = Bool} {E = Halt} (Err why) halt.WriteFailed → (text : List ℕ) × IsTextOf given text × IsJudged config text) → number ≡ count + 1 → end ≡ end_of why number → EndsAs config unread held now end
+halted config unread held left after holds now count number failed line given halt.BadLine end run taken same kept bad untold is e =
     subst (λ (x : VectorsEnd). EndsAs config unread held now x) (sym e) (
       count,
       left,
@@ -100,7 +103,9 @@ halted config unread held left after holds now count number failed line given ha
       subst IsNoVector same (bad refl),
       is,
     )
-halted config unread held left after holds now count number failed line given halt.WriteFailed end run taken same kept bad is e = subst (λ (x : VectorsEnd). EndsAs config unread held now x) (sym e) tt
-halted config unread held left after holds now count number failed line given halt.NoMemory end run taken same kept bad is e =
+halted config unread held left after holds now count number failed line given halt.WriteFailed end run taken same kept bad untold is e =
+    let told = untold refl in
+    subst (λ (x : VectorsEnd). EndsAs config unread held now x) (sym e) (count, left, failed, after, line, holds, told.0, run, taken, subst (λ (l : List ℕ). IsTextOf l told.0) same told.1, told.2)
+halted config unread held left after holds now count number failed line given halt.NoMemory end run taken same kept bad untold is e =
     subst (λ (x : VectorsEnd). EndsAs config unread held now x) (sym e)
     (count, left, failed, subst (λ (h : Option (List ℕ)). AreRun config unread held count left h failed) (sym (kept (unwritten halt.NoMemory refl))) run)

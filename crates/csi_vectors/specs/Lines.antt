@@ -21,6 +21,10 @@ tail text = after_first is_space text
 abbrev pub Spells : List ℕ → List ℕ → Type 0
 Spells digits bytes = ((digits ≡ codes "-") × (bytes ≡ [])) ⊎ ((digits ≢ []) × (decode_of digits ≡ Ok bytes))
 
+-- digits spell some bytes
+abbrev pub IsSpelling : List ℕ → Type 0
+IsSpelling digits = (bytes : List ℕ) × Spells digits bytes
+
 -- The name, the input and the output of a vector, with one space between: the name and the input have none.
 pub record IsLineOf (line name input output : List ℕ) : Type 0 where
   pub first : HasSpace line
@@ -29,7 +33,3 @@ pub record IsLineOf (line name input output : List ℕ) : Type 0 where
   pub named : name ≢ []
   pub input_is : Spells (head (tail line)) input
   pub output_is : Spells (tail (tail line)) output
-
--- a name, and two parts more: what is in them is not looked at
-abbrev pub HasParts : List ℕ → Type 0
-HasParts line = HasSpace line × HasSpace (tail line) × (head line ≢ [])

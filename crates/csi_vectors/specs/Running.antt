@@ -1,5 +1,5 @@
 -- What is written of vectors, a line each.
-use Rattle.std.specs.Prelude.{ℕ, zero, suc, ◌≡◌, ◌≢◌, ◌⊎◌, ◌+◌, ◌++◌, ◌||◌, Bool, true, false, not, List, [], Option, IfSome, IsUtf8, codes, bytes_eq}
+use Rattle.std.specs.Prelude.{ℕ, zero, suc, ◌≡◌, ◌≢◌, ◌⊎◌, ◌+◌, ◌-◌, ◌^◌, ◌++◌, ◌||◌, Bool, true, false, not, List, [], Option, IfSome, IsUtf8, codes, bytes_eq}
 use Rattle.std.specs.Io.BufRead.{take_through, DropsThrough}
 use Rattle.std.specs.Io.KnownBytes.{Appends, Keeps, IsAtEnd}
 use Rattle.csi_config.specs.declared.config.Config.{Config}
@@ -11,7 +11,7 @@ use Rattle.csi_vectors.specs.declared.vector.LineFault.TheVariants as fault
 use Rattle.csi_vectors.specs.declared.running.Halt.{Halt}
 use Rattle.csi_vectors.specs.declared.running.Halt.TheVariants as halt
 use Rattle.csi_vectors.specs.declared.running.VectorsEnd.{VectorsEnd}
-use Rattle.csi_vectors.specs.declared.running.VectorsEnd.TheVariants.{Done, BadLine, ReadFailed, WriteFailed, NoMemory}
+use Rattle.csi_vectors.specs.declared.running.VectorsEnd.TheVariants.{Done, BadLine, LinesSpent, ReadFailed, WriteFailed, NoMemory}
 
 -- a text without the end of line that it may have
 abbrev pub IsTextOf : List ℕ → List ℕ → Type 0
@@ -42,6 +42,10 @@ pub record IsRun (config : Config) (text lines : List ℕ) (failed : Bool) : Typ
   pub judged : failed ≡ not (bytes_eq bytes output)
   pub said : lines ≡ told failed name
 
+-- a vector was run, whatever came of it
+abbrev pub IsJudged : Config → List ℕ → Type 0
+IsJudged config text = (lines : List ℕ) × (failed : Bool) × IsRun config text lines failed
+
 -- of a line that is skipped nothing is written
 abbrev pub IsDone : Config → List ℕ → List ℕ → Bool → Type 0
 IsDone config text lines failed = (IsSkipped text × (lines ≡ []) × (failed ≡ false)) ⊎ IsRun config text lines failed
@@ -60,6 +64,7 @@ pub record Step (config : Config) (Before : Option (List ℕ) → Option (List �
   pub text : List ℕ
   pub lines : List ℕ
   pub now : Bool
+  pub some : line ≢ []
   pub taken : Takes mid left line
   pub is_text : IsTextOf line text
   pub done : IsDone config text lines now
@@ -71,13 +76,15 @@ abbrev pub AreRun : Config → Option (List ℕ) → Option (List ℕ) → ℕ �
 AreRun config unread held zero left holds failed = (left ≡ unread) × Keeps held holds × (failed ≡ false)
 AreRun config unread held (suc n) left holds failed = Step config (AreRun config unread held n) left holds failed
 
--- How a run ends; after a write that failed the writer may hold anything.
+-- How a run ends; after a write that failed, which was to tell of a vector, the writer may hold anything.
 abbrev pub EndsAs : Config → Option (List ℕ) → Option (List ℕ) → Option (List ℕ) → VectorsEnd → Type 0
 EndsAs config unread held holds (Done failed) = (count : ℕ) × (left : Option (List ℕ)) × AreRun config unread held count left holds failed × IsAtEnd left
 EndsAs config unread held holds (BadLine number) = (count : ℕ) × (left : Option (List ℕ)) × (failed : Bool) × (after : Option (List ℕ)) × (line : List ℕ)
     × AreRun config unread held count left holds failed × Takes left after line × IsNoVector line × (number ≡ count + 1)
+EndsAs config unread held holds LinesSpent = (count : ℕ) × (left : Option (List ℕ)) × (failed : Bool) × AreRun config unread held count left holds failed × (count ≡ 2 ^ 64 - 1)
 EndsAs config unread held holds ReadFailed = (count : ℕ) × (left : Option (List ℕ)) × (failed : Bool) × AreRun config unread held count left holds failed
-EndsAs config unread held holds WriteFailed = Unit {0}
+EndsAs config unread held holds WriteFailed = (count : ℕ) × (left : Option (List ℕ)) × (failed : Bool) × (after : Option (List ℕ)) × (line : List ℕ) × (before : Option (List ℕ)) × (text : List ℕ)
+    × AreRun config unread held count left before failed × Takes left after line × IsTextOf line text × IsJudged config text
 EndsAs config unread held holds NoMemory = (count : ℕ) × (left : Option (List ℕ)) × (failed : Bool) × AreRun config unread held count left holds failed
 
 -- why a line ends the run
@@ -99,6 +106,7 @@ pub record IsSample (config : Config) : Type 0 where
   pub pools : config.pools ≡ sample_pools
   pub nodes : config.nodes ≡ sample_nodes
 
--- A run under the sample configuration; nothing is written where there is no memory for that.
+-- A run under the sample configuration, whose flush failed or not; nothing is written where there is no memory for that.
 abbrev pub Runs : Option (List ℕ) → Option (List ℕ) → Option (List ℕ) → VectorsEnd → Type 0
-Runs unread held holds end = ((end ≡ NoMemory) × Keeps held holds) ⊎ ((config : Config) × IsSample config × EndsAs config unread held holds end)
+Runs unread held holds end = ((end ≡ NoMemory) × Keeps held holds)
+    ⊎ ((config : Config) × IsSample config × (EndsAs config unread held holds end ⊎ ((end ≡ WriteFailed) × (unflushed : VectorsEnd) × EndsAs config unread held holds unflushed)))

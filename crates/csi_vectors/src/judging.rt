@@ -15,7 +15,8 @@ const FIRST_NUMBER: u64 = 1;
 
 // Whether all was read, or all up to a malformed frame, and answered.
 fn is_whole(end: RunEnd) -> bool
-    ensures { IsTrue result → IsWhole end }
+    ensures whole { IsTrue result → IsWhole end }
+    ensures all { IsWhole end → IsTrue result }
 {
     matches!(end, RunEnd::Done | RunEnd::Malformed(_))
 }

@@ -1,8 +1,10 @@
 //! Vectors line by line.
 
-ghost use Rattle.std.specs.Prelude.{◌≡◌, ◌≢◌, ◌⊎◌, List, ℕ, IfErr, IfOk, IsErrOf, IsTrue, Ok, OnOk, false};
+ghost use Rattle.std.specs.Prelude.{◌≡◌, ◌≢◌, ◌⊎◌, [], List, ℕ, IfErr, IfOk, IsErrOf, IsTrue, Ok, OnOk, false, true};
+ghost use Rattle.std.specs.IoError.{error_kind};
+ghost use Rattle.std.specs.declared.io.ErrorKind.TheVariants.{OutOfMemory};
 ghost use Rattle.std.specs.Io.KnownBytes.{Appends, IsAtEnd};
-ghost use Rattle.csi_vectors.specs.Running.{EndsAs, IsDone, IsNoVector, IsSkipped, IsTextOf, Runs, Takes, end_of, halt_of, told};
+ghost use Rattle.csi_vectors.specs.Running.{EndsAs, IsDone, IsJudged, IsNoVector, IsSkipped, IsTextOf, Runs, Takes, end_of, halt_of, told};
 ghost use Rattle.csi_vectors.specs.Lines.{IsLineOf};
 ghost use Rattle.csi_vectors.specs.declared.running.Halt.TheVariants.{BadLine, NoMemory, WriteFailed};
 ghost use Rattle.csi_vectors.specs.declared.running.VectorsEnd.TheVariants as ends;
@@ -21,6 +23,8 @@ pub enum VectorsEnd {
     Done(bool),
     /// The line with this number, counted from 1, is no vector. The lines before it were run.
     BadLine(u64),
+    /// 2^64 - 1 lines were run, and no more are.
+    LinesSpent,
     /// A read failed.
     ReadFailed,
     /// A write or a flush failed.
@@ -85,6 +89,7 @@ fn run_text<W: Write>(
     ensures ok { IfOk result (λ failed. (lines : List ℕ) × IsDone config.now text.now lines failed × Appends (W.contents writer.old) (W.contents writer.new) lines) }
     ensures kept { IfErr result (λ halt. halt ≢ WriteFailed → W.contents writer.new ≡ W.contents writer.old) }
     ensures bad { IsErrOf result BadLine → (¬ IsSkipped text.now) × ((name input output : List ℕ) → ¬ IsLineOf text.now name input output) }
+    ensures untold { IsErrOf result WriteFailed → IsJudged config.now text.now }
 {
     if is_skipped(text) {
         return Ok(false);
@@ -125,22 +130,34 @@ fn run_line<W: Write>(
     ensures ok { IfOk result (λ failed. (text lines : List ℕ) × IsTextOf line.now text × IsDone config.now text lines failed × Appends (W.contents writer.old) (W.contents writer.new) lines) }
     ensures kept { IfErr result (λ halt. halt ≢ WriteFailed → W.contents writer.new ≡ W.contents writer.old) }
     ensures bad { IsErrOf result BadLine → IsNoVector line.now }
+    ensures untold { IsErrOf result WriteFailed → (text : List ℕ) × IsTextOf line.now text × IsJudged config.now text }
 {
     let text = text_of(line)?;
     run_text(alloc, config, text, writer)
 }
 
+// How a run ends where a read failed with this error.
+fn unread(error: &io::Error) -> VectorsEnd
+    ensures memory { error_kind error.now ≡ OutOfMemory → result ≡ ends.NoMemory }
+    ensures failed { error_kind error.now ≢ OutOfMemory → result ≡ ends.ReadFailed }
+{
+    match error.kind() {
+        ErrorKind::OutOfMemory => VectorsEnd::NoMemory,
+        _ => VectorsEnd::ReadFailed,
+    }
+}
+
 // Takes the next line with its end, in the place of the line before. Whether there is one.
 fn next_line<B: BufRead>(reader: &mut B, line: &mut Vec<u8>) -> Result<bool, VectorsEnd>
     ensures line { OnOk result (Takes (B.remaining reader.old) (B.remaining reader.new) line.new.items) }
+    ensures some { result ≡ Ok true → line.new.items ≢ [] }
     ensures end { result ≡ Ok false → IsAtEnd (B.remaining reader.old) }
     ensures err { IfErr result (λ end. (end ≡ ends.NoMemory) ⊎ (end ≡ ends.ReadFailed)) }
 {
     line.clear();
     match reader.read_until(b'\n', line) {
         Ok(count) => Ok(count > 0),
-        Err(error) if error.kind() == ErrorKind::OutOfMemory => Err(VectorsEnd::NoMemory),
-        Err(_) => Err(VectorsEnd::ReadFailed),
+        Err(error) => Err(unread(&error)),
     }
 }
 
@@ -176,13 +193,12 @@ fn run_lines<B: BufRead, W: Write>(
             Err(halt) => return ended(halt, count + 1),
         }
     }
-    VectorsEnd::ReadFailed
+    VectorsEnd::LinesSpent
 }
 
 /// Runs the vectors of a text, a line each, under the sample configuration, and writes `ok NAME` or
 /// `FAIL NAME` for each. A line is what [`Vector::of_line`] takes; an empty one, and one that begins
-/// with `#`, is skipped. A line that is no vector ends the run. At most 2^64 - 1 lines are run; one
-/// more is a read that failed.
+/// with `#`, is skipped. A line that is no vector ends the run. At most 2^64 - 1 lines are run.
 pub fn run_vectors<R: Read, W: Write>(alloc: Global, reader: &mut R, writer: &mut W) -> VectorsEnd
     ensures { Runs (R.remaining reader.old) (W.contents writer.old) (W.contents writer.new) result }
 {

@@ -1,10 +1,11 @@
 //! A line as a vector.
 
-ghost use Rattle.std.specs.Prelude.{◌≡◌, List, ℕ, IfOk, IsErrOf};
-ghost use Rattle.csi_vectors.specs.Lines.{IsLineOf, HasParts, Spells};
+ghost use Rattle.std.specs.Prelude.{◌≡◌, List, ℕ, IfOk, IsErrOf, IsTrue};
+ghost use Rattle.std.specs.Char.{is_ascii_hexdigit};
+ghost use Rattle.std.specs.List.{list_all};
+ghost use Rattle.csi_vectors.specs.Lines.{IsLineOf, IsSpelling, Spells};
 ghost use Rattle.csi_vectors.specs.declared.vector.LineFault.TheVariants.{NoMemory, NotVector};
 
-use hex::FromHexError;
 use std::alloc::{AllocError, Global};
 
 /// A test vector.
@@ -35,21 +36,37 @@ impl From<AllocError> for LineFault {
     }
 }
 
-// The bytes that hexadecimal digits of either case spell; `-` is none.
-fn bytes_of(alloc: Global, digits: &str) -> Result<Vec<u8>, LineFault>
-    ensures ok { IfOk result (λ bytes. Spells digits.now bytes.items) }
-    ensures refused { IsErrOf result NotVector → (bytes : List ℕ) → ¬ Spells digits.now bytes }
+fn are_digits(bytes: &[u8]) -> bool
+    ensures { result ≡ list_all is_ascii_hexdigit bytes.now }
+{
+    bytes.iter().all(|byte| byte.is_ascii_hexdigit())
+}
+
+// Whether hexadecimal digits of either case spell bytes; `-` is none.
+fn is_spelling(digits: &str) -> bool
+    ensures some { IsTrue result → IsSpelling digits.now }
+    ensures none { IsSpelling digits.now → IsTrue result }
+{
+    if digits == "-" {
+        return true;
+    }
+    if digits.is_empty() || digits.len() % 2 != 0 {
+        return false;
+    }
+    are_digits(digits.as_bytes())
+}
+
+// The bytes that such digits spell; nothing but memory is refused of them.
+#[tactic(auto, using(crate::proofs::Digits::spelled))]
+fn bytes_of(alloc: Global, digits: &str) -> Result<Vec<u8>, AllocError>
+    ensures { IfOk result (λ bytes. IsSpelling digits.now → Spells digits.now bytes.items) }
 {
     if digits == "-" {
         return Ok(Vec::new(alloc));
     }
-    if digits.is_empty() {
-        return Err(LineFault::NotVector);
-    }
     match hex::decode(alloc, digits) {
         Ok(bytes) => Ok(bytes),
-        Err(FromHexError::OutOfMemory) => Err(LineFault::NoMemory),
-        Err(_) => Err(LineFault::NotVector),
+        Err(_) => Err(AllocError),
     }
 }
 
@@ -59,11 +76,11 @@ impl<'a> Vector<'a> {
     ///
     /// # Errors
     ///
-    /// Where the line is no vector, or memory was refused.
+    /// Where the line is no vector; where it is one, and memory was refused.
     pub fn of_line(alloc: Global, line: &'a str) -> Result<Vector<'a>, LineFault>
         ensures ok { IfOk result (λ v. IsLineOf line.now v.name.now v.input.items v.output.items) }
         ensures refused { IsErrOf result NotVector → (name input output : List ℕ) → ¬ IsLineOf line.now name input output }
-        ensures memory { IsErrOf result NoMemory → HasParts line.now }
+        ensures memory { IsErrOf result NoMemory → (name input output : List ℕ) × IsLineOf line.now name input output }
     {
         let Some((name, rest)) = line.split_once(' ') else {
             return Err(LineFault::NotVector);
@@ -71,7 +88,7 @@ impl<'a> Vector<'a> {
         let Some((input, output)) = rest.split_once(' ') else {
             return Err(LineFault::NotVector);
         };
-        if name.is_empty() {
+        if name.is_empty() || !is_spelling(input) || !is_spelling(output) {
             return Err(LineFault::NotVector);
         }
         Ok(Vector {

@@ -14,6 +14,7 @@ fn outcome(alloc: Global, path: &str, end: VectorsEnd) -> Result<Ended, Failure>
             path: String::from_str(alloc, path)?,
             line,
         }),
+        VectorsEnd::LinesSpent => Err(Failure::of_name(alloc, path, &"it has too many lines")),
         VectorsEnd::ReadFailed => Err(Failure::of_name(alloc, path, &"a read failed")),
         VectorsEnd::WriteFailed => Err(Failure::WriteFailed),
         VectorsEnd::NoMemory => Err(Failure::NoMemory),

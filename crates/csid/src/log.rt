@@ -49,6 +49,8 @@ impl<P: Drop> Drop for Noted<P> {
 impl<P: Peer> Peer for Noted<P> {
     ghost model = { λ noted. P.model noted.peer };
 
+    ghost exchanged = { λ old new. P.exchanged old.peer new.peer };
+
     fn exchange(&mut self, alloc: Global, frame: &[u8]) -> Received {
         self.is_asked.set(true);
         self.peer.exchange(alloc, frame)

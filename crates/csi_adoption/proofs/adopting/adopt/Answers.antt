@@ -18,7 +18,7 @@ returns-in-Err-clause-unadopted g c =
     let blank : c.settle.new.conn.schema ≡ no_schema = sym c.schema.ensures.value ∙ c.is_blank.ensures.is c.if-is_blank.true in
     is_unmade g.S.Store c.args.config.now c.args.conn c.settle.new.conn settled blank c.in-Err.field-0.conn c.from.result c.in-Err.ensures.idle (ap is_failure c.from.ensures ∙ error_fails c.in-Err.field-0.error) c.in-Err.ensures.undone c.in-Err.ensures.survives
     (settled_cause g.S.Store c.args.conn c.set_step_limit.new.self c.settle.new.conn c.in-Err.field-0.conn c.from.result c.set_step_limit.ensures c.settle.ensures.undone c.settle.ensures.survives c.in-Err.ensures.survives
-    (tables_cause g.S.Store c.settle.new.conn c.in-Err.field-0.conn c.in-Err.field-0.error c.from.result c.from.ensures (λ clean. c.in-Err.ensures.failed clean blank)))
+    (tables_cause g.S.Store c.settle.new.conn c.in-Err.field-0.conn c.in-Err.field-0.error c.from.result c.from.ensures blank (λ clean. c.in-Err.ensures.failed clean blank)))
 
 pub over-requires-clause-stands : goal.over-requires-clause-stands
 over-requires-clause-stands g c =

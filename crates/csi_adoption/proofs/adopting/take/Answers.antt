@@ -29,9 +29,10 @@ returns-in_err-upgrade-clause-failed g c =
     let judged = c.in_ok-judged.ensures in
     told_behind g.S.Store c.args.conn.now c.upgrade.new.conn c.from_residual-in_err-upgrade.result c.in_err-upgrade.field-0.0 c.from_residual-in_err-upgrade.ensures.1
     (cause_behind g.S.Store c.args.conn.now c.judge.new.conn c.upgrade.new.conn c.in_ok-judged.judged c.in_err-upgrade.field-0.0 judged.scans c.upgrade.ensures.survives
-    (format_cause g.S.Store c.judge.new.conn c.upgrade.new.conn c.in_err-upgrade.field-0.0 (λ clean. c.in_err-upgrade.ensures.failed clean
-    (let before : HasCleanDisk (state g.S.Store c.judge.new.conn) = omega (arith, clean, c.upgrade.ensures.survives.clean) in
-    ours g.S.Store c.args.conn.now c.judge.new.conn (judged.found before).schema_is (judged.scans.same before)))))
+    (format_cause g.S.Store c.judge.new.conn c.upgrade.new.conn c.in_err-upgrade.field-0.0 (λ clean.
+    let before : HasCleanDisk (state g.S.Store c.judge.new.conn) = omega (arith, clean, c.upgrade.ensures.survives.clean) in
+    let same = judged.scans.same before in
+    (same.0.is_open, ours g.S.Store c.args.conn.now c.judge.new.conn (judged.found before).schema_is same)) c.in_err-upgrade.ensures.failed))
 
 pub returns-in_err-judged-clause-failed : goal.returns-in_err-judged-clause-failed
 returns-in_err-judged-clause-failed g c = handed_fault g.S.Store c.args.conn.now c.judge.new.conn c.from_residual.result c.in_err-judged.field-0.0 c.from_residual.ensures.1 c.in_err-judged.ensures.failed

@@ -38,6 +38,6 @@ returns-in_err-scanned-clause-failed g c =
 pub returns-then-not-rises-clause-failed : goal.returns-then-not-rises-clause-failed
 returns-then-not-rises-clause-failed g c =
     let kinds = c.kinds.ensures in
-    unrisen_attachments g.S.Store c.args.conn.now c.scan_attachments-scanned.new.conn (λ clean.
+    unrisen_attachments g.S.Store c.args.conn.now c.scan_attachments-scanned.new.conn (rw c.in_ok-scanned.was at c.scan_attachments-scanned.ensures.same) (λ clean.
     let seen = rw c.in_ok-scanned.was at (c.scan_attachments-scanned.ensures.ok clean) in
     (seen.0, seen.1, fallen _ _ _ _ _ seen.0 kinds.column kinds.good kinds.last seen.2.0.0.1.1 c.if-not-rises.true))

@@ -29,7 +29,7 @@ returns g c =
     let fit = subst (λ (ks : List CapKey). FitCaps ks) c.as_slice.ensures c.in_ok-caps.ensures.fits in
     let params : c.deref-2.result.now ≡ params_bytes v.params v.mutable = c.deref-2.ensures.value ∙ c.in_ok-params.ensures.bytes in
     beside (Ok tt) (AddVolume v)
-    (λ s clean held allowed storable totals. totals_added c.args.totals.now c.count.new.self s v allowed.1 totals (counted_after c.args.totals.now c.reserve.new.totals c.count.new.self v.pool v.bytes c.in_ok-reserve.ensures.room c.reserve.ensures.same c.count.ensures))
+    (λ s clean held allowed storable totals. totals_added c.args.totals.now c.count.new.self s v allowed.1 totals (counted_after c.args.totals.now c.reserve.new.totals c.count.new.self v.pool v.bytes c.in_ok-reserve.ensures.room c.reserve.ensures.same c.count.ensures.counted))
     (λ s clean held allowed h. storable_added s v (omega (arith, c.requires.bounded.0)) c.as_str.ensures.utf8 c.as_str-2.ensures.utf8 fit c.in_ok-params.ensures.fits allowed h) tt
     (changes g.S.Store c.read_back.ensures (AddVolume v) (AddsNumbered (volume_row v.number v.name v.bytes v.pool (caps_bytes v.caps) (params_bytes v.params v.mutable)) (v.number + 1)) (λ old new h. h.schema)
     (λ s old new has p allowed h. rows_added s v old new has p (omega (arith, c.requires.bounded.0)) c.as_str.ensures.utf8 c.as_str-2.ensures.utf8 fit c.in_ok-params.ensures.fits allowed h)

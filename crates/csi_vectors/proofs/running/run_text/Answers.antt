@@ -29,3 +29,20 @@ returns-in-Ok-clause-ok g c = (
   }),
   c.in-Ok.ensures,
 )
+
+pub returns-clause-untold : goal.returns-clause-untold
+returns-clause-untold g c h = (
+  told (not c.in_ok-failed.field-0) c.in_ok-vector.vector.name.now,
+  not c.in_ok-failed.field-0,
+  record {
+    name = c.in_ok-vector.vector.name.now;
+    input = c.in_ok-vector.vector.input.items;
+    output = c.in_ok-vector.vector.output.items;
+    bytes = c.in_ok-failed.ensures.0;
+    run = λ s. true≢false (sym (c.if-is_skipped.ensures.run s));
+    line = c.in_ok-vector.ensures.ok;
+    written = c.in_ok-failed.ensures.1;
+    judged = ap not c.in_ok-failed.ensures.2;
+    said = refl;
+  },
+)
