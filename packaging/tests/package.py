@@ -153,6 +153,10 @@ def control_rows(programs, package):
         yield "its checksums", run("md5sum", "--check", "--quiet", "--strict", "DEBIAN/md5sums", cwd=tree), (0, "", "")
         listed = [line[34:] for line in read(tree, "DEBIAN", "md5sums").splitlines()]
         yield "the files that have them", sorted(listed), sorted(it for it in files if not it.startswith("DEBIAN/"))
+        # As Debian counts: each file in whole KiB, and one for each folder.
+        folders = [at for at, _, _ in os.walk(tree) if not os.path.relpath(at, tree).startswith("DEBIAN")]
+        sizes = [-(-os.path.getsize(os.path.join(tree, it)) // 1024) for it in listed]
+        yield "its size", run("dpkg-deb", "--field", package, "Installed-Size")[1].strip(), str(len(folders) + sum(sizes))
 
 
 def lintian_rows(package):
