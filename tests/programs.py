@@ -101,7 +101,8 @@ class Program:
 
     def lines(self):
         self.said.seek(0)
-        return self.said.read().decode(errors="replace").splitlines()
+        # (splitlines would end a line at letters that are no ends of lines, too)
+        return [line.decode(errors="replace") for line in self.said.read().split(b"\n")[:-1]]
 
     def is_well(self, most, shown):
         """Whether it runs, within its memory."""
@@ -140,9 +141,9 @@ class Etcd:
         if self.has_ended():
             self.start()
 
-    def ask(self, what, begin, end=None):
+    def ask(self, what, begin, end=None, **how):
         """The keys of a range, or those that are removed there, with their values and revisions."""
-        body, told = {"key": base64.b64encode(begin).decode(), "range_end": base64.b64encode(end or begin[:-1] + bytes([begin[-1] + 1])).decode()}, {}
+        body, told = {"key": base64.b64encode(begin).decode(), "range_end": base64.b64encode(end or begin[:-1] + bytes([begin[-1] + 1])).decode(), **how}, {}
 
         def tells():
             link = http.client.HTTPConnection(self.endpoint, timeout=SECONDS)
@@ -157,9 +158,13 @@ class Etcd:
         assert wait(tells, pause=0.1), "etcd does not answer"
         return {base64.b64decode(it["key"]).decode(): (base64.b64decode(it.get("value", "")), it["mod_revision"]) for it in told.get("kvs", [])}
 
-    def rows(self):
+    def rows(self, **how):
         """Each row, with its revision."""
-        return {key: it for key, it in self.ask("range", NAME.encode() + b"/").items() if not key.startswith(NAME + "/lock/")}
+        return {key: it for key, it in self.ask("range", NAME.encode() + b"/", **how).items() if not key.startswith(NAME + "/lock/")}
+
+    def revisions(self):
+        """The revision of each row, which each write raises. Rows may be some MiB each, and are not asked for."""
+        return {key: revision for key, (_, revision) in self.rows(keys_only=True).items()}
 
     def locks(self):
         return self.ask("range", NAME.encode() + b"/lock/")

@@ -13,6 +13,7 @@ import (
 	"os/signal"
 	"syscall"
 
+	"google.golang.org/grpc"
 	"google.golang.org/grpc/status"
 )
 
@@ -87,19 +88,23 @@ func serve(words []string, shown io.Writer) error {
 		return err
 	}
 	defer controller.Close()
+	// Who finds the socket may end the plugin.
+	ctx, cancel := signal.NotifyContext(context.Background(), syscall.SIGTERM, syscall.SIGINT)
+	defer cancel()
 	listener, err := listen(asked.listen)
 	if err != nil {
 		return err
 	}
 	server := newServer(&plugin{name: asked.name, info: asked.info, pools: asked.pools, storage: asked.storage, controller: controller})
-	ctx, cancel := signal.NotifyContext(context.Background(), syscall.SIGTERM, syscall.SIGINT)
-	defer cancel()
 	go func() {
 		<-ctx.Done()
 		cancel()
 		server.GracefulStop()
 	}()
-	return server.Serve(listener)
+	if err := server.Serve(listener); !errors.Is(err, grpc.ErrServerStopped) {
+		return err
+	}
+	return nil
 }
 
 // listen makes a socket. One that nobody answers on is what an earlier process left, and gives way.

@@ -321,11 +321,36 @@ func TestSocket(t *testing.T) {
 	if _, err := os.Lstat(s.at("node.sock")); s.node.ProcessState.ExitCode() != done || !errors.Is(err, os.ErrNotExist) {
 		t.Errorf("%v, %v", s.node.ProcessState, err)
 	}
+	s.endsAtOnce(t)
 	s.writes(t, "node.sock")
 	if listener, err := listen(s.at("node.sock")); !errors.Is(err, syscall.EADDRINUSE) {
 		t.Errorf("%v, %v", listener, err)
 	}
 	s.finds(t, "node.sock")
+}
+
+// endsAtOnce wants a plugin to end as ever where it is told to in the moment in which its socket comes.
+func (s *session) endsAtOnce(t *testing.T) {
+	t.Helper()
+	for i := 0; i < 20; i++ {
+		node := exec.Command(s.node.Path, s.words...)
+		if err := node.Start(); err != nil {
+			t.Fatal(err)
+		}
+		for end := time.Now().Add(patience); time.Now().Before(end); {
+			if _, err := os.Lstat(s.at("node.sock")); err == nil {
+				break
+			}
+		}
+		err := node.Process.Signal(syscall.SIGTERM)
+		if ended := node.Wait(); err != nil || ended != nil {
+			t.Errorf("%v, %v", err, ended)
+		}
+		if _, err := os.Lstat(s.at("node.sock")); !errors.Is(err, os.ErrNotExist) {
+			t.Errorf("%v", err)
+			os.Remove(s.at("node.sock"))
+		}
+	}
 }
 
 // The statistics of a folder are those of its file system.
