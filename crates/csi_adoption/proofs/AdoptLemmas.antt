@@ -19,7 +19,7 @@ use Rattle.csi_tables.specs.Keeping.{is_down, refusals, store_of, IsNewOver}
 use Rattle.csi_tables.specs.Laws.{OneState}
 use Rattle.csi_tables.specs.declared.tables.Tables.{Tables}
 use Rattle.csi_judging.specs.Faults.{is_failure}
-use Rattle.csi_adoption.specs.Failing.{AdoptionFails}
+use Rattle.csi_adoption.specs.Failing.{AdoptionFails, IsOfShut}
 use Rattle.csi_judging.specs.declared.fault.AdoptFault.{AdoptFault}
 use Rattle.csi_judging.specs.declared.fault.AdoptFault.TheVariants.{Foreign}
 use Rattle.csi_judging.specs.declared.fault.Foreign.TheVariants as foreign
@@ -119,8 +119,8 @@ module _ {S : Type 0} (g : Ghosts S) (config : Config) (conn two back : Held S) 
   -- the database is read, and only its format may have been written
   pub is_refused : (HasCleanDisk (state g back) → KeepsCommit (state g two) (state g back)) → Survives (state g two) (state g back) (LeavesLatest (state g two))
       → (HasCleanDisk (state g back) → is_failure fault ≡ false → IsFaultOf config (state g two).now fault) → (HasCleanDisk (state g back) → (state g two).now.schema ≢ schema → fault ≡ Foreign foreign.Schema) → (HasCleanDisk (state g back) → IsNotRefused config (state g two).now fault)
-      → ((state g two).now.schema ≢ no_schema) → IsUnadopted g config conn fault back
-  is_refused keeps survives first other sound some =
+      → ((state g two).now.schema ≢ no_schema) → (HasCleanDisk (state g back) → (state g back).is_open ≡ false → IsOfShut (state g back).now.schema fault) → IsUnadopted g config conn fault back
+  is_refused keeps survives first other sound some shut =
       let before : HasCleanDisk (state g back) → HasCleanDisk (state g two) = λ clean. omega (arith, survives.clean) in
       let seen : HasCleanDisk (state g back) → IsTrue (state g back).is_open → (state g two).now ≡ (state g conn).committed = λ clean is_open. settled.now (before clean) ((keeps clean).was_open is_open) in
       record {
@@ -138,6 +138,7 @@ module _ {S : Type 0} (g : Ghosts S) (config : Config) (conn two back : Held S) 
         first = λ clean is_open known. subst (λ (d : Database). IsFaultOf config d fault) (seen clean is_open) (first clean known);
         other = λ clean is_open not_ours _. other clean (λ ours. not_ours (sym (ap (λ (d : Database). d.schema) (seen clean is_open)) ∙ ours));
         failed = failed;
+        shut = shut;
         blank = λ clean is_open none. absurd (some (ap (λ (d : Database). d.schema) (seen clean is_open) ∙ none));
         sound = λ clean is_open. subst (λ (d : Database). IsNotRefused config d fault) (seen clean is_open) (sound clean);
       }
@@ -181,6 +182,7 @@ module _ {S : Type 0} (g : Ghosts S) (config : Config) (conn two : Held S) (sett
         first = λ clean is_open known. absurd (true≢false (sym failure ∙ known));
         other = λ clean is_open _ not_blank. absurd (not_blank (sym (ap (λ (d : Database). d.schema) (settled.now (before clean) ((undone clean).was_open is_open))) ∙ blank));
         failed = failed;
+        shut = λ clean _ known. absurd (true≢false (sym failure ∙ known));
         blank = λ clean is_open none. failure;
         sound = λ clean is_open s ours rows invariant. failure;
       }

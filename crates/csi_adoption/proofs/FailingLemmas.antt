@@ -21,7 +21,7 @@ use Rattle.csi_schema.specs.Rows.{seen_volume}
 use Rattle.csi_scans.specs.Failing.{HasTooMany}
 use Rattle.csi_scans.specs.Folds.{IsRising, Rises}
 use Rattle.csi_scans.specs.Scans.{keyed_attachment}
-use Rattle.csi_judging.specs.Faults.{failure_of, is_store, wants_memory}
+use Rattle.csi_judging.specs.Faults.{failure_of, is_failure, is_store, wants_memory}
 use Rattle.csi_judging.specs.declared.fault.AdoptFault.{AdoptFault}
 use Rattle.csi_judging.specs.declared.fault.AdoptFault.TheVariants.{Foreign, Newer, Broken, Store, NoMemory}
 use Rattle.csi_judging.specs.declared.fault.Foreign.TheVariants as foreign
@@ -33,6 +33,7 @@ use Rattle.csi_adoption.specs.Scanning.{Scans}
 use Rattle.csi_adoption.specs.declared.meta.Meta.{Meta}
 use Rattle.csi_adoption.specs.declared.meta.MetaRows.{MetaRows}
 use Rattle.csi_adoption.specs.declared.meta.MetaRows.TheVariants as meta
+use Rattle.csi_adoption.proofs.FaultLemmas.{error_fails}
 
 -- ---- what an error is told as
 
@@ -60,6 +61,17 @@ of_store_weaker P Q f NoMemory p = tt
 pub if_err : {X E : Type 0} (P : E → Type 0) (r : Result X E) (e : E) → IsErrAnd r (λ x. x ≡ e) → P e → IfErr r P
 if_err P (Ok x) e is p = absurd is
 if_err P (Err y) e is p = subst P (sym is) p
+
+-- a failure of the database tells nothing of rows
+pub failure_told : {X : Type 0} (P : Type 0) (r : Result X AdoptFault) (e : Error) → IsErrAnd r (λ x. x ≡ failure_of e) → IfErr r (λ fault. is_failure fault ≡ false → P)
+failure_told P r e is = if_err (λ fault. is_failure fault ≡ false → P) r (failure_of e) is (λ known. absurd (true≢false (sym (error_fails e) ∙ known)))
+
+pub told_if : {X : Type 0} (P : Type 0) (r : Result X AdoptFault) (f : AdoptFault) → IsErrAnd r (λ x. x ≡ f) → (is_failure f ≡ false → P) → IfErr r (λ fault. is_failure fault ≡ false → P)
+told_if P r f is p = if_err (λ fault. is_failure fault ≡ false → P) r f is p
+
+pub any_told : {X : Type 0} (P : Type 0) (r : Result X AdoptFault) → P → IfErr r (λ fault. is_failure fault ≡ false → P)
+any_told P (Ok x) p = tt
+any_told P (Err fault) p = λ known. p
 
 -- ---- a cause
 
@@ -151,22 +163,24 @@ module _ {S : Type 0} (g : Ghosts S) where
 
   -- a connection of which nothing but what was committed is seen
   pub settled_cause : {P : Trees → Type 0} (conn one two back : Held S) (fault : AdoptFault) → one ≡ record conn { step_limit = None } → (HasCleanDisk (state g two) → IsUndone (state g one) (state g two)) → Survives (state g one) (state g two) (λ _. ⊥)
-      → Survives (state g two) (state g back) P → OfStore (HasCause g two back) fault → AdoptionFails g conn back fault
-  settled_cause conn one two back fault limit undone left last = of_store_weaker (HasCause g two back) (λ e. HasCleanDisk (state g back) → FailsCommitted g conn back e) (λ e other cause clean.
+      → Survives (state g two) (state g back) P → (HasCleanDisk (state g back) → IsTrue (state g back).is_open → IsTrue (state g two).is_open) → OfStore (HasCause g two back) fault → AdoptionFails g conn back fault
+  settled_cause conn one two back fault limit undone left last opened = of_store_weaker (HasCause g two back) (λ e. HasCleanDisk (state g back) → FailsCommitted g conn back e) (λ e other cause clean.
       let clean' : HasCleanDisk (state g two) = omega (arith, last.clean, clean) in
-      go e clean' (subst (λ (h : Held S). IsUndone (state g h) (state g two)) limit (undone clean')) (subst (λ (h : Held S). Survives (state g h) (state g two) (λ _. ⊥)) limit left) other (cause clean)) fault
+      go e clean' (opened clean) (subst (λ (h : Held S). IsUndone (state g h) (state g two)) limit (undone clean')) (subst (λ (h : Held S). Survives (state g h) (state g two) (λ _. ⊥)) limit left) other (cause clean)) fault
     where
       start : Held S
       start = record conn { step_limit = None }
 
-      shut_by : HasCleanDisk (state g two) → Survives (state g start) (state g two) (λ _. ⊥) → (state g two).is_open ≡ false → WasShut g conn back
-      shut_by clean left shut =
-          open_or_shut (state g conn).is_open _
-          (λ was_open. elim (left.closes clean was_open) [
-            | inl is_open ↦ absurd (true≢false (sym is_open ∙ shut))
-            | inr more ↦ inr (omega (arith, more, last.counts))
-          ])
-          (λ was_shut. inl was_shut)
+      shut_by : HasCleanDisk (state g two) → (IsTrue (state g back).is_open → IsTrue (state g two).is_open) → Survives (state g start) (state g two) (λ _. ⊥) → (state g two).is_open ≡ false → WasShut g conn back
+      shut_by clean opened left shut = (
+        open_or_shut (state g back).is_open _ (λ is_open. absurd (true≢false (sym (opened is_open) ∙ shut))) (λ is_shut. is_shut),
+        open_or_shut (state g conn).is_open _
+            (λ was_open. elim (left.closes clean was_open) [
+              | inl is_open ↦ absurd (true≢false (sym is_open ∙ shut))
+              | inr more ↦ inr (omega (arith, more, last.counts))
+            ])
+            (λ was_shut. inl was_shut),
+      )
 
       -- an open connection alone refuses what is asked of rows
       refused : (e : Error) → two.step_limit ≡ None → (state g two).is_open ≡ false → WasShut g conn back → Refuses g two e → FailsCommitted g conn back e
@@ -175,16 +189,16 @@ module _ {S : Type 0} (g : Ghosts S) where
       refused e limit shut by (format is_open ours why) = absurd (true≢false (sym is_open ∙ shut))
       refused e limit shut by (tables blank why) = refused_shut by (two, limit, shut, blank, why)
 
-      go : (e : Error) → HasCleanDisk (state g two) → IsUndone (state g start) (state g two) → Survives (state g start) (state g two) (λ _. ⊥) → wants_memory e ≡ false
+      go : (e : Error) → HasCleanDisk (state g two) → (IsTrue (state g back).is_open → IsTrue (state g two).is_open) → IsUndone (state g start) (state g two) → Survives (state g start) (state g two) (λ _. ⊥) → wants_memory e ≡ false
           → fails.FailsFor (Refuses g two) (state g two) (state g back) e → FailsCommitted g conn back e
-      go e clean undone left other (fails.for_memory is) = absurd (true≢false (sym (ap wants_memory is) ∙ other))
-      go e clean undone left other (fails.by_disk is more) = by_disk is (omega (arith, left.counts, more))
-      go e clean undone left other (fails.as_shut is shut) = as_shut is (shut_by clean left shut)
-      go e clean undone left other (fails.at_limit is some) = absurd (true≢false (sym (subst IsSome left.limit some)))
-      go e clean undone left other (fails.as_refused why) =
+      go e clean opened undone left other (fails.for_memory is) = absurd (true≢false (sym (ap wants_memory is) ∙ other))
+      go e clean opened undone left other (fails.by_disk is more) = by_disk is (omega (arith, left.counts, more))
+      go e clean opened undone left other (fails.as_shut is shut) = as_shut is (shut_by clean opened left shut)
+      go e clean opened undone left other (fails.at_limit is some) = absurd (true≢false (sym (subst IsSome left.limit some)))
+      go e clean opened undone left other (fails.as_refused why) =
           open_or_shut (state g two).is_open (FailsCommitted g conn back e)
           (λ is_open. as_refused (two, left.limit, undone.now is_open, why))
-          (λ shut. refused e left.limit shut (shut_by clean left shut) why)
+          (λ shut. refused e left.limit shut (shut_by clean opened left shut) why)
 
   -- what was told as an error of the database
   pub told_behind : {X : Type 0} (a b : Held S) (r : Result X AdoptFault) (e : Error) → IsErrAnd r (λ x. x ≡ failure_of e) → HasCause g a b e → JudgingFails g a b r

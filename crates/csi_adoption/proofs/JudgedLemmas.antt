@@ -1,12 +1,11 @@
 -- The fault of rows, from what was seen of them.
 use Rattle.std.proofs.Common.{◌≡◌, ◌∙◌, inr, refl, sym, ap, ap₂, false, true≢false, List, map, Option, Some, None, Result, Ok, Err, IsErrAnd, IsPermutation}
-use Rattle.std.proofs.lemmas.List.Sorted.{IsPermutation-refl}
 use Rattle.sqlite.specs.Order.{Row}
 use Rattle.sqlite.specs.Tree.{Trees}
 use Rattle.sqlite.specs.declared.error.Error.{Error}
 use Rattle.csi_config.specs.declared.config.Config.{Config}
 use Rattle.csi_schema.specs.Rows.{seen_attachment, seen_meta}
-use Rattle.csi_scans.specs.Scans.{owners}
+use Rattle.csi_scans.specs.Scans.{IsInOrder, owners}
 use Rattle.csi_constraints.specs.Apart.{apart_named}
 use Rattle.csi_constraints.specs.Joins.{is_owned}
 use Rattle.csi_constraints.specs.declared.named.RowName.{RowName}
@@ -19,6 +18,7 @@ use Rattle.csi_adoption.specs.declared.adopting.TablesSeen.{TablesSeen}
 use Rattle.csi_adoption.specs.declared.meta.Meta.{Meta}
 use Rattle.csi_adoption.specs.declared.meta.MetaRows.TheVariants as meta
 use Rattle.csi_adoption.proofs.FaultLemmas.{error_fails, fault_here, fault_later}
+use Rattle.csi_adoption.proofs.OrderLemmas.{in_order}
 
 pub judged_err : (config : Config) (db : Trees) (x : AdoptFault) → (is_failure x ≡ false → AreJudged config db (Some x)) → JudgesRows config db (Err x)
 judged_err config db x judged = λ known. inr (judged known)
@@ -40,10 +40,10 @@ module _ (config : Config) (db : Trees) (m : Meta) (rows : List Row) (same : IsP
   a = told_attachments tables.attachments
 
   abbrev AreOwned : List Row → Type 0
-  AreOwned owned = IsPermutation (owners (db 3) (db 1)) owned
+  AreOwned owned = IsInOrder (owners (db 3) (db 1)) owned
 
   abbrev ArePlaces : List Row → Type 0
-  ArePlaces places = IsPermutation (map seen_attachment (db 3)) places
+  ArePlaces places = IsInOrder (map seen_attachment (db 3)) places
 
   judged : (owned places : List Row) → AreOwned owned → ArePlaces places → (unowned apart : Option RowName) → unowned ≡ first_named 0 1 is_owned owned → apart ≡ apart_named places
       → (fault : Option AdoptFault) → all_faults config m.next v a unowned apart ≡ fault → AreJudged config db fault
@@ -62,13 +62,16 @@ module _ (config : Config) (db : Trees) (m : Meta) (rows : List Row) (same : IsP
 
   pub table_fault : (e : AdoptFault) → table_faults config m.next v a ≡ Some e → AreJudged config db (Some e)
   table_fault e is =
-      judged (owners (db 3) (db 1)) (map seen_attachment (db 3)) (IsPermutation-refl _) (IsPermutation-refl _) (first_named 0 1 is_owned (owners (db 3) (db 1))) (apart_named (map seen_attachment (db 3))) refl refl (Some e)
+      let owned = in_order (owners (db 3) (db 1)) in
+      let places = in_order (map seen_attachment (db 3)) in
+      judged owned.0 places.0 owned.1 places.1 (first_named 0 1 is_owned owned.0) (apart_named places.0) refl refl (Some e)
       (fault_here (table_faults config m.next v a) _ e is)
 
   module _ (owned : List Row) (one : AreOwned owned) (unowned : Option RowName) (first : unowned ≡ first_named 0 1 is_owned owned) (fine : table_faults config m.next v a ≡ None) where
     pub owner_fault : (e : AdoptFault) → unowned_fault unowned ≡ Some e → AreJudged config db (Some e)
     owner_fault e is =
-        judged owned (map seen_attachment (db 3)) one (IsPermutation-refl _) unowned (apart_named (map seen_attachment (db 3))) first refl (Some e)
+        let places = in_order (map seen_attachment (db 3)) in
+        judged owned places.0 one places.1 unowned (apart_named places.0) first refl (Some e)
         (fault_later (table_faults config m.next v a) _ fine ∙ fault_here (unowned_fault unowned) _ e is)
 
     module _ (places : List Row) (two : ArePlaces places) (apart : Option RowName) (second : apart ≡ apart_named places) (at_home : unowned_fault unowned ≡ None) where

@@ -12,6 +12,7 @@ mod JudgedLemmas
 mod JudgingLemmas
 mod ScanLemmas
 mod MetaLemmas
+mod OrderLemmas
 mod PassedLemmas
 mod PlaceLemmas
 mod SeeingLemmas

@@ -180,7 +180,7 @@ module _ (config : Config) (small : IsSmall config) (bounded : (p : Pool) → Ha
       let fa = attachments_found config n db fv.volumes j.volume_rows j.attachment_rows j.owner_rows j.place_rows sound j.seen.volumes fv.listed fv.stored fv.each j.seen.attachments it.attachments (record {
         rising = passed.placed.rising;
         caps = passed.placed.cap (ap (λ (f : AttachmentsFound). f.cap) passed.placed.found ∙ all_unnamed 1 2 has_cap j.attachment_rows it.attachments.caps);
-      }) j.seen.owned it.owned j.seen.places it.beside in
+      }) j.seen.owned.same it.owned j.seen.places.same it.beside in
       let s : State = record { next = n; volumes = fv.volumes; attachments = fa.attachments } in
       let are : IsRowsOf m.format s db = record {
         meta = row.0;
@@ -245,8 +245,8 @@ module _ (config : Config) (small : IsSmall config) (volumes_pass : VolumesDoPas
       let none = rows_faultless config small j.volume_rows j.attachment_rows j.owner_rows j.place_rows the_row invariant.next.0 (record {
         volumes = volumes_pass config format s db j.volume_rows are invariant j.seen.volumes;
         attachments = attachments_pass config format s db j.attachment_rows are.0 invariant j.seen.attachments;
-        owned = owners_pass config format s db j.owner_rows are.0 invariant j.seen.owned;
-        beside = places_pass config format s db j.place_rows are.0 invariant j.seen.places;
+        owned = owners_pass config format s db j.owner_rows are.0 invariant j.seen.owned.same;
+        beside = places_pass config format s db j.place_rows are.0 invariant j.seen.places.same;
       }) in
       some_none fault (sym j.fault_is ∙ ap (λ (z : Meta). all_faults config z.next (in_volumes config z j.volume_rows) (in_attachments config j.attachment_rows) (first_named 0 1 is_owned j.owner_rows) (apart_named j.place_rows)) same ∙ none)
     where

@@ -23,7 +23,7 @@ use Rattle.csi_judging.specs.declared.fault.AdoptFault.{AdoptFault}
 use Rattle.csi_judging.specs.declared.fault.AdoptFault.TheVariants.{Foreign}
 use Rattle.csi_judging.specs.declared.fault.Foreign.TheVariants as foreign
 use Rattle.csi_judging.specs.declared.seen.VolumesSeen.{VolumesSeen}
-use Rattle.csi_adoption.specs.Failing.{AdoptionFails}
+use Rattle.csi_adoption.specs.Failing.{AdoptionFails, IsOfShut}
 use Rattle.csi_adoption.specs.Judging.{total_in, IsFaultOf}
 
 -- the State of a database: the one whose rows it has, or the first one where it has no table yet
@@ -94,9 +94,11 @@ module _ {S : Type 0} (g : Ghosts S) (config : Config) (conn : Held S) where
     pub first : HasCleanDisk (state g back) → IsTrue (state g back).is_open → is_failure fault ≡ false → IsFaultOf config committed fault
     -- other tables are told, whatever fails
     pub other : HasCleanDisk (state g back) → IsTrue (state g back).is_open → committed.schema ≢ schema → committed.schema ≢ no_schema → fault ≡ Foreign foreign.Schema
+    -- where the connection is shut no row is judged; other tables are told there of what it shows
+    pub shut : HasCleanDisk (state g back) → (state g back).is_open ≡ false → IsOfShut (state g back).now.schema fault
     -- a database without a table is refused only if something failed
     pub blank : HasCleanDisk (state g back) → IsTrue (state g back).is_open → committed.schema ≡ no_schema → is_failure fault ≡ true
-    -- the database fails for a cause, with an error of that cause: the disk failed once more, a fault had shut the connection or shut it since, or what is asked of what was committed is refused
+    -- the database fails for a cause, with an error of that cause: the disk failed once more, the connection is shut, as a fault had shut it or shut it since, or what is asked of what was committed is refused
     pub failed : AdoptionFails g conn back fault
     -- and so are rows of a State that meets every constraint
     pub sound : HasCleanDisk (state g back) → IsTrue (state g back).is_open → IsNotRefused config committed fault

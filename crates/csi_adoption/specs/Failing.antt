@@ -1,7 +1,8 @@
 -- Why adoption fails where no row is at fault: a failure of the database has a cause.
-use Rattle.std.specs.Prelude.{◌≡◌, ◌⊎◌, false, None, List, map, IfErr, IsTrue, Result, ⊤}
+use Rattle.std.specs.Prelude.{◌≡◌, ◌≢◌, ◌⊎◌, false, None, List, map, IfErr, IsTrue, Result, ⊤}
 use Rattle.sqlite.specs.Held.{Held, state}
 use Rattle.sqlite.specs.Order.{Row}
+use Rattle.sqlite.specs.Schema.{Schema}
 use Rattle.sqlite.specs.State.{HasCleanDisk, is_disk_error}
 use Rattle.sqlite.specs.Store.{Ghosts}
 use Rattle.sqlite.specs.Tree.{Trees}
@@ -17,9 +18,10 @@ use Rattle.csi_statements.specs.Failing.{RefusesFormat}
 use Rattle.csi_scans.specs.Failing.{HasTooMany}
 use Rattle.csi_scans.specs.Folds.{IsRising}
 use Rattle.csi_scans.specs.Scans.{IsInOrder, keyed_attachment}
-use Rattle.csi_judging.specs.Faults.{wants_memory}
+use Rattle.csi_judging.specs.Faults.{is_failure, wants_memory}
 use Rattle.csi_judging.specs.declared.fault.AdoptFault.{AdoptFault}
-use Rattle.csi_judging.specs.declared.fault.AdoptFault.TheVariants.{Store}
+use Rattle.csi_judging.specs.declared.fault.AdoptFault.TheVariants.{Foreign, Store}
+use Rattle.csi_judging.specs.declared.fault.Foreign.TheVariants as foreign
 
 -- rows in the order of their first integers, which do not rise
 abbrev pub DoNotRise : List Row → Type 0
@@ -57,6 +59,18 @@ module _ {S : Type 0} (g : Ghosts S) (old new : Held S) where
   abbrev pub JudgingFails : {X : Type 0} → Result X AdoptFault → Type 0
   JudgingFails r = IfErr r (OfStore HasCause)
 
+  -- rows are judged on a connection that is open
+  abbrev pub TellsOpen : {X : Type 0} → Result X AdoptFault → Type 0
+  TellsOpen r = HasCleanDisk (state g new) → IfErr r (λ fault. is_failure fault ≡ false → IsTrue (state g new).is_open)
+
+-- on a connection that is shut no row is judged: what is told but a failure is that it has other tables
+abbrev pub IsOfShut : Schema → AdoptFault → Type 0
+IsOfShut seen fault = is_failure fault ≡ false → (fault ≡ Foreign foreign.Schema) × (seen ≢ schema)
+
+module _ {S : Type 0} (g : Ghosts S) (new : Held S) where
+  abbrev pub TellsShut : {X : Type 0} → Result X AdoptFault → Type 0
+  TellsShut r = HasCleanDisk (state g new) → (state g new).is_open ≡ false → IfErr r (IsOfShut (state g new).now.schema)
+
 -- of what was committed on the connection; the limit on its steps is taken away
 abbrev pub RefusesCommitted : {S : Type 0} → Ghosts S → Held S → Error → Type 0
 RefusesCommitted {S} g conn e = (settled : Held S) × (settled.step_limit ≡ None) × ((state g settled).now ≡ (state g conn).committed) × Refuses g settled e
@@ -65,9 +79,9 @@ RefusesCommitted {S} g conn e = (settled : Held S) × (settled.step_limit ≡ No
 abbrev pub RefusesShut : {S : Type 0} → Ghosts S → Error → Type 0
 RefusesShut {S} g e = (settled : Held S) × (settled.step_limit ≡ None) × ((state g settled).is_open ≡ false) × ((state g settled).now.schema ≡ no_schema) × RefusesTables (state g settled) e
 
--- a fault had shut the connection, or shut it since
+-- it is shut: a fault had shut the connection, or shut it since
 abbrev pub WasShut : {S : Type 0} → Ghosts S → Held S → Held S → Type 0
-WasShut g conn back = ((state g conn).is_open ≡ false) ⊎ MoreFaults (state g conn).faults (state g back).faults
+WasShut g conn back = ((state g back).is_open ≡ false) × (((state g conn).is_open ≡ false) ⊎ MoreFaults (state g conn).faults (state g back).faults)
 
 -- the error that ends an adoption, and its cause
 pub data FailsCommitted {S : Type 0} (g : Ghosts S) (conn back : Held S) (e : Error) : Type 0 where

@@ -56,8 +56,8 @@ pub record Seen (db : Trees) (meta_rows volume_rows attachment_rows owner_rows p
   pub meta : IsPermutation (map seen_meta (db 0)) meta_rows
   pub volumes : IsInOrder (map seen_volume (db 1)) volume_rows
   pub attachments : IsInOrder (map keyed_attachment (db 3)) attachment_rows
-  pub owned : IsPermutation (owners (db 3) (db 1)) owner_rows
-  pub places : IsPermutation (map seen_attachment (db 3)) place_rows
+  pub owned : IsInOrder (owners (db 3) (db 1)) owner_rows
+  pub places : IsInOrder (map seen_attachment (db 3)) place_rows
 
 -- the rows meet every constraint
 pub record Pass (config : Config) (m : Meta) (meta_rows volume_rows attachment_rows owner_rows place_rows : List Row) : Type 0 where

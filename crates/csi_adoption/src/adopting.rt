@@ -15,7 +15,7 @@ ghost use Rattle.csi_keeper.specs.State.{State, first_state};
 ghost use Rattle.csi_tables.specs.Holding.{IsEitherRows};
 ghost use Rattle.csi_judging.specs.Faults.{is_failure};
 ghost use Rattle.csi_adoption.specs.Adopting.{FoundState, IsAdopted, IsFound, IsNotRefused, IsTaken, IsUnadopted, LeavesLatest};
-ghost use Rattle.csi_adoption.specs.Failing.{JudgingFails, ScanFails};
+ghost use Rattle.csi_adoption.specs.Failing.{JudgingFails, ScanFails, TellsOpen, TellsShut};
 ghost use Rattle.csi_adoption.specs.Scanning.{Scans};
 ghost use Rattle.csi_adoption.specs.declared.meta.Meta.{Meta as Row};
 ghost use Rattle.csi_adoption.specs.Judging.{AreJudged, ArePassed, IsFaultOf, IsMetaFault, JudgesBehind, JudgesJoined, JudgesRows, JudgesSeen, SeesRow, TablesAreSeen};
@@ -97,6 +97,7 @@ fn judge_joined<S: Alter>(
     requires ours { HasCleanDisk (state S.Store conn.old) → conn.old.schema ≡ our_schema }
     ensures scans { Scans S.Store conn.old conn.new result }
     ensures failed { JudgingFails S.Store conn.old conn.new result }
+    ensures open { TellsOpen S.Store conn.old conn.new result }
     ensures judged { HasCleanDisk (state S.Store conn.new) → (row : Row) → JudgesJoined config.now (state S.Store conn.old).now.trees row tables.now result }
 {
     check_attachment(
@@ -126,6 +127,7 @@ fn judge_seen<S: Alter>(
     requires ours { HasCleanDisk (state S.Store conn.old) → conn.old.schema ≡ our_schema }
     ensures scans { Scans S.Store conn.old conn.new result }
     ensures failed { JudgingFails S.Store conn.old conn.new result }
+    ensures open { IsTrue (state S.Store conn.old).is_open → TellsOpen S.Store conn.old conn.new result }
     ensures judged { HasCleanDisk (state S.Store conn.new) → JudgesSeen config.now (state S.Store conn.old).now.trees meta tables.now result }
 {
     check_tables(
@@ -150,6 +152,7 @@ fn judge_behind<S: Alter>(
     requires ours { HasCleanDisk (state S.Store conn.old) → conn.old.schema ≡ our_schema }
     ensures scans { Scans S.Store conn.old conn.new result }
     ensures failed { JudgingFails S.Store conn.old conn.new result }
+    ensures open { TellsOpen S.Store conn.old conn.new result }
     ensures judged { HasCleanDisk (state S.Store conn.new) → JudgesBehind config.now (state S.Store conn.old).now.trees meta result }
 {
     let tables = see_tables(alloc, conn, config, meta)?;
@@ -164,6 +167,7 @@ fn see_row<S: Alter>(conn: &mut Connection<S>) -> Result<Meta, AdoptFault>
     requires ours { HasCleanDisk (state S.Store conn.old) → conn.old.schema ≡ our_schema }
     ensures scans { Scans S.Store conn.old conn.new result }
     ensures failed { JudgingFails S.Store conn.old conn.new result }
+    ensures open { TellsOpen S.Store conn.old conn.new result }
     ensures seen { HasCleanDisk (state S.Store conn.new) → SeesRow (state S.Store conn.old).now.trees result }
 {
     let rows = see_meta(conn)?;
@@ -180,6 +184,7 @@ fn judge_rows<S: Alter>(
     requires ours { HasCleanDisk (state S.Store conn.old) → conn.old.schema ≡ our_schema }
     ensures scans { Scans S.Store conn.old conn.new result }
     ensures failed { JudgingFails S.Store conn.old conn.new result }
+    ensures open { TellsOpen S.Store conn.old conn.new result }
     ensures judged { HasCleanDisk (state S.Store conn.new) → JudgesRows config.now (state S.Store conn.old).now.trees result }
 {
     let meta = see_row(conn)?;
@@ -225,6 +230,7 @@ fn judge<S: Alter>(
     requires idle { conn.old.in_transaction ≡ false }
     ensures scans { Scans S.Store conn.old conn.new result }
     ensures failed { JudgingFails S.Store conn.old conn.new result }
+    ensures shut { TellsShut S.Store conn.new result }
     ensures found { HasCleanDisk (state S.Store conn.new) → IfOk result
         (λ judged. IsFound config.now (state S.Store conn.old).now judged.format judged.totals) }
     ensures first { HasCleanDisk (state S.Store conn.new) → IfErr result
@@ -280,6 +286,7 @@ fn take<S: Alter>(
     ensures idle { conn.new.in_transaction ≡ false }
     ensures taken { HasCleanDisk (state S.Store conn.new) → IfOk result (IsTaken config.now (state S.Store conn.old) (state S.Store conn.new)) }
     ensures failed { JudgingFails S.Store conn.old conn.new result }
+    ensures shut { TellsShut S.Store conn.new result }
     ensures kept { HasCleanDisk (state S.Store conn.new) → OnErr result (KeepsCommit (state S.Store conn.old) (state S.Store conn.new)) }
     ensures first { HasCleanDisk (state S.Store conn.new) → IfErr result
         (λ fault. is_failure fault ≡ false → IsFaultOf config.now (state S.Store conn.old).now fault) }

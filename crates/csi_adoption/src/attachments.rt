@@ -1,6 +1,6 @@
 //! What scans over attachments show.
 
-ghost use Rattle.std.specs.Prelude.{◌≡◌, None, IsPermutation, IfOk, true, false, map, []};
+ghost use Rattle.std.specs.Prelude.{◌≡◌, None, IfOk, true, false, map};
 ghost use Rattle.std.specs.List.{AllZip};
 ghost use Rattle.sqlite.specs.Held.{state};
 ghost use Rattle.sqlite.specs.State.{HasCleanDisk};
@@ -14,6 +14,7 @@ ghost use Rattle.csi_adoption.specs.Failing.{ScanFails};
 ghost use Rattle.csi_adoption.specs.Judging.{SeesAttachments, first_named};
 ghost use Rattle.csi_adoption.specs.Scanning.{IsBegun, Scans, SeenBy};
 
+use crate::starts::unbroken;
 use crate::sums::node_sums;
 use csi_config::Config;
 use csi_constraints::{
@@ -32,22 +33,6 @@ type Codes = Both<FirstBroken<HasCap>, FirstBroken<Sure<HasFlag>>>;
 type Nodes<'a> = Both<FirstBroken<Sure<IsAtNode<'a>>>, Each<TextSum>>;
 
 type AttachmentsFold<'a> = Both<Both<Kinds, Codes>, Nodes<'a>>;
-
-// A constraint that no row has broken yet, which is named by the integer and the text in these columns.
-fn unbroken<T>(alloc: Global, test: T, number: usize, text: usize) -> FirstBroken<T>
-    ensures test { result.test ≡ test }
-    ensures number { result.number ≡ number }
-    ensures text { result.text ≡ text }
-    ensures none { result.found ≡ None }
-{
-    FirstBroken {
-        alloc,
-        test,
-        number,
-        text,
-        found: None,
-    }
-}
 
 fn kinds(alloc: Global) -> Kinds
     ensures number { result.first.number ≡ 0 }
@@ -166,7 +151,7 @@ pub(crate) fn see_owners<S: Alter>(
     requires ours { HasCleanDisk (state S.Store conn.old) → conn.old.schema ≡ our_schema }
     ensures scans { Scans S.Store conn.old conn.new result }
     ensures failed { ScanFails S.Store conn.old conn.new result }
-    ensures seen { SeenBy S.Store conn.old conn.new result (λ db rows. IsPermutation (owners (db 3) (db 1)) rows)
+    ensures seen { SeenBy S.Store conn.old conn.new result (λ db rows. IsInOrder (owners (db 3) (db 1)) rows)
         (λ rows found. found ≡ first_named 0 1 is_owned rows) }
 {
     let mut fold = FirstUnowned {
@@ -187,7 +172,7 @@ pub(crate) fn see_apart<S: Alter>(
     requires ours { HasCleanDisk (state S.Store conn.old) → conn.old.schema ≡ our_schema }
     ensures scans { Scans S.Store conn.old conn.new result }
     ensures failed { ScanFails S.Store conn.old conn.new result }
-    ensures seen { SeenBy S.Store conn.old conn.new result (λ db rows. IsPermutation (map seen_attachment (db 3)) rows)
+    ensures seen { SeenBy S.Store conn.old conn.new result (λ db rows. IsInOrder (map seen_attachment (db 3)) rows)
         (λ rows found. found ≡ apart_named rows) }
 {
     let mut fold = FirstApart {

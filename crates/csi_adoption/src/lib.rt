@@ -6,7 +6,7 @@
 //!
 //! `specs/Judging.antt` says which fault rows have, by the format and the next number that the row of `meta` tells (`Meta`): what the scans find in rows
 //! (`in_volumes`, `in_attachments`) has the faults of the crate below, `csi_judging`, in their order. `meta.rt`, `volumes.rt` and `attachments.rt` scan the tables,
-//! with a fold a constraint, all in one scan a table; `sums.rt` begins the sums of pools and nodes. `adopting.rt` scans and has what was seen judged there, by
+//! with a fold a constraint, all in one scan a table; `starts.rt` begins the constraints, and `sums.rt` the sums of pools and nodes. `adopting.rt` scans and has what was seen judged there, by
 //! `check_tables`, `check_attachment` and `check_counts`. Before the first scan a transaction is begun and undone, so that what is seen is what was committed. Attachments are scanned with their volumes, and beside one another, only once
 //! each is known to be at a node of the configuration, so that those of a volume are few. That tables of an earlier format are made ones of the latest is
 //! the last step that can fail.
@@ -30,6 +30,7 @@ pub mod attachment_laws;
 mod attachments;
 pub mod laws;
 mod meta;
+mod starts;
 mod sums;
 mod volumes;
 

@@ -1,6 +1,6 @@
 //! Sums over the rows of each pool and of each node.
 
-ghost use Rattle.std.specs.Prelude.{◌≡◌, IfOk};
+ghost use Rattle.std.specs.Prelude.{IfOk};
 ghost use Rattle.std.specs.List.{AllZip};
 ghost use Rattle.csi_scans.specs.declared.sums.Weight.TheVariants.{One as Ones};
 ghost use Rattle.csi_adoption.specs.Scanning.{IsBegun};

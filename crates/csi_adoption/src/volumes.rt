@@ -15,6 +15,7 @@ ghost use Rattle.csi_adoption.specs.Judging.{SeesVolumes, total_in};
 ghost use Rattle.csi_adoption.specs.Scanning.{IsBegun, Scans, SeenBy};
 
 use crate::meta::Meta;
+use crate::starts::unbroken;
 use crate::sums::pool_sums;
 use csi_config::{Config, Pool};
 use csi_constraints::{
@@ -39,22 +40,6 @@ type Sums = Both<Both<Each<TextSum>, Each<TextSum>>, RowCount>;
 
 type VolumesFold<'a> = Both<Both<Both<Kinds, Names>, Both<Sizes<'a>, Codes>>, Sums>;
 
-// A constraint that no volume has broken yet.
-fn unbroken<T>(alloc: Global, test: T) -> FirstBroken<T>
-    ensures test { result.test ≡ test }
-    ensures number { result.number ≡ 0 }
-    ensures text { result.text ≡ 1 }
-    ensures none { result.found ≡ None }
-{
-    FirstBroken {
-        alloc,
-        test,
-        number: 0,
-        text: 1,
-        found: None,
-    }
-}
-
 fn kinds(alloc: Global) -> Kinds
     ensures number { result.first.number ≡ 0 }
     ensures text { result.first.text ≡ 1 }
@@ -69,6 +54,8 @@ fn kinds(alloc: Global) -> Kinds
             Sure {
                 test: HasVolumeKinds,
             },
+            0,
+            1,
         ),
         second: Rising {
             column: 0,
@@ -93,8 +80,10 @@ fn names(alloc: Global, next: u64) -> Names
             Sure {
                 test: IsNumbered { next },
             },
+            0,
+            1,
         ),
-        second: unbroken(alloc, Sure { test: IsNamed }),
+        second: unbroken(alloc, Sure { test: IsNamed }, 0, 1),
     }
 }
 
@@ -113,8 +102,10 @@ fn sizes(alloc: Global, config: &Config) -> Sizes<'_>
             Sure {
                 test: IsInPools { config },
             },
+            0,
+            1,
         ),
-        second: unbroken(alloc, Sure { test: IsSized }),
+        second: unbroken(alloc, Sure { test: IsSized }, 0, 1),
     }
 }
 
@@ -128,8 +119,8 @@ fn codes(alloc: Global, format: u32) -> Codes
     ensures none_second { result.second.found ≡ None }
 {
     Both {
-        first: unbroken(alloc, HasCaps { alloc }),
-        second: unbroken(alloc, HasParams { alloc, format }),
+        first: unbroken(alloc, HasCaps { alloc }, 0, 1),
+        second: unbroken(alloc, HasParams { alloc, format }, 0, 1),
     }
 }
 

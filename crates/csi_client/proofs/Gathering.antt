@@ -1,27 +1,26 @@
 -- What comes of waiting for the reply to a call, read by read.
-use Rattle.std.proofs.Common.{◌≡◌, ◌≢◌, ℕ, ◌-◌, ◌≤◌, ◌<◌, List, [], ◌∷◌, ◌++◌, length, take, drop, Option, Some, None, Result, Ok, Err, refl, sym, ap, subst, ◌∙◌, append-nil, length-drop, arith, inl, inr}
-use Rattle.std.specs.Prelude.{IsErr, IsNone, IfSome}
+use Rattle.std.proofs.Common.{◌≡◌, ◌≢◌, ℕ, ◌-◌, ◌≤◌, ◌<◌, List, [], ◌∷◌, ◌++◌, length, take, drop, Option, Some, None, refl, sym, ap, subst, ◌∙◌, append-nil, length-drop, arith, inl, inr}
+use Rattle.std.specs.Prelude.{IsNone, IfSome}
 use Rattle.std.specs.Io.KnownBytes.{Consumes}
 use Rattle.std.proofs.KnownBytes.{Consumes-trans}
 use Rattle.std.proofs.lemmas.List.{take_all}
-use Rattle.envelope.specs.Envelope.{ReplyBytes, reply}
+use Rattle.envelope.specs.Envelope.{ReplyBytes, IsReply, reply}
+use Rattle.envelope.specs.declared.kind.Kind.TheVariants.{Replies}
 use Rattle.envelope.specs.declared.reply_fault.ReplyFault.{ReplyFault}
+use Rattle.envelope.specs.facts.Breaking.{nil_unbroken}
+use Rattle.envelope.specs.facts.Frames.{is_unfinished, nil_short}
 use Rattle.frames_core.specs.Framer.{ReplyFramerState, IsReplyFrame, IsReplySettled, IsReplyCutShort, reply_cut_short, reply_start}
 use Rattle.envelope.specs.ReplyStream.{FaultAt, IsUnfinished, BeginsReply}
-use Rattle.csi_client.specs.Receiving.{HasFault, Gathered, Gathers, IsGathering}
+use Rattle.csi_client.specs.Receiving.{BeginsWith, HasFault, Gathered, IsGathering, IsPrompt}
 use Rattle.csi_client.proofs.Feeding.{Fed, fault_of, not_at_end, known_break, all_held, took_all, some_fed, no_some}
 
-pub gathering_start : (s : ReplyFramerState) → s ≡ reply_start → IsUnfinished s.held → IsGathering [] s
-gathering_start s e open_ = record {
+pub gathering_start : (s : ReplyFramerState) → s ≡ reply_start → IsGathering [] s
+gathering_start s e = record {
   past = ap (λ (x : ReplyFramerState). x.past) e;
   held = ap (λ (x : ReplyFramerState). x.held) e;
   unknown = ap (λ (x : ReplyFramerState). x.fault) e;
-  unfinished = subst IsUnfinished (ap (λ (x : ReplyFramerState). x.held) e) open_;
+  unfinished = is_unfinished Replies [] (nil_unbroken Replies) (nil_short Replies);
 }
-
-pub gathers_err : {X E : Type 0} (unread left : Option (List ℕ)) (s : ReplyFramerState) (x : Result X E) → IsErr x → (read : List ℕ) → Consumes unread left read → IsUnfinished read → Gathers unread left s x
-gathers_err unread left s (Ok x) is read c u = absurd cc
-gathers_err unread left s (Err e) is read c u = (read, c, u)
 
 fault_from_0 : (bytes : List ℕ) (f : ReplyFault) (past : ℕ) → past ≡ 0 → FaultAt bytes f.why (f.at - past) → FaultAt bytes f.why f.at
 fault_from_0 bytes f past e h = subst (λ (at : ℕ). FaultAt bytes f.why at) (omega (arith, e)) h
@@ -32,12 +31,16 @@ no_fault : (o : Option ReplyFault) (f : ReplyFault) → o ≡ None → o ≡ Som
 no_fault None f none some = absurd cc
 no_fault (Some g) f none some = absurd cc
 
+prompt_at_end : (read : List ℕ) → IsUnfinished read → IsPrompt read
+prompt_at_end read open_ = record { before = read; piece = []; whole = sym (append-nil read); unfinished = open_; one = omega arith }
+
 ended_at : (read : List ℕ) (AtEnd : Type 0) (s t : ReplyFramerState) → IsGathering read s → (IsReplyCutShort s → t ≡ reply_cut_short s) → (¬ IsReplyCutShort s → t ≡ s) → AtEnd → Gathered read AtEnd t
 ended_at [] AtEnd s t g ends kept at_end =
     let same : t ≡ s = kept (λ short. short.1 g.held) in
     subst (λ (x : ReplyFramerState). Gathered [] AtEnd x) (sym same) (record {
       rest = [];
       few = omega arith;
+      prompt = prompt_at_end [] g.unfinished;
       whole = ap (λ (x : List ℕ). x ++ []) (sym g.held);
       faulty = λ f e. absurd (no_fault s.fault f g.unknown e);
       nothing = λ none whole. (refl, at_end);
@@ -50,6 +53,7 @@ ended_at (b ∷ bs) AtEnd s t g ends kept at_end =
     subst (λ (x : ReplyFramerState). Gathered (b ∷ bs) AtEnd x) (sym cut) (record {
       rest = [];
       few = omega arith;
+      prompt = prompt_at_end (b ∷ bs) g.unfinished;
       whole = sym (append-nil s.held ∙ g.held);
       faulty = λ f e. subst (λ (o : Option ReplyFault). IfSome o (λ x. HasFault (b ∷ bs) AtEnd x)) e ((omega (arith, g.past, ap length g.held), ((λ none. absurd cc), g.unfinished)), λ why. at_end);
       nothing = λ known whole. absurd cc;
@@ -67,6 +71,7 @@ pub settled : (read bytes : List ℕ) (AtEnd : Type 0) (s t : ReplyFramerState) 
 settled read bytes AtEnd s t n g f any small some = record {
   rest = drop n bytes;
   few = omega (arith, small, length-drop n bytes, some_fed s t bytes n g.unknown (subst IsUnfinished (sym g.held) g.unfinished) f any);
+  prompt = record { before = read; piece = bytes; whole = refl; unfinished = g.unfinished; one = omega (arith, small) };
   whole = held_all read bytes s t n g f;
   faulty = λ x e.
       let k = known_break s t bytes n x g.unknown f e in (
@@ -102,5 +107,5 @@ nothing_more a b c read buf n h e k =
 pub nothing_came : (read : List ℕ) (AtEnd : Type 0) (s : ReplyFramerState) → Gathered read AtEnd s → s.fault ≡ None → ¬ BeginsReply s.held → (read ≡ []) × AtEnd
 nothing_came read AtEnd s g none frameless = g.nothing none (λ f. frameless (f.0, [], f.1, f.2 ∙ sym (append-nil (reply f.0))))
 
-pub reply_came : (read : List ℕ) (AtEnd : Type 0) (s : ReplyFramerState) (r : ReplyBytes) → Gathered read AtEnd s → s.held ≡ reply r → (more : List ℕ) × (read ≡ reply r ++ more)
-reply_came read AtEnd s r g e = (g.rest, g.whole ∙ ap (λ (x : List ℕ). x ++ g.rest) e)
+pub reply_came : (read : List ℕ) (AtEnd : Type 0) (s : ReplyFramerState) (r : ReplyBytes) → Gathered read AtEnd s → IsReply r → s.held ≡ reply r → BeginsWith read r
+reply_came read AtEnd s r g good e = (g.rest, good, g.whole ∙ ap (λ (x : List ℕ). x ++ g.rest) e, g.few)

@@ -3,5 +3,4 @@ pub mod Gathering
 pub mod Paths
 pub mod Pauses
 pub mod Printing
-pub mod Sending
 pub mod Statuses

@@ -2,9 +2,10 @@
 use Rattle.std.proofs.Common.{◌≡◌, ◌≢◌, ℕ, ◌+◌, ◌≤◌, Bool, List, [], ◌∷◌, ◌++◌, length, take, drop, Option, Some, None, refl, sym, ap, subst, ◌∙◌, append_assoc, append-nil, length-append, arith, inr, Err, Ok}
 use Rattle.std.specs.Prelude.{IfSome, IsNone, ◌||◌, true, false, ⊤}
 use Rattle.std.specs.Io.KnownBytes.{Appends, Keeps}
-use Rattle.std.proofs.KnownBytes.{Appends-trans}
+use Rattle.std.proofs.KnownBytes.{Appends-kept, Appends-nil, Appends-trans}
 use Rattle.std.proofs.lemmas.Grind.{flat_map-append}
-use Rattle.std.proofs.lemmas.List.{take-append-drop, take-take, drop-take, take_all}
+use Rattle.std.proofs.lemmas.List.{take-append-drop, take_all}
+use Rattle.std.proofs.Math.Seq.{take-add}
 use Rattle.std.proofs.lemmas.List.Elements.{All-push, All-nil}
 use Rattle.std.proofs.lemmas.List.Folds.{list_any-append}
 use Rattle.csi_types.specs.declared.code.Code.TheVariants as code
@@ -22,16 +23,6 @@ use Rattle.csi_client.specs.Replies.{first_line}
 use Rattle.csi_client.specs.Showing.{IsShown, AreShown, Wrote, Ended, frames, has_refusal, is_refusal}
 use Rattle.csi_client.specs.Live.{ShowsOne, end_of, Live, IsReady, Advances}
 use Rattle.csi_client.proofs.Feeding.{Fed, fault_of, not_at_end, known_break, all_held, fed_count, some_fed}
-
-Appends-kept : (a b c : Option (List ℕ)) (bytes : List ℕ) → Appends a b bytes → Keeps b c → Appends a c bytes
-Appends-kept None b c bytes p q = tt
-Appends-kept (Some x) None c bytes p q = absurd p
-Appends-kept (Some x) (Some y) None bytes p q = absurd q
-Appends-kept (Some x) (Some y) (Some z) bytes p q = q ∙ p
-
-Appends-none : (a : Option (List ℕ)) → Appends a a []
-Appends-none None = tt
-Appends-none (Some x) = sym (append-nil x)
 
 -- ---- lines of replies
 
@@ -111,19 +102,20 @@ fed_open method read old new rest n a b refused h fed none open_ = record {
   unfinished = open_;
 }
 
--- the reply that is whole was not shown, or its body is bad
+-- of the reply that is whole this was written, behind all replies before it
+wrote_last : (method : Option Method) (read : List ℕ) (old new : ReplyFramerState) (rest : List ℕ) (n : ℕ) (a b c : Option (List ℕ)) (refused : Bool) (r : ReplyBytes) (last : List ℕ) → (h : Live method read old a b refused) → Fed old new rest n → new.held ≡ reply r
+    → Appends b c last → Wrote method (read ++ rest) a c h.replies (reply r ++ drop n rest) last
+wrote_last method read old new rest n a b c refused r last h fed is k =
+    wrote_then method (read ++ rest) a b c h.replies (reply r ++ drop n rest) last
+    (re_read method read a b h.replies old.held [] h.wrote (read ++ rest) (reply r ++ drop n rest) (split method read old new rest n a b refused h fed ∙ ap (λ (x : List ℕ). frames h.replies ++ (x ++ drop n rest)) is)) k
+
+-- the reply that is whole was not shown, or not whole, or its body is bad
 pub fed_halted : (X : Type 0) (method : Option Method) (read : List ℕ) (old new : ReplyFramerState) (rest : List ℕ) (n : ℕ) (a b c : Option (List ℕ)) (refused : Bool) (r : ReplyBytes) (why : Halt) → Live method read old a b refused → Fed old new rest n → IsReply r → new.held ≡ reply r
     → ShowsOne {X = X} method r b c (Err why) → Ended method (read ++ rest) ⊥ a c (end_of why)
-fed_halted X method read old new rest n a b c refused r halt.BadBody h fed good is k = (
-  h.replies,
-  r,
-  drop n rest,
-  good,
-  k.0,
-  wrote_then method (read ++ rest) a b c h.replies (reply r ++ drop n rest) (first_line code.Ok r)
-      (re_read method read a b h.replies old.held [] h.wrote (read ++ rest) (reply r ++ drop n rest) (split method read old new rest n a b refused h fed ∙ ap (λ (x : List ℕ). frames h.replies ++ (x ++ drop n rest)) is)) k.1,
-)
-fed_halted X method read old new rest n a b c refused r halt.WriteFailed h fed good is k = tt
+fed_halted X method read old new rest n a b c refused r halt.BadBody h fed good is k =
+    (h.replies, r, drop n rest, good, k.0, wrote_last method read old new rest n a b c refused r (first_line code.Ok r) h fed is k.1)
+fed_halted X method read old new rest n a b c refused r halt.WriteFailed h fed good is k =
+    (h.replies, r, drop n rest, k.0, k.2.0, good, k.1, k.2.1, wrote_last method read old new rest n a b c refused r k.2.0 h fed is k.2.2)
 fed_halted X method read old new rest n a b c refused r halt.NoMemory h fed good is k = (
   h.replies,
   new.held ++ drop n rest,
@@ -173,13 +165,8 @@ ended_as read AtEnd a b end m n e h = subst (λ (x : Option Method). Ended x rea
 
 -- ---- a piece behind a piece
 
-take-add : (n m : ℕ) (xs : List ℕ) → take n xs ++ take m (drop n xs) ≡ take (n + m) xs
-take-add n m xs =
-    ap (λ (x : List ℕ). x ++ take m (drop n xs)) (sym (take-take n (n + m) xs (omega arith)))
-    ∙ (ap (λ (x : List ℕ). take n (take (n + m) xs) ++ x) (sym (drop-take n m xs)) ∙ take-append-drop n (take (n + m) xs))
-
 pub one_piece : (read piece : List ℕ) (at n : ℕ) (rest : List ℕ) → rest ≡ drop at piece → (read ++ take at piece) ++ take n rest ≡ read ++ take (at + n) piece
-one_piece read piece at n rest e = append_assoc read (take at piece) (take n rest) ∙ ap (λ (x : List ℕ). read ++ x) (ap (λ (x : List ℕ). take at piece ++ take n x) e ∙ take-add at n piece)
+one_piece read piece at n rest e = append_assoc read (take at piece) (take n rest) ∙ ap (λ (x : List ℕ). read ++ x) (ap (λ (x : List ℕ). take at piece ++ take n x) e ∙ sym (take-add at n piece))
 
 pub whole_piece : (read piece : List ℕ) (at : ℕ) (rest : List ℕ) → rest ≡ drop at piece → (read ++ take at piece) ++ rest ≡ read ++ piece
 whole_piece read piece at rest e = append_assoc read (take at piece) rest ∙ ap (λ (x : List ℕ). read ++ x) (ap (λ (x : List ℕ). take at piece ++ x) e ∙ take-append-drop at piece)
@@ -189,7 +176,7 @@ whole_piece read piece at rest e = append_assoc read (take at piece) rest ∙ ap
 pub live_start : (method : Option Method) (s : ReplyFramerState) (a : Option (List ℕ)) → s ≡ reply_start → IsUnfinished s.held → Live method [] s a a false
 live_start method s a e open_ = subst (λ (x : ReplyFramerState). Live method [] x a a false) (sym e) (record {
   replies = [];
-  wrote = record { lines = []; shown = record { whole = refl; each = All-nil IsReply; shown = refl }; written = Appends-none a };
+  wrote = record { lines = []; shown = record { whole = refl; each = All-nil IsReply; shown = refl }; written = Appends-nil a };
   refusals = refl;
   past = refl;
   unknown = refl;

@@ -4,5 +4,4 @@ pub mod Lines
 pub mod Live
 pub mod Receiving
 pub mod Replies
-pub mod Sending
 pub mod Showing

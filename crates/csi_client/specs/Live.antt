@@ -6,6 +6,7 @@ use Rattle.csi_types.specs.declared.method.Method.{Method}
 use Rattle.envelope.specs.Envelope.{ReplyBytes}
 use Rattle.envelope.specs.ReplyStream.{IsUnfinished}
 use Rattle.frames_core.specs.Framer.{ReplyFramerState}
+use Rattle.frames_core.specs.Writing.{WrotePrefix}
 use Rattle.csi_client.specs.declared.showing.Halt.{Halt}
 use Rattle.csi_client.specs.declared.showing.Halt.TheVariants as halt
 use Rattle.csi_client.specs.declared.showing.ShowEnd.{ShowEnd}
@@ -13,7 +14,7 @@ use Rattle.csi_client.specs.declared.showing.ShowEnd.TheVariants.{Malformed, Bad
 use Rattle.csi_client.specs.declared.showing.Step.{Step}
 use Rattle.csi_client.specs.declared.showing.Step.TheVariants.{Fed, Faulty, Halted}
 use Rattle.csi_client.specs.Replies.{first_line}
-use Rattle.csi_client.specs.Showing.{IsBad, IsShown, Wrote, Ended, frames, has_refusal}
+use Rattle.csi_client.specs.Showing.{AreLinesOf, IsBad, IsShown, Wrote, Ended, frames, has_refusal}
 
 -- the end of a run that is halted
 abbrev pub end_of : Halt → ShowEnd
@@ -25,7 +26,7 @@ end_of halt.NoMemory = NoMemory
 abbrev pub ShowsOne : {X : Type 0} → Option Method → ReplyBytes → Option (List ℕ) → Option (List ℕ) → Result X Halt → Type 0
 ShowsOne method r held holds (Ok x) = (lines : List ℕ) × IsShown method r lines × Appends held holds lines
 ShowsOne method r held holds (Err halt.BadBody) = IsBad method r × Appends held holds (first_line code.Ok r)
-ShowsOne method r held holds (Err halt.WriteFailed) = Unit {0}
+ShowsOne method r held holds (Err halt.WriteFailed) = (lines : List ℕ) × AreLinesOf method r lines × WrotePrefix held holds lines
 ShowsOne method r held holds (Err halt.NoMemory) = Keeps held holds
 
 -- All that was read is shown and given up, or held and no reply yet.

@@ -1,10 +1,10 @@
 -- What comes of waiting for the reply to a call.
-use Rattle.std.specs.Prelude.{ℕ, ◌≡◌, ◌⊎◌, ◌<◌, List, [], ◌++◌, length, Option, Some, None, Result, Ok, Err}
+use Rattle.std.specs.Prelude.{ℕ, ◌≡◌, ◌⊎◌, ◌<◌, ◌≤◌, List, [], ◌++◌, length, Option, Some, None, Result, Ok, Err}
 use Rattle.std.specs.Io.KnownBytes.{Consumes, IsAtEnd}
 use Rattle.envelope.specs.declared.reply_fault.ReplyFault.{ReplyFault}
 use Rattle.envelope.specs.declared.reply_fault.ReplyWhy.TheVariants.{EndOfInput}
 use Rattle.envelope.specs.Envelope.{ReplyBytes, IsReply, reply}
-use Rattle.envelope.specs.ReplyStream.{BeginsReply, FaultAt, IsUnfinished}
+use Rattle.envelope.specs.ReplyStream.{FaultAt, IsUnfinished}
 use Rattle.frames_core.specs.Framer.{ReplyFramerState, IsReplyFrame}
 use Rattle.csi_client.specs.declared.receiving.Received.{Received}
 use Rattle.csi_client.specs.declared.receiving.Received.TheVariants.{Reply, Nothing, Malformed, Failed, NoMemory}
@@ -18,14 +18,25 @@ reply_of r = record { status = r.status; text = r.text.items; body = r.body.item
 abbrev pub HasFault : List ℕ → Type 0 → ReplyFault → Type 0
 HasFault bytes AtEnd f = FaultAt bytes f.why f.at × (f.why ≡ EndOfInput → AtEnd)
 
--- What the bytes that were read are: they begin with the first reply, or with none. Behind the reply they are fewer than
--- a piece has, so no piece is read behind the one in which it ends.
+-- The bytes begin with this reply, and behind it are fewer than a piece has: no piece is read behind the one in which it ends.
+abbrev pub BeginsWith : List ℕ → ReplyBytes → Type 0
+BeginsWith read r = (more : List ℕ) × IsReply r × (read ≡ reply r ++ more) × (length more < PIECE_BYTES)
+
+-- No piece is read behind the one in which it shows what the bytes are: those before their last piece may yet become a reply.
+pub record IsPrompt (read : List ℕ) : Type 0 where
+  pub before : List ℕ
+  pub piece : List ℕ
+  pub whole : read ≡ before ++ piece
+  pub unfinished : IsUnfinished before
+  pub one : length piece ≤ PIECE_BYTES
+
+-- What the bytes that were read are: they begin with the first reply, or with none.
 abbrev pub Comes : List ℕ → Type 0 → Received → Type 0
-Comes read AtEnd (Reply r) = (more : List ℕ) × IsReply (reply_of r) × (read ≡ reply (reply_of r) ++ more) × (length more < PIECE_BYTES)
+Comes read AtEnd (Reply r) = BeginsWith read (reply_of r)
 Comes read AtEnd Nothing = (read ≡ []) × AtEnd
-Comes read AtEnd (Malformed f) = HasFault read AtEnd f
+Comes read AtEnd (Malformed f) = HasFault read AtEnd f × IsPrompt read
 Comes read AtEnd Failed = IsUnfinished read
-Comes read AtEnd NoMemory = (read ≡ []) ⊎ BeginsReply read
+Comes read AtEnd NoMemory = (read ≡ []) ⊎ ((r : ReplyBytes) × BeginsWith read r)
 
 -- What is read of the reader, and what comes of it.
 abbrev pub Receives : Option (List ℕ) → Option (List ℕ) → Received → Type 0
@@ -44,6 +55,7 @@ pub record Gathered (read : List ℕ) (AtEnd : Type 0) (s : ReplyFramerState) : 
   pub whole : read ≡ s.held ++ rest
   -- the last piece has some that it needs
   pub few : length rest < PIECE_BYTES
+  pub prompt : IsPrompt read
   pub faulty : (f : ReplyFault) → s.fault ≡ Some f → HasFault read AtEnd f
   -- without a reply or a fault nothing came
   pub nothing : s.fault ≡ None → ¬ IsReplyFrame s.held → (read ≡ []) × AtEnd

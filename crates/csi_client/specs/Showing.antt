@@ -11,6 +11,7 @@ use Rattle.envelope.specs.declared.reply_fault.ReplyWhy.TheVariants.{EndOfInput}
 use Rattle.envelope.specs.Envelope.{ReplyBytes, IsReply, reply}
 use Rattle.envelope.specs.ReplyStream.{IsUnfinished, BeginsReply}
 use Rattle.frames_core.specs.Framer.{IsReplyFaultOf}
+use Rattle.frames_core.specs.Writing.{IsPrefix}
 use Rattle.csi_client.specs.declared.showing.ShowEnd.{ShowEnd}
 use Rattle.csi_client.specs.declared.showing.ShowEnd.TheVariants.{Done, Malformed, BadBody, ReadFailed, WriteFailed, NoMemory}
 use Rattle.csi_client.specs.Replies.{first_line, body_lines}
@@ -39,6 +40,10 @@ pub record IsShown (method : Option Method) (r : ReplyBytes) (lines : List ℕ) 
   pub readable : ¬ IsBad method r
   pub lines_are : lines ≡ first_line code r ++ body_lines method r
 
+-- the lines that are written of a reply: of one whose body is bad the first one alone
+abbrev pub AreLinesOf : Option Method → ReplyBytes → List ℕ → Type 0
+AreLinesOf method r lines = IsShown method r lines ⊎ (IsBad method r × (lines ≡ first_line code.Ok r))
+
 -- of each reply, one after the other
 abbrev pub AreShown : Option Method → List ReplyBytes → List ℕ → Type 0
 AreShown method [] lines = lines ≡ []
@@ -66,13 +71,14 @@ pub record Wrote (method : Option Method) (read : List ℕ) (held holds : Option
   pub shown : Shown method read replies rest lines
   pub written : Appends held holds (lines ++ last)
 
--- How a run ends that read these bytes, and found the end of the input or not; a writer that fails may hold a part of a line.
+-- How a run ends that read these bytes, and found the end of the input or not; a writer that fails holds of the lines of the last reply a prefix.
 abbrev pub Ended : Option Method → List ℕ → Type 0 → Option (List ℕ) → Option (List ℕ) → ShowEnd → Type 0
 Ended method read AtEnd held holds (Done refused) = (rs : List ReplyBytes) × Wrote method read held holds rs [] [] × (refused ≡ has_refusal rs) × AtEnd
 Ended method read AtEnd held holds (Malformed f) = (rs : List ReplyBytes) × (rest : List ℕ) × Wrote method read held holds rs rest [] × IsReplyFaultOf (length (frames rs)) rest f × (f.why ≡ EndOfInput → AtEnd)
 Ended method read AtEnd held holds BadBody = (rs : List ReplyBytes) × (r : ReplyBytes) × (more : List ℕ) × IsReply r × IsBad method r × Wrote method read held holds rs (reply r ++ more) (first_line code.Ok r)
 Ended method read AtEnd held holds ReadFailed = (rs : List ReplyBytes) × (rest : List ℕ) × Wrote method read held holds rs rest [] × IsUnfinished rest
-Ended method read AtEnd held holds WriteFailed = Unit {0}
+Ended method read AtEnd held holds WriteFailed = (rs : List ReplyBytes) × (r : ReplyBytes) × (more : List ℕ) × (lines : List ℕ) × (part : List ℕ)
+    × IsReply r × AreLinesOf method r lines × IsPrefix part lines × Wrote method read held holds rs (reply r ++ more) part
 Ended method read AtEnd held holds NoMemory = (rs : List ReplyBytes) × (rest : List ℕ) × Wrote method read held holds rs rest [] × ((read ≡ []) ⊎ BeginsReply rest)
 
 -- A run over a reader and a writer.

@@ -81,8 +81,7 @@ fn is_settled(framer: &ReplyFramer) -> bool
 
 // Reads until the framer has a reply or a fault, or the input ends.
 fn gather<R: Read>(framer: &mut ReplyFramer, reader: &mut R) -> io::Result<()>
-    requires start { framer.old ≡ reply_start }
-    requires open { IsUnfinished framer.old.held }
+    requires { framer.old ≡ reply_start }
     ensures { Gathers (R.remaining reader.old) (R.remaining reader.new) framer.new result }
 {
     let mut piece = [0; PIECE_BYTES];

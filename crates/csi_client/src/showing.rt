@@ -7,6 +7,7 @@ ghost use Rattle.csi_types.specs.Codes.{number_of};
 ghost use Rattle.csi_types.specs.declared.code.Code.{Code};
 ghost use Rattle.csi_types.specs.declared.code.Code.TheVariants as Code;
 ghost use Rattle.envelope.specs.Envelope.{IsReply, reply_bytes_of};
+ghost use Rattle.frames_core.specs.Writing.{WrotePrefix};
 ghost use Rattle.csi_client.specs.Replies.{first_line, body_lines};
 ghost use Rattle.csi_client.specs.Showing.{IsBad, is_refusal, Ended, Shows};
 ghost use Rattle.csi_client.specs.Live.{ShowsOne, end_of, IsReady, Live, Steps, AdvancesBy, IsAllFed};
@@ -14,7 +15,7 @@ ghost use Rattle.csi_client.specs.Live.{ShowsOne, end_of, IsReady, Live, Steps, 
 use crate::receiving::PIECE_BYTES;
 use crate::replies::{put_body_lines, put_reply_line};
 use csi_types::Method;
-use frames_core::{Reply, ReplyFault, ReplyFramer};
+use frames_core::{Reply, ReplyFault, ReplyFramer, send};
 use pbmessage::DecodeFault;
 use std::alloc::Global;
 use std::io::{self, Read, Write};
@@ -35,7 +36,7 @@ pub enum ShowEnd {
     BadBody,
     /// A read failed, or 2^32 reads were made. The replies that were read whole were shown.
     ReadFailed,
-    /// A write or a flush failed.
+    /// A write or a flush failed. All replies before the last one were shown, and of its lines a prefix.
     WriteFailed,
     /// Memory was refused: for the buffer of frames, or for lines.
     NoMemory,
@@ -83,10 +84,10 @@ impl Printer {
 
     // Writes the lines that were made.
     fn write_lines<W: Write>(&self, writer: &mut W) -> io::Result<()>
-        ensures { OnOk result (Appends (W.contents writer.old) (W.contents writer.new) self.now.lines.items) }
+        ensures all { OnOk result (Appends (W.contents writer.old) (W.contents writer.new) self.now.lines.items) }
+        ensures part { WrotePrefix (W.contents writer.old) (W.contents writer.new) self.now.lines.items }
     {
-        writer.write_all(&self.lines)?;
-        writer.flush()
+        send(writer, &self.lines)
     }
 
     // Shows one reply.
@@ -206,7 +207,7 @@ fn halted(halt: Halt) -> ShowEnd
 /// of [`put_body_lines`](crate::put_body_lines).
 ///
 /// It reads at most 4,096 bytes a read and makes at most 2^32 reads. Each reply is shown in one write
-/// and flushed as soon as its frame is whole.
+/// and flushed, by [`send`](crate::send), as soon as its frame is whole.
 pub fn show_all<R: Read, W: Write>(
     alloc: Global,
     method: Option<Method>,

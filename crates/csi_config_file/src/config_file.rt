@@ -191,6 +191,16 @@ pub(crate) struct Keys<'a> {
 }
 
 impl<'a> Keys<'a> {
+    pub(crate) fn of_top(table: &'a Table) -> Keys<'a>
+        ensures section { result.section ≡ section_of.Top }
+        ensures table { table_view result.table.now ≡ table_view table.now }
+    {
+        Keys {
+            section: Section::Top,
+            table,
+        }
+    }
+
     fn error(&self, key: Key, rule: KeyRule) -> ConfigError
         ensures { result ≡ error.Key self.now.section key rule }
     {
@@ -311,10 +321,10 @@ fn pools_of(alloc: Global, array: &[Value]) -> Result<Vec<Pool>, ConfigError>
     Ok(pools)
 }
 
-fn pools(alloc: Global, top: Keys<'_>) -> Result<Vec<Pool>, ConfigError>
-    requires { top.section ≡ section_of.Top }
-    ensures { IsRead (λ pools. pools.items) (pools_in (table_view top.entry.table.now)) result }
+fn pools(alloc: Global, table: &Table) -> Result<Vec<Pool>, ConfigError>
+    ensures { IsRead (λ pools. pools.items) (pools_in (table_view table.now)) result }
 {
+    let top = Keys::of_top(table);
     match top.value(Key::Pool)?.as_array() {
         Some(array) => pools_of(alloc, array.as_slice()),
         None => Err(top.error(Key::Pool, KeyRule::Tables)),
@@ -339,10 +349,10 @@ fn nodes_of(alloc: Global, array: &[Value]) -> Result<Vec<Node>, ConfigError>
 }
 
 // The nodes; none where the key is missing.
-fn nodes(alloc: Global, top: Keys<'_>) -> Result<Vec<Node>, ConfigError>
-    requires { top.section ≡ section_of.Top }
-    ensures { IsRead (λ nodes. nodes.items) (nodes_in (get_member (key_text key_of.Node) (table_view top.entry.table.now))) result }
+fn nodes(alloc: Global, table: &Table) -> Result<Vec<Node>, ConfigError>
+    ensures { IsRead (λ nodes. nodes.items) (nodes_in (get_member (key_text key_of.Node) (table_view table.now))) result }
 {
+    let top = Keys::of_top(table);
     let Some(value) = top.find(Key::Node) else {
         return Ok(Vec::new(alloc));
     };
@@ -352,34 +362,33 @@ fn nodes(alloc: Global, top: Keys<'_>) -> Result<Vec<Node>, ConfigError>
     }
 }
 
-fn plugin(alloc: Global, top: Keys<'_>) -> Result<Plugin, ConfigError>
-    requires { top.section ≡ section_of.Top }
-    ensures { IsRead (λ read. read) (plugin_in (table_view top.entry.table.now)) result }
+fn plugin(alloc: Global, table: &Table) -> Result<Plugin, ConfigError>
+    ensures { IsRead (λ read. read) (plugin_in (table_view table.now)) result }
 {
+    let top = Keys::of_top(table);
     Ok(Plugin {
         name: top.text(alloc, Key::Name)?,
         version: top.text(alloc, Key::VendorVersion)?,
     })
 }
 
-fn sizes(top: Keys<'_>) -> Result<Sizes, ConfigError>
-    requires { top.section ≡ section_of.Top }
-    ensures { IsRead (λ read. read) (sizes_in (table_view top.entry.table.now)) result }
+fn sizes(table: &Table) -> Result<Sizes, ConfigError>
+    ensures { IsRead (λ read. read) (sizes_in (table_view table.now)) result }
 {
+    let top = Keys::of_top(table);
     Ok(Sizes {
         default_bytes: top.count(Key::DefaultBytes)?,
         greatest_bytes: top.count(Key::GreatestBytes)?,
     })
 }
 
-fn config(alloc: Global, top: Keys<'_>) -> Result<Config, ConfigError>
-    requires { top.section ≡ section_of.Top }
-    ensures { IsOfDocument (table_view top.entry.table.now) result }
+fn config(alloc: Global, table: &Table) -> Result<Config, ConfigError>
+    ensures { IsOfDocument (table_view table.now) result }
 {
-    let plugin = plugin(alloc, top)?;
-    let sizes = sizes(top)?;
-    let pools = pools(alloc, top)?;
-    let nodes = nodes(alloc, top)?;
+    let plugin = plugin(alloc, table)?;
+    let sizes = sizes(table)?;
+    let pools = pools(alloc, table)?;
+    let nodes = nodes(alloc, table)?;
     Config::new(plugin, sizes, pools, nodes).map_err(ConfigError::Fault)
 }
 
@@ -404,13 +413,7 @@ pub fn read_config(alloc: Global, bytes: &[u8]) -> Result<Config, ConfigError>
     ensures { IsOfText bytes.now result }
 {
     match toml::table_from_slice(alloc, bytes) {
-        Ok(table) => config(
-            alloc,
-            Keys {
-                section: Section::Top,
-                table: &table,
-            },
-        ),
+        Ok(table) => config(alloc, &table),
         Err(error) => match error.span() {
             Some(span) => Err(ConfigError::NotToml {
                 line: line_of(bytes.get(..span.start).unwrap_or(bytes)),

@@ -118,10 +118,7 @@ fn add_of_nodes(
 fn add_all(alloc: Global, found: &mut Vec<UnknownKey>, top: &Table) -> Result<(), AllocError>
     ensures { OnOk result (map place_of found.new.items ≡ map place_of found.old.items ++ unknown_in (table_view top.now)) }
 {
-    let keys = Keys {
-        section: Section::Top,
-        table: top,
-    };
+    let keys = Keys::of_top(top);
     add_unknown(alloc, found, Section::Top, top, known_in(Section::Top))?;
     if let Some(array) = keys.array(Key::Pool) {
         add_of_pools(alloc, found, array)?;

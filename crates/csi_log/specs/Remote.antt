@@ -2,8 +2,8 @@
 use Rattle.std.specs.Prelude.{◌≡◌, ◌⊎◌, ◌<◌, ℕ, Option, List, Result, Err, length, ⊤, false}
 use Rattle.std.specs.Io.KnownBytes.{Appends}
 use Rattle.envelope.specs.declared.limits.TheConstants.{MAX_MESSAGE_BYTES}
+use Rattle.frames_core.specs.Writing.{WrotePrefix}
 use Rattle.csi_client.specs.Receiving.{Receives}
-use Rattle.csi_client.specs.Sending.{AppendsPart}
 use Rattle.csi_client.specs.declared.receiving.Received.{Received}
 use Rattle.csi_client.specs.declared.receiving.Received.TheVariants.{Failed}
 use Rattle.csi_keeper.specs.Keeper.{Changes}
@@ -28,11 +28,11 @@ remote_model peer log = record (peer log.peer) { is_down = log.is_down }
 abbrev pub channel_model : {R W : Type 0} → Channel R W → Model State
 channel_model channel = record { holds = λ s. ⊤; doubt = channel.exchanges; refusals = 0; survivors = λ s. ⊤; tied = ⊥; is_down = false }
 
--- An exchange: the frame is written whole, and what comes is read. Or writing it fails, and nothing is read: a part of it was written, from its start.
+-- An exchange: the frame is written whole, and what comes is read. Or writing it fails, and nothing is read: a prefix of it was written.
 abbrev pub Exchanges : Option (List ℕ) → Option (List ℕ) → Option (List ℕ) → Option (List ℕ) → List ℕ → Received → Type 0
 Exchanges written now unread left asked received =
     (Appends written now asked × Receives unread left received)
-    ⊎ ((received ≡ Failed) × (left ≡ unread) × AppendsPart written now asked)
+    ⊎ ((received ≡ Failed) × (left ≡ unread) × WrotePrefix written now asked)
 
 -- what one exchange of a channel does to its ends
 abbrev pub channel_exchanges : {R W : Type 0} → (R → Option (List ℕ)) → (W → Option (List ℕ)) → Channel R W → Channel R W → List ℕ → Received → Type 0

@@ -11,6 +11,9 @@ use frames_core::{MAX_MESSAGE_BYTES, put_request};
 use pbwire::put_bytes;
 use std::alloc::Global;
 
+// The most bytes of a token that a message holds: behind a tag of one byte and a length of three.
+const MAX_TOKEN_BYTES: usize = MAX_MESSAGE_BYTES - 4;
+
 /// What a log is asked for.
 #[derive(Clone, Copy)]
 pub(crate) enum Call {
@@ -64,12 +67,17 @@ pub(crate) fn frame_of(alloc: Global, call: Call, message: &[u8]) -> Result<Vec<
 /// # Errors
 ///
 /// `NoMemory`; `Refused` where the token has so many bytes that no message holds it.
+#[tactic(auto, using(crate::proofs::Tokens::token_held, crate::proofs::Tokens::token_not_held))]
 pub fn read_frame(alloc: Global, token: &[u8]) -> Result<Vec<u8>, StoreFault>
     ensures frame { IfOk result (λ frame. frame.items ≡ read_frame token.now) }
     ensures fault { result ≢ Err Down }
     ensures refused { IsErrOf result Refused → MAX_MESSAGE_BYTES < length (token_bytes token.now) }
+    ensures memory { IsErrOf result NoMemory → length (token_bytes token.now) ≤ MAX_MESSAGE_BYTES }
     ensures fits { OnOk result (length (token_bytes token.now) ≤ MAX_MESSAGE_BYTES) }
 {
+    if token.len() > MAX_TOKEN_BYTES {
+        return Err(StoreFault::Refused);
+    }
     let mut message = Vec::new(alloc);
     put_bytes(&mut message, 1, token)?;
     frame_of(alloc, Call::Read, message.as_slice())

@@ -37,7 +37,7 @@ fn ask<P: Peer>(alloc: Global, peer: &mut P, change: &Change) -> Result<(), Stor
 
 /// A log that is the other end of a connection.
 ///
-/// After a change that was refused, or of which nobody knows, each further one is answered `Down` and not asked for.
+/// After a change that was refused, of which nobody knows, or for which there was no memory, each further one is answered `Down` and not asked for.
 #[derive(Drop)]
 pub struct RemoteLog<P> {
     peer: P,

@@ -33,7 +33,7 @@ use Rattle.csi_keeper.specs.Model.{Model}
 use Rattle.csi_plans.specs.Plan.{after, refuse}
 use Rattle.csi_plans.specs.Size.{whole}
 use Rattle.csi_keeper.specs.State.{State, Allows}
-use Rattle.csi_machine.specs.Step.{is_of_plugin, plan, limited, limited_by, settled_plan, moved, step}
+use Rattle.csi_machine.specs.Step.{is_of_plugin, NamesNone, plan, limited, limited_by, settled_plan, moved, step}
 use Rattle.csi_plans.specs.Verdicts.{Told, Says, Denies, told_of, Appended, IsTold, verdict_of}
 use Rattle.csi_machine.specs.calls.Capacity.{capacity_of, served, greatest_size, tell_capacity}
 use Rattle.csi_machine.specs.calls.Listing.{list_after, start_of}
@@ -224,8 +224,8 @@ alone config r a b x y (Ok v) did = record {
 
 -- what is answered by the plan of a request performs it
 pub performed : (config : Config) (r : Request) (a b : Model State) (x y : List ℕ) (result : Result Verdict StoreFault) → (IsTrue (is_of_plugin r) → IsQuiet a b × IfErr result (λ e. e ≡ NoMemory))
-    → Answered config (λ s. settled_plan config s r) a b x y result → Performs config r a b x y result
-performed config r a b x y result unasked did = record {
+    → (NamesNone r → IsQuiet a b × IfErr result (λ e. e ≡ NoMemory)) → Answered config (λ s. settled_plan config s r) a b x y result → Performs config r a b x y result
+performed config r a b x y result unasked unnamed did = record {
   clean = did.clean;
   appended = did.appended;
   told = tells config r a b x y result did;
@@ -234,6 +234,7 @@ performed config r a b x y result unasked did = record {
   left = left config r a b x y result did;
   quiet = did.quiet;
   alone = unasked;
+  unnamed = unnamed;
   ties = did.ties;
   down = alone config r a b x y result did;
   stays = did.stays;
@@ -248,9 +249,9 @@ still_step : (config : Config) (s : State) (r : Request) → (plan config s r).c
 still_step config s r still = ap (λ (o : Option Change). moved s (after s o) (told_of (plan config s r).outcome)) still ∙ still_moved s (told_of (plan config s r).outcome)
 
 -- a fault of reads performs a request
-pub fault_performed : {X : Type 0} {IsSo : State → X → Type 0} (config : Config) (r : Request) (a b : Model State) (x y : List ℕ) (e : StoreFault) → (IsTrue (is_of_plugin r) → ⊥)
+pub fault_performed : {X : Type 0} {IsSo : State → X → Type 0} (config : Config) (r : Request) (a b : Model State) (x y : List ℕ) (e : StoreFault) → (IsTrue (is_of_plugin r) → ⊥) → (NamesNone r → ⊥)
     → Finds {X = X} a b (Err e) IsSo → y ≡ x → Performs config r a b x y (Err e)
-fault_performed config r a b x y e asks found appended = record {
+fault_performed config r a b x y e asks names found appended = record {
   clean = found.quiet.clean;
   appended = appended;
   told = λ d s h inv. tt;
@@ -259,6 +260,7 @@ fault_performed config r a b x y e asks found appended = record {
   left = λ d s h inv. still_left e s _ (found.quiet.crash d);
   quiet = λ d s h inv none. found.quiet;
   alone = λ is. absurd (asks is);
+  unnamed = λ is. absurd (names is);
   ties = λ d s h inv. found.quiet.ties d;
   down = record { down = λ is. found.down.down (same_fault e Down is); refused = λ is. found.down.refused (same_fault e Refused is); unasked = λ is. tt };
   stays = λ is. found.quiet.down ∙ is;
@@ -272,11 +274,11 @@ fault_performed config r a b x y e asks found appended = record {
     still_left Refused s t crash = λ u v. inl (crash u v)
     still_left Down s t crash = crash
 
-pub still_performed : (config : Config) (r : Request) (a b : Model State) (x y : List ℕ) (result : Result Verdict StoreFault) → (IsTrue (is_of_plugin r) → ⊥)
+pub still_performed : (config : Config) (r : Request) (a b : Model State) (x y : List ℕ) (result : Result Verdict StoreFault) → (IsTrue (is_of_plugin r) → ⊥) → (NamesNone r → ⊥)
     → ((s : State) → (plan config s r).change ≡ None)
     → Finds a b result (λ s v. IsTold {E = StoreFault} (told_of (plan config s r).outcome) x y (Ok v)) → Appended x y result → Performs config r a b x y result
-still_performed config r a b x y (Err e) asks still found appended = fault_performed config r a b x y e asks found appended
-still_performed config r a b x y (Ok v) asks still found appended = record {
+still_performed config r a b x y (Err e) asks names still found appended = fault_performed config r a b x y e asks names found appended
+still_performed config r a b x y (Ok v) asks names still found appended = record {
   clean = found.quiet.clean;
   appended = appended;
   told = λ d s h inv. found.value d s h;
@@ -285,6 +287,7 @@ still_performed config r a b x y (Ok v) asks still found appended = record {
   left = λ d s h inv. inl (still_step config s r (still s), found.quiet.crash d);
   quiet = λ d s h inv none. found.quiet;
   alone = λ is. absurd (asks is);
+  unnamed = λ is. absurd (names is);
   ties = λ d s h inv. found.quiet.ties d;
   down = record { down = found.down.down; refused = found.down.refused; unasked = λ is s. (found.down.unasked is s, still_step config s r (still s)) };
   stays = λ is. found.quiet.down ∙ is;

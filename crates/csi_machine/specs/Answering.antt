@@ -15,7 +15,7 @@ use Rattle.csi_keeper.specs.Model.{Model}
 use Rattle.csi_plans.specs.Down.{TellsDown}
 use Rattle.csi_plans.specs.Plan.{after}
 use Rattle.csi_keeper.specs.State.{State, Allows}
-use Rattle.csi_machine.specs.Step.{step, settled_plan, is_of_plugin}
+use Rattle.csi_machine.specs.Step.{step, settled_plan, is_of_plugin, NamesNone}
 use Rattle.csi_plans.specs.Verdicts.{Appended, IsTold, verdict_of}
 
 -- the body of an outcome that is written
@@ -99,6 +99,8 @@ pub record Performs (config : Config) (request : Request) (old new : Model State
   pub quiet : Promises config old new (λ s. (settled_plan config s request).change ≡ None → IsQuiet old new)
   -- what the plugin is and can do is answered without the keeper
   pub alone : IsTrue (is_of_plugin request) → IsQuiet old new × IfErr result (λ e. e ≡ NoMemory)
+  -- and so is a request about a volume that is named by no volume's id
+  pub unnamed : NamesNone request → IsQuiet old new × IfErr result (λ e. e ≡ NoMemory)
   pub ties : Promises config old new (λ s. old.tied → new.tied)
   pub down : TellsDown old.is_down (IsOfAll config request out now) result
   pub stays : old.is_down ≡ true → new.is_down ≡ true

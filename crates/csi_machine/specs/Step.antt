@@ -1,5 +1,5 @@
 -- One step of the volume machine: what each request is answered, and the State after it.
-use Rattle.std.specs.Prelude.{Bool, true, false, nat_le, length, if◌then◌else◌, Result, Ok, Err}
+use Rattle.std.specs.Prelude.{◌≡◌, Bool, true, false, nat_le, length, if◌then◌else◌, None, Result, Ok, Err}
 use Rattle.csi_types.specs.declared.reason.Reason.{Reason}
 use Rattle.csi_types.specs.declared.responses.Response.{Response}
 use Rattle.csi_types.specs.declared.reason.Reason.TheVariants.{ReplyTooLarge}
@@ -14,6 +14,7 @@ use Rattle.csi_plans.specs.declared.body.Verdict.TheVariants as verdict
 use Rattle.csi_machine.specs.calls.Capacity.{capacity}
 use Rattle.csi_machine.specs.calls.Create.{create}
 use Rattle.csi_machine.specs.calls.Delete.{delete}
+use Rattle.csi_plans.specs.Ids.{number_of_id}
 use Rattle.csi_plans.specs.Identity.{plugin_info, plugin_capabilities, probe, controller_capabilities}
 use Rattle.csi_machine.specs.calls.Listing.{list_volumes}
 use Rattle.csi_plans.specs.Modify.{modify}
@@ -68,6 +69,21 @@ is_of_plugin (request.Validate r) = false
 is_of_plugin (request.List r) = false
 is_of_plugin (request.Capacity r) = false
 is_of_plugin (request.Modify r) = false
+
+-- the request is about a volume, which it names by a text that is no volume's id: no State has that volume
+abbrev pub NamesNone : Request → Type 0
+NamesNone request.PluginInfo = ⊥
+NamesNone request.PluginCapabilities = ⊥
+NamesNone request.Probe = ⊥
+NamesNone request.ControllerCapabilities = ⊥
+NamesNone (request.Create r) = ⊥
+NamesNone (request.Delete r) = number_of_id r.volume_id ≡ None
+NamesNone (request.Publish r) = number_of_id r.volume_id ≡ None
+NamesNone (request.Unpublish r) = number_of_id r.volume_id ≡ None
+NamesNone (request.Validate r) = number_of_id r.volume_id ≡ None
+NamesNone (request.List r) = ⊥
+NamesNone (request.Capacity r) = ⊥
+NamesNone (request.Modify r) = number_of_id r.volume_id ≡ None
 
 -- a refusal keeps the State
 abbrev pub moved : {S : Type 0} → S → S → Told → S

@@ -6,7 +6,7 @@ ghost use Rattle.std.specs.Prelude.{◌≡◌, None, IfErr, IfOk, IfSome, IsTrue
 ghost use Rattle.csi_keeper.specs.State.{IsBounded};
 ghost use Rattle.csi_plans.specs.Finding.{Finds};
 ghost use Rattle.csi_keeper.specs.declared.change.StoreFault.TheVariants.{NoMemory};
-ghost use Rattle.csi_machine.specs.Step.{is_of_plugin, is_planned, plan};
+ghost use Rattle.csi_machine.specs.Step.{is_of_plugin, is_planned, NamesNone, plan};
 
 mod capacity;
 mod create;
@@ -37,6 +37,8 @@ pub(crate) fn plan_of<K: Keeper>(
     requires { IsTrue (is_planned request.now) }
     ensures bounded { IfOk result (λ p. IfSome p.change IsBounded) }
     ensures finds { Finds (K.model keeper.old) (K.model keeper.new) result (λ s p. p ≡ plan config.now s request.now) }
+    ensures unnamed { NamesNone request.now → IfErr result (λ e. e ≡ NoMemory) }
+    ensures done { NamesNone request.now → IfOk result (λ p. p.change ≡ None) }
     ensures unasked { IsTrue (is_of_plugin request.now) → IfErr result (λ e. e ≡ NoMemory) }
     ensures still { IsTrue (is_of_plugin request.now) → IfOk result (λ p. p.change ≡ None) }
 {

@@ -1,8 +1,9 @@
 //! What a request is planned by: the State alone.
 
-ghost use Rattle.std.specs.Prelude.{◌≡◌, IfOk, IfSome};
+ghost use Rattle.std.specs.Prelude.{◌≡◌, None, IfErr, IfOk, IfSome};
 ghost use Rattle.csi_config.specs.declared.config.Config.{Config as AnyConfig};
 ghost use Rattle.csi_keeper.specs.State.{State, IsBounded};
+ghost use Rattle.csi_keeper.specs.declared.change.StoreFault.TheVariants.{NoMemory};
 ghost use Rattle.csi_plans.specs.Finding.{Finds};
 ghost use Rattle.csi_plans.specs.declared.plan.Plan.{Plan as AnyPlan};
 
@@ -17,15 +18,22 @@ pub(crate) trait Planned {
     /// The plan that a State gives it.
     ghost planned: { AnyConfig → State → Self → AnyPlan };
 
-    /// Its plan, by reads of the keeper alone.
+    /// The requests about a volume that are named by no volume's id, for which no State is needed.
+    ghost names_none: { Self → Type 0 };
+
+    /// Its plan, by reads of the keeper alone; none where no State is needed.
     fn plan<K: Keeper>(&self, alloc: Global, config: &Config, keeper: &mut K) -> Planning
         ensures bounded { IfOk result (λ p. IfSome p.change IsBounded) }
+        ensures unasked { names_none self.now → (keeper.new ≡ keeper.old) × IfErr result (λ e. e ≡ NoMemory) }
+        ensures still { names_none self.now → IfOk result (λ p. p.change ≡ None) }
         ensures finds { Finds (K.model keeper.old) (K.model keeper.new) result (λ s p. p ≡ planned config.now s self.now) };
 }
 
 // As the request that is kept.
 impl<T: Planned> Planned for Boxed<T> {
     ghost planned = { T.planned };
+
+    ghost names_none = { T.names_none };
 
     fn plan<K: Keeper>(&self, alloc: Global, config: &Config, keeper: &mut K) -> Planning {
         self.get().plan(alloc, config, keeper)

@@ -21,7 +21,8 @@ asked sizes required limit =
     if nat_lt 0 required then rounded_up required
     else (if nat_lt 0 limit then min sizes.default_bytes (rounded_down limit) else sizes.default_bytes)
 
--- a size that is not zero, nor above a limit that is given, nor above the greatest one; what is required is compared before it is rounded
+-- a size that is not zero, nor above a limit that is given, nor above the greatest one; what is required is compared before it is rounded, too, which is never what decides: rounded up
+-- it is no smaller
 abbrev pub within : Sizes → ℕ → ℕ → ℕ → Option ℕ
 within sizes required limit n =
     if nat_lt 0 n && (limit == 0 || nat_le n limit) && nat_le n sizes.greatest_bytes && nat_le required sizes.greatest_bytes then Some n else None

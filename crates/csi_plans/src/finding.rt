@@ -1,6 +1,6 @@
 //! The volume that a request names.
 
-ghost use Rattle.std.specs.Prelude.{◌≡◌};
+ghost use Rattle.std.specs.Prelude.{◌≡◌, Ok, None};
 ghost use Rattle.csi_plans.specs.Finding.{Finds, caps_at, volume_at};
 ghost use Rattle.csi_plans.specs.Ids.{number_of_id};
 
@@ -9,7 +9,8 @@ use csi_keeper::{CapKey, Keeper, StoreFault, Volume};
 use csi_types::{Items, Text};
 use std::alloc::Global;
 
-/// The volume of an id, with its number; `None` where none of that id stands.
+/// The volume of an id, with its number; `None` where none of that id stands. For a text that is no
+/// volume's id the keeper is not asked.
 ///
 /// # Errors
 ///
@@ -20,7 +21,8 @@ pub fn volume_of<K: Keeper>(
     keeper: &mut K,
     id: &Text,
 ) -> Result<Option<(u64, Volume)>, StoreFault>
-    ensures { Finds (K.model keeper.old) (K.model keeper.new) result (λ s found. found ≡ volume_at s (number_of_id id.now)) }
+    ensures unasked { number_of_id id.now ≡ None → (keeper.new ≡ keeper.old) × (result ≡ Ok None) }
+    ensures finds { Finds (K.model keeper.old) (K.model keeper.new) result (λ s found. found ≡ volume_at s (number_of_id id.now)) }
 {
     let Some(number) = number_of_id(id.as_str()) else {
         return Ok(None);
@@ -32,6 +34,7 @@ pub fn volume_of<K: Keeper>(
 }
 
 /// The capability keys of the volume of an id, with its number; `None` where none of that id stands.
+/// For a text that is no volume's id the keeper is not asked.
 ///
 /// # Errors
 ///
@@ -42,7 +45,8 @@ pub fn caps_of<K: Keeper>(
     keeper: &mut K,
     id: &Text,
 ) -> Result<Option<(u64, Items<CapKey>)>, StoreFault>
-    ensures { Finds (K.model keeper.old) (K.model keeper.new) result (λ s found. found ≡ caps_at s (number_of_id id.now)) }
+    ensures unasked { number_of_id id.now ≡ None → (keeper.new ≡ keeper.old) × (result ≡ Ok None) }
+    ensures finds { Finds (K.model keeper.old) (K.model keeper.new) result (λ s found. found ≡ caps_at s (number_of_id id.now)) }
 {
     let Some(number) = number_of_id(id.as_str()) else {
         return Ok(None);

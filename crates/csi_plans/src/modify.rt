@@ -1,10 +1,13 @@
 //! ControllerModifyVolume (CSI specification, 'ControllerModifyVolume').
 
-ghost use Rattle.std.specs.Prelude.{◌≡◌, nat_lt, IfOk, IfSome};
+ghost use Rattle.std.specs.Prelude.{◌≡◌, nat_lt, Ok, None, IfOk, IfSome};
 ghost use Rattle.csi_types.specs.Checks.{map_bytes};
+ghost use Rattle.csi_types.specs.declared.reason.Reason.TheVariants.{VolumeNotFound};
 ghost use Rattle.csi_keeper.specs.State.{IsBounded};
 ghost use Rattle.csi_plans.specs.Finding.{Finds};
+ghost use Rattle.csi_plans.specs.Ids.{number_of_id};
 ghost use Rattle.csi_plans.specs.Modify.{modify_own, modify};
+ghost use Rattle.csi_plans.specs.Plan.{refuse};
 
 use crate::finding::volume_of;
 use crate::plan::{Plan, Planning, make, refuse, respond};
@@ -38,6 +41,7 @@ fn modify_own(alloc: Global, number: u64, own: &Map, given: &Map) -> Result<Plan
 ///
 /// The given parameters are laid over the volume's own, whether it is published or not. A result of
 /// more than 4,096 bytes is refused. Where the volume has each given one already nothing changes.
+/// For a text that is no volume's id the keeper is not asked.
 ///
 /// # Errors
 ///
@@ -46,6 +50,7 @@ fn modify_own(alloc: Global, number: u64, own: &Map, given: &Map) -> Result<Plan
 pub fn plan_modify<K: Keeper>(alloc: Global, keeper: &mut K, request: &Modify) -> Planning
     ensures bounded { IfOk result (λ p. IfSome p.change IsBounded) }
     ensures finds { Finds (K.model keeper.old) (K.model keeper.new) result (λ s p. p ≡ modify s request.now) }
+    ensures unasked { number_of_id request.now.volume_id ≡ None → (keeper.new ≡ keeper.old) × (result ≡ Ok (refuse VolumeNotFound)) }
 {
     let Some((number, volume)) = volume_of(alloc, keeper, &request.volume_id)? else {
         return Ok(refuse(Reason::VolumeNotFound));

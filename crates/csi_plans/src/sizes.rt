@@ -39,6 +39,7 @@ fn size_by(sizes: &Sizes, required: u64, limit: u64) -> Option<u64>
     ensures { result ≡ size_by sizes.now required limit }
 {
     let bytes = asked(sizes, required, limit);
+    // What is required is compared too, and never decides: rounded up it is no smaller.
     let is_within = bytes > 0
         && (limit == 0 || bytes <= limit)
         && bytes <= sizes.greatest_bytes

@@ -1,11 +1,14 @@
 //! ValidateVolumeCapabilities (CSI specification, 'ValidateVolumeCapabilities').
 
-ghost use Rattle.std.specs.Prelude.{◌≡◌, ◌&&◌, ◌||◌, ◌==◌, None, IfOk, IfSome};
+ghost use Rattle.std.specs.Prelude.{◌≡◌, ◌&&◌, ◌||◌, ◌==◌, Ok, None, IfOk, IfSome};
 ghost use Rattle.std.specs.FinMap.{len};
 ghost use Rattle.csi_types.specs.Maps.{same_map};
+ghost use Rattle.csi_types.specs.declared.reason.Reason.TheVariants.{VolumeNotFound};
 ghost use Rattle.csi_keeper.specs.Capability.{have_keys};
 ghost use Rattle.csi_keeper.specs.State.{IsBounded};
 ghost use Rattle.csi_plans.specs.Finding.{Finds};
+ghost use Rattle.csi_plans.specs.Ids.{number_of_id};
+ghost use Rattle.csi_plans.specs.Plan.{refuse};
 ghost use Rattle.csi_plans.specs.Validate.{confirm, deny, validate_volume, validate};
 
 use crate::capability::have_keys;
@@ -90,15 +93,17 @@ fn validate_volume(alloc: Global, request: &Validate, volume: &Volume) -> Result
 /// The plan of ValidateVolumeCapabilities, by reads of the keeper alone.
 ///
 /// The request's capabilities and parameters are confirmed where the volume has the key of each capability, and the parameters, if any are given,
-/// are the volume's. Nothing changes.
+/// are the volume's. Nothing changes. For a text that is no volume's id the keeper is not asked.
 ///
 /// # Errors
 ///
 /// What the keeper answers, or want of memory.
 #[tactic(auto, using(csi_keeper::specs::facts::Reads::quiet_same, csi_keeper::specs::facts::Reads::quiet_then))]
 pub fn plan_validate<K: Keeper>(alloc: Global, keeper: &mut K, request: &Validate) -> Planning
+    ensures none { IfOk result (λ p. p.change ≡ None) }
     ensures bounded { IfOk result (λ p. IfSome p.change IsBounded) }
     ensures finds { Finds (K.model keeper.old) (K.model keeper.new) result (λ s p. p ≡ validate s request.now) }
+    ensures unasked { number_of_id request.now.volume_id ≡ None → (keeper.new ≡ keeper.old) × (result ≡ Ok (refuse VolumeNotFound)) }
 {
     let Some((_, volume)) = volume_of(alloc, keeper, &request.volume_id)? else {
         return Ok(refuse(Reason::VolumeNotFound));

@@ -11,11 +11,12 @@ use Rattle.envelope.specs.Envelope.{CallBytes, IsCall, IsReply, frame, reply}
 use Rattle.envelope.specs.Grammar as grammar
 use Rattle.envelope.specs.Stream.{Breaks, BreaksFirst, FaultAt, IsUnfinished, BeginsFrame}
 use Rattle.frames_core.specs.Framer.{FramerState, IsSettled, IsBreakOf, start}
+use Rattle.frames_core.specs.Writing.{WrotePrefix}
 use Rattle.csi_keeper.specs.Model.{Model}
 use Rattle.csi_server.specs.Machine.{Machine, Answers, Runs}
 use Rattle.csi_server.specs.Service.{reply_of}
 use Rattle.csi_server.specs.declared.refused.Refusal.{Refusal}
-use Rattle.csi_server.specs.Serving.{Answered, CutOff, HasFault, AnswersCall, WrotePrefix}
+use Rattle.csi_server.specs.Serving.{Answered, CutOff, HasFault, AnswersCall}
 use Rattle.envelope.specs.declared.fault.FrameWhy.TheVariants.{BadPathLength, BadPath, BadFlag, TooLong, EndOfInput}
 use Rattle.envelope.specs.Stream.{Stream, Ends, Clean, Open}
 use Rattle.csi_server.specs.declared.end.RunEnd.{RunEnd}
@@ -23,7 +24,7 @@ use Rattle.csi_server.specs.declared.end.RunEnd.TheVariants.{Done, Malformed, Re
 use Rattle.csi_server.specs.Serving.{HasNoFault, Ended, fault_frame}
 use Rattle.std.specs.Io.KnownBytes.{Consumes, Keeps}
 use Rattle.std.proofs.KnownBytes.{Consumes-trans}
-use Rattle.csi_server.proofs.Written.{take-add}
+use Rattle.std.proofs.Math.Seq.{take-add}
 use Rattle.csi_server.specs.Live.{Live, IsReady, Advances, Refuses, Finishes}
 use Rattle.csi_server.proofs.Runs.{runs_start, so_far_start, so_far_push, cut_call, cut_fault, answered, answered_then, answered_kept, answered_fault, stream_ends}
 
@@ -143,7 +144,7 @@ fed_answered {S} m begin mid now s read old new next rest n call held holds then
 -- ---- a piece behind a piece
 
 pub one_piece : (read piece : List ℕ) (at n : ℕ) (rest : List ℕ) → rest ≡ drop at piece → (read ++ take at piece) ++ take n rest ≡ read ++ take (at + n) piece
-one_piece read piece at n rest e = append_assoc read (take at piece) (take n rest) ∙ ap (λ (x : List ℕ). read ++ x) (ap (λ (x : List ℕ). take at piece ++ take n x) e ∙ take-add at n piece)
+one_piece read piece at n rest e = append_assoc read (take at piece) (take n rest) ∙ ap (λ (x : List ℕ). read ++ x) (ap (λ (x : List ℕ). take at piece ++ take n x) e ∙ sym (take-add at n piece))
 
 pub whole_piece : (read piece : List ℕ) (at : ℕ) (rest : List ℕ) → rest ≡ drop at piece → (read ++ take at piece) ++ rest ≡ read ++ piece
 whole_piece read piece at rest e = append_assoc read (take at piece) rest ∙ ap (λ (x : List ℕ). read ++ x) (ap (λ (x : List ℕ). take at piece ++ x) e ∙ take-append-drop at piece)

@@ -1,4 +1,3 @@
-mod Written
 mod Runs
 mod Feeding
 mod Printable

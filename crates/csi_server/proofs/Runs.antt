@@ -4,17 +4,17 @@ use Rattle.std.specs.List.{AllByRecursion}
 use Rattle.std.proofs.lemmas.List.{map-append, length-append}
 use Rattle.std.proofs.lemmas.List.Elements.{All-push, All-nil}
 use Rattle.std.specs.Io.KnownBytes.{Appends, Keeps}
-use Rattle.std.proofs.KnownBytes.{Appends-nil, Appends-trans}
+use Rattle.std.proofs.KnownBytes.{Appends-kept, Appends-nil, Appends-trans}
 use Rattle.envelope.specs.declared.fault.FrameWhy.{FrameWhy}
 use Rattle.envelope.specs.declared.fault.FrameWhy.TheVariants.{BadPathLength, BadPath, BadFlag, TooLong, EndOfInput}
 use Rattle.envelope.specs.declared.fault.FrameFault.{FrameFault}
 use Rattle.envelope.specs.Envelope.{CallBytes, ReplyBytes, IsCall, IsReply, frame, reply}
 use Rattle.envelope.specs.Stream.{Stream, End, Ends, Fault, Open, frames, FaultAt}
+use Rattle.frames_core.specs.Writing.{IsPrefix, WrotePrefix}
 use Rattle.csi_keeper.specs.Model.{Model}
 use Rattle.csi_server.specs.Machine.{Machine, Mark, Unmarked, OutOfMemory, StoreRefused, StoreDown, Event, Runs, Answers, IsDue, Leaves, RoseBy, IsAllowed, IsIdle, KnowsDown, StaysDown, is_down_after, told_down, done, replies, state_after, store_mark, store_marks, step, calls_of, AreReplies}
-use Rattle.csi_server.proofs.Written.{Appends-kept}
 use Rattle.csi_server.specs.Live.{SoFar}
-use Rattle.csi_server.specs.Serving.{IsPrefix, WrotePrefix, Answered, CutOff, HasFault, BeginsWithCalls, AnswersCall, fault_frame}
+use Rattle.csi_server.specs.Serving.{Answered, CutOff, HasFault, BeginsWithCalls, AnswersCall, fault_frame}
 
 pub frames-append : (xs ys : List CallBytes) → frames (xs ++ ys) ≡ frames xs ++ frames ys
 frames-append [] ys = refl

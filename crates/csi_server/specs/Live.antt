@@ -9,8 +9,9 @@ use Rattle.csi_server.specs.declared.end.RunEnd.TheVariants.{Done, Malformed, Re
 use Rattle.envelope.specs.Envelope.{IsCall}
 use Rattle.envelope.specs.Stream.{frames, IsUnfinished}
 use Rattle.frames_core.specs.Framer.{FramerState}
+use Rattle.frames_core.specs.Writing.{WrotePrefix}
 use Rattle.csi_server.specs.Machine.{Machine, Runs, Event, replies, calls_of}
-use Rattle.csi_server.specs.Serving.{Answered, CutOff, HasFault, WrotePrefix, fault_frame}
+use Rattle.csi_server.specs.Serving.{Answered, CutOff, HasFault, fault_frame}
 use Rattle.csi_server.specs.declared.running.Step.{Step}
 use Rattle.csi_server.specs.declared.running.Step.TheVariants.{Fed, Faulty, Cut}
 

@@ -9,6 +9,7 @@ use Rattle.envelope.specs.declared.fault.FrameWhy.TheVariants.{EndOfInput}
 use Rattle.envelope.specs.Envelope.{CallBytes, ReplyBytes, IsCall, IsReply, reply}
 use Rattle.envelope.specs.Stream.{Stream, Clean, Fault, Open, frames}
 use Rattle.envelope.specs.Texts.{fault_words}
+use Rattle.frames_core.specs.Writing.{IsPrefix, WrotePrefix}
 use Rattle.csi_keeper.specs.Model.{Model}
 use Rattle.csi_server.specs.declared.end.RunEnd.{RunEnd}
 use Rattle.csi_server.specs.declared.end.RunEnd.TheVariants.{Done, Malformed, ReadFailed, TurnsSpent, WriteFailed, NoMemory}
@@ -32,14 +33,6 @@ pub record BeginsWithCalls (read : List ℕ) (calls : List CallBytes) : Type 0 w
 -- the reply frame that answers a fault
 abbrev pub fault_frame : FrameFault → List ℕ
 fault_frame f = reply (refusal (number_of code.InvalidArgument) (fault_words f.why ++ decimal f.at))
-
--- a prefix of the bytes, also all of them
-abbrev pub IsPrefix : List ℕ → List ℕ → Type 0
-IsPrefix part whole = (more : List ℕ) × (whole ≡ part ++ more)
-
--- a prefix of these bytes was appended
-abbrev pub WrotePrefix : Option (List ℕ) → Option (List ℕ) → List ℕ → Type 0
-WrotePrefix held holds whole = (part : List ℕ) × IsPrefix part whole × Appends held holds part
 
 -- All calls that were read were answered, and then this was written.
 pub record Answered {S : Type 0} (m : Machine S) (old new : Model S) (s : S) (read : List ℕ) (held holds : Option (List ℕ)) (IsEnd : List CallBytes → Type 0) (last : List ℕ) : Type 0 where

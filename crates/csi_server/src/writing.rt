@@ -2,44 +2,16 @@ ghost use Rattle.std.specs.Prelude.{◌≡◌, ◌≤◌, ◌+◌, [], length, d
 ghost use Rattle.std.specs.Io.KnownBytes.{Appends};
 ghost use Rattle.envelope.specs.Envelope.{IsReply};
 ghost use Rattle.envelope.specs.Envelope.{reply as reply_frame};
-ghost use Rattle.csi_server.specs.Serving.{WrotePrefix, fault_frame};
+ghost use Rattle.frames_core.specs.Writing.{WrotePrefix};
+ghost use Rattle.csi_server.specs.Serving.{fault_frame};
 ghost use Rattle.csi_server.specs.Service.{reply_of, HoldsBody};
 
 use crate::refused::Answer;
 use csi_types::Code;
 use frames_core::{
-    FrameFault, MAX_BODY_BYTES, REPLY_HEAD_BYTES, fault_text, refusal_frame, reply_head,
+    FrameFault, MAX_BODY_BYTES, REPLY_HEAD_BYTES, fault_text, refusal_frame, reply_head, send,
 };
-use std::io;
-use std::io::{ErrorKind, Write};
-
-// Writes all of the bytes, or fails after a prefix of them. A write that takes nothing is a failure.
-#[inline(always)]
-fn put<W: Write>(writer: &mut W, bytes: &[u8]) -> io::Result<()>
-    ensures all { OnOk result (Appends (W.contents writer.old) (W.contents writer.new) bytes.now) }
-    ensures part { WrotePrefix (W.contents writer.old) (W.contents writer.new) bytes.now }
-{
-    let mut at = 0;
-    while at < bytes.len() {
-        let (_, rest) = bytes.split_at(at);
-        let count = writer.write(rest)?;
-        if count == 0 {
-            return Err(io::Error::from(ErrorKind::WriteZero));
-        }
-        at += count;
-    }
-    Ok(())
-}
-
-// Writes all of the bytes and flushes.
-#[inline(always)]
-fn put_flushed<W: Write>(writer: &mut W, bytes: &[u8]) -> io::Result<()>
-    ensures all { OnOk result (Appends (W.contents writer.old) (W.contents writer.new) bytes.now) }
-    ensures part { WrotePrefix (W.contents writer.old) (W.contents writer.new) bytes.now }
-{
-    put(writer, bytes)?;
-    writer.flush()
-}
+use std::io::{self, Write};
 
 // Writes the head of a reply with status 0 over the bytes before its body.
 #[inline(always)]
@@ -69,9 +41,9 @@ pub(crate) fn put_reply<W: Write>(
     match answer {
         Ok(()) => {
             set_head(reply);
-            put_flushed(writer, reply.as_slice())
+            send(writer, reply.as_slice())
         }
-        Err(refusal) => put_flushed(writer, refusal.frame().bytes()),
+        Err(refusal) => send(writer, refusal.frame().bytes()),
     }
 }
 
@@ -80,7 +52,7 @@ pub(crate) fn put_fault<W: Write>(writer: &mut W, fault: &FrameFault) -> io::Res
     ensures all { OnOk result (Appends (W.contents writer.old) (W.contents writer.new) (fault_frame fault.now)) }
     ensures part { WrotePrefix (W.contents writer.old) (W.contents writer.new) (fault_frame fault.now) }
 {
-    put_flushed(
+    send(
         writer,
         refusal_frame(Code::InvalidArgument.number(), fault_text(fault).bytes()).bytes(),
     )

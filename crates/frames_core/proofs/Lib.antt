@@ -1,2 +1,3 @@
 mod Framing
 mod Taking
+mod Written

@@ -1,7 +1,7 @@
 //! Streams of calls and replies, cut into their frames as they come, in any pieces.
 //!
 //! What a frame is, and which calls a list of bytes has, is said below, in `envelope`, whose names are given on here. `specs/Framer.antt` says what a
-//! framer has taken, `specs/Holding.antt` what holds of it, and `specs/Prefix.antt` what it takes of a piece.
+//! framer has taken, `specs/Holding.antt` what holds of it, and `specs/Prefix.antt` what it takes of a piece. [`send`] writes a frame (`specs/Writing.antt`).
 //!
 //! [`Framer`] and [`ReplyFramer`] are one [`Cutter`]. It appends what may be a head, looks at it, and cuts back to where the frame or the fault ends; the
 //! body then comes as one block copy into the same buffer, the only memory that it ever takes.
@@ -22,6 +22,7 @@
 
 mod framer;
 mod prefix;
+mod writing;
 
 pub use envelope::{
     Call, Fault, Fixed, FixedFrame, FixedText, FrameFault, FrameWhy, MAX_BODY_BYTES,
@@ -31,3 +32,4 @@ pub use envelope::{
     take_frame, take_reply, text_and_number,
 };
 pub use framer::{Cutter, Framer, ReplyFramer};
+pub use writing::send;

@@ -15,6 +15,9 @@ use std::fmt::Write;
 // A call for which memory is refused is made again, once.
 const TRIES: u8 = 2;
 
+// Why the body of a listing gives no text.
+const NO_PAGE: &str = "the body is no page";
+
 /// What a call is answered.
 pub enum Reply {
     /// The body.
@@ -122,14 +125,15 @@ fn request_reply<K: Keeper>(
 fn page_text(alloc: Global, body: &[u8]) -> Result<String, RowFault> {
     match decode_response(alloc, Method::ListVolumes, body) {
         Ok(response) => entries_text(alloc, &response),
-        Err(_) => Err(RowFault::NoMemory),
+        Err(DecodeFault::NoMemory) => Err(RowFault::NoMemory),
+        Err(_) => Err(RowFault::Refused(NO_PAGE)),
     }
 }
 
 // A response is lent here, since so large a value is dear to own.
 fn entries_text(alloc: Global, response: &Response) -> Result<String, RowFault> {
     let Response::List { entries, token } = response else {
-        return Err(RowFault::NoMemory);
+        return Err(RowFault::Refused(NO_PAGE));
     };
     let mut text = format!(in alloc; "{} entries, token '{token}':", entries.len())?;
     for entry in entries {

@@ -88,6 +88,8 @@ fn capacity_of(
 impl Planned for GetCapacity {
     ghost planned = { capacity };
 
+    ghost names_none = { λ r. ⊥ };
+
     fn plan<K: Keeper>(&self, alloc: Global, config: &Config, keeper: &mut K) -> Planning {
         pool_bytes_whole(config);
         let rooms = read_rooms(alloc, config, keeper)?;

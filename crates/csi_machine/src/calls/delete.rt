@@ -1,7 +1,8 @@
 //! DeleteVolume (CSI specification, 'DeleteVolume').
 
-ghost use Rattle.std.specs.Prelude.{◌≡◌, IfOk, IfSome};
+ghost use Rattle.std.specs.Prelude.{◌≡◌, None, IfOk, IfSome};
 ghost use Rattle.csi_keeper.specs.State.{IsBounded};
+ghost use Rattle.csi_plans.specs.Ids.{number_of_id};
 ghost use Rattle.csi_machine.specs.calls.Delete.{delete_volume, delete};
 
 use crate::planned::Planned;
@@ -25,6 +26,8 @@ fn delete_volume(alloc: Global, number: u64, attachments: &[Attachment]) -> Resu
 /// A volume that is attached is refused, one that does not stand is done with.
 impl Planned for DeleteVolume {
     ghost planned = { λ config s r. delete s r };
+
+    ghost names_none = { λ r. number_of_id r.volume_id ≡ None };
 
     fn plan<K: Keeper>(&self, alloc: Global, _config: &Config, keeper: &mut K) -> Planning {
         let Some((number, _)) = caps_of(alloc, keeper, &self.volume_id)? else {

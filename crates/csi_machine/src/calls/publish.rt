@@ -4,6 +4,7 @@ ghost use Rattle.std.specs.Prelude.{◌≡◌, Some, None, IfOk, IfSome, find, n
 ghost use Rattle.std.specs.Option.{option_copied};
 ghost use Rattle.csi_keeper.specs.State.{IsBounded};
 ghost use Rattle.csi_plans.specs.Finding.{Finds};
+ghost use Rattle.csi_plans.specs.Ids.{number_of_id};
 ghost use Rattle.csi_machine.specs.calls.Publish.{is_at, publish_again, has_conflict, attach, publish, publish_node, publish_at, publish_key, asked_key};
 ghost use Rattle.csi_keeper.specs.Lookup.{node_of};
 
@@ -143,6 +144,8 @@ fn publish_node<K: Keeper>(
 
 impl Planned for Publish {
     ghost planned = { publish };
+
+    ghost names_none = { λ r. number_of_id r.volume_id ≡ None };
 
     fn plan<K: Keeper>(&self, alloc: Global, config: &Config, keeper: &mut K) -> Planning {
         let Some((number, caps)) = caps_of(alloc, keeper, &self.volume_id)? else {

@@ -1,7 +1,8 @@
 //! ControllerUnpublishVolume (CSI specification, 'ControllerUnpublishVolume').
 
-ghost use Rattle.std.specs.Prelude.{◌≡◌, IfOk, IfSome};
+ghost use Rattle.std.specs.Prelude.{◌≡◌, None, IfOk, IfSome};
 ghost use Rattle.csi_keeper.specs.State.{IsBounded};
+ghost use Rattle.csi_plans.specs.Ids.{number_of_id};
 ghost use Rattle.csi_machine.specs.calls.Unpublish.{detach_all, detach, unpublish};
 
 use crate::calls::publish::attachment_at;
@@ -45,6 +46,8 @@ fn detach(
 /// A volume that is not published there, or does not stand, is answered as one that was.
 impl Planned for Unpublish {
     ghost planned = { λ config s r. unpublish s r };
+
+    ghost names_none = { λ r. number_of_id r.volume_id ≡ None };
 
     fn plan<K: Keeper>(&self, alloc: Global, _config: &Config, keeper: &mut K) -> Planning {
         let Some(number) = number_of_id(self.volume_id.as_str()) else {

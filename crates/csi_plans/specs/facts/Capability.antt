@@ -56,7 +56,7 @@ insert_is : (m : fin.FinMap key_cmp Bool) (k : CapKey) → fin.keys (fin.insert 
 insert_is m k = ap (map (λ (e : Entry). e.0)) (fin.entries-insert key_total m k true) ∙ keys_put k (fin.entries m)
 
 -- one more key
-pub ordered_push : (ks : List CapKey) (k : CapKey) → ordered (ks ++ k ∷ []) ≡ insert_key key_cmp (ordered ks) k
+ordered_push : (ks : List CapKey) (k : CapKey) → ordered (ks ++ k ∷ []) ≡ insert_key key_cmp (ordered ks) k
 ordered_push ks k = ap fin.keys (set_push ks k) ∙ insert_is (set_of ks) k
 
 ordered_cons : (k : CapKey) (ks : List CapKey) → ordered (k ∷ ks) ≡ insert_key key_cmp (ordered ks) k
@@ -194,11 +194,3 @@ has_one ks k e = ap (λ b. b || has_same ks (wider_key k)) e
 
 pub ordered_more : (ks : List CapKey) (i : ℕ) (d : CapKey) → i < length ks → ordered (take (i + 1) ks) ≡ insert_key key_cmp (ordered (take i ks)) (get_or ks i d)
 ordered_more ks i d h = ap ordered (take_more ks i d h) ∙ ordered_push (take i ks) (get_or ks i d)
-
-none_ordered : AreOrdered []
-unfolding IsStrictlySortedBy
-none_ordered = tt
-
--- no keys are in order
-pub no_keys : (keys : List CapKey) → keys ≡ [] → AreOrdered keys
-no_keys keys none = subst AreOrdered (sym none) none_ordered

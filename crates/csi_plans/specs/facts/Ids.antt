@@ -25,7 +25,7 @@ pub is_decimal : (n : ℕ) (text : List ℕ) → n < 2 ^ 64 → same_text (decim
 is_decimal n text h e = subst (λ (t : List ℕ). Some n ≡ number_of t) ((bytes_decides (decimal n) text).0 e) (sym (number_of_decimal n h))
 
 -- what a number is read of, is its decimal
-pub number_is : (text : List ℕ) (n : ℕ) → number_of text ≡ Some n → (n < 2 ^ 64) × (decimal n ≡ text)
+number_is : (text : List ℕ) (n : ℕ) → number_of text ≡ Some n → (n < 2 ^ 64) × (decimal n ≡ text)
 number_is text n e = go (nat_lt (digits_value 10 text) (2 ^ 64)) refl (same_text (decimal (digits_value 10 text)) text) refl e
   where
     below : (a b : ℕ) → nat_lt a b ≡ true → a < b

@@ -18,6 +18,7 @@ returns-in-Err-clause-unadopted g c =
     let blank : c.settle.new.conn.schema ≡ no_schema = sym c.schema.ensures.value ∙ c.is_blank.ensures.is c.if-is_blank.true in
     is_unmade g.S.Store c.args.config.now c.args.conn c.settle.new.conn settled blank c.in-Err.field-0.conn c.from.result c.in-Err.ensures.idle (ap is_failure c.from.ensures ∙ error_fails c.in-Err.field-0.error) c.in-Err.ensures.undone c.in-Err.ensures.survives
     (settled_cause g.S.Store c.args.conn c.set_step_limit.new.self c.settle.new.conn c.in-Err.field-0.conn c.from.result c.set_step_limit.ensures c.settle.ensures.undone c.settle.ensures.survives c.in-Err.ensures.survives
+    (λ clean is_open. (c.in-Err.ensures.undone clean).was_open is_open)
     (tables_cause g.S.Store c.settle.new.conn c.in-Err.field-0.conn c.in-Err.field-0.error c.from.result c.from.ensures blank (λ clean. c.in-Err.ensures.failed clean blank)))
 
 pub over-requires-clause-stands : goal.over-requires-clause-stands
@@ -37,5 +38,5 @@ returns-in-Err-take-clause-unadopted g c =
     let it = c.in-Err-take.ensures in
     let some = λ (none : c.settle.new.conn.schema ≡ no_schema). true≢false (sym (c.is_blank.ensures.whole (c.schema.ensures.value ∙ none)) ∙ c.if-is_blank.false) in
     is_refused g.S.Store c.args.config.now c.args.conn c.settle.new.conn c.take.new.conn c.in-Err-take.fault settled c.schema.ensures.live it.idle
-    (settled_cause g.S.Store c.args.conn c.set_step_limit.new.self c.settle.new.conn c.take.new.conn c.in-Err-take.fault c.set_step_limit.ensures c.settle.ensures.undone c.settle.ensures.survives it.survives it.failed)
-    it.kept it.survives it.first it.other it.sound some
+    (settled_cause g.S.Store c.args.conn c.set_step_limit.new.self c.settle.new.conn c.take.new.conn c.in-Err-take.fault c.set_step_limit.ensures c.settle.ensures.undone c.settle.ensures.survives it.survives (λ clean is_open. (it.kept clean).was_open is_open) it.failed)
+    it.kept it.survives it.first it.other it.sound some it.shut

@@ -1,13 +1,14 @@
-use Rattle.std.proofs.Common.{rules, ◌≡◌, ◌∙◌, inl, inr, refl, sym, ap, ap₂, subst, Err, IfErr}
+use Rattle.std.proofs.Common.{rules, ◌≡◌, ◌∙◌, inl, inr, refl, sym, ap, ap₂, subst, Err, IfErr, true≢false}
 use Rattle.sqlite.specs.Held.{state}
 use Rattle.csi_schema.specs.Tables.{schema as our_schema}
 use Rattle.csi_judging.specs.Seen.{sums_of}
 use Rattle.csi_judging.specs.declared.fault.AdoptFault.TheVariants.{NoMemory}
 use Rattle.csi_adoption.specs.Adopting.{IsNotRefused}
+use Rattle.csi_adoption.specs.Failing.{IsOfShut}
 use Rattle.csi_adoption.specs.Judging.{total_in}
 use Rattle.csi_adoption.proofs.FaultLemmas.{is_err, must_fail}
 use Rattle.csi_adoption.proofs.ChainLemmas.{ended}
-use Rattle.csi_adoption.proofs.FailingLemmas.{handed_fault, no_store}
+use Rattle.csi_adoption.proofs.FailingLemmas.{handed_fault, if_err, no_store}
 use Rattle.csi_adoption.proofs.adopting.judge.Goals as goal
 
 pub returns-in_err-volumes-clause-other : goal.returns-in_err-volumes-clause-other
@@ -57,3 +58,12 @@ returns-in_err-totals-clause-failed g c = no_store g.S.Store c.args.conn.now c.j
 
 pub returns-in_err-volumes-clause-failed : goal.returns-in_err-volumes-clause-failed
 returns-in_err-volumes-clause-failed g c = handed_fault g.S.Store c.args.conn.now c.judge_rows.new.conn c.from_residual.result c.in_err-volumes.field-0.0 c.from_residual.ensures.1 c.in_err-volumes.ensures.failed
+
+pub returns-in_err-volumes-clause-shut : goal.returns-in_err-volumes-clause-shut
+returns-in_err-volumes-clause-shut g c = λ clean shut.
+    if_err (IsOfShut (state g.S.Store c.judge_rows.new.conn).now.schema) c.from_residual.result c.in_err-volumes.field-0.0 c.from_residual.ensures.1
+    (λ known. absurd (true≢false (sym (c.in_err-volumes.ensures.open clean known) ∙ shut)))
+
+pub returns-in_err-totals-clause-shut : goal.returns-in_err-totals-clause-shut
+returns-in_err-totals-clause-shut g c = λ clean shut.
+    if_err (IsOfShut (state g.S.Store c.judge_rows.new.conn).now.schema) c.from_residual-in_err-totals.result NoMemory c.from_residual-in_err-totals.ensures.1 (λ known. absurd (true≢false known))

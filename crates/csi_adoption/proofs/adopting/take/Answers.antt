@@ -2,6 +2,7 @@ use Rattle.std.proofs.Common.{◌≡◌, ◌∙◌, sym, arith, false, true≢fa
 use Rattle.sqlite.specs.Held.{state}
 use Rattle.sqlite.specs.State.{HasCleanDisk}
 use Rattle.csi_judging.specs.Faults.{failure_of, is_failure}
+use Rattle.csi_adoption.specs.Failing.{IsOfShut}
 use Rattle.csi_adoption.specs.Judging.{IsFaultOf}
 use Rattle.csi_adoption.proofs.FaultLemmas.{error_fails}
 use Rattle.csi_adoption.proofs.TakeLemmas.{is_taken, taken_survives}
@@ -40,4 +41,13 @@ returns-in_err-judged-clause-failed g c = handed_fault g.S.Store c.args.conn.now
 pub returns-in_err-upgrade-clause-first : goal.returns-in_err-upgrade-clause-first
 returns-in_err-upgrade-clause-first g c = λ clean.
     if_err (λ fault. is_failure fault ≡ false → IsFaultOf c.args.config.now (state g.S.Store c.args.conn.now).now fault) c.from_residual-in_err-upgrade.result (failure_of c.in_err-upgrade.field-0.0) c.from_residual-in_err-upgrade.ensures.1
+    (λ known. absurd (true≢false (sym (error_fails c.in_err-upgrade.field-0.0) ∙ known)))
+
+pub returns-in_err-judged-clause-shut : goal.returns-in_err-judged-clause-shut
+returns-in_err-judged-clause-shut g c = λ clean shut.
+    if_err (IsOfShut (state g.S.Store c.judge.new.conn).now.schema) c.from_residual.result c.in_err-judged.field-0.0 c.from_residual.ensures.1 (c.in_err-judged.ensures.shut clean shut)
+
+pub returns-in_err-upgrade-clause-shut : goal.returns-in_err-upgrade-clause-shut
+returns-in_err-upgrade-clause-shut g c = λ clean shut.
+    if_err (IsOfShut (state g.S.Store c.upgrade.new.conn).now.schema) c.from_residual-in_err-upgrade.result (failure_of c.in_err-upgrade.field-0.0) c.from_residual-in_err-upgrade.ensures.1
     (λ known. absurd (true≢false (sym (error_fails c.in_err-upgrade.field-0.0) ∙ known)))

@@ -1,9 +1,16 @@
-use Rattle.std.proofs.Common.{rules, ℕ, ◌++◌, ◌≤◌, ◌<◌, List, length, arith, subst, sym, refl}
+use Rattle.std.proofs.Common.{rules, ℕ, [], ◌++◌, ◌≤◌, ◌<◌, List, length, arith, ap, subst, sym, refl}
 use Rattle.std.specs.Io.KnownBytes.{Consumes, IsAtEnd}
-use Rattle.std.proofs.KnownBytes.{Consumes-trans}
+use Rattle.std.proofs.KnownBytes.{Consumes-nil, Consumes-trans}
+use Rattle.frames_core.specs.Framer.{ReplyFramerState}
 use Rattle.csi_client.proofs.Feeding.{Fed, fed_count}
-use Rattle.csi_client.proofs.Gathering.{ended, settled, settled_some, one_more, nothing_more}
+use Rattle.csi_client.proofs.Gathering.{ended, gathering_start, settled, settled_some, one_more, nothing_more}
 use Rattle.csi_client.proofs.receiving.gather.Goals as goal
+
+pub loop-turn-init : goal.loop-turn-init
+loop-turn-init g c = record {
+  few = omega (arith, ap (λ (s : ReplyFramerState). s.past) c.requires, ap (λ (s : ReplyFramerState). length s.held) c.requires);
+  run = ([], Consumes-nil (g.R.Read.remaining c.args.reader.now), gathering_start c.args.framer.now c.requires);
+}
 
 pub returns-then-count-eq0 : goal.returns-then-count-eq0
 returns-then-count-eq0 g c =

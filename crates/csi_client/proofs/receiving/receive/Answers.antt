@@ -12,5 +12,5 @@ returns-in-None-reply g c =
 pub returns : goal.returns
 returns g c =
     let read = c.in-Ok-gather.ensures in
-    let came = reply_came read.0 (IsAtEnd (g.R.Read.remaining c.gather.new.reader)) c.gather.new.framer (reply_bytes_of c.in-Some-reply.reply) read.2 c.in-Some-reply.ensures.1 in
-    (read.0, read.1, inr (reply_bytes_of c.in-Some-reply.reply, came.0, c.in-Some-reply.ensures.0, came.1))
+    let r = reply_bytes_of c.in-Some-reply.reply in
+    (read.0, read.1, inr (r, reply_came read.0 (IsAtEnd (g.R.Read.remaining c.gather.new.reader)) c.gather.new.framer r read.2 c.in-Some-reply.ensures.0 c.in-Some-reply.ensures.1))

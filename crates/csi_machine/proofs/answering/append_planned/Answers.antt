@@ -13,6 +13,7 @@ returns-in_err-plan g c =
     let is : c.from_residual.result ≡ Err c.in_err-plan.field-0.0 = search rules in
     performed c.args.config.now c.args.request.now _ _ _ _ _
     (λ of_plugin. (failed.finds.quiet, subst (λ (r : Result Verdict StoreFault). IfErr r (λ e. e ≡ NoMemory)) (sym is) (failed.unasked of_plugin)))
+    (λ none. (failed.finds.quiet, subst (λ (r : Result Verdict StoreFault). IfErr r (λ e. e ≡ NoMemory)) (sym is) (failed.unnamed none)))
     (search rules)
 
 pub returns : goal.returns
@@ -22,6 +23,9 @@ returns g c =
     performed c.args.config.now c.args.request.now _ _ _ _ _
     (λ of_plugin.
     let none = limited_none _ (c.in_ok-plan.ensures.still of_plugin) in
+    (quiet_then found.quiet (did.carries.quiet none), did.carries.alone none))
+    (λ names.
+    let none = limited_none _ (c.in_ok-plan.ensures.done names) in
     (quiet_then found.quiet (did.carries.quiet none), did.carries.alone none))
     (carried c.args.config.now (λ s. settled_plan c.args.config.now s c.args.request.now) _ _ _ _ _ _ _ (settled_sound c.args.config.now c.requires.configured c.args.request.now c.requires.checked)
     found.quiet (λ d s h. ap limited (found.value d s h)) (λ is s. ap limited (found.down.unasked is s)) did.carries found.count did.body did.err did.small)

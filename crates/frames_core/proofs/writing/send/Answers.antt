@@ -1,5 +1,5 @@
-use Rattle.csi_server.proofs.Written.{wrote_kept}
-use Rattle.csi_server.proofs.writing.put_flushed.Goals as goal
+use Rattle.frames_core.proofs.Written.{wrote_kept}
+use Rattle.frames_core.proofs.writing.send.Goals as goal
 
 pub returns-clause-part : goal.returns-clause-part
 returns-clause-part g c =
