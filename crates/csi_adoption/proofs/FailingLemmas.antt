@@ -1,5 +1,5 @@
 -- Why adoption fails, one call behind another.
-use Rattle.std.proofs.Common.{◌≡◌, ◌∙◌, inl, inr, refl, sym, ap, subst, arith, ℕ, pos, not, ◌||◌, int_lt, Bool, true, false, true≢false, List, map, Option, None, Some, ℤ, Result, Ok, Err, IfErr, IsErrAnd, IsSome, IsTrue, cond}
+use Rattle.std.proofs.Common.{◌≡◌, ◌∙◌, inl, inr, refl, sym, ap, subst, arith, ℕ, pos, not, ◌||◌, int_lt, Bool, true, false, true≢false, List, [], map, Option, None, Some, ℤ, Result, Ok, Err, IfErr, IsErrAnd, IsSome, IsTrue, cond}
 use Rattle.sqlite.proofs.Callers.{unchanged_then}
 use Rattle.sqlite.specs.Effect.{Database}
 use Rattle.sqlite.specs.Held.{Held, state}
@@ -13,8 +13,9 @@ use Rattle.sqlite.specs.declared.error.Error.{Error}
 use Rattle.sqlite.specs.declared.error.Error.TheVariants.{SqliteFailure}
 use Rattle.sqlite.specs.declared.error.ErrorCode.TheVariants.{DatabaseCorrupt, OutOfMemory}
 use Rattle.csi_schema.specs.Failing as fails
+use Rattle.csi_schema.specs.Failing.{SqlRefuses}
 use Rattle.csi_schema.specs.Making.{RefusesTables}
-use Rattle.csi_schema.specs.Tables.{no_schema, schema}
+use Rattle.csi_schema.specs.Tables.{first_text, no_schema, schema}
 use Rattle.csi_statements.specs.Failing.{RefusesFormat}
 use Rattle.csi_statements.specs.Rows.{IsUndone}
 use Rattle.csi_schema.specs.Rows.{seen_volume}
@@ -27,7 +28,7 @@ use Rattle.csi_judging.specs.declared.fault.AdoptFault.TheVariants.{Foreign, New
 use Rattle.csi_judging.specs.declared.fault.Foreign.TheVariants as foreign
 use Rattle.std.specs.Ordering.{int_eq}
 use Rattle.csi_schema.specs.declared.formats.TheConstants.{FIRST_FORMAT, LATEST_FORMAT}
-use Rattle.csi_adoption.specs.Failing.{AdoptionFails, DoNotRise, FailsCommitted, HasCause, HasUnrisen, JudgingFails, OfStore, Refuses, ScanFails, too_many, unrisen, format, tables, by_disk, as_shut, as_refused, refused_shut, WasShut}
+use Rattle.csi_adoption.specs.Failing.{AdoptionFails, DoNotRise, FailsCommitted, HasCause, HasUnrisen, JudgingFails, OfStore, Refuses, ScanFails, too_many, unrisen, format, tables, by_disk, as_shut, as_refused, WasShut}
 use Rattle.csi_adoption.specs.Judging.{integers_judged, meta_judged, row_judged, valid_format, valid_next}
 use Rattle.csi_adoption.specs.Scanning.{Scans}
 use Rattle.csi_adoption.specs.declared.meta.Meta.{Meta}
@@ -90,9 +91,8 @@ refuses_format : (a b : sql.State) (e : Error) → b.now ≡ a.now → b.step_li
 refuses_format a b e now limit why =
     subst (λ (l : Option ℕ). RefusesFormat (record a { step_limit = l }) e) limit (subst (λ (db : Database). RefusesFormat (record a { now = db; step_limit = b.step_limit }) e) now why)
 
-refuses_tables : (a b : sql.State) (e : Error) → b.now ≡ a.now → b.step_limit ≡ a.step_limit → RefusesTables b e → RefusesTables a e
-refuses_tables a b e now limit why =
-    subst (λ (l : Option ℕ). RefusesTables (record a { step_limit = l }) e) limit (subst (λ (db : Database). RefusesTables (record a { now = db; step_limit = b.step_limit }) e) now why)
+refuses_tables : (a b : sql.State) (e : Error) → IsTrue a.is_open → b.step_limit ≡ a.step_limit → RefusesTables b e → RefusesTables a e
+refuses_tables a b e is_open limit why = (is_open, why.1, why.2, subst (λ (l : Option ℕ). SqlRefuses first_text [] (record a { now = why.1; step_limit = l }) e) limit why.3)
 
 module _ {S : Type 0} (g : Ghosts S) where
   -- what refuses it is one of what is refused
@@ -119,7 +119,7 @@ module _ {S : Type 0} (g : Ghosts S) where
   same_refuses a b e same limit (too_many why) = too_many (why.0, (why.1.0, why.1.1, why.1.2, unchanged_then (state g a) (state g b) (state g why.1.1) same why.1.3, why.1.4, why.1.5))
   same_refuses a b e same limit (unrisen is_open is why) = unrisen same.0.was_open is (subst HasUnrisen (ap (λ (d : Database). d.trees) same.0.now_is) why)
   same_refuses a b e same limit (format is_open ours why) = format same.0.was_open (schema_before a b same ours) (refuses_format (state g a) (state g b) e same.0.now_is limit why)
-  same_refuses a b e same limit (tables blank why) = tables (schema_before a b same blank) (refuses_tables (state g a) (state g b) e same.0.now_is limit why)
+  same_refuses a b e same limit (tables blank why) = tables (schema_before a b same blank) (refuses_tables (state g a) (state g b) e same.0.was_open limit why)
 
   cause_before : (a b c : Held S) (e : Error) → IsUnchanged (state g a) (state g b) → Survives (state g a) (state g b) (λ _. ⊥) → fails.FailsFor (Refuses g b) (state g b) (state g c) e → fails.FailsFor (Refuses g a) (state g a) (state g c) e
   cause_before a b c e same left (fails.for_memory is) = fails.for_memory is
@@ -182,12 +182,12 @@ module _ {S : Type 0} (g : Ghosts S) where
             (λ was_shut. inl was_shut),
       )
 
-      -- an open connection alone refuses what is asked of rows
-      refused : (e : Error) → two.step_limit ≡ None → (state g two).is_open ≡ false → WasShut g conn back → Refuses g two e → FailsCommitted g conn back e
-      refused e limit shut by (too_many why) = absurd (true≢false (sym why.1.3.0.was_open ∙ shut))
-      refused e limit shut by (unrisen is_open is why) = absurd (true≢false (sym is_open ∙ shut))
-      refused e limit shut by (format is_open ours why) = absurd (true≢false (sym is_open ∙ shut))
-      refused e limit shut by (tables blank why) = refused_shut by (two, limit, shut, blank, why)
+      -- an open connection alone refuses what is asked
+      open_of : (e : Error) → Refuses g two e → IsTrue (state g two).is_open
+      open_of e (too_many why) = why.1.3.0.was_open
+      open_of e (unrisen is_open is why) = is_open
+      open_of e (format is_open ours why) = is_open
+      open_of e (tables blank why) = why.0
 
       go : (e : Error) → HasCleanDisk (state g two) → (IsTrue (state g back).is_open → IsTrue (state g two).is_open) → IsUndone (state g start) (state g two) → Survives (state g start) (state g two) (λ _. ⊥) → wants_memory e ≡ false
           → fails.FailsFor (Refuses g two) (state g two) (state g back) e → FailsCommitted g conn back e
@@ -195,10 +195,7 @@ module _ {S : Type 0} (g : Ghosts S) where
       go e clean opened undone left other (fails.by_disk is more) = by_disk is (omega (arith, left.counts, more))
       go e clean opened undone left other (fails.as_shut is shut) = as_shut is (shut_by clean opened left shut)
       go e clean opened undone left other (fails.at_limit is some) = absurd (true≢false (sym (subst IsSome left.limit some)))
-      go e clean opened undone left other (fails.as_refused why) =
-          open_or_shut (state g two).is_open (FailsCommitted g conn back e)
-          (λ is_open. as_refused (two, left.limit, undone.now is_open, why))
-          (λ shut. refused e left.limit shut (shut_by clean opened left shut) why)
+      go e clean opened undone left other (fails.as_refused why) = let is_open = open_of e why in as_refused (undone.was_open is_open, two, left.limit, undone.now is_open, why)
 
   -- what was told as an error of the database
   pub told_behind : {X : Type 0} (a b : Held S) (r : Result X AdoptFault) (e : Error) → IsErrAnd r (λ x. x ≡ failure_of e) → HasCause g a b e → JudgingFails g a b r

@@ -20,14 +20,12 @@ use Rattle.csi_config.specs.declared.nodes.Node.{Node}
 use Rattle.csi_config.specs.declared.pools.Pool.{Pool}
 use Rattle.csi_keeper.specs.Invariant.{IsInvariant}
 use Rattle.csi_keeper.specs.State.{State}
-use Rattle.csi_types.specs.Maps.{same_text}
 use Rattle.csi_keeper.specs.Totals.{the_total}
 use Rattle.csi_schema.specs.Rows.{meta_row, seen_meta, seen_volume}
 use Rattle.csi_schema.specs.Tables.{schema}
 use Rattle.csi_schema.specs.declared.formats.TheConstants.{FIRST_FORMAT, LATEST_FORMAT}
-use Rattle.csi_scans.specs.Folds.{as_integer, sum_after}
+use Rattle.csi_scans.specs.Folds.{as_integer}
 use Rattle.csi_scans.specs.Scans.{IsInOrder}
-use Rattle.csi_scans.specs.declared.sums.Weight.TheVariants.{Number, One}
 use Rattle.csi_constraints.specs.Coded.{has_cap, has_caps, has_params}
 use Rattle.csi_constraints.specs.Apart.{apart_named}
 use Rattle.csi_constraints.specs.Joins.{is_owned}
@@ -39,7 +37,7 @@ use Rattle.csi_judging.specs.declared.fault.AdoptFault.TheVariants.{Foreign, New
 use Rattle.csi_judging.specs.declared.fault.Foreign.TheVariants as foreign
 use Rattle.csi_judging.specs.declared.seen.VolumesSeen.{VolumesSeen}
 use Rattle.csi_adoption.specs.Adopting.{FoundState}
-use Rattle.csi_adoption.specs.Found.{sizes_of, told_total, FoundVolumes}
+use Rattle.csi_adoption.specs.Found.{sizes_of, FoundVolumes}
 use Rattle.csi_adoption.specs.FoundAttachments.{AttachmentsAreFound, AttachmentsDoPass, OwnersDoPass, PlacesDoPass}
 use Rattle.csi_adoption.specs.Judging.{first_named, in_attachments, in_volumes, integers_judged, meta_judged, row_judged, total_in, valid_format, valid_next, with_rows, AreJudged, ArePassed, IsMetaFault}
 use Rattle.csi_adoption.specs.Passing.{VolumesAreKnown, VolumesPass}
@@ -63,14 +61,9 @@ MetaDoesPass = (config : Config) (format : ℕ) (s : State) (db : Trees) → IsR
 abbrev pub TotalsAreFound : Type 0
 TotalsAreFound =
     (config : Config) (m : Meta) (rows : List Row) → VolumesPass config m rows → ((p : Pool) → Has config.pools p → p.bytes < 2 ^ 64 - 1) → (found : FoundVolumes config m rows) (name : List ℕ)
-    → told_total config.pools rows name ≡ the_total (length (sizes_of found.volumes name)) (sum (sizes_of found.volumes name))
+    → total_in config.pools (in_volumes config m rows).pool_volumes (in_volumes config m rows).pool_bytes name ≡ the_total (length (sizes_of found.volumes name)) (sum (sizes_of found.volumes name))
 
 -- ---- the State that was found
-
--- the totals of the sums that a scan tells
-totals_told : (rows : List Row) (pools : List Pool) (name : List ℕ) → total_in pools (map (λ p. sum_after 3 p.name One 0 rows) pools) (map (λ p. sum_after 3 p.name (Number 2) 0 rows) pools) name ≡ told_total pools rows name
-totals_told rows [] name = refl
-totals_told rows (p ∷ pools) name = ap (λ t. cond (same_text p.name name) (the_total (sum_after 3 p.name One 0 rows) (sum_after 3 p.name (Number 2) 0 rows)) t) (totals_told rows pools name)
 
 -- ---- the row of meta
 
@@ -205,7 +198,7 @@ module _ (config : Config) (small : IsSmall config) (bounded : (p : Pool) → Ha
           few = fv.few;
         };
         totals = λ pool. ap₂ (λ a b. total_in config.pools a b pool) (ap (λ (f : VolumesFound). f.pool_volumes) passed.volumes.found) (ap (λ (f : VolumesFound). f.pool_bytes) passed.volumes.found)
-            ∙ totals_told j.volume_rows config.pools pool ∙ totals_found config m j.volume_rows it.volumes bounded fv pool;
+            ∙ totals_found config m j.volume_rows it.volumes bounded fv pool;
       }
 
 -- ---- a State that meets every constraint is not refused

@@ -31,14 +31,14 @@ DoNotRise seen = (rows : List Row) × IsInOrder seen rows × (IsRising 0 None ro
 abbrev pub HasUnrisen : Trees → Type 0
 HasUnrisen db = DoNotRise (map seen_volume (db 1)) ⊎ DoNotRise (map keyed_attachment (db 3))
 
--- what the database refuses that is asked for, with this error, though the disk has not failed
+-- what the database refuses that is asked for, on an open connection, with this error, though the disk has not failed
 pub data Refuses {S : Type 0} (g : Ghosts S) (old : Held S) (e : Error) : Type 0 where
   -- a scan has more rows than are read at most
   too_many : HasTooMany g old e → Refuses g old e
   unrisen : IsTrue (state g old).is_open → e ≡ SqliteFailure DatabaseCorrupt → HasUnrisen (state g old).now.trees → Refuses g old e
   -- the UPDATE that makes tables of the first format ones of the latest
   format : IsTrue (state g old).is_open → (state g old).now.schema ≡ schema → RefusesFormat (state g old) e → Refuses g old e
-  -- a statement that makes new tables
+  -- the row of meta in new tables
   tables : (state g old).now.schema ≡ no_schema → RefusesTables (state g old) e → Refuses g old e
 
 -- of an error of the database that is told as such, which no want of memory is
@@ -59,25 +59,22 @@ module _ {S : Type 0} (g : Ghosts S) (old new : Held S) where
   abbrev pub JudgingFails : {X : Type 0} → Result X AdoptFault → Type 0
   JudgingFails r = IfErr r (OfStore HasCause)
 
-  -- rows are judged on a connection that is open
-  abbrev pub TellsOpen : {X : Type 0} → Result X AdoptFault → Type 0
-  TellsOpen r = HasCleanDisk (state g new) → IfErr r (λ fault. is_failure fault ≡ false → IsTrue (state g new).is_open)
-
 -- on a connection that is shut no row is judged: what is told but a failure is that it has other tables
 abbrev pub IsOfShut : Schema → AdoptFault → Type 0
 IsOfShut seen fault = is_failure fault ≡ false → (fault ≡ Foreign foreign.Schema) × (seen ≢ schema)
 
 module _ {S : Type 0} (g : Ghosts S) (new : Held S) where
+  -- rows are judged on a connection that is open
+  abbrev pub TellsOpen : {X : Type 0} → Result X AdoptFault → Type 0
+  TellsOpen r = HasCleanDisk (state g new) → IfErr r (λ fault. is_failure fault ≡ false → IsTrue (state g new).is_open)
+
   abbrev pub TellsShut : {X : Type 0} → Result X AdoptFault → Type 0
   TellsShut r = HasCleanDisk (state g new) → (state g new).is_open ≡ false → IfErr r (IsOfShut (state g new).now.schema)
 
--- of what was committed on the connection; the limit on its steps is taken away
+-- of what was committed on the connection, which was open; the limit on its steps is taken away
 abbrev pub RefusesCommitted : {S : Type 0} → Ghosts S → Held S → Error → Type 0
-RefusesCommitted {S} g conn e = (settled : Held S) × (settled.step_limit ≡ None) × ((state g settled).now ≡ (state g conn).committed) × Refuses g settled e
-
--- where the connection is shut nothing is known of the rows; what is refused then is a statement that makes new tables
-abbrev pub RefusesShut : {S : Type 0} → Ghosts S → Error → Type 0
-RefusesShut {S} g e = (settled : Held S) × (settled.step_limit ≡ None) × ((state g settled).is_open ≡ false) × ((state g settled).now.schema ≡ no_schema) × RefusesTables (state g settled) e
+RefusesCommitted {S} g conn e =
+    IsTrue (state g conn).is_open × (settled : Held S) × (settled.step_limit ≡ None) × ((state g settled).now ≡ (state g conn).committed) × Refuses g settled e
 
 -- it is shut: a fault had shut the connection, or shut it since
 abbrev pub WasShut : {S : Type 0} → Ghosts S → Held S → Held S → Type 0
@@ -89,7 +86,6 @@ pub data FailsCommitted {S : Type 0} (g : Ghosts S) (conn back : Held S) (e : Er
   by_disk : IsTrue (is_disk_error e) → MoreFaults (state g conn).faults (state g back).faults → FailsCommitted g conn back e
   as_shut : e ≡ SqliteFailure Closed → WasShut g conn back → FailsCommitted g conn back e
   as_refused : RefusesCommitted g conn e → FailsCommitted g conn back e
-  refused_shut : WasShut g conn back → RefusesShut g e → FailsCommitted g conn back e
 
 abbrev pub AdoptionFails : {S : Type 0} → Ghosts S → Held S → Held S → AdoptFault → Type 0
 AdoptionFails g conn back fault = OfStore (λ e. HasCleanDisk (state g back) → FailsCommitted g conn back e) fault

@@ -1,20 +1,17 @@
 -- What rows of volumes that pass say: the volumes of a State.
-use Rattle.std.specs.Prelude.{◌≡◌, ℕ, ◌≤◌, bytes_eq, if◌then◌else◌, List, [], ◌∷◌, Some, filter, length, map, sum, sum_by}
+use Rattle.std.specs.Prelude.{◌≡◌, ℕ, ◌≤◌, bytes_eq, List, Some, filter, length, map, sum, sum_by}
 use Rattle.std.specs.FinMap.{FinMap, empty, entries, get, len, values}
 use Rattle.std.specs.List.{AllByRecursion}
 use Rattle.std.specs.Ordering.{nat_cmp}
 use Rattle.sqlite.specs.Order.{Row}
-use Rattle.csi_types.specs.Maps.{same_text}
 use Rattle.csi_types.specs.declared.limits.TheConstants.{MAX_VOLUMES}
 use Rattle.csi_config.specs.Values.{Has}
 use Rattle.csi_config.specs.declared.config.Config.{Config}
 use Rattle.csi_config.specs.declared.pools.Pool.{Pool}
 use Rattle.csi_keeper.specs.Invariant.{IsVolume}
-use Rattle.csi_keeper.specs.Totals.{the_total, zero_total}
-use Rattle.csi_keeper.specs.declared.totals.Total.{Total}
 use Rattle.csi_keeper.specs.declared.volume.Volume.{Volume}
 use Rattle.csi_schema.specs.declared.formats.TheConstants.{FIRST_FORMAT}
-use Rattle.csi_scans.specs.Folds.{added_by, sum_after}
+use Rattle.csi_scans.specs.Folds.{added_by}
 use Rattle.csi_scans.specs.declared.sums.Weight.TheVariants.{Number, One}
 use Rattle.csi_tables.specs.Holding.{IsStored, volume_entry}
 use Rattle.csi_adoption.specs.declared.meta.Meta.{Meta}
@@ -36,8 +33,3 @@ pub record FoundVolumes (config : Config) (m : Meta) (rows : List Row) : Type 0 
   pub counted : (pool : List ℕ) → length (sizes_of volumes pool) ≡ sum_by (added_by 3 pool One) rows
   pub summed : (pool : List ℕ) → sum (sizes_of volumes pool) ≡ sum_by (added_by 3 pool (Number 2)) rows
   pub rooms : (p : Pool) → Has config.pools p → sum (sizes_of volumes p.name) ≤ p.bytes
-
--- what is told of the pool of a name; nothing, if there is none
-abbrev pub told_total : List Pool → List Row → List ℕ → Total
-told_total [] rows name = zero_total
-told_total (p ∷ pools) rows name = if same_text p.name name then the_total (sum_after 3 p.name One 0 rows) (sum_after 3 p.name (Number 2) 0 rows) else told_total pools rows name

@@ -18,7 +18,8 @@ use Rattle.csi_scans.specs.Scans.{IsInOrder}
 use Rattle.csi_scans.specs.declared.sums.Weight.{Weight}
 use Rattle.csi_scans.specs.declared.sums.Weight.TheVariants.{Number, One}
 use Rattle.csi_tables.specs.Holding.{IsRowsIn, IsRowsOf}
-use Rattle.csi_adoption.specs.Found.{FoundVolumes, sizes_of, told_total}
+use Rattle.csi_adoption.specs.Found.{FoundVolumes, sizes_of}
+use Rattle.csi_adoption.specs.Judging.{in_volumes, total_in}
 use Rattle.csi_adoption.specs.Passing.{VolumesAreKnown, VolumesPass}
 use Rattle.csi_adoption.specs.declared.meta.Meta.{Meta}
 
@@ -58,7 +59,7 @@ abbrev pub FindsTotals : Type 0
 FindsTotals =
     (config : Config) (m : Meta) (rows : List Row) → VolumesPass config m rows → ((p : Pool) → Has config.pools p → p.bytes < 2 ^ 64 - 1)
     → (found : FoundVolumes config m rows) (name : List ℕ)
-    → told_total config.pools rows name ≡ the_total (length (sizes_of found.volumes name)) (sum (sizes_of found.volumes name))
+    → total_in config.pools (in_volumes config m rows).pool_volumes (in_volumes config m rows).pool_bytes name ≡ the_total (length (sizes_of found.volumes name)) (sum (sizes_of found.volumes name))
 
 -- a count that is told up to 2^64 - 1 is the count
 abbrev pub TellsCounts : Type 0

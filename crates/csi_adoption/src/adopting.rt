@@ -97,7 +97,7 @@ fn judge_joined<S: Alter>(
     requires ours { HasCleanDisk (state S.Store conn.old) → conn.old.schema ≡ our_schema }
     ensures scans { Scans S.Store conn.old conn.new result }
     ensures failed { JudgingFails S.Store conn.old conn.new result }
-    ensures open { TellsOpen S.Store conn.old conn.new result }
+    ensures open { TellsOpen S.Store conn.new result }
     ensures judged { HasCleanDisk (state S.Store conn.new) → (row : Row) → JudgesJoined config.now (state S.Store conn.old).now.trees row tables.now result }
 {
     check_attachment(
@@ -127,7 +127,7 @@ fn judge_seen<S: Alter>(
     requires ours { HasCleanDisk (state S.Store conn.old) → conn.old.schema ≡ our_schema }
     ensures scans { Scans S.Store conn.old conn.new result }
     ensures failed { JudgingFails S.Store conn.old conn.new result }
-    ensures open { IsTrue (state S.Store conn.old).is_open → TellsOpen S.Store conn.old conn.new result }
+    ensures open { IsTrue (state S.Store conn.old).is_open → TellsOpen S.Store conn.new result }
     ensures judged { HasCleanDisk (state S.Store conn.new) → JudgesSeen config.now (state S.Store conn.old).now.trees meta tables.now result }
 {
     check_tables(
@@ -152,7 +152,7 @@ fn judge_behind<S: Alter>(
     requires ours { HasCleanDisk (state S.Store conn.old) → conn.old.schema ≡ our_schema }
     ensures scans { Scans S.Store conn.old conn.new result }
     ensures failed { JudgingFails S.Store conn.old conn.new result }
-    ensures open { TellsOpen S.Store conn.old conn.new result }
+    ensures open { TellsOpen S.Store conn.new result }
     ensures judged { HasCleanDisk (state S.Store conn.new) → JudgesBehind config.now (state S.Store conn.old).now.trees meta result }
 {
     let tables = see_tables(alloc, conn, config, meta)?;
@@ -167,7 +167,7 @@ fn see_row<S: Alter>(conn: &mut Connection<S>) -> Result<Meta, AdoptFault>
     requires ours { HasCleanDisk (state S.Store conn.old) → conn.old.schema ≡ our_schema }
     ensures scans { Scans S.Store conn.old conn.new result }
     ensures failed { JudgingFails S.Store conn.old conn.new result }
-    ensures open { TellsOpen S.Store conn.old conn.new result }
+    ensures open { TellsOpen S.Store conn.new result }
     ensures seen { HasCleanDisk (state S.Store conn.new) → SeesRow (state S.Store conn.old).now.trees result }
 {
     let rows = see_meta(conn)?;
@@ -184,7 +184,7 @@ fn judge_rows<S: Alter>(
     requires ours { HasCleanDisk (state S.Store conn.old) → conn.old.schema ≡ our_schema }
     ensures scans { Scans S.Store conn.old conn.new result }
     ensures failed { JudgingFails S.Store conn.old conn.new result }
-    ensures open { TellsOpen S.Store conn.old conn.new result }
+    ensures open { TellsOpen S.Store conn.new result }
     ensures judged { HasCleanDisk (state S.Store conn.new) → JudgesRows config.now (state S.Store conn.old).now.trees result }
 {
     let meta = see_row(conn)?;

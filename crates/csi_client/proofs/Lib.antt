@@ -1,4 +1,3 @@
-pub mod Feeding
 pub mod Gathering
 pub mod Paths
 pub mod Pauses

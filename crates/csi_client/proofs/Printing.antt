@@ -1,11 +1,10 @@
 -- What one step makes of a run that shows replies.
-use Rattle.std.proofs.Common.{◌≡◌, ◌≢◌, ℕ, ◌+◌, ◌≤◌, Bool, List, [], ◌∷◌, ◌++◌, length, take, drop, Option, Some, None, refl, sym, ap, subst, ◌∙◌, append_assoc, append-nil, length-append, arith, inr, Err, Ok}
+use Rattle.std.proofs.Common.{◌≡◌, ◌≢◌, ℕ, ◌+◌, Bool, List, [], ◌∷◌, ◌++◌, length, take, drop, Option, Some, None, refl, sym, ap, subst, ◌∙◌, append_assoc, append-nil, length-append, arith, inr, Err, Ok}
 use Rattle.std.specs.Prelude.{IfSome, IsNone, ◌||◌, true, false, ⊤}
 use Rattle.std.specs.Io.KnownBytes.{Appends, Keeps}
 use Rattle.std.proofs.KnownBytes.{Appends-kept, Appends-nil, Appends-trans}
 use Rattle.std.proofs.lemmas.Grind.{flat_map-append}
-use Rattle.std.proofs.lemmas.List.{take-append-drop, take_all}
-use Rattle.std.proofs.Math.Seq.{take-add}
+use Rattle.std.proofs.lemmas.List.{take_all}
 use Rattle.std.proofs.lemmas.List.Elements.{All-push, All-nil}
 use Rattle.std.proofs.lemmas.List.Folds.{list_any-append}
 use Rattle.csi_types.specs.declared.code.Code.TheVariants as code
@@ -14,6 +13,11 @@ use Rattle.envelope.specs.Envelope.{ReplyBytes, IsReply, reply}
 use Rattle.envelope.specs.declared.reply_fault.ReplyFault.{ReplyFault}
 use Rattle.envelope.specs.declared.reply_fault.ReplyWhy.TheVariants.{EndOfInput}
 use Rattle.frames_core.specs.Framer.{ReplyFramerState, IsReplyCutShort, IsReplyFaultOf, reply_cut_short, reply_start}
+use Rattle.frames_core.specs.Feeding.{ReplyFed}
+use Rattle.frames_core.specs.facts.Feeding.{all_of, fault_of, fed_count, known_break, not_at_end, some_fed, taken_of}
+use Rattle.envelope.specs.declared.kind.Kind.TheVariants.{Replies}
+use Rattle.envelope.specs.Faults.{reply_part, reply_place}
+use Rattle.envelope.specs.Replies.{reply_part_of}
 use Rattle.envelope.specs.ReplyStream.{IsUnfinished}
 use Rattle.csi_client.specs.declared.showing.Halt.{Halt}
 use Rattle.csi_client.specs.declared.showing.Halt.TheVariants as halt
@@ -22,7 +26,6 @@ use Rattle.csi_client.specs.declared.showing.ShowEnd.TheVariants.{Done, Malforme
 use Rattle.csi_client.specs.Replies.{first_line}
 use Rattle.csi_client.specs.Showing.{IsShown, AreShown, Wrote, Ended, frames, has_refusal, is_refusal}
 use Rattle.csi_client.specs.Live.{ShowsOne, end_of, Live, IsReady, Advances}
-use Rattle.csi_client.proofs.Feeding.{Fed, fault_of, not_at_end, known_break, all_held, fed_count, some_fed}
 
 -- ---- lines of replies
 
@@ -72,27 +75,23 @@ wrote_push method read a b c rs rest r lines w good k j more left e =
 -- ---- one feed
 
 -- what was read is the frames, then what is held, and then what is not fed yet
-split : (method : Option Method) (read : List ℕ) (old new : ReplyFramerState) (rest : List ℕ) (n : ℕ) (a b : Option (List ℕ)) (refused : Bool) → (h : Live method read old a b refused) → Fed old new rest n → read ++ rest ≡ frames h.replies ++ (new.held ++ drop n rest)
-split method read old new rest n a b refused h f =
-    ap (λ (x : List ℕ). x ++ rest) h.wrote.shown.whole
-    ∙ (append_assoc (frames h.replies) old.held rest ∙ ap (λ (x : List ℕ). frames h.replies ++ x) (all_held old new rest n f))
+split : (method : Option Method) (read : List ℕ) (old new : ReplyFramerState) (rest : List ℕ) (n : ℕ) (a b : Option (List ℕ)) (refused : Bool) → (h : Live method read old a b refused) → ReplyFed old new rest n → read ++ rest ≡ frames h.replies ++ (new.held ++ drop n rest)
+split method read old new rest n a b refused h f = all_of Replies reply_part reply_place read (frames h.replies) old new rest n h.wrote.shown.whole f
 
-split_taken : (method : Option Method) (read : List ℕ) (old new : ReplyFramerState) (rest : List ℕ) (n : ℕ) (a b : Option (List ℕ)) (refused : Bool) → (h : Live method read old a b refused) → Fed old new rest n → read ++ take n rest ≡ frames h.replies ++ new.held
-split_taken method read old new rest n a b refused h f =
-    ap (λ (x : List ℕ). x ++ take n rest) h.wrote.shown.whole
-    ∙ (append_assoc (frames h.replies) old.held (take n rest) ∙ ap (λ (x : List ℕ). frames h.replies ++ x) (sym f.held))
+split_taken : (method : Option Method) (read : List ℕ) (old new : ReplyFramerState) (rest : List ℕ) (n : ℕ) (a b : Option (List ℕ)) (refused : Bool) → (h : Live method read old a b refused) → ReplyFed old new rest n → read ++ take n rest ≡ frames h.replies ++ new.held
+split_taken method read old new rest n a b refused h f = taken_of Replies reply_part reply_place read (frames h.replies) old new rest n h.wrote.shown.whole f
 
-pub fed_fault : (method : Option Method) (read : List ℕ) (old new : ReplyFramerState) (rest : List ℕ) (n : ℕ) (a b : Option (List ℕ)) (refused : Bool) (f : ReplyFault) → Live method read old a b refused → Fed old new rest n → new.fault ≡ Some f → Ended method (read ++ rest) ⊥ a b (Malformed f)
+pub fed_fault : (method : Option Method) (read : List ℕ) (old new : ReplyFramerState) (rest : List ℕ) (n : ℕ) (a b : Option (List ℕ)) (refused : Bool) (f : ReplyFault) → Live method read old a b refused → ReplyFed old new rest n → new.fault ≡ Some f → Ended method (read ++ rest) ⊥ a b (Malformed f)
 fed_fault method read old new rest n a b refused f h fed is =
-    let k = known_break old new rest n f h.unknown fed is in (
+    let k = known_break Replies reply_part reply_place old new rest n f h.unknown fed is in (
       h.replies,
       new.held ++ drop n rest,
       re_read method read a b h.replies old.held [] h.wrote (read ++ rest) (new.held ++ drop n rest) (split method read old new rest n a b refused h fed),
-      subst (λ (past : ℕ). IsReplyFaultOf past (new.held ++ drop n rest) f) (fed.past ∙ h.past) (fault_of new.past new.held (drop n rest) f k),
-      λ e. not_at_end new.past new.held f k e,
+      subst (λ (past : ℕ). IsReplyFaultOf past (new.held ++ drop n rest) f) (fed.past ∙ h.past) (fault_of Replies new.past new.held (drop n rest) (reply_part f) f.at k),
+      λ e. not_at_end Replies new.past new.held (reply_part f) f.at k (ap reply_part_of e),
     )
 
-pub fed_open : (method : Option Method) (read : List ℕ) (old new : ReplyFramerState) (rest : List ℕ) (n : ℕ) (a b : Option (List ℕ)) (refused : Bool) → Live method read old a b refused → Fed old new rest n → new.fault ≡ None → IsUnfinished new.held → Live method (read ++ take n rest) new a b refused
+pub fed_open : (method : Option Method) (read : List ℕ) (old new : ReplyFramerState) (rest : List ℕ) (n : ℕ) (a b : Option (List ℕ)) (refused : Bool) → Live method read old a b refused → ReplyFed old new rest n → new.fault ≡ None → IsUnfinished new.held → Live method (read ++ take n rest) new a b refused
 fed_open method read old new rest n a b refused h fed none open_ = record {
   replies = h.replies;
   wrote = re_read method read a b h.replies old.held [] h.wrote (read ++ take n rest) new.held (split_taken method read old new rest n a b refused h fed);
@@ -103,14 +102,14 @@ fed_open method read old new rest n a b refused h fed none open_ = record {
 }
 
 -- of the reply that is whole this was written, behind all replies before it
-wrote_last : (method : Option Method) (read : List ℕ) (old new : ReplyFramerState) (rest : List ℕ) (n : ℕ) (a b c : Option (List ℕ)) (refused : Bool) (r : ReplyBytes) (last : List ℕ) → (h : Live method read old a b refused) → Fed old new rest n → new.held ≡ reply r
+wrote_last : (method : Option Method) (read : List ℕ) (old new : ReplyFramerState) (rest : List ℕ) (n : ℕ) (a b c : Option (List ℕ)) (refused : Bool) (r : ReplyBytes) (last : List ℕ) → (h : Live method read old a b refused) → ReplyFed old new rest n → new.held ≡ reply r
     → Appends b c last → Wrote method (read ++ rest) a c h.replies (reply r ++ drop n rest) last
 wrote_last method read old new rest n a b c refused r last h fed is k =
     wrote_then method (read ++ rest) a b c h.replies (reply r ++ drop n rest) last
     (re_read method read a b h.replies old.held [] h.wrote (read ++ rest) (reply r ++ drop n rest) (split method read old new rest n a b refused h fed ∙ ap (λ (x : List ℕ). frames h.replies ++ (x ++ drop n rest)) is)) k
 
 -- the reply that is whole was not shown, or not whole, or its body is bad
-pub fed_halted : (X : Type 0) (method : Option Method) (read : List ℕ) (old new : ReplyFramerState) (rest : List ℕ) (n : ℕ) (a b c : Option (List ℕ)) (refused : Bool) (r : ReplyBytes) (why : Halt) → Live method read old a b refused → Fed old new rest n → IsReply r → new.held ≡ reply r
+pub fed_halted : (X : Type 0) (method : Option Method) (read : List ℕ) (old new : ReplyFramerState) (rest : List ℕ) (n : ℕ) (a b c : Option (List ℕ)) (refused : Bool) (r : ReplyBytes) (why : Halt) → Live method read old a b refused → ReplyFed old new rest n → IsReply r → new.held ≡ reply r
     → ShowsOne {X = X} method r b c (Err why) → Ended method (read ++ rest) ⊥ a c (end_of why)
 fed_halted X method read old new rest n a b c refused r halt.BadBody h fed good is k =
     (h.replies, r, drop n rest, good, k.0, wrote_last method read old new rest n a b c refused r (first_line code.Ok r) h fed is k.1)
@@ -124,7 +123,7 @@ fed_halted X method read old new rest n a b c refused r halt.NoMemory h fed good
   inr (r, drop n rest, good, ap (λ (x : List ℕ). x ++ drop n rest) is),
 )
 
-pub fed_shown : {X : Type 0} (method : Option Method) (read : List ℕ) (old new next : ReplyFramerState) (rest : List ℕ) (n : ℕ) (a b c : Option (List ℕ)) (refused then_ : Bool) (r : ReplyBytes) (x : X) → Live method read old a b refused → Fed old new rest n → IsReply r → new.held ≡ reply r
+pub fed_shown : {X : Type 0} (method : Option Method) (read : List ℕ) (old new next : ReplyFramerState) (rest : List ℕ) (n : ℕ) (a b c : Option (List ℕ)) (refused then_ : Bool) (r : ReplyBytes) (x : X) → Live method read old a b refused → ReplyFed old new rest n → IsReply r → new.held ≡ reply r
     → ShowsOne {X = X} method r b c (Ok x) → then_ ≡ (refused || is_refusal r) → next ≡ record { past = new.past + length new.held; held = []; fault = None } → IsUnfinished next.held → Live method (read ++ take n rest) next a c then_
 fed_shown method read old new next rest n a b c refused then_ r x h fed good is k t e open_ =
     let whole : read ++ take n rest ≡ frames (h.replies ++ r ∷ []) =
@@ -138,20 +137,20 @@ fed_shown method read old new next rest n a b c refused then_ r x h fed good is 
       unfinished = subst (λ (s : ReplyFramerState). IsUnfinished s.held) e open_;
     })
 
-pub advanced_open : (old new : ReplyFramerState) (rest : List ℕ) (n : ℕ) → IsReady old → Fed old new rest n → n ≤ length rest → IsReady new → Advances old new (length rest) n
-advanced_open old new rest n ready f within next = record {
-  count = fed_count old new rest n within f;
-  within = within;
-  some = some_fed old new rest n ready.0 ready.1 f;
+pub advanced_open : (old new : ReplyFramerState) (rest : List ℕ) (n : ℕ) → IsReady old → ReplyFed old new rest n → IsReady new → Advances old new (length rest) n
+advanced_open old new rest n ready f next = record {
+  count = fed_count Replies reply_part reply_place old new rest n f;
+  within = f.within;
+  some = some_fed Replies reply_part reply_place old new rest n ready.0 ready.1 f;
   ready = next;
 }
 
-pub advanced : (old new next : ReplyFramerState) (rest : List ℕ) (n : ℕ) → IsReady old → Fed old new rest n → n ≤ length rest → next ≡ record { past = new.past + length new.held; held = []; fault = None } → IsUnfinished next.held → Advances old next (length rest) n
-advanced old new next rest n ready f within e open_ =
+pub advanced : (old new next : ReplyFramerState) (rest : List ℕ) (n : ℕ) → IsReady old → ReplyFed old new rest n → next ≡ record { past = new.past + length new.held; held = []; fault = None } → IsUnfinished next.held → Advances old next (length rest) n
+advanced old new next rest n ready f e open_ =
     subst (λ (s : ReplyFramerState). Advances old s (length rest) n) (sym e) (record {
-      count = (let same = fed_count old new rest n within f in omega (arith, same));
-      within = within;
-      some = some_fed old new rest n ready.0 ready.1 f;
+      count = (let same = fed_count Replies reply_part reply_place old new rest n f in omega (arith, same));
+      within = f.within;
+      some = some_fed Replies reply_part reply_place old new rest n ready.0 ready.1 f;
       ready = (refl, subst (λ (s : ReplyFramerState). IsUnfinished s.held) e open_);
     })
 
@@ -162,14 +161,6 @@ live_as read s a b refused m n e h = subst (λ (x : Option Method). Live x read 
 
 pub ended_as : (read : List ℕ) (AtEnd : Type 0) (a b : Option (List ℕ)) (end : ShowEnd) (m n : Option Method) → m ≡ n → Ended m read AtEnd a b end → Ended n read AtEnd a b end
 ended_as read AtEnd a b end m n e h = subst (λ (x : Option Method). Ended x read AtEnd a b end) e h
-
--- ---- a piece behind a piece
-
-pub one_piece : (read piece : List ℕ) (at n : ℕ) (rest : List ℕ) → rest ≡ drop at piece → (read ++ take at piece) ++ take n rest ≡ read ++ take (at + n) piece
-one_piece read piece at n rest e = append_assoc read (take at piece) (take n rest) ∙ ap (λ (x : List ℕ). read ++ x) (ap (λ (x : List ℕ). take at piece ++ take n x) e ∙ sym (take-add at n piece))
-
-pub whole_piece : (read piece : List ℕ) (at : ℕ) (rest : List ℕ) → rest ≡ drop at piece → (read ++ take at piece) ++ rest ≡ read ++ piece
-whole_piece read piece at rest e = append_assoc read (take at piece) rest ∙ ap (λ (x : List ℕ). read ++ x) (ap (λ (x : List ℕ). take at piece ++ x) e ∙ take-append-drop at piece)
 
 -- ---- the ends of a run
 

@@ -3,6 +3,7 @@ use Rattle.std.specs.Prelude.{ℕ, ◌≡◌, ◌⊎◌, ◌<◌, ◌≤◌, Lis
 use Rattle.std.specs.Io.KnownBytes.{Consumes, IsAtEnd}
 use Rattle.envelope.specs.declared.reply_fault.ReplyFault.{ReplyFault}
 use Rattle.envelope.specs.declared.reply_fault.ReplyWhy.TheVariants.{EndOfInput}
+use Rattle.envelope.specs.declared.limits.TheConstants.{MAX_REPLY_BYTES}
 use Rattle.envelope.specs.Envelope.{ReplyBytes, IsReply, reply}
 use Rattle.envelope.specs.ReplyStream.{FaultAt, IsUnfinished}
 use Rattle.frames_core.specs.Framer.{ReplyFramerState, IsReplyFrame}
@@ -30,12 +31,16 @@ pub record IsPrompt (read : List ℕ) : Type 0 where
   pub unfinished : IsUnfinished before
   pub one : length piece ≤ PIECE_BYTES
 
+-- They may yet become a reply, of which at least one byte is missing: each read gave some, so no more reads were made than the longest has bytes.
+abbrev pub FallsShort : List ℕ → Type 0
+FallsShort read = IsUnfinished read × (length read < MAX_REPLY_BYTES)
+
 -- What the bytes that were read are: they begin with the first reply, or with none.
 abbrev pub Comes : List ℕ → Type 0 → Received → Type 0
 Comes read AtEnd (Reply r) = BeginsWith read (reply_of r)
 Comes read AtEnd Nothing = (read ≡ []) × AtEnd
 Comes read AtEnd (Malformed f) = HasFault read AtEnd f × IsPrompt read
-Comes read AtEnd Failed = IsUnfinished read
+Comes read AtEnd Failed = FallsShort read
 Comes read AtEnd NoMemory = (read ≡ []) ⊎ ((r : ReplyBytes) × BeginsWith read r)
 
 -- What is read of the reader, and what comes of it.
@@ -47,7 +52,7 @@ pub record IsGathering (read : List ℕ) (s : ReplyFramerState) : Type 0 where
   pub past : s.past ≡ 0
   pub held : s.held ≡ read
   pub unknown : s.fault ≡ None
-  pub unfinished : IsUnfinished read
+  pub short : FallsShort read
 
 -- A framer that has taken of what was read all that it needs: a reply, or all up to a fault.
 pub record Gathered (read : List ℕ) (AtEnd : Type 0) (s : ReplyFramerState) : Type 0 where
@@ -62,4 +67,4 @@ pub record Gathered (read : List ℕ) (AtEnd : Type 0) (s : ReplyFramerState) : 
 
 abbrev pub Gathers : {X E : Type 0} → Option (List ℕ) → Option (List ℕ) → ReplyFramerState → Result X E → Type 0
 Gathers unread left s (Ok x) = (read : List ℕ) × Consumes unread left read × Gathered read (IsAtEnd left) s
-Gathers unread left s (Err e) = (read : List ℕ) × Consumes unread left read × IsUnfinished read
+Gathers unread left s (Err e) = (read : List ℕ) × Consumes unread left read × FallsShort read

@@ -6,12 +6,9 @@ ghost use Rattle.frames_core.specs.Framer.{IsReplySettled, reply_start};
 ghost use Rattle.envelope.specs.ReplyStream.{IsUnfinished};
 ghost use Rattle.csi_client.specs.Receiving.{Receives, Gathers, reply_of};
 
-use frames_core::{Reply, ReplyFault, ReplyFramer};
+use frames_core::{MAX_REPLY_BYTES, Reply, ReplyFault, ReplyFramer};
 use std::alloc::{AllocError, Global};
-use std::io::{self, ErrorKind, Read};
-
-// At most this many reads are made for one reply.
-const MAX_READS: u64 = 1 << 32;
+use std::io::{self, Read};
 
 /// The most bytes of one read: a piece.
 pub(crate) const PIECE_BYTES: usize = 4096;
@@ -65,7 +62,7 @@ pub enum Received {
     Nothing,
     /// No reply stands first in the input.
     Malformed(ReplyFault),
-    /// A read failed, or 2^32 reads were made, before the first reply was whole.
+    /// A read failed before the first reply was whole.
     Failed,
     /// Memory was refused: for the buffer, and then nothing was read, or for the reply.
     NoMemory,
@@ -85,7 +82,8 @@ fn gather<R: Read>(framer: &mut ReplyFramer, reader: &mut R) -> io::Result<()>
     ensures { Gathers (R.remaining reader.old) (R.remaining reader.new) framer.new result }
 {
     let mut piece = [0; PIECE_BYTES];
-    for turn in 0..MAX_READS {
+    // Each read gives at least one byte, and so the longest reply takes no more of them.
+    for turn in 0..MAX_REPLY_BYTES {
         let count = reader.read(&mut piece)?;
         if count == 0 {
             framer.end();
@@ -97,11 +95,11 @@ fn gather<R: Read>(framer: &mut ReplyFramer, reader: &mut R) -> io::Result<()>
             return Ok(());
         }
     }
-    Err(io::Error::from(ErrorKind::Other))
+    unreachable!()
 }
 
 /// Reads the first reply of the input, and nothing behind the piece, of at most 4,096 bytes, in
-/// which it ends.
+/// which it ends. It makes at most 4,194,312 reads, as many as the longest reply has bytes.
 pub fn receive<R: Read>(alloc: Global, reader: &mut R) -> Received
     ensures { Receives (R.remaining reader.old) (R.remaining reader.new) result }
 {

@@ -9,4 +9,5 @@ pub mod VolumeRequestsLemmas
 pub mod PublishRequestsLemmas
 pub mod QueryRequestsLemmas
 pub mod ResponsePartsLemmas
+pub mod ListingLemmas
 pub mod MethodsLemmas

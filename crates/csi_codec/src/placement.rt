@@ -4,11 +4,14 @@ ghost use Rattle.std.specs.Prelude.{◌≡◌, ◌++◌, IfOk, OnOk, OnErr};
 ghost use Rattle.std.proofs.Props.{props};
 ghost use Rattle.pbmessage.specs.Canon.{FitsMap};
 ghost use Rattle.csi_codec.specs.messages.Topology.{FitsTerms};
-ghost use Rattle.csi_codec.specs.messages.Volume.{placement_bytes};
+ghost use Rattle.csi_codec.specs.messages.Volume.{no_nodes, placement_bytes};
 
 use csi_types::{Items, Map};
 use pbmessage::{put_map, put_messages};
 use std::alloc::{AllocError, Global};
+
+// The status of a volume that is published nowhere: field 2 of its entry, without nodes.
+const NO_NODES: [u8; 2] = [18, 0];
 
 /// What is answered alike of each volume of a pool, with its spelling: a listing of many volumes spells it once (CSI
 /// specification, `Volume`, its fields `volume_context` and `accessible_topology`).
@@ -16,8 +19,9 @@ use std::alloc::{AllocError, Global};
 pub struct Placement {
     context: Map,
     topology: Items<Map>,
-    spelling: Vec<u8>,
-    ghost spelled: { spelling.items ≡ placement_bytes context topology },
+    // Its spelling, and behind that how an entry of a listing ends that has no nodes.
+    ending: Vec<u8>,
+    ghost spelled: { ending.items ≡ placement_bytes context topology ++ no_nodes },
     ghost fitting: { FitsMap context × FitsTerms topology } by { Prim.hlevel props },
 }
 
@@ -30,14 +34,33 @@ impl Placement {
     pub fn new(alloc: Global, context: Map, topology: Items<Map>) -> Result<Placement, AllocError>
         ensures { IfOk result (λ placement. (placement.context ≡ context) × (placement.topology ≡ topology)) }
     {
-        let mut spelling = Vec::new(alloc);
-        put_map(&mut spelling, 3, &context)?;
-        put_messages(&mut spelling, 5, &topology)?;
+        let mut ending = Vec::new(alloc);
+        put_map(&mut ending, 3, &context)?;
+        put_messages(&mut ending, 5, &topology)?;
+        ending.extend_from_slice(&NO_NODES)?;
         Ok(Placement {
             context,
             topology,
-            spelling,
+            ending,
         })
+    }
+
+    /// Its spelling.
+    #[inline(always)]
+    pub(crate) fn as_bytes(&self) -> &[u8]
+        ensures value { result.now ≡ placement_bytes self.now.context self.now.topology }
+    {
+        let len = self.ending.len() - NO_NODES.len();
+        &self.ending[..len]
+    }
+
+    /// Its spelling, and behind that how an entry of a listing ends that has no nodes.
+    #[inline(always)]
+    pub(crate) fn ending(&self) -> &[u8]
+        ensures value { result.now ≡ placement_bytes self.now.context self.now.topology ++ no_nodes }
+        ensures fitting { FitsMap self.now.context × FitsTerms self.now.topology }
+    {
+        self.ending.as_slice()
     }
 }
 
@@ -46,5 +69,5 @@ pub(crate) fn put_placement(out: &mut Vec<u8>, placement: &Placement) -> Result<
     ensures ok { OnOk result (out.new.items ≡ out.old.items ++ placement_bytes placement.now.context placement.now.topology) }
     ensures err { OnErr result (out.new.items ≡ out.old.items) }
 {
-    out.extend_from_slice(&placement.spelling)
+    out.extend_from_slice(placement.as_bytes())
 }

@@ -4,7 +4,7 @@ ghost use Rattle.std.specs.Prelude.{◌≡◌, Some, IfOk};
 ghost use Rattle.csi_keeper.specs.Capability.{kind_cmp, mode_of, key_with, key_of, access_of, capability_of, is_supported_key, same_kind, same_key, wider_mode, wider_key, is_key, has_same, has_key};
 
 use csi_types::{
-    Access, Boxed, Capability, Items, Mount, Text, copy_text, is_known_mode, writes_beside_others,
+    Access, Boxed, Capability, Items, Mount, Text, is_known_mode, writes_beside_others,
 };
 use std::alloc::{AllocError, Global};
 use std::cmp::Ordering;
@@ -196,7 +196,7 @@ fn key_with(alloc: Global, access: &Access, mode: u8) -> Result<Option<CapKey>, 
     let kind = match access {
         Access::Missing => return Ok(None),
         Access::Block => Kind::Block,
-        Access::Mount(mount) => Kind::Mount(copy_text(alloc, mount.get().fs_type.as_str())?),
+        Access::Mount(mount) => Kind::Mount(mount.get().fs_type.copy(alloc)?),
     };
     Ok(Some(CapKey { kind, mode }))
 }
@@ -222,7 +222,7 @@ fn access_of(alloc: Global, kind: &Kind) -> Result<Access, AllocError>
         Kind::Block => Ok(Access::Block),
         Kind::Mount(fs_type) => {
             let mount = Mount {
-                fs_type: copy_text(alloc, fs_type.as_str())?,
+                fs_type: fs_type.copy(alloc)?,
                 flags: Items::new(alloc),
                 group: Text::new(alloc),
             };

@@ -4,7 +4,7 @@ ghost use Rattle.std.specs.Prelude.{◌≡◌, IfOk};
 
 use crate::capability::{CapKey, Kind};
 use crate::volume::{Attachment, Volume};
-use csi_types::{Items, copy_map, copy_text};
+use csi_types::{Items, copy_map};
 use std::alloc::{AllocError, Global};
 
 /// A key equal to this one.
@@ -17,7 +17,7 @@ pub fn copy_key(alloc: Global, key: &CapKey) -> Result<CapKey, AllocError>
 {
     let kind = match &key.kind {
         Kind::Block => Kind::Block,
-        Kind::Mount(fs_type) => Kind::Mount(copy_text(alloc, fs_type.as_str())?),
+        Kind::Mount(fs_type) => Kind::Mount(fs_type.copy(alloc)?),
     };
     Ok(CapKey {
         kind,
@@ -50,9 +50,9 @@ pub fn copy_volume(alloc: Global, volume: &Volume) -> Result<Volume, AllocError>
 {
     Ok(Volume {
         number: volume.number,
-        name: copy_text(alloc, volume.name.as_str())?,
+        name: volume.name.copy(alloc)?,
         bytes: volume.bytes,
-        pool: copy_text(alloc, volume.pool.as_str())?,
+        pool: volume.pool.copy(alloc)?,
         caps: copy_keys(alloc, &volume.caps)?,
         params: copy_map(alloc, &volume.params)?,
         mutable: copy_map(alloc, &volume.mutable)?,
@@ -68,7 +68,7 @@ pub fn copy_attachment(alloc: Global, attachment: &Attachment) -> Result<Attachm
     ensures { IfOk result (λ copy. copy ≡ attachment.now) }
 {
     Ok(Attachment {
-        node: copy_text(alloc, attachment.node.as_str())?,
+        node: attachment.node.copy(alloc)?,
         cap: copy_key(alloc, &attachment.cap)?,
         readonly: attachment.readonly,
     })

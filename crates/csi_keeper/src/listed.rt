@@ -4,7 +4,7 @@ ghost use Rattle.std.specs.Prelude.{◌≡◌, IfOk};
 ghost use Rattle.csi_keeper.specs.Listing.{listed_at, listed_each};
 
 use crate::volume::Volume;
-use csi_types::{Items, Text, copy_text};
+use csi_types::{Items, Text};
 use std::alloc::{AllocError, Global};
 
 /// What a listing tells of a volume (CSI 1.x, `ListVolumesResponse.Entry`).
@@ -32,7 +32,7 @@ pub fn listed_at(alloc: Global, volume: &Volume, nodes: Items<Text>) -> Result<L
     Ok(Listed {
         number: volume.number,
         bytes: volume.bytes,
-        pool: copy_text(alloc, volume.pool.as_str())?,
+        pool: volume.pool.copy(alloc)?,
         nodes,
     })
 }

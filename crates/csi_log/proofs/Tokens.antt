@@ -4,6 +4,7 @@ use Rattle.std.proofs.lemmas.Bool.{cases_lt, le-ltb, lt-ltb}
 use Rattle.pbwire.specs.Writing.{minimal, varint}
 use Rattle.envelope.specs.declared.limits.TheConstants.{MAX_MESSAGE_BYTES}
 use Rattle.csi_log.specs.Asking.{token_bytes}
+use Rattle.csi_log.specs.declared.asking.TheConstants.{MAX_TOKEN_BYTES}
 
 -- ---- a varint, group by group
 
@@ -41,12 +42,12 @@ field_length : (token : List ℕ) → length (token_bytes token) ≡ 1 + length 
 field_length token =
     omega (arith, length-append (varint 10) (varint (length token) ++ token), length-append (varint (length token)) token, last 8 10 (lit< tt))
 
-pub token_held : (token : List ℕ) → length token ≤ MAX_MESSAGE_BYTES - 4 → length (token_bytes token) ≤ MAX_MESSAGE_BYTES
+pub token_held : (token : List ℕ) → length token ≤ MAX_TOKEN_BYTES → length (token_bytes token) ≤ MAX_MESSAGE_BYTES
 token_held token short =
     let low : length token < 2 ^ 21 = omega arith in
     omega (arith, field_length token, at_most_three 6 (length token) low)
 
-pub token_not_held : (token : List ℕ) → MAX_MESSAGE_BYTES - 4 < length token → MAX_MESSAGE_BYTES < length (token_bytes token)
+pub token_not_held : (token : List ℕ) → MAX_TOKEN_BYTES < length token → MAX_MESSAGE_BYTES < length (token_bytes token)
 token_not_held token long =
     let high : 2 ^ 14 ≤ length token = omega arith in
     omega (arith, field_length token, at_least_three 6 (length token) high)

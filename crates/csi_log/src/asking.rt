@@ -9,10 +9,13 @@ ghost use Rattle.csi_log.specs.Asking.{lead_frame, make_frame, path_of, read_fra
 use csi_keeper::StoreFault;
 use frames_core::{MAX_MESSAGE_BYTES, put_request};
 use pbwire::put_bytes;
-use std::alloc::Global;
+use std::alloc::{AllocError, Global};
 
-// The most bytes of a token that a message holds: behind a tag of one byte and a length of three.
-const MAX_TOKEN_BYTES: usize = MAX_MESSAGE_BYTES - 4;
+// What stands in a message before a long token: a tag of one byte, and a length of three.
+const TOKEN_HEAD_BYTES: usize = 1 + 3;
+
+/// The most bytes of a token that a message holds.
+pub(crate) const MAX_TOKEN_BYTES: usize = MAX_MESSAGE_BYTES - TOKEN_HEAD_BYTES;
 
 /// What a log is asked for.
 #[derive(Clone, Copy)]
@@ -40,22 +43,16 @@ impl Call {
     }
 }
 
-/// The frame of a call.
+/// The frame of a call, whose message has at most 1,048,576 bytes.
 ///
 /// # Errors
 ///
-/// `NoMemory`; `Refused` where the message has more than 1,048,576 bytes.
+/// Where memory was refused.
 #[tactic(auto, using(crate::proofs::Paths::is_call))]
-pub(crate) fn frame_of(alloc: Global, call: Call, message: &[u8]) -> Result<Vec<u8>, StoreFault>
-    ensures frame { IfOk result (λ out. out.items ≡ frame (record { path = path_of call; message = message.now })) }
-    ensures fault { result ≢ Err Down }
-    ensures refused { IsErrOf result Refused → MAX_MESSAGE_BYTES < length message.now }
-    ensures memory { IsErrOf result NoMemory → length message.now ≤ MAX_MESSAGE_BYTES }
-    ensures fits { OnOk result (length message.now ≤ MAX_MESSAGE_BYTES) }
+pub(crate) fn frame_of(alloc: Global, call: Call, message: &[u8]) -> Result<Vec<u8>, AllocError>
+    requires { length message.now ≤ MAX_MESSAGE_BYTES }
+    ensures { IfOk result (λ out. out.items ≡ frame (record { path = path_of call; message = message.now })) }
 {
-    if message.len() > MAX_MESSAGE_BYTES {
-        return Err(StoreFault::Refused);
-    }
     let mut frame = Vec::new(alloc);
     put_request(&mut frame, call.path().as_bytes(), message)?;
     Ok(frame)
@@ -80,7 +77,7 @@ pub fn read_frame(alloc: Global, token: &[u8]) -> Result<Vec<u8>, StoreFault>
     }
     let mut message = Vec::new(alloc);
     put_bytes(&mut message, 1, token)?;
-    frame_of(alloc, Call::Read, message.as_slice())
+    Ok(frame_of(alloc, Call::Read, message.as_slice())?)
 }
 
 /// The frame that asks for the row of `meta`, where there is no row at all.
@@ -92,7 +89,7 @@ pub fn make_frame(alloc: Global) -> Result<Vec<u8>, StoreFault>
     ensures frame { IfOk result (λ frame. frame.items ≡ make_frame) }
     ensures fault { IfErr result (λ fault. fault ≡ NoMemory) }
 {
-    frame_of(alloc, Call::Make, &[])
+    Ok(frame_of(alloc, Call::Make, &[])?)
 }
 
 /// The frame that asks whether the log still leads: status 0 says so.
@@ -104,5 +101,5 @@ pub fn lead_frame(alloc: Global) -> Result<Vec<u8>, StoreFault>
     ensures frame { IfOk result (λ frame. frame.items ≡ lead_frame) }
     ensures fault { IfErr result (λ fault. fault ≡ NoMemory) }
 {
-    frame_of(alloc, Call::Lead, &[])
+    Ok(frame_of(alloc, Call::Lead, &[])?)
 }

@@ -1,17 +1,20 @@
 //! The frame that asks for a change.
 
 ghost use Rattle.std.specs.Prelude.{◌≡◌, ◌≢◌, ◌++◌, ◌∷◌, ◌<◌, ◌≤◌, [], Err, IfOk, IsErrOf, OnOk, length};
+ghost use Rattle.envelope.specs.Envelope.{frame};
 ghost use Rattle.envelope.specs.declared.limits.TheConstants.{MAX_MESSAGE_BYTES};
 ghost use Rattle.pbwire.specs.Writing.{spellings};
-ghost use Rattle.csi_keeper.specs.declared.change.StoreFault.TheVariants.{Down, Refused};
+ghost use Rattle.csi_keeper.specs.declared.change.StoreFault.TheVariants.{Down, NoMemory, Refused};
 ghost use Rattle.std.specs.FinMap.{empty};
 ghost use Rattle.csi_tables.specs.Encoding.{params_bytes};
-ghost use Rattle.csi_log.specs.Asking.{asked_fields, attachment_fields, bytes_field, change_bytes, change_number, commit_frame, number_field, volume_fields};
+ghost use Rattle.csi_log.specs.Asking.{asked_fields, attachment_fields, bytes_field, change_bytes, change_number, commit_frame, number_field, path_of, volume_fields};
+ghost use Rattle.csi_log.specs.declared.asking.Call.TheVariants.{Commit};
 
 use crate::asking::{Call, frame_of};
 use csi_keeper::{Attachment, Change, StoreFault, Volume};
 use csi_tables::{write_caps, write_params};
 use csi_types::Map;
+use frames_core::MAX_MESSAGE_BYTES;
 use pbwire::{put_bytes, put_varint};
 use std::alloc::{AllocError, Global};
 use std::slice;
@@ -101,11 +104,26 @@ fn message_of(alloc: Global, change: &Change) -> Result<Vec<u8>, AllocError>
     Ok(message)
 }
 
+// The frame that asks for the change of a message, where a frame holds it.
+fn frame_holding(alloc: Global, message: &[u8]) -> Result<Vec<u8>, StoreFault>
+    ensures frame { IfOk result (λ out. out.items ≡ frame (record { path = path_of Commit; message = message.now })) }
+    ensures fault { result ≢ Err Down }
+    ensures refused { IsErrOf result Refused → MAX_MESSAGE_BYTES < length message.now }
+    ensures memory { IsErrOf result NoMemory → length message.now ≤ MAX_MESSAGE_BYTES }
+    ensures fits { OnOk result (length message.now ≤ MAX_MESSAGE_BYTES) }
+{
+    if message.len() > MAX_MESSAGE_BYTES {
+        return Err(StoreFault::Refused);
+    }
+    Ok(frame_of(alloc, Call::Commit, message)?)
+}
+
 /// The frame that asks for a change.
 ///
 /// # Errors
 ///
-/// `NoMemory`; `Refused` where the message would have more than 1,048,576 bytes.
+/// `NoMemory`; `Refused` where the message would have more than 1,048,576 bytes. How many it has is known once its columns are made, so where there is
+/// no memory for these, that is told of a message that is too long too.
 pub(crate) fn commit_frame(alloc: Global, change: &Change) -> Result<Vec<u8>, StoreFault>
     ensures frame { IfOk result (λ frame. frame.items ≡ commit_frame change.now) }
     ensures fault { result ≢ Err Down }
@@ -113,5 +131,5 @@ pub(crate) fn commit_frame(alloc: Global, change: &Change) -> Result<Vec<u8>, St
     ensures fits { OnOk result (length (change_bytes change.now) ≤ MAX_MESSAGE_BYTES) }
 {
     let message = message_of(alloc, change)?;
-    frame_of(alloc, Call::Commit, message.as_slice())
+    frame_holding(alloc, message.as_slice())
 }

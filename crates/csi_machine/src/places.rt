@@ -33,10 +33,10 @@ pub(crate) fn place_of(alloc: Global, config: &Config, pool: &Text) -> Result<Pl
 }
 
 /// The first place of a pool; `None` where there is none yet.
+#[inline(always)]
 pub(crate) fn place_named<'a>(places: &'a [Place], pool: &Text) -> Option<&'a Place>
     ensures { option_copied result ≡ find (λ place. same_text place.pool pool.now) places.now }
 {
-    places
-        .iter()
-        .find(|place| place.pool.as_str() == pool.as_str())
+    let pool = pool.as_str();
+    places.iter().find(|place| place.pool.as_str() == pool)
 }

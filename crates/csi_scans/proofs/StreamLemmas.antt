@@ -1,5 +1,5 @@
 -- Steps of a query that is read row by row.
-use Rattle.std.proofs.Common.{◌≡◌, ◌⊎◌, inl, inr, ◌∙◌, List, [], ◌∷◌, ◌++◌, length, length-append, ℕ, ◌+◌, arith, sym, subst, Ok, Err, Result, IfErr, OnOk, Option, Some, None}
+use Rattle.std.proofs.Common.{◌≡◌, ◌⊎◌, inl, inr, ◌∙◌, List, [], ◌∷◌, ◌++◌, length, length-append, append-nil, ap, refl, false, true, true≢false, IsTrue, ℕ, ◌+◌, arith, sym, subst, Ok, Err, Result, IfErr, OnOk, Option, Some, None}
 use Rattle.std.specs.Result.{IsErrAnd}
 use Rattle.sqlite.specs.Effect.{Database}
 use Rattle.sqlite.specs.Clock.{timed}
@@ -7,16 +7,19 @@ use Rattle.sqlite.specs.Order.{Row}
 use Rattle.sqlite.specs.declared.error.Error.{Error}
 use Rattle.sqlite.specs.Given.{IsPlain}
 use Rattle.sqlite.specs.Listing.{understood, reads_listing, IsSourceOf}
-use Rattle.sqlite.specs.State.{State, HasCleanDisk, IsUnchanged, IsNotRun, IsRolledBack, KeepsCommit, Survives, CommitsShowing, Fails, FailsToQuery, FailsToShow, Shown, ShowsRows}
+use Rattle.sqlite.specs.State.{State, HasCleanDisk, IsUnchanged, IsNotRun, IsRolledBack, KeepsCommit, Survives, CommitsShowing, Fails, FailsToQuery, FailsToShow, Relays, Shown, ShowsRows, is_disk_error, store_error}
 use Rattle.sqlite_resolve.specs.declared.compiled.Compiled.{Compiled}
 use Rattle.sqlite_schema.specs.declared.command.Returning.{Returning}
 use Rattle.sqlite.proofs.StateLemmas.{survives_weaker}
 use Rattle.sqlite.proofs.Callers.{never_commits, unchanged_then}
 use Rattle.sqlite.specs.Held.{Held, state}
 use Rattle.sqlite.specs.Store.{Ghosts}
+use Rattle.sqlite.specs.View.{is_fault}
+use Rattle.sqlite_trees.specs.declared.error.StoreError.{StoreError}
+use Rattle.sqlite_trees.specs.declared.error.StoreError.TheVariants.{OutOfMemory, Io, Corrupt, Full, Broken, Unstorable}
 use Rattle.csi_schema.specs.Failing.{FailsFor, for_memory, by_disk, as_shut, at_limit, as_refused, SqlRefusesToRead, Unrefused}
 use Rattle.csi_schema.specs.Tables.{schema}
-use Rattle.csi_schema.specs.facts.Failing.{IsSure, fails_behind, fails_weaker, query_fails, sure_fails}
+use Rattle.csi_schema.specs.facts.Failing.{IsSure, fails_behind, fails_weaker, query_fails, sure_fails, sure_refused}
 use Rattle.csi_scans.specs.Failing.{HasTooMany, RefusesRows}
 use Rattle.csi_scans.specs.Scans.{FoldsOver, HasFolded}
 use Rattle.csi_scans.specs.Texts.{Scan, text}
@@ -70,6 +73,11 @@ scanned folds old new P Q (Err e) f h = tt
 
 -- ---- why it failed
 
+-- a query that is refused on a connection is refused as it was before, of the same database with the same limit
+refused_before : (text : List ℕ) (old mid : State) (e : Error) → mid.now ≡ old.now → mid.step_limit ≡ old.step_limit → SqlRefusesToRead text [] mid e → SqlRefusesToRead text [] old e
+refused_before text old mid e now limit why =
+    subst (λ (l : Option ℕ). SqlRefusesToRead text [] (record old { step_limit = l }) e) limit (subst (λ (d : Database). SqlRefusesToRead text [] (record old { now = d; step_limit = mid.step_limit }) e) now why)
+
 -- behind rows that were read
 pub behind_rows : (text : List ℕ) (old mid new : State) (e : Error) → IsPlain (understood old.now.schema text) → Survives old mid (λ _. ⊥) → IsUnchanged old mid → FailsToQuery text [] mid new e
     → FailsFor (SqlRefusesToRead text [] old) old new e
@@ -77,7 +85,47 @@ behind_rows text old mid new e plain left same h =
     let now : mid.now ≡ old.now = same.0.now_is in
     let told : FailsFor (SqlRefusesToRead text [] mid) mid new e = query_fails text [] mid new e (subst (λ (d : Database). IsPlain (understood d.schema text)) (sym now) plain) h in
     fails_behind (SqlRefusesToRead text [] mid) (SqlRefusesToRead text [] old) old mid new e left.counts same.0.is_open left.limit
-    (λ why. subst (λ (l : Option ℕ). SqlRefusesToRead text [] (record old { step_limit = l }) e) left.limit (subst (λ (d : Database). SqlRefusesToRead text [] (record old { now = d; step_limit = mid.step_limit }) e) now why)) told
+    (refused_before text old mid e now left.limit) told
+
+fault_of : (cause : StoreError) → IsTrue (is_disk_error (store_error cause)) → IsTrue (is_fault cause)
+fault_of OutOfMemory is = absurd (true≢false (sym is))
+fault_of Io is = refl
+fault_of Corrupt is = refl
+fault_of Full is = refl
+fault_of Broken is = absurd (true≢false (sym is))
+fault_of Unstorable is = absurd (true≢false (sym is))
+
+-- an error that is none of the disk's
+pub relays_other : (blamed : Option StoreError) (e : Error) → is_disk_error e ≡ false → Relays blamed e
+relays_other blamed e other kind named is = absurd (true≢false (sym is ∙ other))
+
+store_relays : (old new : State) (e : Error) → Fails old new ⊥ e → Relays new.blamed e
+store_relays old new e h kind named is = h.1 ∙ ap store_error (h.4 kind named (fault_of h.0 (sym (ap is_disk_error h.1) ∙ is)))
+
+-- a query fails as the store named its fault, or is refused
+pub query_told : (text : List ℕ) (old new : State) (e : Error) → IsPlain (understood old.now.schema text) → FailsToQuery text [] old new e → Relays new.blamed e ⊎ SqlRefusesToRead text [] old e
+unfolding FailsToQuery IsNotRun
+query_told text old new e plain (inl (inl none)) = inr (inl none.0)
+query_told text old new e plain (inl (inr failed)) = inl (store_relays old new e failed)
+query_told text old new e plain (inr (c, it, h)) =
+    let bare = subst IsPlain it.is plain in
+    let shown = rw (bare.0, bare.1, append-nil []) at h in
+    inr (inr (c, it.is, shown.0, shown.1, shown.2))
+
+-- the same, behind rows that were read
+pub told_behind : (text : List ℕ) (old mid new : State) (e : Error) → IsPlain (understood old.now.schema text) → Survives old mid (λ _. ⊥) → IsUnchanged old mid → FailsToQuery text [] mid new e
+    → Relays new.blamed e ⊎ SqlRefusesToRead text [] old e
+told_behind text old mid new e plain left same h =
+    let now : mid.now ≡ old.now = same.0.now_is in
+    elim (query_told text mid new e (subst (λ (d : Database). IsPlain (understood d.schema text)) (sym now) plain) h) [
+      | inl relayed ↦ inl relayed
+      | inr why ↦ inr (refused_before text old mid e now left.limit why)
+    ]
+
+-- in the words of a scan
+pub told_rows : {S : Type 0} (g : Ghosts S) (text : List ℕ) (old : Held S) (new : State) (e : Error) → Relays new.blamed e ⊎ SqlRefusesToRead text [] (state g old) e → Relays new.blamed e ⊎ RefusesRows g text old e
+told_rows g text old new e (inl relayed) = inl relayed
+told_rows g text old new e (inr why) = inr (inl why)
 
 -- an error that is handed on is no answer
 pub never_ok : {X : Type 0} (r : Result X Error) (e : Error) (P : Type 0) → IsErrAnd r (λ x. x ≡ e) → OnOk r P
@@ -108,6 +156,14 @@ scan_fails g scan sure old new (Err e) has h = go h
     go (as_refused (inl why)) = fails_weaker Unrefused (HasTooMany g old) (state g old) new e (λ none. absurd none) (sure_fails schema (text scan) [] sure (state g old) new e has (as_refused why))
     go (as_refused (inr many)) = as_refused (scan, many)
 
+scan_told : {S X : Type 0} (g : Ghosts S) (scan : Scan) → IsSure schema (text scan) [] → (old : Held S) (new : State) (r : Result X Error) → old.schema ≡ schema
+    → IfErr r (λ e. Relays new.blamed e ⊎ RefusesRows g (text scan) old e) → IfErr r (λ e. Relays new.blamed e ⊎ HasTooMany g old e)
+scan_told g scan sure old new (Ok x) has h = tt
+scan_told g scan sure old new (Err e) has (inl relayed) = inl relayed
+scan_told g scan sure old new (Err e) has (inr (inl why)) =
+    inl (relays_other new.blamed e (ap is_disk_error (sure_refused schema (text scan) [] sure (state g old) new e has why).0))
+scan_told g scan sure old new (Err e) has (inr (inr many)) = inr (scan, many)
+
 -- ---- a scan: a query of a fixed text
 
 pub looks_as : {S F X : Type 0} {g : Ghosts S} {old new : Held S} {folds : F → List Row → F → Type 0} {before after : F} {What : List Row → Type 0} {r : Result X Error}
@@ -117,6 +173,7 @@ looks_as {g = g} {old = old} {new = new} {folds = folds} {before = before} {afte
   idle = h.idle;
   ok = λ clean. scanned folds before after _ _ r (λ rows. shows rows (ours (omega (arith, h.survives.clean)))) (h.ok clean);
   failed = λ clean. scan_fails g scan sure old (state g new) r (ours (omega (arith, h.survives.clean))) (h.failed clean);
+  told = λ clean. scan_told g scan sure old (state g new) r (ours (omega (arith, h.survives.clean))) (h.told clean);
   same = h.same;
   kept = h.kept;
   survives = h.survives;

@@ -1,11 +1,11 @@
 -- What the scans show of the tables: meta is tree 0, volumes tree 1, attachments tree 3.
-use Rattle.std.specs.Prelude.{◌≡◌, Bool, false, [], ◌∷◌, List, map, filter, flat_map, IfErr, IsPermutation, IsSorted, OnOk, Result}
+use Rattle.std.specs.Prelude.{◌≡◌, ◌⊎◌, Bool, false, [], ◌∷◌, List, map, filter, flat_map, IfErr, IsPermutation, IsSorted, OnOk, Result}
 use Rattle.std.specs.declared.cmp.Ordering.{Ordering}
 use Rattle.std.specs.Ordering.{on}
 use Rattle.sqlite.specs.Held.{Held, state}
 use Rattle.sqlite.specs.Order.{Row, column, value_cmp}
 use Rattle.sqlite.specs.Query.{or_nulls}
-use Rattle.sqlite.specs.State.{HasCleanDisk, IsUnchanged, KeepsCommit}
+use Rattle.sqlite.specs.State.{HasCleanDisk, IsUnchanged, KeepsCommit, Relays}
 use Rattle.sqlite.specs.Store.{Ghosts}
 use Rattle.sqlite.specs.declared.error.Error.{Error}
 use Rattle.csi_schema.specs.Failing.{FailsFor}
@@ -23,6 +23,8 @@ module _ {S F : Type 0} (g : Ghosts S) (old new : Held S) (folds : F → List Ro
     pub idle : new.in_transaction ≡ false
     pub ok : HasCleanDisk (state g new) → OnOk r (HasFolded folds before after What)
     pub failed : HasCleanDisk (state g new) → IfErr r (FailsFor Refuses (state g old) (state g new))
+    -- which error of the disk it was: as the store named it, where it keeps that
+    pub told : HasCleanDisk (state g new) → IfErr r (λ e. Relays (state g new).blamed e ⊎ Refuses e)
     pub same : HasCleanDisk (state g new) → OnOk r (IsUnchanged (state g old) (state g new))
     pub kept : HasCleanDisk (state g new) → KeepsCommit (state g old) (state g new)
     pub survives : LeavesNothingNew g old new

@@ -12,7 +12,7 @@ use Rattle.sqlite.specs.State.{State, Writes, Executes}
 use Rattle.sqlite.proofs.Callers.{IsPlain, command_of, statement_of, runs_as}
 use Rattle.sqlite_tied.specs.Compute.{everything}
 use Rattle.csi_schema.specs.Tables.{no_schema, one_schema, two_schema, schema, meta, volumes, attachments, meta_text, volumes_text, attachments_text}
-use Rattle.csi_schema.specs.Making.{Creates, AddsFirst, HasAttachments, HasMeta, HasVolumes, MakesTables}
+use Rattle.csi_schema.specs.Making.{Creates, AddsFirst, HasNoRow, MakesTables}
 use Rattle.csi_schema.proofs.TablesLemmas.{meta_is, volumes_is, attachments_is}
 use Rattle.csi_schema.specs.facts.Steps.{went, same_value}
 
@@ -53,17 +53,9 @@ creates before text table it old new count has h =
       others = subst (λ (d : Database). KeepsRows before.tables old.now.trees d.trees) (sym now) (subst (λ (s : Schema). KeepsRows s.tables old.now.trees first.0.trees) has made.others);
     }
 
--- each in turn, and no row is there yet
-module _ {a b : Database} (one : Creates no_schema meta a b) where
-  pub has_meta : HasMeta b
-  has_meta = (one.schema, one.empty)
-
-  module _ {c : Database} (two : Creates one_schema volumes b c) where
-    pub has_volumes : HasVolumes c
-    has_volumes = (two.schema, two.others.0 ∙ one.empty, two.empty)
-
-    pub has_attachments : {d : Database} → Creates two_schema attachments c d → HasAttachments d
-    has_attachments three = (three.schema, three.others.0 ∙ two.others.0 ∙ one.empty, three.others.1.0 ∙ two.empty, three.empty)
+-- the three in turn, and no row is there yet
+pub has_no_row : {a b c d : Database} → Creates no_schema meta a b → Creates one_schema volumes b c → Creates two_schema attachments c d → HasNoRow d
+has_no_row one two three = (three.schema, three.others.0 ∙ two.others.0 ∙ one.empty, three.others.1.0 ∙ two.empty, three.empty)
 
 -- the three in turn, and the first row
 pub makes_tables : (a b c d e : Database) → a.schema ≡ no_schema → (a.schema ≡ no_schema → Creates no_schema meta a b) → (b.schema ≡ one_schema → Creates one_schema volumes b c)
@@ -71,7 +63,7 @@ pub makes_tables : (a b c d e : Database) → a.schema ≡ no_schema → (a.sche
 makes_tables a b c d e has one two three first =
     let p = one has in
     let q = two p.schema in
-    let none = has_attachments p q (three q.schema) in
+    let none = has_no_row p q (three q.schema) in
     let f = first none.0 in
     record {
       schema = f.schema ∙ none.0;

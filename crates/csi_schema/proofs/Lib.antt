@@ -5,3 +5,4 @@ mod FailLemmas
 mod FirstRowLemmas
 mod KeyCheckLemmas
 mod OursLemmas
+mod SureLemmas

@@ -1,5 +1,5 @@
 -- How the tables come to be: three CREATEs, and the first row of meta.
-use Rattle.std.specs.Prelude.{◌≡◌, ◌⊎◌, ℕ, List, [], ◌∷◌, map}
+use Rattle.std.specs.Prelude.{◌≡◌, ℕ, List, [], ◌∷◌, map, IsTrue}
 use Rattle.sqlite.specs.Change.{created, next_tree, KeepsRows}
 use Rattle.sqlite.specs.Effect.{Database, IsDatabase}
 use Rattle.sqlite.specs.Schema.{Schema}
@@ -54,20 +54,10 @@ pub record MakesTables (old new : Database) : Type 0 where
   pub volumes : new.trees 1 ≡ []
   pub attachments : new.trees 3 ≡ []
 
--- the tables so far, in which there is no row
-abbrev pub HasMeta : Database → Type 0
-HasMeta db = (db.schema ≡ one_schema) × (db.trees 0 ≡ [])
+-- the tables, in which there is no row
+abbrev pub HasNoRow : Database → Type 0
+HasNoRow db = (db.schema ≡ schema) × (db.trees 0 ≡ []) × (db.trees 1 ≡ []) × (db.trees 3 ≡ [])
 
-abbrev pub HasVolumes : Database → Type 0
-HasVolumes db = (db.schema ≡ two_schema) × (db.trees 0 ≡ []) × (db.trees 1 ≡ [])
-
-abbrev pub HasAttachments : Database → Type 0
-HasAttachments db = (db.schema ≡ schema) × (db.trees 0 ≡ []) × (db.trees 1 ≡ []) × (db.trees 3 ≡ [])
-
--- a statement of those that make the tables is refused, behind those before it
+-- on an open connection the row of meta is refused, behind the tables, which nothing refuses
 abbrev pub RefusesTables : State → Error → Type 0
-RefusesTables s e =
-    SqlRefuses meta_text [] s e
-    ⊎ (((db : Database) × HasMeta db × SqlRefuses volumes_text [] (record s { now = db }) e)
-    ⊎ (((db : Database) × HasVolumes db × SqlRefuses attachments_text [] (record s { now = db }) e)
-    ⊎ ((db : Database) × HasAttachments db × SqlRefuses first_text [] (record s { now = db }) e)))
+RefusesTables s e = IsTrue s.is_open × (db : Database) × HasNoRow db × SqlRefuses first_text [] (record s { now = db }) e

@@ -1,117 +1,64 @@
 -- What one feed of a framer makes of a run.
-use Rattle.std.proofs.Common.{◌≡◌, ◌≢◌, ℕ, ◌+◌, ◌-◌, ◌≤◌, ◌<◌, List, [], ◌∷◌, ◌++◌, length, take, drop, Option, Some, None, Result, Ok, Err, OnOk, refl, sym, ap, subst, ◌∙◌, append_assoc, append-nil, length-append, arith, inl, inr, ◌⊎◌}
-use Rattle.std.specs.Prelude.{IfSome, IsSome}
+use Rattle.std.proofs.Common.{◌≡◌, ◌≢◌, ℕ, ◌+◌, ◌-◌, List, [], ◌∷◌, ◌++◌, length, take, drop, Option, Some, None, Result, Ok, Err, OnOk, refl, sym, ap, subst, ◌∙◌, append-nil, length-append, arith, inl, inr, ◌⊎◌}
 use Rattle.std.specs.Result.{IsOk}
 use Rattle.std.specs.Io.KnownBytes.{Appends}
-use Rattle.std.proofs.lemmas.Bool.{cases_lt}
-use Rattle.std.proofs.lemmas.List.{take-append-drop, take_all, length-take}
+use Rattle.std.proofs.lemmas.List.{take_all}
 use Rattle.envelope.specs.declared.fault.FrameFault.{FrameFault}
-use Rattle.envelope.specs.declared.fault.FrameWhy.{FrameWhy}
 use Rattle.envelope.specs.Envelope.{CallBytes, IsCall, IsReply, frame, reply}
-use Rattle.envelope.specs.Grammar as grammar
-use Rattle.envelope.specs.Stream.{Breaks, BreaksFirst, FaultAt, IsUnfinished, BeginsFrame}
-use Rattle.frames_core.specs.Framer.{FramerState, IsSettled, IsBreakOf, start}
+use Rattle.envelope.specs.declared.kind.Kind.TheVariants.{Calls}
+use Rattle.envelope.specs.Faults.{part, place}
+use Rattle.envelope.specs.Stream.{IsUnfinished, part_of}
+use Rattle.frames_core.specs.Framer.{FramerState, start}
+use Rattle.frames_core.specs.Feeding.{Fed}
+use Rattle.frames_core.specs.facts.Feeding.{all_of, fault_of, fed_count, known_break, not_at_end, taken_of}
 use Rattle.frames_core.specs.Writing.{WrotePrefix}
 use Rattle.csi_keeper.specs.Model.{Model}
 use Rattle.csi_server.specs.Machine.{Machine, Answers, Runs}
 use Rattle.csi_server.specs.Service.{reply_of}
 use Rattle.csi_server.specs.declared.refused.Refusal.{Refusal}
 use Rattle.csi_server.specs.Serving.{Answered, CutOff, HasFault, AnswersCall}
-use Rattle.envelope.specs.declared.fault.FrameWhy.TheVariants.{BadPathLength, BadPath, BadFlag, TooLong, EndOfInput}
+use Rattle.envelope.specs.declared.fault.FrameWhy.TheVariants.{EndOfInput}
 use Rattle.envelope.specs.Stream.{Stream, Ends, Clean, Open}
 use Rattle.csi_server.specs.declared.end.RunEnd.{RunEnd}
 use Rattle.csi_server.specs.declared.end.RunEnd.TheVariants.{Done, Malformed, ReadFailed, TurnsSpent, WriteFailed, NoMemory}
 use Rattle.csi_server.specs.Serving.{HasNoFault, Ended, fault_frame}
 use Rattle.std.specs.Io.KnownBytes.{Consumes, Keeps}
 use Rattle.std.proofs.KnownBytes.{Consumes-trans}
-use Rattle.std.proofs.Math.Seq.{take-add}
 use Rattle.csi_server.specs.Live.{Live, IsReady, Advances, Refuses, Finishes}
 use Rattle.csi_server.proofs.Runs.{runs_start, so_far_start, so_far_push, cut_call, cut_fault, answered, answered_then, answered_kept, answered_fault, stream_ends}
-
--- what a feed of these bytes leaves
-pub record Fed (old new : FramerState) (rest : List ℕ) (n : ℕ) : Type 0 where
-  pub within : n ≤ length rest
-  pub past : new.past ≡ old.past
-  pub held : new.held ≡ old.held ++ take n rest
-  pub all : n < length rest → IsSettled new
-  pub known : old.fault ≡ None → IfSome new.fault (IsBreakOf new.past new.held)
-  pub idle : n ≡ 0 → new ≡ old
-
-no_some : (o : Option FrameFault) → IsSome o → o ≡ None → ⊥
-no_some None some none = absurd cc
-no_some (Some f) some none = absurd cc
-
-begins_itself : (bytes : List ℕ) (call : CallBytes) → IsCall call → bytes ≡ frame call → BeginsFrame bytes
-begins_itself bytes call good e = (call, [], good, e ∙ sym (append-nil (frame call)))
-
-nothing_settled : (s : FramerState) → IsUnfinished s.held → s.fault ≡ None → IsSettled s → ⊥
-nothing_settled s open_ none (inl f) = open_.frameless (begins_itself s.held f.0 f.1 f.2)
-nothing_settled s open_ none (inr some) = no_some s.fault some none
-
-pub some_fed : (old new : FramerState) (rest : List ℕ) (n : ℕ) → IsReady old → Fed old new rest n → 0 < length rest → 0 < n
-some_fed old new rest n h f some =
-    elim (cases_lt 0 n) [
-      | inl lt ↦ lt
-      | inr le ↦
-          let none : n ≡ 0 = omega arith in
-          absurd (nothing_settled old h.1 h.0 (subst IsSettled (f.idle none) (f.all (omega arith))))
-    ]
 
 -- what was taken from the first piece on, with one feed more
 pub advanced_open : (first old new : FramerState) (at : ℕ) (rest : List ℕ) (n : ℕ) → Advances first old at → Fed old new rest n → IsReady new → Advances first new (at + n)
 advanced_open first old new at rest n a f ready = record {
-  count = omega (arith, a.count, f.within, f.past, ap length f.held, length-append old.held (take n rest), length-take n rest);
+  count = omega (arith, a.count, fed_count Calls part place old new rest n f);
   ready = ready;
 }
 
 pub advanced : (first old new next : FramerState) (at : ℕ) (rest : List ℕ) (n : ℕ) → Advances first old at → Fed old new rest n → next ≡ record { past = new.past + length new.held; held = []; fault = None } → IsUnfinished next.held → Advances first next (at + n)
 advanced first old new next at rest n a f e open_ = record {
-  count = omega (arith, a.count, f.within, f.past, ap length f.held, length-append old.held (take n rest), length-take n rest, ap (λ (s : FramerState). s.past + length s.held) e);
+  count = omega (arith, a.count, fed_count Calls part place old new rest n f, ap (λ (s : FramerState). s.past + length s.held) e);
   ready = (ap (λ (s : FramerState). s.fault) e, open_);
 }
-
--- what was read, by what is given up, held and not fed yet
-all_of : (read given : List ℕ) (old new : FramerState) (rest : List ℕ) (n : ℕ) → read ≡ given ++ old.held → Fed old new rest n → read ++ rest ≡ given ++ (new.held ++ drop n rest)
-all_of read given old new rest n e f =
-    ap (λ (x : List ℕ). x ++ rest) e
-    ∙ (append_assoc given old.held rest
-    ∙ ap (λ (x : List ℕ). given ++ x) (ap (λ (x : List ℕ). old.held ++ x) (sym (take-append-drop n rest)) ∙ (sym (append_assoc old.held (take n rest) (drop n rest)) ∙ ap (λ (x : List ℕ). x ++ drop n rest) (sym f.held))))
-
-part_of : (read given : List ℕ) (old new : FramerState) (rest : List ℕ) (n : ℕ) → read ≡ given ++ old.held → Fed old new rest n → read ++ take n rest ≡ given ++ new.held
-part_of read given old new rest n e f =
-    ap (λ (x : List ℕ). x ++ take n rest) e ∙ (append_assoc given old.held (take n rest) ∙ ap (λ (x : List ℕ). given ++ x) (sym f.held))
 
 pub fed_open : {S : Type 0} (m : Machine S) (begin now : Model S) (s : S) (read : List ℕ) (old new : FramerState) (rest : List ℕ) (n : ℕ) (held holds : Option (List ℕ)) → Live m begin now s read old held holds → Fed old new rest n → IsReady new → Live m begin now s (read ++ take n rest) new held holds
 fed_open m begin now s read old new rest n held holds h fed ready = record {
   given = h.given;
   so_far = h.so_far;
-  whole = part_of read h.given old new rest n h.whole fed;
+  whole = taken_of Calls part place read h.given old new rest n h.whole fed;
   past = fed.past ∙ h.past;
   unknown = ready.0;
   unfinished = ready.1;
 }
 
-no_break_at_end : (bytes : List ℕ) (at : ℕ) → Breaks bytes EndOfInput at → ⊥
-unfolding grammar.Breaks
-no_break_at_end bytes at h = h
-
--- the first break is the fault of the rest
-fault_of_break : (rest : List ℕ) (why : FrameWhy) (at : ℕ) → BreaksFirst rest why at → FaultAt rest why at
-fault_of_break rest BadPathLength at h = h
-fault_of_break rest BadPath at h = h
-fault_of_break rest BadFlag at h = h
-fault_of_break rest TooLong at h = h
-fault_of_break rest EndOfInput at h = absurd (no_break_at_end rest at h.breaks)
-
 pub fed_fault : {S : Type 0} (m : Machine S) (begin now : Model S) (s : S) (read : List ℕ) (old new : FramerState) (rest : List ℕ) (n : ℕ) (held holds : Option (List ℕ)) (f : FrameFault) → Live m begin now s read old held holds → Fed old new rest n → new.fault ≡ Some f
     → (f.why ≢ EndOfInput) × Answered m begin now s (read ++ rest) held holds (λ calls. HasFault (read ++ rest) calls f.why f.at) []
 fed_fault m begin now s read old new rest n held holds f h fed is =
-    let k : IsBreakOf new.past new.held f = subst (λ (o : Option FrameFault). IfSome o (IsBreakOf new.past new.held)) is (fed.known h.unknown) in
-    let longer = fault_of_break (new.held ++ drop n rest) f.why (f.at - new.past) (k.1 (drop n rest)) in
+    let k = known_break Calls part place old new rest n f h.unknown fed is in
+    let longer = fault_of Calls new.past new.held (drop n rest) (part f) f.at k in
     let same : length h.given + (f.at - new.past) ≡ f.at = omega (arith, k.0, fed.past, h.past) in (
-      (λ e. no_break_at_end (new.held ++ []) (f.at - new.past) (subst (λ (why : FrameWhy). Breaks (new.held ++ []) why (f.at - new.past)) e (k.1 []).breaks)),
+      (λ e. not_at_end Calls new.past new.held (part f) f.at k (ap part_of e)),
       subst (λ (p : ℕ). Answered m begin now s (read ++ rest) held holds (λ calls. HasFault (read ++ rest) calls f.why p) []) same
-          (answered_fault m begin now s h.given (new.held ++ drop n rest) (read ++ rest) held holds h.so_far (all_of read h.given old new rest n h.whole fed) f.why (f.at - new.past) longer),
+          (answered_fault m begin now s h.given (new.held ++ drop n rest) (read ++ rest) held holds h.so_far (all_of Calls part place read h.given old new rest n h.whole fed) f.why (f.at - new.past) longer.1),
     )
 
 -- a call that was answered and of whose answer this was written
@@ -127,7 +74,7 @@ answered_call m old new s call answer buffer held holds put is formed all part =
 pub fed_cut : {S : Type 0} (m : Machine S) (begin mid now : Model S) (s : S) (read : List ℕ) (old new : FramerState) (rest : List ℕ) (n : ℕ) (call : CallBytes) (held holds then_ : Option (List ℕ)) (Whole : Type 0) → Live m begin mid s read old held holds → Fed old new rest n → IsCall call → new.held ≡ frame call → ((t : S) → mid.holds t → AnswersCall m mid now t call holds then_ Whole)
     → CutOff m begin now s (read ++ rest) ⊥ held then_
 fed_cut m begin mid now s read old new rest n call held holds then_ Whole h fed good is a =
-    cut_call m begin mid now s h.given new.held (drop n rest) (read ++ rest) call held holds then_ Whole h.so_far good is (all_of read h.given old new rest n h.whole fed) a
+    cut_call m begin mid now s h.given new.held (drop n rest) (read ++ rest) call held holds then_ Whole h.so_far good is (all_of Calls part place read h.given old new rest n h.whole fed) a
 
 pub fed_answered : {S : Type 0} (m : Machine S) (begin mid now : Model S) (s : S) (read : List ℕ) (old new next : FramerState) (rest : List ℕ) (n : ℕ) (call : CallBytes) (held holds then_ : Option (List ℕ)) → Live m begin mid s read old held holds → Fed old new rest n → IsCall call → new.held ≡ frame call → (Whole : Type 0) → Whole → ((t : S) → mid.holds t → AnswersCall m mid now t call holds then_ Whole)
     → next ≡ record { past = new.past + length new.held; held = []; fault = None } → IsUnfinished next.held → Live m begin now s (read ++ take n rest) next held then_
@@ -135,19 +82,11 @@ fed_answered {S} m begin mid now s read old new next rest n call held holds then
     subst (λ (fr : FramerState). Live m begin now s (read ++ take n rest) fr held then_) (sym e) (record {
       given = h.given ++ new.held;
       so_far = so_far_push m begin mid now s h.given new.held call held holds then_ h.so_far good is Whole done a;
-      whole = part_of read h.given old new rest n h.whole fed ∙ sym (append-nil (h.given ++ new.held));
+      whole = taken_of Calls part place read h.given old new rest n h.whole fed ∙ sym (append-nil (h.given ++ new.held));
       past = omega (arith, fed.past, h.past, length-append h.given new.held);
       unknown = refl;
       unfinished = subst (λ (fr : FramerState). IsUnfinished fr.held) e open_;
     })
-
--- ---- a piece behind a piece
-
-pub one_piece : (read piece : List ℕ) (at n : ℕ) (rest : List ℕ) → rest ≡ drop at piece → (read ++ take at piece) ++ take n rest ≡ read ++ take (at + n) piece
-one_piece read piece at n rest e = append_assoc read (take at piece) (take n rest) ∙ ap (λ (x : List ℕ). read ++ x) (ap (λ (x : List ℕ). take at piece ++ take n x) e ∙ sym (take-add at n piece))
-
-pub whole_piece : (read piece : List ℕ) (at : ℕ) (rest : List ℕ) → rest ≡ drop at piece → (read ++ take at piece) ++ rest ≡ read ++ piece
-whole_piece read piece at rest e = append_assoc read (take at piece) rest ∙ ap (λ (x : List ℕ). read ++ x) (ap (λ (x : List ℕ). take at piece ++ x) e ∙ take-append-drop at piece)
 
 -- ---- the ends of a run
 

@@ -26,10 +26,7 @@ pub fn copy_map(alloc: Global, map: &Map) -> Result<Map, AllocError>
         return Ok(copy);
     }
     for (key, value) in map {
-        copy.insert(
-            copy_text(alloc, key.as_str())?,
-            copy_text(alloc, value.as_str())?,
-        )?;
+        copy.insert(key.copy(alloc)?, value.copy(alloc)?)?;
     }
     Ok(copy)
 }
@@ -53,9 +50,9 @@ fn copy_mount(alloc: Global, mount: &Mount) -> Result<Mount, AllocError>
     ensures { IfOk result (λ copy. copy ≡ mount.now) }
 {
     Ok(Mount {
-        fs_type: copy_text(alloc, mount.fs_type.as_str())?,
+        fs_type: mount.fs_type.copy(alloc)?,
         flags: copy_texts(alloc, &mount.flags)?,
-        group: copy_text(alloc, mount.group.as_str())?,
+        group: mount.group.copy(alloc)?,
     })
 }
 
@@ -64,7 +61,7 @@ fn copy_texts(alloc: Global, texts: &Items<Text>) -> Result<Items<Text>, AllocEr
 {
     let mut copies = Items::new(alloc);
     for text in texts.as_slice() {
-        copies.push(copy_text(alloc, text.as_str())?)?;
+        copies.push(text.copy(alloc)?)?;
     }
     Ok(copies)
 }

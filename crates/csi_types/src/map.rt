@@ -95,13 +95,6 @@ impl Map {
         }
     }
 
-    /// Whether a key has a value.
-    pub fn contains_key(&self, key: &Text) -> bool
-        ensures { result ≡ map.contains_key self.now key.now }
-    {
-        self.get(key).is_some()
-    }
-
     /// Gives a key its value, in place of one that it had. Where memory is refused the map stays.
     pub fn insert(&mut self, key: Text, value: Text) -> Result<(), AllocError>
         ensures ok { OnOk result (self.new ≡ map.insert self.old key value) }

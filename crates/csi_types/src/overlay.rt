@@ -4,7 +4,7 @@ ghost use Rattle.std.specs.Prelude.{◌≡◌, IfOk};
 ghost use Rattle.std.specs.FinMap.{get};
 ghost use Rattle.csi_types.specs.Overlays.{has_each, is_text, laid_over};
 
-use crate::copies::{copy_map, copy_text};
+use crate::copies::copy_map;
 use crate::map::Map;
 use crate::text::Text;
 use std::alloc::{AllocError, Global};
@@ -16,10 +16,7 @@ pub fn laid_over(alloc: Global, map: &Map, given: &Map) -> Result<Map, AllocErro
 {
     let mut laid = copy_map(alloc, map)?;
     for (key, value) in given {
-        laid.insert(
-            copy_text(alloc, key.as_str())?,
-            copy_text(alloc, value.as_str())?,
-        )?;
+        laid.insert(key.copy(alloc)?, value.copy(alloc)?)?;
     }
     Ok(laid)
 }

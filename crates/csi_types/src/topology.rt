@@ -1,8 +1,8 @@
 //! Where a volume may stand, and topologies compared.
 //!
 //! Keys are compared with their ASCII letters folded, values by bytes. No function here takes
-//! memory. Each takes time little more than linear for topologies of 4,096 bytes and less; for
-//! larger ones it is right, and may compare all pairs of their segments.
+//! memory. Each takes time little more than linear for topologies of 4,096 bytes and less without
+//! keys that are alike; for others it is right, and may compare all pairs of their segments.
 
 mod segments;
 

@@ -1,6 +1,6 @@
 -- What a framer's invariant says.
 use Rattle.std.proofs.Common.{◌-◌, ◌++◌, ◌≡◌, ℕ, ◌+◌, ◌<◌, ◌^◌, List, [], length, take, Option, Some, None, refl, sym, ap, subst, arith, length-append, inl, inr, ◌⊎◌}
-use Rattle.std.specs.Prelude.{IsSome, is_some, true, false}
+use Rattle.std.specs.Prelude.{is_some, true, false}
 use Rattle.std.proofs.lemmas.List.{length-take}
 use Rattle.envelope.specs.declared.kind.Kind.{Kind}
 use Rattle.envelope.specs.declared.kind.Part.{Part}
@@ -8,11 +8,12 @@ use Rattle.envelope.specs.declared.head.Flaw.{Flaw}
 use Rattle.frames_core.specs.declared.prefix.Prefix.{Prefix}
 use Rattle.frames_core.specs.Framer.{CutterState}
 use Rattle.envelope.specs.Grammar.{BreaksFirst, FaultAt, IsUnbroken, IsUnfinished, BeginsFrame, IsFrame}
-use Rattle.envelope.specs.Head.{IsShort, IsWhole}
+use Rattle.envelope.specs.Head.{IsShort, IsWhole, most_frame}
 use Rattle.frames_core.specs.Prefix.{TakesPrefix, Stands}
 use Rattle.frames_core.specs.Holding.{Holds, IsBreakIn}
+use Rattle.frames_core.specs.facts.Feeding.{none_some}
 use Rattle.envelope.specs.facts.Breaking.{BreaksFirst-longer, nil_unbroken}
-use Rattle.envelope.specs.facts.Frames.{IsBytes, fault_of_break, fault_no_frame, frame_begins, is_unfinished, nil_short, whole_frame}
+use Rattle.envelope.specs.facts.Frames.{IsBytes, fault_of_break, fault_no_frame, frame_begins, is_unfinished, nil_short, short_room, whole_frame}
 
 pub empty_holds : {F : Type 0} (kind : Kind) (part : F → Part) (at : F → ℕ) (past : ℕ) → past < 2 ^ 63 → Holds kind part at past [] None
 empty_holds kind part at past few = record { few = omega arith; faults = (nil_unbroken kind, inl (nil_short kind)) }
@@ -51,10 +52,6 @@ known_break kind past held part place at h is =
     let same : place ≡ at - past = omega arith in
     (omega arith, λ more. subst (λ (k : ℕ). BreaksFirst kind (held ++ more) part k) same (BreaksFirst-longer kind held more part place h))
 
-none_some : {X : Type 0} (o : Option X) → o ≡ None → IsSome o → ⊥
-none_some None e some = absurd cc
-none_some (Some x) e some = absurd cc
-
 pub known_some : {X : Type 0} (o p : Option X) → true ≡ is_some o → o ≡ p → p ≡ None → ⊥
 known_some None p some is none = absurd cc
 known_some (Some x) p some is none = absurd cc
@@ -62,13 +59,6 @@ known_some (Some x) p some is none = absurd cc
 pub known_no : {X : Type 0} (o p : Option X) → false ≡ is_some o → o ≡ p → p ≡ None
 known_no None p unknown is = sym is
 known_no (Some x) p unknown is = absurd cc
-
--- what may yet become a frame is settled by no fault
-pub not_settled : {F : Type 0} (kind : Kind) (held : List ℕ) (known : Option F) → known ≡ None → IsUnbroken kind held × IsShort kind held → IsFrame kind held ⊎ IsSome known → ⊥
-not_settled kind held known none open_ settled = elim settled [
-  | inl f ↦ (is_unfinished kind held open_.0 open_.1).frameless (frame_of kind held f)
-  | inr some ↦ none_some known none some
-]
 
 -- where no fault is known, a frame that begins is whole, and what is whole is a frame
 pub begun_whole : {F : Type 0} (kind : Kind) (part : F → Part) (at : F → ℕ) (past : ℕ) (held : List ℕ) (known : Option F) → Holds kind part at past held known → known ≡ None → BeginsFrame kind held → IsWhole kind held
@@ -81,6 +71,13 @@ begun_whole kind part at past held (Some f) h none b = absurd cc
 pub whole_of : {F : Type 0} (kind : Kind) (part : F → Part) (at : F → ℕ) (past : ℕ) (held : List ℕ) (known : Option F) → Holds kind part at past held known → known ≡ None → IsBytes held → IsWhole kind held → IsFrame kind held
 whole_of kind part at past held None h none fits whole = whole_frame kind held fits h.faults.0 whole
 whole_of kind part at past held (Some f) h none fits whole = absurd cc
+
+-- what may yet become a frame has fewer bytes than the longest one
+pub open_few : (kind : Kind) (held : List ℕ) → IsBytes held → IsUnbroken kind held × (IsShort kind held ⊎ IsWhole kind held) → IsUnfinished kind held → length held < most_frame kind
+open_few kind held fits stands open_ = elim stands.1 [
+  | inl short ↦ short_room kind held stands.0 short
+  | inr whole ↦ absurd (open_.frameless (frame_of kind held (whole_frame kind held fits stands.0 whole)))
+]
 
 -- no frame begins where a fault is known or nothing is whole
 pub none_begins : {F : Type 0} (kind : Kind) (part : F → Part) (at : F → ℕ) (s : CutterState F) → Holds kind part at s.past s.held s.fault → (s.fault ≡ None → IsWhole kind s.held → ⊥) → BeginsFrame kind s.held → ⊥

@@ -2,7 +2,7 @@ ghost use Rattle.std.specs.Prelude.{◌≡◌, ℕ, ◌+◌, ◌^◌, ◌<◌, �
 ghost use Rattle.envelope.specs.Envelope.{IsCall, bytes_of, frame, IsReply, reply_bytes_of, reply};
 ghost use Rattle.envelope.specs.Grammar.{BeginsFrame, IsFrame, IsUnbroken, IsUnfinished};
 ghost use Rattle.envelope.specs.declared.kind.Kind.TheVariants.{Calls, Replies};
-ghost use Rattle.envelope.specs.Head.{IsShort, IsWhole};
+ghost use Rattle.envelope.specs.Head.{IsShort, IsWhole, most_frame};
 ghost use Rattle.frames_core.specs.Holding.{IsBreakIn, IsFaultIn};
 ghost use Rattle.frames_core.specs.Framer.{CutterState, begun, IsSettledAs, IsCutShortAs, cut_with};
 
@@ -137,6 +137,8 @@ impl<F: Fault> Cutter<F> {
         ensures all { result < length piece.now → IsSettledAs F.kind self.new }
         // A fault that it makes known is of the bytes, and not of an end of the input.
         ensures known { self.old.fault ≡ None → IfSome self.new.fault (λ f. IsBreakIn F.kind self.new.past self.new.held (F.wrong_part f) (F.place f)) }
+        // What may yet become a frame is shorter than the longest one.
+        ensures few { self.new.fault ≡ None → IsUnfinished F.kind self.new.held → length self.new.held < most_frame F.kind }
         // Nothing is taken while a frame stands or after a fault.
         ensures settled { IsSettledAs F.kind self.old → result ≡ 0 }
         ensures idle { result ≡ 0 → self.new ≡ self.old }

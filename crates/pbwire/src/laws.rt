@@ -57,3 +57,9 @@ pub fn closed()
         → from ≡ length (old ++ spelling (record { number = number; part = Payload [] }))
         → take (from - 1) whole ++ (varint (length whole - from) ++ drop from whole) ≡ old ++ spelling (record { number = number; part = Payload bytes }) }
 {}
+
+/// A number below 128 is a varint of one byte, which is the number.
+#[inline(always)]
+pub fn short()
+    ensures { (n : ℕ) → n < 128 → varint n ≡ n ∷ [] }
+{}

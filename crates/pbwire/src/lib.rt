@@ -26,4 +26,6 @@ mod writing;
 
 pub use field::{Field, Value, WireFault, WireWhy};
 pub use reading::Fields;
-pub use writing::{close_bytes, put_bytes, put_entry, put_joined, put_map, put_varint};
+pub use writing::{
+    close_bytes, put_bytes, put_entry, put_joined, put_map, put_varint, varint_field,
+};

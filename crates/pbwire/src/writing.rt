@@ -10,6 +10,7 @@ ghost use Rattle.pbwire.specs.Writing.{varint, spelling, spellings, map_entry, m
 use arrayvec::ArrayVec;
 use std::alloc::AllocError;
 
+#[inline(always)]
 fn push_varint(out: &mut ArrayVec<u8, 20>, number: u64)
     requires { length out.old.items ≤ 10 }
     ensures { out.new.items ≡ out.old.items ++ varint number }
@@ -23,6 +24,7 @@ fn push_varint(out: &mut ArrayVec<u8, 20>, number: u64)
 }
 
 // A tag, and the varint after it: a number, or the length of a payload.
+#[inline(always)]
 fn head_of(number: u32, wire_type: u64, after: u64) -> ArrayVec<u8, 20>
     requires { wire_type < 8 }
     ensures { result.items ≡ varint (number * 8 + wire_type) ++ varint after }
@@ -44,13 +46,22 @@ fn short_head(number: u32, len: usize) -> Option<[u8; 2]>
     Some([number as u8 * 8 + 2, len as u8])
 }
 
+/// A field that holds a number (wire type 0), for who has to know its length before it is written.
+#[inline(always)]
+pub fn varint_field(number: u32, value: u64) -> ArrayVec<u8, 20>
+    requires { (1 ≤ number) × (number < 2 ^ 29) }
+    ensures { result.items ≡ spelling (record { number = number; part = Number value }) }
+{
+    head_of(number, 0, value)
+}
+
 /// Appends a field that holds a number (wire type 0). After an `Err` the vector is as it was.
 pub fn put_varint(out: &mut Vec<u8>, number: u32, value: u64) -> Result<(), AllocError>
     requires { (1 ≤ number) × (number < 2 ^ 29) }
     ensures ok { OnOk result (out.new.items ≡ out.old.items ++ spelling (record { number = number; part = Number value })) }
     ensures err { OnErr result (out.new.items ≡ out.old.items) }
 {
-    out.extend_from_slice(head_of(number, 0, value).as_slice())
+    out.extend_from_slice(varint_field(number, value).as_slice())
 }
 
 // Appends both, or neither.

@@ -1,6 +1,6 @@
 -- `Volume`, and what responses say of volumes (CSI specification, csi.proto): what the fields mean, under which
 -- numbers stand texts and embedded messages, and how a value is written.
-use Rattle.std.specs.Prelude.{ℕ, List}
+use Rattle.std.specs.Prelude.{ℕ, List, [], ◌∷◌}
 use Rattle.csi_types.specs.declared.volume.VolumeInfo.{VolumeInfo}
 use Rattle.csi_types.specs.declared.volume.Entry.{Entry}
 use Rattle.csi_types.specs.declared.volume.Confirmed.{Confirmed}
@@ -28,6 +28,10 @@ FitsVolume v = FitsI64 v.bytes × FitsText v.id × FitsMap v.context × FitsTerm
 -- the fields that the pool gives
 abbrev pub placement_bytes : TextMap → List TextMap → List ℕ
 placement_bytes context topology = bytes_of (Start ▸ map_row 3 context ▸ messages_row canon_map 5 topology)
+
+-- the status, field 2 of an entry, of a volume that is published nowhere
+abbrev pub no_nodes : List ℕ
+no_nodes = 18 ∷ 0 ∷ []
 
 -- ---- ListVolumesResponse.VolumeStatus { published_node_ids 1 }
 

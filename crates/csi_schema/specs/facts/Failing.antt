@@ -213,7 +213,7 @@ only_limit (inr (inl (is, inr over))) within = absurd (within over)
 only_limit (inr (inr limited)) within = limited
 
 module _ (schema : Schema) (text : List ℕ) (params : Row) (sure : IsSure schema text params) (old new : State) (e : Error) (has : old.now.schema ≡ schema) where
-  sure_refused : SqlRefusesToRead text params old e → (e ≡ SqliteFailure code.OperationInterrupted) × IsSome old.step_limit
+  pub sure_refused : SqlRefusesToRead text params old e → (e ≡ SqliteFailure code.OperationInterrupted) × IsSome old.step_limit
   sure_refused (inl none) = absurd (no_fault text params old e (subst (λ s. IsAlone text (length params) (understood s text)) (sym has) sure.alone) none)
   sure_refused (inr (c, is, db, source, why)) =
       let known : ◌≡◌ {A = Result Compiled CompileError} (Ok c) (understood schema text) = sym is ∙ ap (λ s. understood s text) has in

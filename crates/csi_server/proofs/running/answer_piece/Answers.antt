@@ -4,7 +4,9 @@ use Rattle.envelope.specs.Envelope.{bytes_of}
 use Rattle.frames_core.specs.Framer.{IsFrame}
 use Rattle.csi_server.specs.Serving.{Answered, CutOff, HasFault}
 use Rattle.csi_server.specs.Live.{Live, IsReady}
-use Rattle.csi_server.proofs.Feeding.{Fed, advanced, advanced_open, answered_call, fed_answered, fed_cut, fed_fault, fed_open, one_piece, whole_piece}
+use Rattle.frames_core.specs.Feeding.{Fed}
+use Rattle.frames_core.specs.facts.Feeding.{one_piece, whole_piece}
+use Rattle.csi_server.proofs.Feeding.{advanced, advanced_open, answered_call, fed_answered, fed_cut, fed_fault, fed_open}
 use Rattle.csi_server.proofs.running.answer_piece.Goals as goal
 
 pub returns-in-Some-clause-steps : goal.returns-in-Some-clause-steps

@@ -2,7 +2,8 @@ use Rattle.std.proofs.Common.{ℕ, ◌++◌, ◌∙◌, List, take, arith, subst
 use Rattle.csi_client.specs.declared.showing.ShowEnd.TheVariants.{Malformed}
 use Rattle.csi_client.specs.Showing.{Ended}
 use Rattle.csi_client.specs.Live.{Live, end_of}
-use Rattle.csi_client.proofs.Printing.{one_piece, whole_piece, live_as, ended_as}
+use Rattle.frames_core.specs.facts.Feeding.{one_piece, whole_piece}
+use Rattle.csi_client.proofs.Printing.{live_as, ended_as}
 use Rattle.csi_client.proofs.showing.Printer.show_piece.Goals as goal
 
 pub loop-at-preserved : goal.loop-at-preserved

@@ -13,11 +13,11 @@ unfolding row_fields
 returns-clause-ok c =
     let entry = c.args.self.now in
     let old = c.args.out.now.items in
-    let new = c.put_status.new.out.items in
+    let new = c.put_message-2.new.out.items in
     let volume : ℤ → List WireField = λ z. payload_fields 1 (bytes_of (canon_volume (placed_volume z (entry.prefix.now ++ entry.suffix.now) entry.placement.now)) ∷ []) in
     let nodes : List WireField = payload_fields 2 (bytes_of (canon_nodes entry.nodes.now) ∷ []) in
-    subst (λ (z : ℤ). OnOk c.put_status.result (new ≡ old ++ spellings (volume z ++ nodes))) (to_z-of_z w64 entry.bytes (search rules))
-    (wrote_then c.put_status.result old c.put_message.new.out.items new (volume (to_z w64 (of_z w64 entry.bytes))) nodes c.in_ok-put_message.ensures.ok c.put_status.ensures.ok)
+    subst (λ (z : ℤ). OnOk c.put_message-2.result (new ≡ old ++ spellings (volume z ++ nodes))) (to_z-of_z w64 entry.bytes (search rules))
+    (wrote_then c.put_message-2.result old c.put_message.new.out.items new (volume (to_z w64 (of_z w64 entry.bytes))) nodes c.in_ok-put_message.ensures.ok c.put_message-2.ensures.ok)
 
 pub returns-clause-kept : goal.returns-clause-kept
-returns-clause-kept c = keeps_on _ _ _ c.put_status.ensures.kept c.put_message.ensures.kept
+returns-clause-kept c = keeps_on _ _ _ c.put_message-2.ensures.kept c.put_message.ensures.kept

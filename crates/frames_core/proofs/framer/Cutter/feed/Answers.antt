@@ -1,12 +1,14 @@
-use Rattle.std.proofs.Common.{◌≡◌, ◌≤◌, length, vec_capacity, sym, ap, subst, arith, inl}
+use Rattle.std.proofs.Common.{◌≡◌, ◌≤◌, Option, length, vec_capacity, sym, ap, subst, arith, inl}
 use Rattle.envelope.specs.declared.kind.Kind.{Kind}
 use Rattle.envelope.specs.declared.kind.Part.{Part}
 use Rattle.envelope.specs.Grammar.{BreaksFirst}
 use Rattle.envelope.specs.Head.{most_frame}
-use Rattle.frames_core.specs.Prefix.{TakesPrefix}
+use Rattle.envelope.specs.declared.head.Flaw.{Flaw}
+use Rattle.frames_core.specs.Prefix.{Stands, TakesPrefix}
 use Rattle.envelope.specs.facts.Breaking.{Breaks_within}
-use Rattle.frames_core.proofs.Framing.{broke, holds_broken, known_break, not_settled, settled_whole}
-use Rattle.envelope.specs.facts.Frames.{breaks_has}
+use Rattle.frames_core.proofs.Framing.{broke, holds_broken, known_break, open_few, settled_whole}
+use Rattle.envelope.specs.facts.Frames.{breaks_has, is_unfinished}
+use Rattle.frames_core.specs.facts.Feeding.{not_settled}
 use Rattle.frames_core.proofs.framer.Cutter.feed.Goals as goal
 
 pub of-requires : goal.of-requires
@@ -39,7 +41,7 @@ returns-in-Some-clause-known g c unknown =
 pub returns-in-Some-clause-settled : goal.returns-in-Some-clause-settled
 returns-in-Some-clause-settled g c settled =
     let open_ = c.is_settled.ensures.open c.if-is_settled.false in
-    absurd (not_settled g.F.Fault.kind c.args.self.now.held c.args.self.now.fault open_.0 (open_.1, open_.2) settled)
+    absurd (not_settled g.F.Fault.kind c.args.self.now open_.0 (is_unfinished g.F.Fault.kind c.args.self.now.held open_.1 open_.2) settled)
 
 pub returns-in_default-clause-all : goal.returns-in_default-clause-all
 returns-in_default-clause-all g c = λ less.
@@ -49,7 +51,16 @@ returns-in_default-clause-all g c = λ less.
     let is = c.as_slice.ensures.value in
     inl (settled_whole g.F.Fault.kind c.self.inside.buffer.items c.args.piece.now new c.take_prefix-prefix.result t c.in_default.is (λ k. rw is at (bytes k)) less)
 
+pub returns-in_default-clause-few : goal.returns-in_default-clause-few
+returns-in_default-clause-few g c = λ unknown open_.
+    let new = c.take_prefix-prefix.new.buffer.items in
+    let t = subst (λ (k : Kind). TakesPrefix k c.self.inside.buffer.items c.args.piece.now new c.take_prefix-prefix.result) (let same : c.kind.result ≡ g.F.Fault.kind = c.kind.ensures in same) c.take_prefix-prefix.ensures.takes in
+    let bytes = c.each_fits.ensures in
+    let is = c.as_slice.ensures.value in
+    let P : Option Flaw → Type 0 = λ o. Stands g.F.Fault.kind new o in
+    open_few g.F.Fault.kind new (λ k. rw is at (bytes k)) (subst P c.in_default.is t.stands) open_
+
 pub returns-in_default-clause-settled : goal.returns-in_default-clause-settled
 returns-in_default-clause-settled g c settled =
     let open_ = c.is_settled.ensures.open c.if-is_settled.false in
-    absurd (not_settled g.F.Fault.kind c.args.self.now.held c.args.self.now.fault open_.0 (open_.1, open_.2) settled)
+    absurd (not_settled g.F.Fault.kind c.args.self.now open_.0 (is_unfinished g.F.Fault.kind c.args.self.now.held open_.1 open_.2) settled)
