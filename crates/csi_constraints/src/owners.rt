@@ -66,7 +66,7 @@ fn are_last(last: &Option<KnownCaps>, bytes: &[u8]) -> bool
 }
 
 fn read_caps(alloc: Global, last: &mut Option<KnownCaps>, bytes: &[u8]) -> Result<(), Error>
-    ensures known { AreCached last.old → OnOk result (AreCached last.new) }
+    ensures known { AreCached last.old → AreCached last.new }
     ensures read { AreCached last.old → OnOk result (last_keys last.new ≡ keys_in bytes.now) }
     ensures memory { FailsForMemory result }
 {
@@ -91,7 +91,7 @@ fn have_key(last: &Option<KnownCaps>, key: &CapKey) -> bool
 
 // Whether the volume of an attachment stands and has its capability.
 fn is_owned(alloc: Global, last: &mut Option<KnownCaps>, row: &Row) -> Result<bool, Error>
-    ensures known { AreCached last.old → OnOk result (AreCached last.new) }
+    ensures known { AreCached last.old → AreCached last.new }
     ensures exact { AreCached last.old → IfOk result (λ owned. owned ≡ is_owned row.now) }
     ensures memory { FailsForMemory result }
 {
