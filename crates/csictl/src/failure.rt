@@ -2,6 +2,7 @@
 
 ghost use Rattle.std.specs.Prelude.{◌≡◌, false, IsTrue};
 ghost use Rattle.csictl.specs.Statuses.{ended_status, failure_status};
+ghost use Rattle.csictl.specs.declared.failure.Failure.TheVariants.{NoMemory};
 
 use command_line::{ArgumentsFault, Cause, cause};
 use csi_types::Method;
@@ -107,6 +108,8 @@ pub(crate) enum Failure {
 }
 
 impl From<AllocError> for Failure {
+    ghost from_gives = { λ _ failure. failure ≡ NoMemory };
+
     fn from(_: AllocError) -> Failure {
         Failure::NoMemory
     }

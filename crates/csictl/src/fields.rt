@@ -1,5 +1,9 @@
 //! The fields of a message, as the arguments give them.
 
+ghost use Rattle.std.specs.Prelude.{◌≡◌};
+ghost use Rattle.csictl.specs.Faults.{failure_of};
+ghost use Rattle.csictl.specs.declared.fields.FieldFault.TheVariants.{NoMemory};
+
 use crate::command::fields;
 use crate::failure::Failure;
 use clap::ArgMatches;
@@ -7,7 +11,7 @@ use command_line::{CommandOption, is_decimal};
 use csi_types::{
     Access, Boxed, Capability, CapacityRange, Items, Map, Method, Mount, Requirement, Text,
 };
-use std::alloc::{AllocError, Global};
+use std::alloc::{AllocError, AllocFailed, Global};
 
 /// Why a field is not had. It is small, and so is what a function spells out that makes a message of many fields.
 #[derive(Clone, Copy)]
@@ -19,12 +23,24 @@ pub(crate) enum FieldFault {
 }
 
 impl From<AllocError> for FieldFault {
+    ghost from_gives = { λ _ fault. fault ≡ NoMemory };
+
     fn from(_: AllocError) -> FieldFault {
         FieldFault::NoMemory
     }
 }
 
+impl<T: Drop> From<AllocFailed<T>> for FieldFault {
+    ghost from_gives = { λ _ fault. fault ≡ NoMemory };
+
+    fn from(_: AllocFailed<T>) -> FieldFault {
+        FieldFault::NoMemory
+    }
+}
+
 impl From<FieldFault> for Failure {
+    ghost from_gives = { λ fault failure. failure ≡ failure_of fault };
+
     fn from(fault: FieldFault) -> Failure {
         match fault {
             FieldFault::NotPair => Failure::NotPair,
@@ -95,7 +111,7 @@ pub(crate) fn give_none(arguments: &ArgMatches<'_>) -> Result<(), Failure> {
 fn list_of<T: Drop>(alloc: Global, item: Option<T>) -> Result<Items<T>, FieldFault> {
     let mut list = Vec::new(alloc);
     if let Some(item) = item {
-        list.push(item).map_err(|_| FieldFault::NoMemory)?;
+        list.push(item)?;
     }
     Ok(Items::from_vec(list))
 }

@@ -1,5 +1,8 @@
 //! Replies, as they are shown.
 
+ghost use Rattle.std.specs.Prelude.{◌≡◌};
+ghost use Rattle.csictl.specs.Faults.{of_decoder};
+
 use crate::failure::{Ended, Failure};
 use crate::json;
 use csi_client::{put_body_lines, put_reply_line};
@@ -12,6 +15,8 @@ use std::alloc::{AllocError, Global};
 use std::io::Write;
 
 impl From<DecodeFault> for Failure {
+    ghost from_gives = { λ fault failure. failure ≡ of_decoder fault };
+
     fn from(fault: DecodeFault) -> Failure {
         match fault {
             DecodeFault::NoMemory => Failure::NoMemory,
