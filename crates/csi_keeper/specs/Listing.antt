@@ -1,6 +1,7 @@
 -- What a listing tells of volumes.
 use Rattle.std.specs.Prelude.{ℕ, List, [], ◌∷◌, map}
 use Rattle.csi_keeper.specs.declared.listed.Listed.{Listed}
+use Rattle.csi_keeper.specs.declared.listed.ListedRow.{ListedRow}
 use Rattle.csi_keeper.specs.declared.volume.Volume.{Volume}
 use Rattle.csi_keeper.specs.State.{State, page, published}
 use Rattle.csi_keeper.specs.Texts.{Text}
@@ -8,6 +9,10 @@ use Rattle.csi_keeper.specs.Texts.{Text}
 -- what is told of a volume that is published at these nodes
 abbrev pub listed_at : Volume → List Text → Listed
 listed_at v nodes = record { number = v.number; bytes = v.bytes; pool = v.pool; nodes = nodes }
+
+-- what is told by a row that is lent
+abbrev pub row_told : ListedRow → Listed
+row_told row = record { number = row.number; bytes = row.bytes; pool = row.pool.now; nodes = row.nodes.now }
 
 -- what is told of volumes and the nodes of each
 abbrev pub listed_each : List Volume → List (List Text) → List Listed

@@ -11,6 +11,7 @@ ghost use Rattle.csi_keeper.specs.Model.{Model};
 use crate::capability::CapKey;
 use crate::change::{Change, StoreFault, Usage};
 use crate::listed::{Listed, listed_each};
+use crate::page::{PageFold, fold_listed};
 use crate::volume::{Attachment, Volume};
 use csi_types::{Items, Text};
 use std::alloc::Global;
@@ -112,6 +113,23 @@ pub trait Keeper {
         let volumes = self.page(alloc, after, count)?;
         let nodes = self.published_nodes(alloc, after, count)?;
         Ok(listed_each(alloc, volumes.as_slice(), nodes)?)
+    }
+
+    /// Folds what `listing` tells, volume by volume. It costs no more, and less where a keeper has no need of the list.
+    ///
+    /// After an error the fold has taken some of the volumes.
+    fn fold_page<F: PageFold>(
+        &mut self,
+        alloc: Global,
+        after: u64,
+        count: u32,
+        fold: &mut F,
+    ) -> Result<(), StoreFault>
+        ensures folded { Reads (model self.old) (model self.new) result (λ s _. F.folds fold.old (listing s after count) fold.new) }
+        ensures kept { F.keeps fold.old fold.new }
+    {
+        let listed = self.listing(alloc, after, count)?;
+        Ok(fold_listed(listed.as_slice(), fold)?)
     }
 
     /// Makes a change, which the State has to allow: the items of `Change` say when it does. A

@@ -6,8 +6,8 @@
 //! after a change, the orders of the maps, what a chain of reads leaves, what supported keys have.
 //!
 //! The trait [`Keeper`] is all that the step of requests stands on. What keepers share stands here beside it: the running totals of pools, [`Totals`],
-//! copies of what is kept ([`copy_volume`], [`copy_attachment`]), and what a listing tells of a volume ([`listed_at`], [`listed_each`]). The keepers stand in crates
-//! above: `csi_memory` in memory, `csi_tables` in SQLite, `csi_through` over two.
+//! copies of what is kept ([`copy_volume`], [`copy_attachment`]), what a listing tells of a volume ([`listed_at`], [`listed_each`]), and what is made of that, volume by
+//! volume ([`PageFold`]). The keepers stand in crates above: `csi_memory` in memory, `csi_tables` in SQLite, `csi_through` over two.
 //!
 //! ```rust
 //! let number = keeper.next_number()?;
@@ -23,6 +23,7 @@ mod copies;
 mod keeper;
 pub mod laws;
 mod listed;
+mod page;
 mod totals;
 mod volume;
 
@@ -31,6 +32,7 @@ pub use change::{Change, StoreFault, Usage};
 pub use coexistence::coexist;
 pub use copies::{copy_attachment, copy_key, copy_keys, copy_volume};
 pub use keeper::Keeper;
-pub use listed::{Listed, listed_at, listed_each};
+pub use listed::{Listed, ListedRow, lent_at, listed_at, listed_each};
+pub use page::{PageFold, fold_listed};
 pub use totals::{Total, Totals};
 pub use volume::{Attachment, Volume};

@@ -1,7 +1,7 @@
 //! What a listing tells of volumes.
 
 ghost use Rattle.std.specs.Prelude.{◌≡◌, IfOk};
-ghost use Rattle.csi_keeper.specs.Listing.{listed_at, listed_each};
+ghost use Rattle.csi_keeper.specs.Listing.{listed_at, listed_each, row_told};
 
 use crate::volume::Volume;
 use csi_types::{Items, Text};
@@ -20,6 +20,34 @@ pub struct Listed {
     pub nodes: Items<Text>,
 }
 
+impl Listed {
+    /// The same, lent.
+    #[inline(always)]
+    pub fn lent(&self) -> ListedRow<'_>
+        ensures { row_told result ≡ self.now }
+    {
+        ListedRow {
+            number: self.number,
+            bytes: self.bytes,
+            pool: &self.pool,
+            nodes: &self.nodes,
+        }
+    }
+}
+
+/// What a listing tells of a volume, lent: the fields of [`Listed`].
+#[derive(Drop)]
+pub struct ListedRow<'a> {
+    /// The number.
+    pub number: u64,
+    /// The size in bytes.
+    pub bytes: u64,
+    /// The name of the pool that it takes its bytes from.
+    pub pool: &'a Text,
+    /// The nodes that it is published at, in byte order of their ids.
+    pub nodes: &'a Items<Text>,
+}
+
 /// What is told of a volume that is published at these nodes.
 ///
 /// # Errors
@@ -35,6 +63,19 @@ pub fn listed_at(alloc: Global, volume: &Volume, nodes: Items<Text>) -> Result<L
         pool: volume.pool.copy(alloc)?,
         nodes,
     })
+}
+
+/// The same, lent.
+#[inline(always)]
+pub fn lent_at<'a>(volume: &'a Volume, nodes: &'a Items<Text>) -> ListedRow<'a>
+    ensures { row_told result ≡ listed_at volume.now nodes.now }
+{
+    ListedRow {
+        number: volume.number,
+        bytes: volume.bytes,
+        pool: &volume.pool,
+        nodes,
+    }
 }
 
 /// What is told of volumes and the nodes of each, of as many as there are of both.

@@ -4,7 +4,9 @@ pub mod Choice
 pub mod Configured
 pub mod Creation
 pub mod Offer
+pub mod Pages
 pub mod Places
 pub mod Retry
 pub mod Step
 pub mod Walk
+pub mod facts

@@ -1,12 +1,10 @@
 -- Entries of a listing, of volumes whose pools are spelled once.
 use Rattle.std.specs.Prelude.{◌≡◌, ℕ, List, [], ◌∷◌, Some, codes}
 use Rattle.std.specs.FinMap.{empty, insert}
-use Rattle.std.specs.Fmt.{decimal}
 use Rattle.std.specs.List.{AllByRecursion}
 use Rattle.csi_types.specs.declared.volume.Entry.{Entry}
 use Rattle.csi_config.specs.declared.config.Config.{Config}
 use Rattle.csi_keeper.specs.declared.listed.Listed.{Listed}
-use Rattle.csi_keeper.specs.Texts.{Text}
 use Rattle.csi_plans.specs.Ids.{id}
 use Rattle.csi_plans.specs.Info.{signed, segments_at, topology_of}
 use Rattle.csi_machine.specs.declared.places.Place.{Place}
@@ -30,8 +28,3 @@ entry_at config row = record {
 abbrev pub last_row : ℕ → List Listed → ℕ
 last_row after [] = after
 last_row after (row ∷ rows) = last_row row.number rows
-
--- the token of the next page, if a volume stands beyond this one
-abbrev pub row_token : ℕ → List Listed → Text
-row_token last [] = []
-row_token last (row ∷ rows) = decimal last

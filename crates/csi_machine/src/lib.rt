@@ -5,7 +5,7 @@
 //! reads of the keeper, by the rules of `csi_plans` and by those in `choice.rt`, each beside its definitions in `specs/`.
 //! `answering.rt` makes of a plan an answer (`outcome.rt`): it appends the body of its response, makes the change, and cuts the body off again where that fails.
 //! Three requests are answered with what their plans say, and no plan is made of them: Probe; ListVolumes, whose page is written as it is read
-//! (`calls/listing.rt`, `places.rt`); and CreateVolume, whose response is written from the volume (`creation.rt`).
+//! (`calls/listing.rt`, `page.rt`, `places.rt`); and CreateVolume, whose response is written from the volume (`creation.rt`).
 //! That each plan is sound is proved over the definitions, in `proofs/CreateLemmas.antt` and its like, and put together in `proofs/AnsweringLemmas.antt`.
 //! [`laws`] has what follows for whole sequences of requests: the invariant, walks over pages, requests that are sent again.
 //!
@@ -24,6 +24,7 @@ mod configured;
 mod creation;
 pub mod laws;
 mod outcome;
+mod page;
 mod places;
 mod planned;
 

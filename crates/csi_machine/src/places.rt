@@ -1,9 +1,8 @@
 //! What the pools of a configuration give their volumes, spelled as a listing comes to them.
 
-ghost use Rattle.std.specs.Prelude.{◌≡◌, IfOk, find};
-ghost use Rattle.std.specs.Option.{option_copied};
-ghost use Rattle.csi_types.specs.Maps.{same_text};
-ghost use Rattle.csi_machine.specs.Places.{IsPlaced};
+ghost use Rattle.std.specs.Prelude.{◌≡◌, IfOk, IfSome, IsTrue};
+ghost use Rattle.csi_config.specs.declared.config.Config.{Config as AnyConfig};
+ghost use Rattle.csi_machine.specs.Places.{ArePlaced, IsPlaced};
 
 use csi_codec::Placement;
 use csi_config::Config;
@@ -32,11 +31,24 @@ pub(crate) fn place_of(alloc: Global, config: &Config, pool: &Text) -> Result<Pl
     })
 }
 
-/// The first place of a pool; `None` where there is none yet.
+#[inline(always)]
+fn is_of(place: &Place, pool: &str) -> bool
+    ensures { IsTrue result → place.now.pool ≡ pool.now }
+{
+    place.pool.as_str() == pool
+}
+
+/// A place of a pool; `None` where there is none yet.
 #[inline(always)]
 pub(crate) fn place_named<'a>(places: &'a [Place], pool: &Text) -> Option<&'a Place>
-    ensures { option_copied result ≡ find (λ place. same_text place.pool pool.now) places.now }
+    ensures pool { IfSome result (λ place. place.now.pool ≡ pool.now) }
+    ensures placed { (config : AnyConfig) → ArePlaced config places.now → IfSome result (λ place. IsPlaced config place.now) }
 {
     let pool = pool.as_str();
-    places.iter().find(|place| place.pool.as_str() == pool)
+    for place in places {
+        if is_of(place, pool) {
+            return Some(place);
+        }
+    }
+    None
 }

@@ -14,7 +14,7 @@ ghost use Rattle.csi_maps.specs.Memory.{volumes_of, nodes_in, listed_in};
 ghost use Rattle.csi_keeper.specs.State.{mutable_set};
 
 use crate::walk::walk_after;
-use csi_keeper::{Attachment, CapKey, Listed, Volume, copy_keys, copy_volume, listed_at};
+use csi_keeper::{Attachment, CapKey, PageFold, Volume, copy_keys, copy_volume, lent_at};
 use csi_types::{Items, Map, Text};
 use std::alloc::{AllocError, AllocFailed, Global};
 use std::collections::BTreeMap;
@@ -128,29 +128,33 @@ pub fn nodes_after(
     Ok(nodes)
 }
 
-/// What a listing tells of the volumes with greater numbers, of at most that many.
-pub fn listed_after(
+/// Folds what a listing tells of the volumes with greater numbers, of at most that many.
+#[inline(always)]
+pub fn fold_after<F: PageFold>(
     alloc: Global,
     volumes: &BTreeMap<u64, Volume>,
     attachments: &BTreeMap<(u64, Text), Attachment>,
     after: u64,
     count: u32,
-) -> Result<Items<Listed>, AllocError>
-    ensures value { IfOk result (λ xs. xs ≡ take count
-        (map (λ e. listed_in attachments.now.entries e.1) (entries_between nat_cmp (Excluded after) Unbounded volumes.now.entries))) }
+    fold: &mut F,
+) -> Result<(), AllocError>
+    ensures folded { OnOk result (F.folds fold.old (take count
+        (map (λ e. listed_in attachments.now.entries e.1) (entries_between nat_cmp (Excluded after) Unbounded volumes.now.entries))) fold.new) }
+    ensures kept { F.keeps fold.old fold.new }
     ensures ordered { entries (volumes_of volumes.now.entries) ≡ volumes.now.entries }
 {
     let rows = beyond(volumes, after);
     let mut walk = walk_after(alloc, attachments, after);
-    let mut listed = Items::with_room(alloc, volumes.len().min(count as usize))?;
+    let mut left = count;
     for (_, volume) in rows {
-        if listed.len() >= count as usize {
-            return Ok(listed);
+        if left == 0 {
+            return Ok(());
         }
+        left -= 1;
         let nodes = walk.nodes_of(alloc, attachments, volume.number)?;
-        listed.push(listed_at(alloc, volume, nodes)?)?;
+        fold.take(&lent_at(volume, &nodes))?;
     }
-    Ok(listed)
+    Ok(())
 }
 
 /// Adds a volume. Where memory is refused the rows stay, and it comes back with its number.

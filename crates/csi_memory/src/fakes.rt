@@ -11,7 +11,7 @@ ghost use Rattle.csi_keeper.specs.State.{IsBounded, attached, attached_at, named
 ghost use Rattle.csi_keeper.specs.declared.change.StoreFault.TheVariants.{Down, Refused};
 
 use crate::mem::MemKeeper;
-use csi_keeper::{Attachment, CapKey, Change, Keeper, Listed, StoreFault, Usage, Volume};
+use csi_keeper::{Attachment, CapKey, Change, Keeper, Listed, PageFold, StoreFault, Usage, Volume};
 use csi_types::{Items, Text};
 use std::alloc::{AllocError, Global};
 
@@ -214,6 +214,21 @@ impl Keeper for FusedMem {
     {
         self.fuse.burn()?;
         self.keeper.listing(alloc, after, count)
+    }
+
+    fn fold_page<F: PageFold>(
+        &mut self,
+        alloc: Global,
+        after: u64,
+        count: u32,
+        fold: &mut F,
+    ) -> Result<(), StoreFault>
+        ensures folded { Reads (fused_model self.old) (fused_model self.new) result (λ s _. F.folds fold.old (listing s after count) fold.new) }
+        ensures kept { F.keeps fold.old fold.new }
+        ensures turn { Burns self.old self.new result }
+    {
+        self.fuse.burn()?;
+        self.keeper.fold_page(alloc, after, count, fold)
     }
 
     fn apply(&mut self, alloc: Global, change: &Change) -> Result<(), StoreFault>

@@ -1,19 +1,19 @@
 //! A keeper in memory.
 
-ghost use Rattle.std.specs.Prelude.{◌≡◌, ◌≤◌, ◌<◌, ◌^◌, IfOk, OnOk, OnErr};
+ghost use Rattle.std.specs.Prelude.{◌≤◌, ◌<◌, ◌^◌, IfOk, OnOk, OnErr};
 ghost use Rattle.csi_keeper.specs.State.{State, Allows, changed, first_state};
 ghost use Rattle.csi_keeper.specs.declared.change.Change.TheVariants.{AddVolume, RemoveVolume, Attach, Detach, DetachAll, SetMutable};
 ghost use Rattle.csi_memory.specs.Holding.{Holds};
 ghost use Rattle.csi_memory.specs.Restoring.{CanRestore, from_number, restored};
 
 use csi_keeper::{
-    Attachment, CapKey, Change, Keeper, Listed, StoreFault, Totals, Usage, Volume, copy_volume,
+    Attachment, CapKey, Change, Keeper, PageFold, StoreFault, Totals, Usage, Volume, copy_volume,
 };
 use csi_maps::attachments::{attached_to, put_attachment, take_attachment, take_places};
 use csi_maps::names::{drop_name, set_name, volume_named};
 use csi_maps::nodes::numbers_at;
 use csi_maps::rows::{
-    caps_at, listed_after, nodes_after, put_volume, set_mutable, sizes_of, take_volume, volume_at,
+    caps_at, fold_after, nodes_after, put_volume, set_mutable, sizes_of, take_volume, volume_at,
     volumes_after,
 };
 use csi_types::{Items, Map, Text, copy_map, copy_text};
@@ -230,14 +230,15 @@ impl Keeper for MemKeeper {
         Ok(nodes_after(alloc, &self.volumes, &self.attachments, after, count)?)
     }
 
-    #[tactic(auto, using(csi_keeper::specs::facts::Reads::quiet_same, crate::proofs::ReadLemmas::held_listing))]
-    fn listing(
+    #[inline(always)]
+    fn fold_page<F: PageFold>(
         &mut self,
         alloc: Global,
         after: u64,
         count: u32,
-    ) -> Result<Items<Listed>, StoreFault> {
-        Ok(listed_after(alloc, &self.volumes, &self.attachments, after, count)?)
+        fold: &mut F,
+    ) -> Result<(), StoreFault> {
+        Ok(fold_after(alloc, &self.volumes, &self.attachments, after, count, fold)?)
     }
 
     fn apply(&mut self, alloc: Global, change: &Change) -> Result<(), StoreFault> {

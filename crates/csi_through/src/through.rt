@@ -13,7 +13,7 @@ ghost use Rattle.csi_through.specs.Through.{HasMissed, Opens, through_model};
 use crate::copying::copy_of;
 use crate::health::Health;
 use crate::log::{Log, Logged};
-use csi_keeper::{Attachment, CapKey, Change, Keeper, Listed, StoreFault, Usage, Volume};
+use csi_keeper::{Attachment, CapKey, Change, Keeper, PageFold, StoreFault, Usage, Volume};
 use csi_memory::MemKeeper;
 use csi_types::{Items, Text};
 use std::alloc::Global;
@@ -248,17 +248,20 @@ impl<M: Keeper, D: Log> Keeper for Through<M, D> {
         self.health.end(answer)
     }
 
-    fn listing(
+    #[inline(always)]
+    fn fold_page<F: PageFold>(
         &mut self,
         alloc: Global,
         after: u64,
         count: u32,
-    ) -> Result<Items<Listed>, StoreFault>
-        ensures reads { Reads (through_model M.model D.model self.old) (through_model M.model D.model self.new) result (λ s xs. xs ≡ listing s after count) }
+        fold: &mut F,
+    ) -> Result<(), StoreFault>
+        ensures folded { Reads (through_model M.model D.model self.old) (through_model M.model D.model self.new) result (λ s _. F.folds fold.old (listing s after count) fold.new) }
+        ensures kept { F.keeps fold.old fold.new }
         ensures current { self.new.health.is_current ≡ self.old.health.is_current }
     {
         self.health.begin()?;
-        let answer = self.memory.listing(alloc, after, count);
+        let answer = self.memory.fold_page(alloc, after, count, fold);
         self.health.end(answer)
     }
 

@@ -1,25 +1,24 @@
 //! ListVolumes (CSI specification, 'ListVolumes'). A page is written as it is read: no response of its entries is made.
 
-ghost use Rattle.std.specs.Prelude.{◌≡◌, ◌++◌, ◌∷◌, [], map, Ok, Some, IfOk, OnOk};
+ghost use Rattle.std.specs.Prelude.{◌≡◌, ◌++◌, [], Some, Ok, OnOk};
 ghost use Rattle.pbmessage.specs.Kept.{Keeps};
 ghost use Rattle.csi_codec.specs.Methods.{response_bytes};
 ghost use Rattle.csi_types.specs.declared.responses.Response.TheVariants as response;
-ghost use Rattle.csi_config.specs.declared.config.Config.{Config as AnyConfig};
 ghost use Rattle.csi_keeper.specs.declared.change.StoreFault.{StoreFault as AnyFault};
 ghost use Rattle.csi_plans.specs.Finding.{Finds};
-ghost use Rattle.csi_machine.specs.Places.{ArePlaced, IsPlaced, entry_at, last_row, row_token};
 ghost use Rattle.csi_plans.specs.Size.{whole};
-ghost use Rattle.csi_plans.specs.Verdicts.{Appended, IsTold, told_of, within};
+ghost use Rattle.csi_plans.specs.Verdicts.{Appended, IsTold, told_of};
+ghost use Rattle.csi_machine.specs.Pages.{IsPage, token_when};
 ghost use Rattle.csi_machine.specs.calls.Listing.{start_of, entries_for, list_after, list_volumes};
 
-use crate::places::{Place, place_named, place_of};
-use csi_codec::{ListedEntry, encode_entry, encode_response};
+use crate::page::{Page, Presence};
+use csi_codec::encode_response;
 use csi_config::Config;
-use csi_keeper::{Keeper, Listed, StoreFault};
-use csi_plans::{ID_PREFIX, Verdict, decimal_of, limit_body, number_of, signed};
+use csi_keeper::{Keeper, StoreFault};
+use csi_plans::{Verdict, decimal_of, limit_body, number_of};
 use csi_types::{Items, ListVolumes, MAX_PAGE_ENTRIES, Reason, Response, Text};
-use itoa::Buffer;
 use std::alloc::{AllocError, Global};
+use std::mem::replace;
 
 fn start_of(next: u64, token: &Text) -> Option<u64>
     ensures { result ≡ start_of next token.now }
@@ -43,120 +42,39 @@ fn entries_for(most: i32) -> u32
     }
 }
 
-#[tactic(auto, using(crate::proofs::PageLemmas::last_more))]
-fn last_of(after: u64, rows: &[Listed]) -> u64
-    ensures { result ≡ last_row after rows.now }
-{
-    let mut last = after;
-    for row in rows {
-        last = row.number;
-    }
-    last
-}
-
-fn token_for(alloc: Global, last: u64, rest: &[Listed]) -> Result<Text, AllocError>
-    ensures { IfOk result (λ t. t ≡ row_token last rest.now) }
-{
-    if rest.is_empty() {
-        return Ok(Text::new(alloc));
-    }
-    decimal_of(alloc, last)
-}
-
-// Appends the entry of a volume of this place.
-fn put_placed(row: &Listed, place: &Place, out: &mut Vec<u8>) -> Result<(), AllocError>
-    ensures ok { OnOk result ((config : AnyConfig) → IsPlaced config place.now → place.now.pool ≡ row.now.pool
-        → out.new.items ≡ out.old.items ++ response_bytes (response.List (entry_at config row.now ∷ []) [])) }
+// Appends the token of the next page, if there is one.
+fn put_token(alloc: Global, last: u64, is_more: bool, out: &mut Vec<u8>) -> Result<(), AllocError>
+    ensures ok { OnOk result (out.new.items ≡ out.old.items ++ response_bytes (response.List [] (token_when last is_more))) }
     ensures kept { Keeps out.old.items out.new.items }
 {
-    let mut buffer = Buffer::new();
-    let entry = ListedEntry {
-        bytes: signed(row.bytes),
-        prefix: ID_PREFIX,
-        suffix: buffer.format(row.number),
-        placement: &place.placement,
-        nodes: &row.nodes,
+    let token = if is_more {
+        decimal_of(alloc, last)?
+    } else {
+        Text::new(alloc)
     };
-    encode_entry(&entry, out)
-}
-
-// Appends the entry of a volume. The place of the first volume of a pool is kept for the others.
-#[inline(always)]
-fn put_row(
-    alloc: Global,
-    config: &Config,
-    places: &mut Vec<Place>,
-    row: &Listed,
-    out: &mut Vec<u8>,
-) -> Result<(), AllocError>
-    requires { ArePlaced config.now places.old.items }
-    ensures ok { OnOk result (out.new.items ≡ out.old.items ++ response_bytes (response.List (entry_at config.now row.now ∷ []) [])) }
-    ensures placed { OnOk result (ArePlaced config.now places.new.items) }
-    ensures kept { Keeps out.old.items out.new.items }
-{
-    if let Some(place) = place_named(places, &row.pool) {
-        return put_placed(row, place, out);
-    }
-    let place = place_of(alloc, config, &row.pool)?;
-    put_placed(row, &place, out)?;
-    places.push(place)?;
-    Ok(())
-}
-
-#[inline(always)]
-fn put_rows(
-    alloc: Global,
-    config: &Config,
-    rows: &[Listed],
-    out: &mut Vec<u8>,
-) -> Result<(), AllocError>
-    ensures ok { OnOk result (out.new.items ≡ out.old.items ++ response_bytes (response.List (map (entry_at config.now) rows.now) [])) }
-    ensures kept { Keeps out.old.items out.new.items }
-{
-    let mut places = Vec::new(alloc);
-    for row in rows {
-        put_row(alloc, config, &mut places, row, out)?;
-    }
-    Ok(())
-}
-
-// Appends the body of a page. Where memory is refused a part of it may stand there.
-#[inline(always)]
-fn put_page(
-    alloc: Global,
-    config: &Config,
-    rows: &[Listed],
-    token: Text,
-    out: &mut Vec<u8>,
-) -> Result<(), AllocError>
-    ensures ok { OnOk result (out.new.items ≡ out.old.items ++ response_bytes (response.List (map (entry_at config.now) rows.now) token)) }
-    ensures kept { Keeps out.old.items out.new.items }
-{
-    put_rows(alloc, config, rows, out)?;
     let entries = Items::new(alloc);
     encode_response(&Response::List { entries, token }, out)
 }
 
-// Appends the body of a page, or refuses one that no reply holds.
+// Appends the entries of a page and its token.
 #[inline(always)]
-fn append_rows(
+fn write_page<K: Keeper>(
     alloc: Global,
-    config: &Config,
-    rows: &[Listed],
-    token: Text,
-    out: &mut Vec<u8>,
-) -> Result<Verdict, AllocError>
-    ensures appended { Appended out.old.items out.new.items result }
-    ensures told { IsTold (within (response_bytes (response.List (map (entry_at config.now) rows.now) token))) out.old.items out.new.items result }
+    keeper: &mut K,
+    most: i32,
+    page: &mut Page<'_>,
+) -> Result<(), StoreFault>
+    ensures finds { Finds (K.model keeper.old) (K.model keeper.new) result
+        (λ s _. page.old.places.items ≡ [] → IsPage page.old.config.now s page.old.last (whole most) page.old.body.items page.new.body.items) }
+    ensures kept { Keeps page.old.body.items page.new.body.items }
 {
-    let from = out.len();
-    if let Err(refused) = put_page(alloc, config, rows, token, out) {
-        out.truncate(from);
-        return Err(refused);
-    }
-    Ok(limit_body(out, from))
+    keeper.fold_page(alloc, page.last, entries_for(most), page)?;
+    let mut rest = Presence { is_any: false };
+    keeper.fold_page(alloc, page.last, 1, &mut rest)?;
+    Ok(put_token(alloc, page.last, rest.is_any, &mut page.body)?)
 }
 
+// Appends the body of a page, or refuses one that no reply holds.
 #[inline(always)]
 fn append_after<K: Keeper>(
     alloc: Global,
@@ -170,11 +88,21 @@ fn append_after<K: Keeper>(
         (λ s v. IsTold {E = AnyFault} (told_of (list_after config.now s (whole most) (Some after)).outcome) out.old.items out.new.items (Ok v)) }
     ensures appended { Appended out.old.items out.new.items result }
 {
-    let rows = keeper.listing(alloc, after, entries_for(most))?;
-    let last = last_of(after, rows.as_slice());
-    let rest = keeper.listing(alloc, last, 1)?;
-    let token = token_for(alloc, last, rest.as_slice())?;
-    Ok(append_rows(alloc, config, rows.as_slice(), token, out)?)
+    let from = out.len();
+    let mut page = Page {
+        alloc,
+        config,
+        places: Vec::new(alloc),
+        last: after,
+        body: replace(out, Vec::new(alloc)),
+    };
+    let written = write_page(alloc, keeper, most, &mut page);
+    *out = page.body;
+    if let Err(fault) = written {
+        out.truncate(from);
+        return Err(fault);
+    }
+    Ok(limit_body(out, from))
 }
 
 /// Appends the body of a page, or refuses its token. A page has at most 100 entries; its token is the number of its last

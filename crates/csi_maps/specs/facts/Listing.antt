@@ -9,6 +9,7 @@ use Rattle.std.specs.Map.{keys_of}
 use Rattle.std.specs.Ordering.{nat_cmp, ordering_then, is_eq, is_lt, is_le}
 use Rattle.std.specs.declared.ops.Bound.TheVariants.{Included, Excluded, Unbounded}
 use Rattle.std.proofs.lemmas.Bool.{eqb-true}
+use Rattle.std.proofs.lemmas.List.{length-map}
 use Rattle.csi_keeper.specs.declared.volume.Attachment.{Attachment}
 use Rattle.csi_keeper.specs.declared.volume.Volume.{Volume}
 use Rattle.csi_maps.specs.Memory.{volumes_of, places_of, place_end}
@@ -32,6 +33,17 @@ page_full f all some rest copies count e is most least =
     let same : count ≡ length copies = omega (arith, most, least) in
     sym (take_first copies (map f rest)) ∙ ap (λ n. take n (copies ++ map f rest)) (sym same)
     ∙ ap (λ xs. take count (xs ++ map f rest)) is ∙ ap (take count) (sym (map_append f some rest)) ∙ ap (λ xs. take count (map f xs)) (sym e)
+
+-- the first of a page, where there are as many as are asked for
+pub page_first : {Y A B : Type 0} (d : Y → A) (f : A → B) (all : List A) (some : List Y) (rest : List A) (count : ℕ) → all ≡ map d some ++ rest → length some ≡ count → map f (map d some) ≡ take count (map f all)
+page_first d f all some rest count e few =
+    let many = length-map (map d some) f in
+    let each = length-map some d in
+    page_full f all (map d some) rest (map f (map d some)) count e refl (omega (arith, many, each, few)) (omega (arith, many, each, few))
+
+-- one more of a page
+pub page_more : {Y A B : Type 0} (d : Y → A) (f : A → B) (some : List Y) (y : Y) → map f (map d some) ++ f (d y) ∷ [] ≡ map f (map d (some ++ y ∷ []))
+page_more d f some y = sym (map_append f (map d some) (map d (y ∷ []))) ∙ ap (map f) (sym (map_append d some (y ∷ [])))
 
 -- filters by tests that agree
 pub filter_same : {A : Type 0} (p q : A → Bool) → ((x : A) → p x ≡ q x) → (xs : List A) → filter p xs ≡ filter q xs

@@ -1,19 +1,17 @@
-use Rattle.std.proofs.Common.{rules, ◌≡◌, map, Ok}
-use Rattle.std.specs.declared.alloc.AllocError.{AllocError}
-use Rattle.csi_types.specs.declared.responses.Response.TheVariants as response
-use Rattle.csi_codec.specs.Methods.{response_bytes}
-use Rattle.csi_keeper.specs.declared.change.StoreFault.{StoreFault}
-use Rattle.csi_machine.specs.Places.{entry_at, last_row, row_token}
+use Rattle.std.proofs.Common.{rules, ◌≡◌, length, [], subst, to_z, of_z, w32}
 use Rattle.csi_plans.specs.Size.{whole}
-use Rattle.csi_plans.specs.Verdicts.{IsTold, within}
-use Rattle.csi_machine.proofs.PageLemmas.{page_finds, told_as}
+use Rattle.csi_plans.specs.facts.Finding.{found_so}
+use Rattle.csi_machine.specs.Pages.{IsPage}
+use Rattle.csi_machine.proofs.PageLemmas.{page_told}
 use Rattle.csi_machine.proofs.calls.listing.append_after.Goals as goal
 
 pub returns-clause-finds : goal.returns-clause-finds
 returns-clause-finds g c =
-    let rows = c.in_ok-rows.rows in
-    let is_last : c.last_of-last.result ≡ last_row c.args.after rows = search rules in
-    let is_token : c.in_ok-token.token ≡ row_token c.last_of-last.result c.in_ok-rest.rest = search rules in
-    let told : IsTold {E = AllocError} (within (response_bytes (response.List (map (entry_at c.args.config.now) rows) c.in_ok-token.token))) c.args.out.now.items c.append_rows.new.out.items (Ok c.in_ok-append_rows.field-0) = search rules in
-    page_finds c.args.config.now (whole c.args.most) c.args.after c.entries_for.result _ _ _ rows c.in_ok-rest.rest c.last_of-last.result c.in_ok-token.token c.args.out.now.items c.append_rows.new.out.items c.in_ok-append_rows.field-0
-    (search rules) c.in_ok-rows.ensures is_last c.in_ok-rest.ensures is_token (told_as AllocError StoreFault _ _ _ _ told)
+    let at : c.len-from.result ≡ length c.args.out.now.items = search rules in
+    let none : c.new.result.items ≡ [] = search rules in
+    let most : whole (to_z w32 (of_z w32 c.args.most)) ≡ whole c.args.most = search rules in
+    let stood : c.replace.result.items ≡ c.args.out.now.items = search rules in
+    found_so c.in_default.ensures.finds (λ s written.
+    page_told c.args.config.now s (whole c.args.most) c.args.after c.len-from.result c.args.out.now.items c.write_page-written.new.page.body.items _ c.limit_body.result at
+    (subst (λ old. IsPage c.args.config.now s c.args.after (whole c.args.most) old c.write_page-written.new.page.body.items) stood
+    (subst (λ count. IsPage c.args.config.now s c.args.after count c.replace.result.items c.write_page-written.new.page.body.items) most (written none))) c.limit_body.ensures.told)

@@ -1,0 +1,47 @@
+//! The volumes of a page, one after the other.
+
+ghost use Rattle.std.specs.Prelude.{◌++◌, ◌∷◌, [], List, OnOk};
+ghost use Rattle.csi_keeper.specs.Listing.{row_told};
+ghost use Rattle.csi_keeper.specs.declared.listed.Listed.{Listed as Told};
+
+use crate::listed::{Listed, ListedRow};
+use std::alloc::AllocError;
+
+/// What is made of what a listing tells of volumes, one after the other.
+pub trait PageFold {
+    /// What a fold becomes over what is told of volumes, in their order.
+    ghost folds: { Self → List Told → Self → Type 0 };
+
+    /// What stays of a fold also where it fails.
+    ghost keeps: { Self → Self → Type 0 };
+
+    /// Takes what is told of the next volume.
+    ///
+    /// # Errors
+    ///
+    /// Where memory was refused.
+    fn take(&mut self, row: &ListedRow<'_>) -> Result<(), AllocError>
+        ensures folded { OnOk result ((first : Self) (rows : List Told) → folds first rows self.old → folds first (rows ++ row_told row.now ∷ []) self.new) }
+        ensures kept { (first : Self) → keeps first self.old → keeps first self.new };
+
+    /// Over no volume a fold stays what it is.
+    ghost starts: { (fold : Self) → folds fold [] fold };
+
+    /// All of a fold stays where it takes none.
+    ghost stays: { (fold : Self) → keeps fold fold };
+}
+
+/// Folds what is told of volumes.
+///
+/// # Errors
+///
+/// What `take` answers. The fold has taken some of the volumes then.
+pub fn fold_listed<F: PageFold>(listed: &[Listed], fold: &mut F) -> Result<(), AllocError>
+    ensures folded { OnOk result (F.folds fold.old listed.now fold.new) }
+    ensures kept { F.keeps fold.old fold.new }
+{
+    for row in listed {
+        fold.take(&row.lent())?;
+    }
+    Ok(())
+}

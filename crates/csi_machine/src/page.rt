@@ -1,0 +1,136 @@
+//! Pages of a listing, written as they are read: no list of their volumes is made.
+
+ghost use Rattle.std.specs.Prelude.{◌≡◌, ◌++◌, ◌∷◌, [], OnOk};
+ghost use Rattle.pbmessage.specs.Kept.{Keeps};
+ghost use Rattle.csi_codec.specs.Methods.{response_bytes};
+ghost use Rattle.csi_types.specs.declared.responses.Response.TheVariants as response;
+ghost use Rattle.csi_config.specs.declared.config.Config.{Config as AnyConfig};
+ghost use Rattle.csi_keeper.specs.Listing.{row_told};
+ghost use Rattle.csi_machine.specs.Places.{ArePlaced, IsPlaced, entry_at};
+
+use crate::places::{Place, place_named, place_of};
+use csi_codec::{ListedEntry, encode_entry};
+use csi_config::Config;
+use csi_keeper::{ListedRow, PageFold};
+use csi_plans::{ID_PREFIX, signed};
+use itoa::Buffer;
+use std::alloc::{AllocError, Global};
+
+// Appends the entry of a volume of this place.
+fn put_placed(row: &ListedRow<'_>, place: &Place, out: &mut Vec<u8>) -> Result<(), AllocError>
+    ensures ok { OnOk result ((config : AnyConfig) → IsPlaced config place.now → place.now.pool ≡ row.now.pool.now
+        → out.new.items ≡ out.old.items ++ response_bytes (response.List (entry_at config (row_told row.now) ∷ []) [])) }
+    ensures kept { Keeps out.old.items out.new.items }
+{
+    let mut buffer = Buffer::new();
+    let entry = ListedEntry {
+        bytes: signed(row.bytes),
+        prefix: ID_PREFIX,
+        suffix: buffer.format(row.number),
+        placement: &place.placement,
+        nodes: row.nodes,
+    };
+    encode_entry(&entry, out)
+}
+
+// Appends the entry of the first volume of a pool. Its place is kept for the others.
+#[inline(never)]
+fn put_first(
+    alloc: Global,
+    config: &Config,
+    places: &mut Vec<Place>,
+    row: &ListedRow<'_>,
+    out: &mut Vec<u8>,
+) -> Result<(), AllocError>
+    ensures ok { OnOk result (out.new.items ≡ out.old.items ++ response_bytes (response.List (entry_at config.now (row_told row.now) ∷ []) [])) }
+    ensures placed { ArePlaced config.now places.old.items → OnOk result (ArePlaced config.now places.new.items) }
+    ensures kept { Keeps out.old.items out.new.items }
+{
+    let place = place_of(alloc, config, row.pool)?;
+    put_placed(row, &place, out)?;
+    places.push(place)?;
+    Ok(())
+}
+
+// Appends the entry of a volume.
+#[inline(always)]
+fn put_row(
+    alloc: Global,
+    config: &Config,
+    places: &mut Vec<Place>,
+    row: &ListedRow<'_>,
+    out: &mut Vec<u8>,
+) -> Result<(), AllocError>
+    ensures ok { ArePlaced config.now places.old.items → OnOk result (out.new.items ≡ out.old.items ++ response_bytes (response.List (entry_at config.now (row_told row.now) ∷ []) [])) }
+    ensures placed { ArePlaced config.now places.old.items → OnOk result (ArePlaced config.now places.new.items) }
+    ensures kept { Keeps out.old.items out.new.items }
+{
+    match place_named(places, row.pool) {
+        Some(place) => put_placed(row, place, out),
+        None => put_first(alloc, config, places, row, out),
+    }
+}
+
+/// A page that is being written.
+#[derive(Drop)]
+pub(crate) struct Page<'a> {
+    pub(crate) alloc: Global,
+    pub(crate) config: &'a Config,
+    /// What the pools of its volumes give them.
+    pub(crate) places: Vec<Place>,
+    /// The number of its last volume, or the one after which it begins.
+    pub(crate) last: u64,
+    /// Where its entries are appended.
+    pub(crate) body: Vec<u8>,
+}
+
+impl PageFold for Page<'_> {
+    ghost use Rattle.csi_machine.specs.Pages.{HasWritten};
+    ghost use Rattle.csi_machine.specs.facts.Pages.{written_none, body_stays};
+
+    ghost folds = { λ first rows now. ArePlaced first.config.now first.places.items → HasWritten first rows now };
+
+    ghost keeps = { λ first now. Keeps first.body.items now.body.items };
+
+    ghost starts = { λ page. written_none page };
+
+    ghost stays = { λ page. body_stays page };
+
+    #[inline(always)]
+    fn take(&mut self, row: &ListedRow<'_>) -> Result<(), AllocError> {
+        put_row(
+            self.alloc,
+            self.config,
+            &mut self.places,
+            row,
+            &mut self.body,
+        )?;
+        self.last = row.number;
+        Ok(())
+    }
+}
+
+/// Whether there is a volume.
+#[derive(Drop)]
+pub(crate) struct Presence {
+    /// It begins as `false`.
+    pub(crate) is_any: bool,
+}
+
+impl PageFold for Presence {
+    ghost use Rattle.std.specs.Prelude.{refl, ◌||◌};
+    ghost use Rattle.csi_machine.specs.Pages.{is_any};
+
+    ghost folds = { λ first rows now. now.is_any ≡ (is_any rows || first.is_any) };
+
+    ghost keeps = { λ _ _. Unit {0} };
+
+    ghost starts = { λ first. refl };
+
+    ghost stays = { λ first. tt };
+
+    fn take(&mut self, _row: &ListedRow<'_>) -> Result<(), AllocError> {
+        self.is_any = true;
+        Ok(())
+    }
+}

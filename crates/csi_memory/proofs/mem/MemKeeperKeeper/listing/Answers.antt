@@ -1,7 +1,0 @@
-use Rattle.std.proofs.Common.{◌∙◌, refl}
-use Rattle.csi_keeper.specs.facts.Reads.{read_same}
-use Rattle.csi_memory.proofs.ReadLemmas.{held_listing}
-use Rattle.csi_memory.proofs.mem.MemKeeperKeeper.listing.Goals as goal
-
-pub returns : goal.returns
-returns c = read_same _ _ refl (λ d s k. c.in_ok-listed_after.ensures.value ∙ held_listing _ _ _ _ _ _ s c.args.after c.args.count c.in_ok-listed_after.ensures.ordered k)
