@@ -12,7 +12,9 @@ import (
 	"os/signal"
 	"runtime"
 	"syscall"
+	"time"
 
+	"fomaheti/logqueue"
 	"fomaheti/sockets"
 )
 
@@ -27,12 +29,27 @@ const (
 // version is the repository's: etcd/build takes it from the file VERSION.
 var version = "unknown"
 
+// What each line begins with.
+const prefix = "csid-etcd: "
+
+// How long the end of the program waits for its last lines to be written.
+const lastLinesTime = time.Second
+
 func main() {
-	os.Exit(run())
+	// A reader of standard error who has gone ends nothing.
+	signal.Ignore(syscall.SIGPIPE)
+	// No line waits for whoever reads standard error: the lock is not kept by who waits. What packages say by Go's own log is no exception; that of
+	// gRPC is off, by etcd's client.
+	queue := logqueue.New(os.Stderr, func(count uint64) string { return prefix + logqueue.Report(count) + "\n" })
+	log.SetFlags(0)
+	log.SetPrefix(prefix)
+	log.SetOutput(queue)
+	status := run(log.Default())
+	queue.End(lastLinesTime)
+	os.Exit(status)
 }
 
-func run() int {
-	lines := log.New(os.Stderr, "csid-etcd: ", 0)
+func run(lines *log.Logger) int {
 	asked, err := readOptions(os.Args[1:], os.Stdout)
 	if errors.Is(err, flag.ErrHelp) {
 		return done

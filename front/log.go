@@ -9,7 +9,10 @@ import (
 	"time"
 
 	"google.golang.org/grpc/codes"
+	"google.golang.org/grpc/grpclog"
 	"google.golang.org/grpc/status"
+
+	"fomaheti/logqueue"
 )
 
 // The formats of lines.
@@ -29,6 +32,8 @@ const (
 type logger struct {
 	lines  *log.Logger
 	isJSON bool
+	// Where lines wait until they are written; nil in tests.
+	queue *logqueue.Queue
 }
 
 // entry is a line in JSON. What a line does not have is left out.
@@ -39,6 +44,7 @@ type entry struct {
 	Error   string    `json:"error,omitempty"`
 	Address string    `json:"address,omitempty"`
 	Reason  string    `json:"reason,omitempty"`
+	Dropped uint64    `json:"dropped,omitempty"`
 	*refusedCall
 }
 
@@ -51,9 +57,25 @@ type refusedCall struct {
 
 func newLogger(out io.Writer, format string) *logger {
 	if format == jsonLines {
-		return &logger{log.New(out, "", 0), true}
+		return &logger{lines: log.New(out, "", 0), isJSON: true}
 	}
-	return &logger{log.New(out, "front: ", 0), false}
+	return &logger{lines: log.New(out, "front: ", 0)}
+}
+
+// newLog is the log of the program. No line waits for whoever reads it, also none that a package writes by itself: gRPC its errors, and any other what it
+// has for Go's own log.
+func newLog(out io.Writer, format string) *logger {
+	queue := logqueue.New(out, func(count uint64) string {
+		var line strings.Builder
+		newLogger(&line, format).drops(count)
+		return line.String()
+	})
+	l := newLogger(queue, format)
+	l.queue = queue
+	grpclog.SetLoggerV2(grpclog.NewLoggerV2(io.Discard, io.Discard, saying{l, "gRPC"}))
+	log.SetFlags(0)
+	log.SetOutput(saying{l, "library"})
+	return l
 }
 
 func (l *logger) tell(text string, line entry) {
@@ -81,6 +103,11 @@ func (l *logger) listens(address string) {
 	l.tell("metrics at "+address, entry{Level: levelInfo, Message: "metrics", Address: address})
 }
 
+// drops tells how many lines were dropped.
+func (l *logger) drops(count uint64) {
+	l.tell(logqueue.Report(count), entry{Level: levelWarn, Message: "lines dropped", Dropped: count})
+}
+
 // waits tells why there is no socket yet, and isReady that it is made now.
 func (l *logger) waits(why string) {
 	l.tell("waits for csid: "+why, entry{Level: levelInfo, Message: "waits for csid", Reason: why})
@@ -98,9 +125,14 @@ func (l *logger) refuses(path string, why *status.Status, took time.Duration) {
 	l.tell(text, entry{Level: levelWarn, Message: "call refused", refusedCall: call})
 }
 
-// Write takes a line that the HTTP server writes.
-func (l *logger) Write(line []byte) (int, error) {
+// saying takes lines that somebody else writes, whom they name in JSON.
+type saying struct {
+	*logger
+	who string
+}
+
+func (s saying) Write(line []byte) (int, error) {
 	text := strings.TrimSuffix(string(line), "\n")
-	l.tell(text, entry{Level: levelWarn, Message: "HTTP server", Error: text})
+	s.tell(text, entry{Level: levelWarn, Message: s.who, Error: text})
 	return len(line), nil
 }

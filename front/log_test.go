@@ -3,14 +3,33 @@ package main
 import (
 	"encoding/json"
 	"errors"
+	"log"
 	"reflect"
+	"regexp"
 	"strings"
 	"testing"
 	"time"
 
 	"google.golang.org/grpc/codes"
+	"google.golang.org/grpc/grpclog"
 	"google.golang.org/grpc/status"
 )
+
+// What packages write by themselves are lines of the front, and the last lines are written at its end.
+func TestLinesOfPackages(t *testing.T) {
+	defer log.SetFlags(log.Flags())
+	defer log.SetOutput(log.Writer())
+	var text strings.Builder
+	l := newLog(&text, textLines)
+	log.Print("one")
+	grpclog.Error("two")
+	grpclog.Warning("not an error")
+	l.isReady()
+	l.queue.End(10 * time.Second)
+	if want := regexp.MustCompile(`^front: one\nfront: ERROR: [0-9/]+ [0-9:]+ two\nfront: csid is ready\n$`); !want.MatchString(text.String()) {
+		t.Errorf("%q", text.String())
+	}
+}
 
 // Each line in both formats, with its time in UTC wherever that is. A number of JSON is a float64 to encoding/json.
 func TestLines(t *testing.T) {
@@ -71,9 +90,14 @@ func TestLines(t *testing.T) {
 			fields{"level": "warn", "message": "call refused", "path": `"/` + strings.Repeat("a", 127) + `"`, "code": 12.0, "text": "", "milliseconds": 0.0},
 		},
 		{
-			func(l *logger) { l.Write([]byte("http: it <broke>\n")) },
+			func(l *logger) { saying{l, "HTTP server"}.Write([]byte("http: it <broke>\n")) },
 			"front: http: it <broke>\n",
 			fields{"level": "warn", "message": "HTTP server", "error": "http: it <broke>"},
+		},
+		{
+			func(l *logger) { l.drops(17) },
+			"front: lines dropped, since standard error did not take them: 17\n",
+			fields{"level": "warn", "message": "lines dropped", "dropped": 17.0},
 		},
 	}
 	for _, row := range rows {

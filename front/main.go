@@ -31,16 +31,24 @@ const (
 // version is the repository's: front/build takes it from the file VERSION.
 var version = "unknown"
 
+// How long the end of the front waits for its last lines to be written.
+const lastLinesTime = time.Second
+
 func main() {
-	os.Exit(run())
+	// A reader of standard error who has gone ends nothing.
+	signal.Ignore(syscall.SIGPIPE)
+	asked, err := readOptions(os.Args[1:], os.Getenv("CSI_ENDPOINT"), os.Stdout)
+	log := newLog(os.Stderr, asked.logFormat)
+	status := run(asked, err, log)
+	log.queue.End(lastLinesTime)
+	os.Exit(status)
 }
 
-func run() int {
-	asked, err := readOptions(os.Args[1:], os.Getenv("CSI_ENDPOINT"), os.Stdout)
+// run is all that the front does with the options that were read, or refused; and its status.
+func run(asked options, err error, log *logger) int {
 	if errors.Is(err, flag.ErrHelp) {
 		return done
 	}
-	log := newLogger(os.Stderr, asked.logFormat)
 	if err != nil {
 		log.fails(err)
 		return badWords

@@ -73,6 +73,7 @@ func newRegistry(h *handler, topologies []topology) *prometheus.Registry {
 		h.metrics.calls, h.metrics.seconds, h.metrics.waiting, h.metrics.refusals,
 		h.backend.connections, h.backend.failures,
 		newCsidCollector(h, topologies),
+		droppedLines(h.log),
 		buildInfo(),
 		collectors.NewGoCollector(),
 		collectors.NewProcessCollector(collectors.ProcessCollectorOpts{}),
@@ -91,6 +92,17 @@ func standingBy(h *handler) prometheus.Collector {
 			return 1
 		}
 		return 0
+	})
+}
+
+func droppedLines(log *logger) prometheus.Collector {
+	return prometheus.NewCounterFunc(prometheus.CounterOpts{
+		Namespace: namespace, Name: "log_lines_dropped_total", Help: "Lines that were dropped, since standard error did not take them.",
+	}, func() float64 {
+		if log.queue == nil {
+			return 0
+		}
+		return float64(log.queue.Dropped())
 	})
 }
 

@@ -46,7 +46,7 @@ func startMonitor(h *handler, asked options, failed chan<- error) error {
 		Handler:      newMonitor(h, asked.topologies),
 		ReadTimeout:  requestTime,
 		WriteTimeout: answerTime,
-		ErrorLog:     log.New(h.log, "", 0),
+		ErrorLog:     log.New(saying{h.log, "HTTP server"}, "", 0),
 	}
 	go func() { failed <- fmt.Errorf("telling metrics: %w", server.Serve(listener)) }()
 	return nil

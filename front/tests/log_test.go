@@ -1,14 +1,20 @@
 package tests
 
 import (
+	"context"
 	"encoding/json"
+	"fmt"
 	"io"
+	"net"
+	"os"
 	"os/exec"
 	"path/filepath"
 	"reflect"
 	"strings"
 	"testing"
 	"time"
+
+	"google.golang.org/grpc/codes"
 
 	"./processes"
 )
@@ -82,6 +88,71 @@ func TestLogOfTheHTTPServer(t *testing.T) {
 	processes.Eventually(t, "a second line", func() bool { return strings.Count(process.Log.String(), "\n") == 2 })
 	if said := process.Log.String(); !strings.Contains(said, "\nfront: http: URL query contains semicolon") {
 		t.Errorf("logged %q", said)
+	}
+}
+
+// unread is a front that tells metrics, with a standard error that takes no line, and where it tells them.
+func unread(t *testing.T, csid string, errors *os.File) (*processes.Process, string) {
+	t.Helper()
+	free, err := net.Listen("tcp", "127.0.0.1:0")
+	if err != nil {
+		t.Fatal(err)
+	}
+	free.Close()
+	socket, monitor := filepath.Join(processes.Folder(t), "csi.sock"), free.Addr().String()
+	command := exec.Command(processes.FrontProgram(t), "--csid", csid, "--listen", socket, "--metrics", monitor)
+	command.Stderr = errors
+	return processes.Start(t, socket, command).Answers(t), "http://" + monitor
+}
+
+// Calls are answered, whoever reads standard error: one who does not read, or has gone. Lines that find no room are dropped and counted, and reported
+// once somebody reads.
+func TestUnreadLog(t *testing.T) {
+	t.Parallel()
+	const calls = 1100
+	// Of a pipe that is not read one line is being written, that of metrics, and 1,024 more wait.
+	pipe := processes.NewFullPipe(t)
+	table := []struct {
+		name    string
+		errors  *os.File
+		dropped string
+	}{{"not read", pipe.Out, "76"}, {"closed", processes.ClosedPipe(t), "1101"}}
+	for _, row := range table {
+		process, monitor := unread(t, startFake(t).socket, row.errors)
+		front := newClient(t, process.Socket)
+		for i := 0; i < calls; i++ {
+			ctx, cancel := context.WithTimeout(context.Background(), processes.Patience)
+			got := front.send(ctx, fmt.Sprintf("/a/no path %d", i), nil)
+			cancel()
+			if got != refused(codes.Unimplemented, "unknown method") {
+				t.Fatalf("%s: call %d: %v", row.name, i, got)
+			}
+		}
+		processes.Eventually(t, row.dropped+" lines dropped", func() bool { return series(t, monitor)["csid_front_log_lines_dropped_total"] == row.dropped })
+		if row.name == "not read" {
+			pipe.Read(t, "front: lines dropped, since standard error did not take them: 76\n")
+			if lines := pipe.Lines(); len(lines) != 1026 || !strings.HasPrefix(lines[1024], `front: "/a/no path 1023" 12 "unknown method"`) {
+				t.Errorf("%d lines, of which the last ones are %q", len(lines), lines[len(lines)-2:])
+			}
+		}
+		process.Terminate(t)
+		if status := process.Status(t); status != 0 {
+			t.Errorf("%s: status %d", row.name, status)
+		}
+	}
+}
+
+// An end with a reason does not wait long for one who does not read it.
+func TestUnreadEnd(t *testing.T) {
+	t.Parallel()
+	for name, errors := range map[string]*os.File{"not read": processes.NewFullPipe(t).Out, "closed": processes.ClosedPipe(t)} {
+		command := exec.Command(processes.FrontProgram(t), "--csid", "csid.sock", "--listen", filepath.Join(processes.Folder(t), "absent", "csi.sock"))
+		command.Stderr = errors
+		begin := time.Now()
+		status := processes.Start(t, "", command).Status(t)
+		if took := time.Since(begin); status != 7 || took > 5*time.Second {
+			t.Errorf("%s: status %d behind %v", name, status, took)
+		}
 	}
 }
 

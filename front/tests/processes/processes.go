@@ -64,11 +64,13 @@ type Process struct {
 	Ended  chan struct{}
 }
 
-// Start starts a program that is to answer on a socket.
+// Start starts a program that is to answer on a socket. Its log is empty where the command says another standard error.
 func Start(t *testing.T, socket string, command *exec.Cmd) *Process {
 	t.Helper()
 	p := &Process{Cmd: command, Socket: socket, Log: &ErrorLog{}, Ended: make(chan struct{})}
-	p.Stderr = p.Log
+	if p.Stderr == nil {
+		p.Stderr = p.Log
+	}
 	if err := p.Start(); err != nil {
 		t.Fatal(err)
 	}
