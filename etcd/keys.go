@@ -8,6 +8,8 @@ import (
 	"strings"
 	"unicode/utf8"
 
+	"go.etcd.io/etcd/clientv3"
+
 	"fomaheti/frames"
 )
 
@@ -25,6 +27,9 @@ func (k keys) meta() string        { return k.name + "/meta" }
 func (k keys) locks() string       { return k.name + "/lock/" }
 func (k keys) volumes() string     { return k.name + "/volumes/" }
 func (k keys) attachments() string { return k.name + "/attachments/" }
+
+// lock is the key of who stands for the lock by a lease.
+func (k keys) lock(id clientv3.LeaseID) string { return fmt.Sprintf("%s%x", k.locks(), id) }
 
 func (k keys) volume(number uint64) string {
 	return fmt.Sprintf("%s%0*d", k.volumes(), numberDigits, number)

@@ -8,6 +8,7 @@ import (
 
 	"go.etcd.io/etcd/clientv3"
 	pb "go.etcd.io/etcd/etcdserver/etcdserverpb"
+	"golang.org/x/sys/unix"
 	"google.golang.org/grpc"
 )
 
@@ -18,14 +19,28 @@ type lease struct {
 	id     clientv3.LeaseID
 	length time.Duration
 	mutex  sync.Mutex
-	until  time.Time
+	// When it is over, by sinceBoot.
+	until time.Duration
 }
+
+// sinceBoot is the time since the machine started. It goes on while the machine sleeps, as etcd's clock elsewhere does; that of package time does not.
+func sinceBoot() time.Duration {
+	var now unix.Timespec
+	if err := unix.ClockGettime(unix.CLOCK_BOOTTIME, &now); err != nil {
+		// Linux has this clock since 2.6.39. Without it nobody knows how long a lease is.
+		panic(err)
+	}
+	return time.Duration(now.Nano())
+}
+
+// How long it is waited at most until the clock is looked at again: timers stand while the machine sleeps.
+const clockPause = time.Second
 
 var errLeaseOver = errors.New("its lease is over")
 
 // grantLease gets a lease, and tells the revision that etcd has.
 func grantLease(ctx context.Context, client *clientv3.Client, seconds int64) (*lease, int64, error) {
-	asked := time.Now()
+	asked := sinceBoot()
 	got, err := client.Grant(ctx, seconds)
 	if err != nil {
 		return nil, 0, err
@@ -41,14 +56,14 @@ func (l *lease) isAlive() bool { return l.left() > 0 }
 func (l *lease) left() time.Duration {
 	l.mutex.Lock()
 	defer l.mutex.Unlock()
-	return time.Until(l.until)
+	return l.until - sinceBoot()
 }
 
 // extend notes that etcd kept the lease by a request of that time.
-func (l *lease) extend(asked time.Time) {
+func (l *lease) extend(asked time.Duration) {
 	l.mutex.Lock()
 	defer l.mutex.Unlock()
-	l.until = asked.Add(l.length)
+	l.until = asked + l.length
 }
 
 // keep keeps the lease alive until it is lost or the context ends, and tells how that was. Two things run side by side, so that the end is seen
@@ -68,6 +83,9 @@ func (l *lease) watch(ctx context.Context) error {
 		left := l.left()
 		if left <= 0 {
 			return errLeaseOver
+		}
+		if left > clockPause {
+			left = clockPause
 		}
 		select {
 		case <-time.After(left):
@@ -102,7 +120,7 @@ func (l *lease) renewOver(ctx context.Context) error {
 		return err
 	}
 	for {
-		asked := time.Now()
+		asked := sinceBoot()
 		if err := stream.Send(&pb.LeaseKeepAliveRequest{ID: int64(l.id)}); err != nil {
 			return err
 		}

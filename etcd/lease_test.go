@@ -2,6 +2,9 @@ package main
 
 import (
 	"context"
+	"fmt"
+	"os"
+	"os/exec"
 	"reflect"
 	"testing"
 	"time"
@@ -20,12 +23,15 @@ type lender struct {
 	// How long the lease is told to be, in seconds, and how long each answer takes.
 	length int64
 	late   time.Duration
-	// When each request came; and how many of one stream are answered.
-	came     chan time.Time
+	// When each request came, by sinceBoot; and how many of one stream are answered.
+	came     chan time.Duration
 	answered int
 	// What an end of a lease is answered, where it is an error; and those that were ended.
 	refusals map[int64]error
 	ended    []int64
+	// The same of keys that are to be deleted.
+	kept    map[string]error
+	deleted []string
 }
 
 func (l *lender) LeaseRevoke(_ context.Context, asked *pb.LeaseRevokeRequest) (*pb.LeaseRevokeResponse, error) {
@@ -36,8 +42,16 @@ func (l *lender) LeaseRevoke(_ context.Context, asked *pb.LeaseRevokeRequest) (*
 	return &pb.LeaseRevokeResponse{Header: &pb.ResponseHeader{}}, nil
 }
 
+func (l *lender) DeleteRange(_ context.Context, asked *pb.DeleteRangeRequest) (*pb.DeleteRangeResponse, error) {
+	if err := l.kept[string(asked.Key)]; err != nil {
+		return nil, err
+	}
+	l.deleted = append(l.deleted, string(asked.Key))
+	return &pb.DeleteRangeResponse{Header: &pb.ResponseHeader{}}, nil
+}
+
 func (l *lender) LeaseGrant(context.Context, *pb.LeaseGrantRequest) (*pb.LeaseGrantResponse, error) {
-	l.came <- time.Now()
+	l.came <- sinceBoot()
 	time.Sleep(l.late)
 	return &pb.LeaseGrantResponse{Header: &pb.ResponseHeader{Revision: 7}, ID: 1, TTL: l.length}, nil
 }
@@ -48,7 +62,7 @@ func (l *lender) LeaseKeepAlive(stream pb.Lease_LeaseKeepAliveServer) error {
 		if err != nil {
 			return err
 		}
-		l.came <- time.Now()
+		l.came <- sinceBoot()
 		time.Sleep(l.late)
 		if answered < l.answered {
 			if err := stream.Send(&pb.LeaseKeepAliveResponse{ID: asked.ID, TTL: l.length}); err != nil {
@@ -60,20 +74,20 @@ func (l *lender) LeaseKeepAlive(stream pb.Lease_LeaseKeepAliveServer) error {
 
 // A lease counts from when etcd was asked for it, and to keep it: etcd counts from when that came. An answer that waited does not make it longer.
 func TestLeaseCounts(t *testing.T) {
-	server := &lender{length: 600, late: 50 * time.Millisecond, came: make(chan time.Time, 99), answered: 1}
+	server := &lender{length: 600, late: 50 * time.Millisecond, came: make(chan time.Duration, 99), answered: 1}
 	client := startServer(t, server, 1)
 	l, revision, err := grantLease(context.Background(), client, 600)
 	if err != nil || revision != 7 || l.length != 600*time.Second || !l.isAlive() {
 		t.Fatalf("%+v, %d, %v", l, revision, err)
 	}
-	if latest := (<-server.came).Add(l.length); l.until.After(latest) {
-		t.Errorf("it counts from %v behind the request", l.until.Sub(latest))
+	if latest := <-server.came + l.length; l.until > latest {
+		t.Errorf("it counts from %v behind the request", l.until-latest)
 	}
-	l.until = time.Now().Add(time.Minute)
+	l.until = sinceBoot() + time.Minute
 	ctx, cancel := context.WithCancel(context.Background())
 	ended := make(chan error, 1)
 	go func() { ended <- l.keep(ctx) }()
-	latest := (<-server.came).Add(l.length)
+	latest := <-server.came + l.length
 	for end := time.Now().Add(10 * time.Second); l.left() <= time.Minute; time.Sleep(time.Millisecond) {
 		if time.Now().After(end) {
 			t.Fatal("it was not kept")
@@ -81,21 +95,65 @@ func TestLeaseCounts(t *testing.T) {
 	}
 	cancel()
 	<-ended
-	if l.until.After(latest) {
-		t.Errorf("kept, it counts from %v behind the request", l.until.Sub(latest))
+	if l.until > latest {
+		t.Errorf("kept, it counts from %v behind the request", l.until-latest)
+	}
+}
+
+// The clock of leases goes on while the machine sleeps: it is that of the time since the boot, which a namespace of clocks moves apart from all others.
+func TestClock(t *testing.T) {
+	const isWithin, moved = "CLOCK_IS_MOVED", 100000 * time.Second
+	if os.Getenv(isWithin) != "" {
+		fmt.Println(int64(sinceBoot()))
+		return
+	}
+	command := exec.Command("unshare", "--time", "--boottime", "100000", "--fork", os.Args[0], "-test.run", "^TestClock$")
+	command.Env = append(os.Environ(), isWithin+"=1")
+	begin := sinceBoot()
+	said, err := command.Output()
+	if err != nil {
+		t.Skipf("left out: no namespace of clocks: %v", err)
+	}
+	var within int64
+	if _, err := fmt.Sscan(string(said), &within); err != nil {
+		t.Fatalf("%v: %s", err, said)
+	}
+	if apart := time.Duration(within) - begin; apart < moved || apart > moved+time.Minute {
+		t.Errorf("the clock that is moved by %v is %v apart", moved, apart)
+	}
+}
+
+// A lease that ends while timers stand, as while the machine sleeps, is over as soon as the clock is looked at again.
+func TestLeaseOverAfterSleep(t *testing.T) {
+	l := &lease{length: time.Hour, until: sinceBoot() + time.Hour}
+	ended := make(chan error, 1)
+	go func() { ended <- l.watch(context.Background()) }()
+	select {
+	case err := <-ended:
+		t.Fatalf("it ended: %v", err)
+	case <-time.After(50 * time.Millisecond):
+	}
+	l.extend(sinceBoot() - l.length)
+	select {
+	case err := <-ended:
+		if err != errLeaseOver {
+			t.Error(err)
+		}
+	case <-time.After(5 * time.Second):
+		t.Error("nobody looks at the clock")
 	}
 }
 
 // A lease is kept four times in its length: a request comes a quarter of it behind the answer before, and not twice as late.
 func TestRenewedInTime(t *testing.T) {
 	const length = 6 * time.Second
-	server := &lender{length: 600, came: make(chan time.Time, 99), answered: 99}
-	l := &lease{client: startServer(t, server, 1), length: length, until: time.Now()}
+	server := &lender{length: 600, came: make(chan time.Duration, 99), answered: 99}
+	l := &lease{client: startServer(t, server, 1), length: length, until: sinceBoot()}
 	ctx, cancel := context.WithCancel(context.Background())
 	ended := make(chan error, 1)
 	go func() { ended <- l.renew(ctx) }()
 	first := <-server.came
-	if took := (<-server.came).Sub(first); took < length/5 || took > length/2 {
+	if took := <-server.came - first; took < length/5 || took > length/2 {
 		t.Errorf("it was kept again behind %v", took)
 	}
 	cancel()
@@ -113,9 +171,9 @@ func TestLeaseOver(t *testing.T) {
 		{"not answered", &lender{length: 60}, 50 * time.Millisecond},
 	}
 	for _, row := range rows {
-		row.server.came = make(chan time.Time, 99)
+		row.server.came = make(chan time.Duration, 99)
 		ctx, cancel := context.WithTimeout(context.Background(), 10*time.Second)
-		l := &lease{client: startServer(t, row.server, 1), length: time.Minute, until: time.Now().Add(row.left)}
+		l := &lease{client: startServer(t, row.server, 1), length: time.Minute, until: sinceBoot() + row.left}
 		if err := l.keep(ctx); err != errLeaseOver {
 			t.Errorf("%s: %v", row.name, err)
 		}
@@ -126,8 +184,8 @@ func TestLeaseOver(t *testing.T) {
 // A stream on which an answer is late is given up for another one, also where it had answers before.
 func TestLateLease(t *testing.T) {
 	for _, answered := range []int{0, 1} {
-		server := &lender{length: 1, came: make(chan time.Time, 99), answered: answered}
-		l := &lease{client: startServer(t, server, 1), length: 80 * time.Millisecond, until: time.Now()}
+		server := &lender{length: 1, came: make(chan time.Duration, 99), answered: answered}
+		l := &lease{client: startServer(t, server, 1), length: 80 * time.Millisecond, until: sinceBoot()}
 		ctx, cancel := context.WithCancel(context.Background())
 		ended := make(chan error, 1)
 		go func() { ended <- l.renew(ctx) }()
@@ -144,18 +202,22 @@ func TestLateLease(t *testing.T) {
 	}
 }
 
-// A lease that etcd could not end is ended the next time; one that etcd does not know has ended.
+// A lease that etcd could not end is ended the next time, and so is one whose key could not be deleted; one that etcd does not know has ended.
 func TestGiveBack(t *testing.T) {
-	server := &lender{refusals: map[int64]error{1: status.Error(codes.Internal, "any"), 3: rpctypes.ErrGRPCLeaseNotFound}}
+	any := status.Error(codes.Internal, "any")
+	locks := sampleKeys.locks()
+	server := &lender{refusals: map[int64]error{1: any, 3: rpctypes.ErrGRPCLeaseNotFound}, kept: map[string]error{locks + "1a": any}}
 	client := startServer(t, server, 1)
-	c := &candidate{asked: options{timeout: 5 * time.Second}, leases: []clientv3.LeaseID{1, 2, 3}}
-	c.giveBack(client)
-	if want := []clientv3.LeaseID{1}; !reflect.DeepEqual(c.leases, want) || !reflect.DeepEqual(server.ended, []int64{2}) {
-		t.Errorf("%v are left, and %v were ended", c.leases, server.ended)
+	c := &candidate{asked: options{timeout: 5 * time.Second}, keys: sampleKeys, leases: []clientv3.LeaseID{1, 2, 3, 26}}
+	wants := func(left []clientv3.LeaseID, ended []int64, deleted []string) {
+		t.Helper()
+		c.giveBack(client)
+		if !reflect.DeepEqual(c.leases, left) || !reflect.DeepEqual(server.ended, ended) || !reflect.DeepEqual(server.deleted, deleted) {
+			t.Errorf("%v are left, %v were ended, and %q deleted", c.leases, server.ended, server.deleted)
+		}
 	}
-	server.refusals = nil
-	c.giveBack(client)
-	if len(c.leases) > 0 || !reflect.DeepEqual(server.ended, []int64{2, 1}) {
-		t.Errorf("the next time: %v are left, and %v were ended", c.leases, server.ended)
-	}
+	deleted := []string{locks + "1", locks + "2", locks + "3"}
+	wants([]clientv3.LeaseID{1, 26}, []int64{2}, deleted)
+	server.refusals, server.kept = nil, nil
+	wants(nil, []int64{2, 1, 26}, append(deleted, locks+"1", locks+"1a"))
 }

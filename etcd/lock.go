@@ -109,7 +109,7 @@ func (c *candidate) stand(ending context.Context) error {
 	defer c.giveBack(client)
 	t := &term{
 		client: client, keys: c.keys, lease: lease, revisions: c.revisions, timeout: c.asked.timeout, ctx: ctx, end: cancel,
-		key: fmt.Sprintf("%s%x", c.keys.locks(), lease.id), id: c.asked.id,
+		key: c.keys.lock(lease.id), id: c.asked.id, gone: make(chan struct{}, 1),
 	}
 	err = c.hold(t)
 	cancel()
@@ -122,14 +122,19 @@ func (c *candidate) stand(ending context.Context) error {
 	return nil
 }
 
-// giveBack ends the leases of terms that are over, with the keys that stand by them, so that nobody waits until they end by themselves. One for which
-// etcd does not answer, as while it elects a leader, is ended before the next term.
+// giveBack ends the leases of terms that are over, with the keys that stand by them, so that nobody waits until they end by themselves. A key that was put
+// by hand without its lease would stay for ever, so keys are deleted too. A lease for which etcd does not answer, as while it elects a leader, is ended
+// before the next term.
 func (c *candidate) giveBack(client *clientv3.Client) {
 	ctx, cancel := context.WithTimeout(context.Background(), c.asked.timeout)
 	defer cancel()
 	var left []clientv3.LeaseID
 	for _, id := range c.leases {
-		if _, err := client.Revoke(ctx, id); err != nil && err != rpctypes.ErrLeaseNotFound {
+		_, err := client.Delete(ctx, c.keys.lock(id))
+		if err == nil {
+			_, err = client.Revoke(ctx, id)
+		}
+		if err != nil && err != rpctypes.ErrLeaseNotFound {
 			left = append(left, id)
 		}
 	}
@@ -176,7 +181,7 @@ func (c *candidate) hold(t *term) error {
 			pause(t.ctx, waitingPause)
 		}
 	}
-	return t.ctx.Err()
+	return t.why()
 }
 
 // waits says why there is no lock, where there is an error.
@@ -196,7 +201,8 @@ func (c *candidate) lead(t *term, queue queue, isLeading bool) bool {
 	if !isLeading {
 		t.created, t.put, t.seen = queue.own, queue.ownPut, queue.revision
 		c.state.set(t, refusal{})
-		c.tell(fmt.Sprintf("leads, from revision %d on, by the key %s", t.seen, c.keys.shown(t.key)))
+		c.tell(fmt.Sprintf("leads, from revision %d on, by the key %s", queue.revision, c.keys.shown(t.key)))
+		go t.watch(queue.revision)
 	}
 	return true
 }

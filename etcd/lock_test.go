@@ -21,7 +21,9 @@ func TestOlderWhileLeading(t *testing.T) {
 	state := &leadership{}
 	c := &candidate{keys: sampleKeys, revisions: &revisions{}, state: state, drop: func() { drops++ },
 		say: func(format string, parts ...interface{}) { said = append(said, fmt.Sprintf(format, parts...)) }}
-	held := &term{key: sampleKeys.locks() + "1"}
+	ctx, cancel := context.WithCancel(context.Background())
+	defer cancel()
+	held := &term{key: sampleKeys.locks() + "1", client: startServer(t, &waiters{}, 1), ctx: ctx, end: cancel}
 	isLeading := c.lead(held, queue{own: 5, ownPut: 6, revision: 110, least: 100}, false)
 	if term, _ := state.current(); term != held || !isLeading || held.created != 5 || held.put != 6 || held.seen != 110 || drops != 0 {
 		t.Errorf("it leads: %+v, %d drops", term, drops)

@@ -78,6 +78,9 @@ func listening(t *testing.T, kv pb.KVServer) (address string) {
 	if lender, is := kv.(pb.LeaseServer); is {
 		pb.RegisterLeaseServer(server, lender)
 	}
+	if teller, is := kv.(pb.WatchServer); is {
+		pb.RegisterWatchServer(server, teller)
+	}
 	go server.Serve(listener)
 	t.Cleanup(server.Stop)
 	return listener.Addr().String()

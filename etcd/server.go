@@ -156,8 +156,10 @@ func (s *server) do(c *connection, t *term, request frames.Request) ([]byte, err
 	case readPath:
 		return c.read(t.ctx, t, request.Message)
 	case leadPath:
-		// That there is a term, and that it is not over, is looked at for each call.
-		return nil, readInto(request.Message, nil)
+		if err := readInto(request.Message, nil); err != nil {
+			return nil, err
+		}
+		return nil, t.leads(t.ctx)
 	case makePath:
 		if err := readInto(request.Message, nil); err != nil {
 			return nil, err

@@ -91,7 +91,7 @@ func TestReplyBehindReplacement(t *testing.T) {
 // A term that is over by the clock, or was ended, answers nothing, also where nobody has noticed yet; and one that is there answers.
 func TestTermOver(t *testing.T) {
 	ctx, cancel := context.WithCancel(context.Background())
-	held := &term{lease: &lease{until: time.Now().Add(time.Hour)}, ctx: ctx, end: cancel}
+	held := &term{client: startServer(t, &keyed{looks: []look{{0, 5, nil}}}, 1), revisions: &revisions{}, timeout: 5 * time.Second, key: "k", created: 5, lease: &lease{until: sinceBoot() + time.Hour}, ctx: ctx, end: cancel}
 	state := &leadership{}
 	state.set(held, refusal{})
 	s := &server{state: state, say: t.Logf}
@@ -99,11 +99,11 @@ func TestTermOver(t *testing.T) {
 	if reply, err := asks(); err != nil || reply.Code != codes.OK {
 		t.Errorf("it leads: %v, %v", reply, err)
 	}
-	held.lease.until = time.Now()
+	held.lease.until = sinceBoot()
 	if reply, err := asks(); err != errOver {
 		t.Errorf("its lease is over: %v, %v", reply, err)
 	}
-	held.lease.until = time.Now().Add(time.Hour)
+	held.lease.until = sinceBoot() + time.Hour
 	held.end()
 	if reply, err := asks(); err != errOver {
 		t.Errorf("it was ended: %v, %v", reply, err)
@@ -174,7 +174,7 @@ func TestReadAhead(t *testing.T) {
 		}
 		ctx, cancel := context.WithCancel(context.Background())
 		t.Cleanup(cancel)
-		held := &term{client: startServer(t, etcd, 1), keys: sampleKeys, lease: &lease{until: time.Now().Add(time.Hour)}, revisions: &revisions{}, timeout: time.Minute,
+		held := &term{client: startServer(t, etcd, 1), keys: sampleKeys, lease: &lease{until: sinceBoot() + time.Hour}, revisions: &revisions{}, timeout: time.Minute,
 			ctx: ctx, end: cancel, key: "k"}
 		s := &server{state: &leadership{term: held}, say: t.Logf}
 		connect := func() net.Conn {

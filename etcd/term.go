@@ -31,6 +31,8 @@ type term struct {
 	isOpen bool
 	// The greatest revision that was seen.
 	seen int64
+	// Holds a value once the key of the lock was found to be gone. It has room for one.
+	gone chan struct{}
 }
 
 // isOver tells whether this program may have lost the lock, by its own clock.
@@ -43,6 +45,9 @@ var errOver = errors.New("the lock was lost")
 func (t *term) request(ctx context.Context) (context.Context, context.CancelFunc) {
 	return context.WithTimeout(clientv3.WithRequireLeader(ctx), t.timeout)
 }
+
+// againPause is between two questions whether this program leads, where etcd did not answer the first one.
+const againPause = 50 * time.Millisecond
 
 // mostTries is how often a request is made at most that may be made again.
 const mostTries = 3
@@ -150,8 +155,72 @@ func (t *term) fence(ctx context.Context) error {
 
 // loses ends the term because the key of the lock is not there any more, or is another one.
 func (t *term) loses() error {
+	select {
+	case t.gone <- struct{}{}:
+	default:
+	}
 	t.end()
 	return refuse("this program does not lead any more: its key of the lock is gone")
+}
+
+// why is why the term has ended.
+func (t *term) why() error {
+	select {
+	case <-t.gone:
+		return errKeyGone
+	default:
+		return t.ctx.Err()
+	}
+}
+
+// leads asks etcd whether this program leads, and is refused where it does not, or where etcd does not say so in the time of a request. An answer tells
+// how it was at a moment after the question came. Its own clock and a watch cannot: a key that is deleted by hand, or with its lease, is seen by all at
+// once by who asks, and later by who is told.
+func (t *term) leads(ctx context.Context) error {
+	ctx, cancel := context.WithTimeout(ctx, t.timeout)
+	defer cancel()
+	var why error
+	for {
+		read, err := t.get(ctx, t.key, clientv3.WithKeysOnly())
+		if err == nil && len(read.Kvs) > 0 && read.Kvs[0].CreateRevision == t.created {
+			return nil
+		}
+		if err == nil {
+			return t.loses()
+		}
+		if unknown, is := err.(open); is {
+			err = unknown.err
+		}
+		// That the time is over says less than an error before it.
+		if why == nil || ctx.Err() == nil {
+			why = err
+		}
+		pause(ctx, againPause)
+		if ctx.Err() != nil {
+			return refuse("etcd does not say whether this program leads: %v", why)
+		}
+	}
+}
+
+// watch ends the term as soon as etcd tells that the key of the lock is gone, was made again, or does not go with the lease any more. It begins behind a revision at which the key was seen;
+// where etcd ends the watch it begins again, and leaves out what was compacted: hold looks too, though less often.
+func (t *term) watch(seen int64) {
+	for t.ctx.Err() == nil {
+		ctx, cancel := context.WithCancel(clientv3.WithRequireLeader(t.ctx))
+		for told := range t.client.Watch(ctx, t.key, clientv3.WithRev(seen+1)) {
+			for _, event := range told.Events {
+				if event.Type == clientv3.EventTypeDelete || event.Kv.CreateRevision != t.created || event.Kv.Lease != int64(t.lease.id) {
+					t.loses()
+				}
+				seen = event.Kv.ModRevision
+			}
+			if compacted := told.CompactRevision; compacted > seen {
+				seen = compacted
+			}
+		}
+		cancel()
+		pause(t.ctx, waitingPause)
+	}
 }
 
 // holds supposes that this program leads, and that no fence came behind the transaction.

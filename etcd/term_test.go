@@ -345,3 +345,165 @@ func TestTries(t *testing.T) {
 		}
 	}
 }
+
+// keyed is an etcd in which the key of the lock is as a test says, one reading after the other, of which the last one holds on. It tells watches what
+// else a test says.
+type keyed struct {
+	pb.KVServer
+	pb.WatchServer
+	looks []look
+	came  int
+	// The revisions from which watches were asked for, and what each of them is told until it ends. A watch beyond these is told nothing.
+	froms   chan int64
+	watches [][]*pb.WatchResponse
+}
+
+func (k *keyed) Range(context.Context, *pb.RangeRequest) (*pb.RangeResponse, error) {
+	seen := k.looks[len(k.looks)-1]
+	if k.came < len(k.looks) {
+		seen = k.looks[k.came]
+	}
+	k.came++
+	if seen.err != nil {
+		return nil, seen.err
+	}
+	read := &pb.RangeResponse{Header: &pb.ResponseHeader{Revision: 100}}
+	if seen.own != 0 {
+		read.Kvs = append(read.Kvs, &mvccpb.KeyValue{Key: []byte("k"), CreateRevision: seen.own})
+	}
+	return read, nil
+}
+
+func (k *keyed) Watch(stream pb.Watch_WatchServer) error {
+	asked, err := stream.Recv()
+	if err != nil {
+		return err
+	}
+	k.froms <- asked.GetCreateRequest().StartRevision
+	if len(k.watches) > 0 {
+		for _, told := range append([]*pb.WatchResponse{{Created: true}}, k.watches[0]...) {
+			told.Header = &pb.ResponseHeader{Revision: 100}
+			if err := stream.Send(told); err != nil {
+				return err
+			}
+		}
+		k.watches = k.watches[1:]
+	}
+	<-stream.Context().Done()
+	return nil
+}
+
+// Whether a program leads is asked of etcd each time, and again where etcd does not answer, as long as one request may take.
+func TestLeads(t *testing.T) {
+	failed := status.Error(codes.Internal, "any")
+	const silent = "etcd does not say whether this program leads: "
+	rows := []struct {
+		name   string
+		looks  []look
+		least  int64
+		want   string
+		isOver bool
+		came   int
+	}{
+		{"the key is there", []look{{0, 10, nil}}, 100, "", false, 1},
+		{"it is gone", []look{{0, 0, nil}}, 100, "this program does not lead any more: its key of the lock is gone", true, 1},
+		{"it was made anew", []look{{0, 11, nil}}, 100, "this program does not lead any more: its key of the lock is gone", true, 1},
+		{"no answer at first", []look{{0, 0, failed}, {0, 0, failed}, {0, 10, nil}}, 100, "", false, 3},
+		{"no answer, and then gone", []look{{0, 0, failed}, {0, 0, nil}}, 100, "this program does not lead any more: its key of the lock is gone", true, 2},
+		{"no answer", []look{{0, 0, failed}}, 100, silent + failed.Error(), false, 0},
+		{"refused", []look{{0, 0, rpctypes.ErrGRPCPermissionDenied}}, 100, silent + rpctypes.ErrPermissionDenied.Error(), false, 0},
+		{"an older snapshot", []look{{0, 10, nil}}, 101, silent + olderRefusal(101, 100).Error(), true, 1},
+	}
+	for _, row := range rows {
+		row := row
+		t.Run(row.name, func(t *testing.T) {
+			t.Parallel()
+			server := &keyed{looks: row.looks}
+			ctx, cancel := context.WithCancel(context.Background())
+			defer cancel()
+			held := &term{client: startServer(t, server, 1), revisions: &revisions{greatest: row.least}, timeout: time.Second, lease: &lease{until: sinceBoot() + time.Hour},
+				ctx: ctx, end: cancel, key: "k", created: 10, gone: make(chan struct{}, 1)}
+			begin := time.Now()
+			err := held.leads(ctx)
+			took := time.Since(begin)
+			if (err == nil) != (row.want == "") || err != nil && (err.Error() != row.want || err.(refusal).code != codes.FailedPrecondition) {
+				t.Errorf("%v, wanted %q", err, row.want)
+			}
+			if isSilent := row.came == 0; isSilent != (took > 900*time.Millisecond) || took > 3*time.Second || !isSilent && server.came != row.came {
+				t.Errorf("%d questions in %v", server.came, took)
+			}
+			if held.isOver() != row.isOver {
+				t.Errorf("it is over: %v", held.isOver())
+			}
+		})
+	}
+}
+
+// A term ends as soon as a watch tells that the key of the lock is gone or was made anew, and why is known then. Where it was put again, as a fence does,
+// the term goes on. A watch that etcd ends begins again behind what was seen.
+func TestWatch(t *testing.T) {
+	event := func(kind mvccpb.Event_EventType, made, put int64) *mvccpb.Event {
+		return &mvccpb.Event{Type: kind, Kv: &mvccpb.KeyValue{Key: []byte("k"), CreateRevision: made, ModRevision: put, Lease: 7}}
+	}
+	// Where a key is put without a lease.
+	apart := event(mvccpb.PUT, 10, 60)
+	apart.Kv.Lease = 0
+	tells := func(events ...*mvccpb.Event) *pb.WatchResponse { return &pb.WatchResponse{Events: events} }
+	canceled := &pb.WatchResponse{Canceled: true, CancelReason: "any"}
+	compacted := &pb.WatchResponse{Canceled: true, CompactRevision: 70}
+	const put, gone = mvccpb.PUT, mvccpb.DELETE
+	rows := []struct {
+		name    string
+		watches [][]*pb.WatchResponse
+		froms   []int64
+		isOver  bool
+	}{
+		{"deleted", [][]*pb.WatchResponse{{tells(event(gone, 0, 60))}}, []int64{51}, true},
+		{"put without its lease", [][]*pb.WatchResponse{{tells(apart)}}, []int64{51}, true},
+		{"made anew", [][]*pb.WatchResponse{{tells(event(put, 60, 60))}}, []int64{51}, true},
+		{"put again, and then deleted", [][]*pb.WatchResponse{{tells(event(put, 10, 60)), tells(event(put, 10, 61), event(gone, 0, 62))}}, []int64{51}, true},
+		{"put again, and the watch ended", [][]*pb.WatchResponse{{tells(event(put, 10, 60)), canceled}}, []int64{51, 61}, false},
+		{"ended", [][]*pb.WatchResponse{{canceled}, {canceled}}, []int64{51, 51, 51}, false},
+		{"compacted", [][]*pb.WatchResponse{{compacted}}, []int64{51, 71}, false},
+		{"ended, and then deleted", [][]*pb.WatchResponse{{canceled}, {tells(event(gone, 0, 60))}}, []int64{51, 51}, true},
+	}
+	for _, row := range rows {
+		row := row
+		t.Run(row.name, func(t *testing.T) {
+			t.Parallel()
+			server := &keyed{watches: row.watches, froms: make(chan int64, 9)}
+			ctx, cancel := context.WithCancel(context.Background())
+			defer cancel()
+			held := &term{client: startServer(t, server, 1), lease: &lease{id: 7}, ctx: ctx, end: cancel, key: "k", created: 10, gone: make(chan struct{}, 1)}
+			ended := make(chan struct{})
+			go func() {
+				defer close(ended)
+				held.watch(50)
+			}()
+			for i, want := range row.froms {
+				select {
+				case from := <-server.froms:
+					if from != want {
+						t.Errorf("watch %d begins from %d, wanted %d", i, from, want)
+					}
+				case <-time.After(10 * time.Second):
+					t.Fatalf("watch %d does not begin", i)
+				}
+			}
+			if row.isOver {
+				<-ctx.Done()
+			} else {
+				select {
+				case <-ctx.Done():
+					t.Error("the term has ended")
+				case <-time.After(50 * time.Millisecond):
+				}
+				cancel()
+			}
+			<-ended
+			if want := map[bool]error{true: errKeyGone, false: context.Canceled}[row.isOver]; held.why() != want {
+				t.Errorf("it ended since %v, wanted %v", held.why(), want)
+			}
+		})
+	}
+}

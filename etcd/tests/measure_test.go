@@ -262,3 +262,21 @@ func TestMeasureMoves(t *testing.T) {
 	}
 	t.Logf("100000 volumes and 50000 attachments: an import takes %v, an export %v", imported.Round(10*time.Millisecond), exported.Round(10*time.Millisecond))
 }
+
+// A question whether csid-etcd leads, which csid asks before it answers a call that only reads, beside the reading of a key.
+func TestMeasureQuestions(t *testing.T) {
+	count := measured(t)
+	for _, members := range []int{1, 3} {
+		cluster := clusters.Start(t, members)
+		client := cluster.Client(t)
+		l := start(t, cluster.Endpoints()).leads(t).dial(t)
+		var through, without times
+		for n := 0; n < count; n++ {
+			through.take(func() { l.wants(t, leadPath, "", codes.OK, "") })
+			without.take(func() { revision(t, client) })
+		}
+		t.Logf("%d members, %d questions whether csid-etcd leads: %v", members, count, through)
+		t.Logf("%d members, %d bare readings of a key: %v", members, count, without)
+		t.Logf("%d members: %s", members, ratios(through, without))
+	}
+}

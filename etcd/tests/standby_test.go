@@ -235,4 +235,15 @@ func TestLockTakenAway(t *testing.T) {
 	p.says(t, "leads no more")
 	third := p.dial(t)
 	third.commits(t, addVolume(2, "b"))
+	// The key is put without its lease: it is had again by another one, and does not stay behind the program's end.
+	lines = strings.Split(cluster.Ctl(t, "get", "--prefix", name+"/lock/"), "\n")
+	before = len(p.Log.String())
+	cluster.Ctl(t, "put", lines[0], "other")
+	p.leadsSince(t, before)
+	p.dial(t).commits(t, addVolume(3, "c"))
+	p.Terminate(t)
+	p.Status(t)
+	if got := cluster.Ctl(t, "get", "--prefix", name+"/lock/"); got != "" {
+		t.Errorf("behind its end the lock is %q", got)
+	}
 }
