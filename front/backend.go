@@ -46,7 +46,7 @@ func newBackend(path string, late time.Duration) *backend {
 	}
 }
 
-// call hands a call to csid when it is its turn, and gives the reply. No call is sent twice: where an error comes csid may have done
+// call hands a call to csid when it is its turn, and gives the reply. No call is sent twice that csid may have done: where an error comes it has done
 // it, or not, and the caller has to repeat it.
 func (b *backend) call(ctx context.Context, path string, message []byte) (frames.Reply, error) {
 	came := time.Now()
@@ -63,8 +63,8 @@ func (b *backend) call(ctx context.Context, path string, message []byte) (frames
 		select {
 		case got := <-sent:
 			b.settle(got)
-			if got.err != nil && !got.isSent && isOld && ctx.Err() == nil {
-				// csid closed the connection in this moment, so it has seen nothing of the call.
+			if got.isUndone && isOld && ctx.Err() == nil {
+				// csid closed the connection in this moment, as one that was idle.
 				continue
 			}
 			<-b.turn

@@ -71,6 +71,30 @@ func TestUnsentCallIsSentAnew(t *testing.T) {
 	}
 }
 
+// Nor is one that closes when the call has come, and leaves it unread, as csid closes a connection that was idle. Where it was read it may have been done,
+// and is not sent again.
+func TestUnreadCallIsSentAnew(t *testing.T) {
+	reads := int32(0)
+	path, connections := csid(t, func(conn net.Conn) {
+		if isCalled(conn) {
+			conn.Write(notFound)
+		}
+		awaitBytes(conn, shortCall)
+		io.ReadFull(conn, make([]byte, atomic.LoadInt32(&reads)))
+	})
+	b := newBackend(path, time.Minute)
+	for round := 0; round < 3; round++ {
+		wants(t, b, codes.NotFound)
+	}
+	if made := atomic.LoadInt32(connections); made != 3 {
+		t.Errorf("%d connections for 3 calls", made)
+	}
+	atomic.StoreInt32(&reads, shortCall)
+	if got, err := b.call(soon(t), "/a/b", nil); err != errUnanswered {
+		t.Errorf("a call that was read: %v, %v", got, err)
+	}
+}
+
 // A context that ended makes no connection.
 func TestEndedContext(t *testing.T) {
 	_, path := listening(t)

@@ -52,31 +52,32 @@ func (c *connection) isQuiet() bool {
 	return err == nil && quiet
 }
 
-// outcome is what a call came to. Where there is an error its connection has to be closed, and isSent tells whether csid may have seen
-// anything of the call.
+// outcome is what a call came to. Where there is an error its connection has to be closed, and isUndone tells that csid cannot have done the call, since
+// it closed the connection before it had all of it.
 type outcome struct {
-	answer frames.Reply
-	isSent bool
-	took   time.Duration
-	err    error
+	answer   frames.Reply
+	isUndone bool
+	took     time.Duration
+	err      error
 }
 
 // exchange sends one call and reads its reply, however long that takes: a deadline of the connection bounds it.
 func (c *connection) exchange(path string, message []byte) outcome {
 	frame := net.Buffers{frames.RequestHead(path, len(message)), message}
-	sent, err := frame.WriteTo(c.UnixConn)
+	_, err := frame.WriteTo(c.UnixConn)
 	if frames.IsClosing(err) {
-		return outcome{isSent: sent > 0, err: errUnanswered}
+		return outcome{isUndone: true, err: errUnanswered}
 	}
 	if err != nil {
-		return outcome{isSent: sent > 0, err: fmt.Errorf("sending the call: %w", err)}
+		return outcome{err: fmt.Errorf("sending the call: %w", err)}
 	}
 	answer, err := frames.ReadReply(c.in)
 	if frames.IsClosing(err) {
-		return outcome{isSent: true, err: errUnanswered}
+		// A Unix socket is reset where its peer closed it with bytes unread, and those of this call are all that was on its way.
+		return outcome{isUndone: errors.Is(err, syscall.ECONNRESET), err: errUnanswered}
 	}
 	if err != nil {
-		return outcome{isSent: true, err: fmt.Errorf("reading the reply: %w", err)}
+		return outcome{err: fmt.Errorf("reading the reply: %w", err)}
 	}
-	return outcome{answer: answer, isSent: true}
+	return outcome{answer: answer}
 }

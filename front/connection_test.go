@@ -5,6 +5,7 @@ import (
 	"io"
 	"net"
 	"path/filepath"
+	"syscall"
 	"testing"
 	"time"
 
@@ -71,11 +72,11 @@ func TestQuietConnection(t *testing.T) {
 	}
 }
 
-// What is called unsent may be sent again, so it has to be so that csid can have seen none of it.
-func TestUnsentCall(t *testing.T) {
+// What is called undone may be sent again, so it has to be so that csid cannot have had all of it.
+func TestUndoneCall(t *testing.T) {
 	conn, other := pair(t)
 	other.Close()
-	if got := conn.exchange("/a/b", []byte{1}); got.err != errUnanswered || got.isSent {
+	if got := conn.exchange("/a/b", []byte{1}); got.err != errUnanswered || !got.isUndone {
 		t.Errorf("to a csid that went before: %v", got)
 	}
 	conn, other = pair(t)
@@ -83,35 +84,52 @@ func TestUnsentCall(t *testing.T) {
 		other.Read(make([]byte, 1))
 		other.Close()
 	}()
-	if got := conn.exchange("/a/b", make([]byte, frames.MaxMessageBytes)); got.err != errUnanswered || !got.isSent {
+	if got := conn.exchange("/a/b", make([]byte, frames.MaxMessageBytes)); got.err != errUnanswered || !got.isUndone {
 		t.Errorf("to a csid that took a part: %v", got)
 	}
+}
+
+// awaitBytes waits until so many bytes of a call have come, and reads none.
+func awaitBytes(conn net.Conn, count int) {
+	raw, err := conn.(*net.UnixConn).SyscallConn()
+	if err != nil {
+		return
+	}
+	raw.Read(func(file uintptr) bool {
+		size, _, err := syscall.Recvfrom(int(file), make([]byte, count), syscall.MSG_PEEK|syscall.MSG_DONTWAIT)
+		return size >= count || err != nil && err != syscall.EAGAIN
+	})
 }
 
 // However csid closes a connection in place of a reply, it is told as that; an end within a reply is another thing.
 func TestClosedConnection(t *testing.T) {
 	const callBytes = 11
 	rows := []struct {
-		name  string
-		reads int
-		sends string
-		want  error
+		name     string
+		reads    int
+		sends    string
+		want     error
+		isUndone bool
 	}{
-		{"an end, behind all of the call", callBytes, "", errUnanswered},
-		{"a reset, behind a part", 1, "", errUnanswered},
-		{"an end within the reply", callBytes, "05 0001", io.ErrUnexpectedEOF},
-		{"a reset within the reply", 1, "05 0001", io.ErrUnexpectedEOF},
+		{"an end, behind all of the call", callBytes, "", errUnanswered, false},
+		{"a reset, behind nothing", 0, "", errUnanswered, true},
+		{"a reset, behind a part", 1, "", errUnanswered, true},
+		{"a reset, behind all but a byte", callBytes - 1, "", errUnanswered, true},
+		{"an end within the reply", callBytes, "05 0001", io.ErrUnexpectedEOF, false},
+		{"a reset within the reply", 1, "05 0001", io.ErrUnexpectedEOF, false},
 	}
 	for _, row := range rows {
 		conn, other := pair(t)
 		went := make(chan struct{})
 		go func() {
 			defer close(went)
+			// The whole call has come when the connection is closed.
+			awaitBytes(other, callBytes)
 			io.ReadFull(other, make([]byte, row.reads))
 			other.Write(fromHex(t, row.sends))
 			other.Close()
 		}()
-		if got := conn.exchange("/a/b", nil); !errors.Is(got.err, row.want) || !got.isSent {
+		if got := conn.exchange("/a/b", nil); !errors.Is(got.err, row.want) || got.isUndone != row.isUndone {
 			t.Errorf("%s: %v", row.name, got)
 		}
 		<-went

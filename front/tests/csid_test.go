@@ -4,6 +4,9 @@ import (
 	"context"
 	"encoding/hex"
 	"fmt"
+	"net"
+	"os/exec"
+	"path/filepath"
 	"regexp"
 	"strings"
 	"sync"
@@ -370,4 +373,27 @@ func TestTenThousandCalls(t *testing.T) {
 		}()
 	}
 	calls(10000)
+}
+
+// A connection that csid closes as idle costs no call, also where that is just when the next one is sent; and who else waits is served meanwhile.
+func TestIdleConnection(t *testing.T) {
+	t.Parallel()
+	folder := processes.Folder(t)
+	socket := filepath.Join(folder, "csid.sock")
+	csid := processes.Start(t, socket, exec.Command(processes.CsidProgram(t), "serve", "--socket", socket, "--tables", filepath.Join(folder, "volumes.db"), "--idle", "1")).Answers(t)
+	front := newClient(t, processes.StartFront(t, csid.Socket).Socket)
+	for late := -3; late <= 3; late++ {
+		front.wants(t, probe, "", ok(ready))
+		sent := time.Now()
+		go func() {
+			if peer, err := net.Dial("unix", socket); err == nil {
+				defer peer.Close()
+				peer.Write(fromHex(t, "0016 2f6373692e76312e4964656e746974792f50726f6265 00 00000000"))
+				peer.SetReadDeadline(time.Now().Add(processes.Patience))
+				peer.Read(make([]byte, 1))
+			}
+		}()
+		time.Sleep(time.Until(sent.Add(time.Second + time.Duration(late)*time.Millisecond)))
+	}
+	front.wants(t, probe, "", ok(ready))
 }
