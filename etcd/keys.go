@@ -28,7 +28,7 @@ func (k keys) locks() string       { return k.name + "/lock/" }
 func (k keys) volumes() string     { return k.name + "/volumes/" }
 func (k keys) attachments() string { return k.name + "/attachments/" }
 
-// lock is the key of who stands for the lock by a lease.
+// lock is the key of a candidate for the lock, by its lease.
 func (k keys) lock(id clientv3.LeaseID) string { return fmt.Sprintf("%s%x", k.locks(), id) }
 
 func (k keys) volume(number uint64) string {

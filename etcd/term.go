@@ -173,9 +173,9 @@ func (t *term) why() error {
 	}
 }
 
-// leads asks etcd whether this program leads, and is refused where it does not, or where etcd does not say so in the time of a request. An answer tells
-// how it was at a moment after the question came. Its own clock and a watch cannot: a key that is deleted by hand, or with its lease, is seen by all at
-// once by who asks, and later by who is told.
+// leads asks etcd whether this program leads. It is an error where the program does not lead, and where etcd does not answer within the time of a request.
+// The answer is true at a moment after the question came. The program's own clock and a watch cannot give such an answer: where the key is deleted by
+// hand, or its lease is revoked, another program may lead before a watch reports it.
 func (t *term) leads(ctx context.Context) error {
 	ctx, cancel := context.WithTimeout(ctx, t.timeout)
 	defer cancel()
@@ -202,19 +202,19 @@ func (t *term) leads(ctx context.Context) error {
 	}
 }
 
-// watch ends the term as soon as etcd tells that the key of the lock is gone, was made again, or does not go with the lease any more. It begins behind a revision at which the key was seen;
-// where etcd ends the watch it begins again, and leaves out what was compacted: hold looks too, though less often.
+// watch ends the term as soon as etcd reports that the key of the lock is gone, was made again, or does not go with the lease any more. It begins after a
+// revision at which the key was seen. Where etcd ends the watch it begins again, and leaves out what was compacted: hold looks too, though less often.
 func (t *term) watch(seen int64) {
 	for t.ctx.Err() == nil {
 		ctx, cancel := context.WithCancel(clientv3.WithRequireLeader(t.ctx))
-		for told := range t.client.Watch(ctx, t.key, clientv3.WithRev(seen+1)) {
-			for _, event := range told.Events {
+		for report := range t.client.Watch(ctx, t.key, clientv3.WithRev(seen+1)) {
+			for _, event := range report.Events {
 				if event.Type == clientv3.EventTypeDelete || event.Kv.CreateRevision != t.created || event.Kv.Lease != int64(t.lease.id) {
 					t.loses()
 				}
 				seen = event.Kv.ModRevision
 			}
-			if compacted := told.CompactRevision; compacted > seen {
+			if compacted := report.CompactRevision; compacted > seen {
 				seen = compacted
 			}
 		}

@@ -346,16 +346,17 @@ func TestTries(t *testing.T) {
 	}
 }
 
-// keyed is an etcd in which the key of the lock is as a test says, one reading after the other, of which the last one holds on. It tells watches what
-// else a test says.
+// keyed is an etcd in which the key of the lock is as a test says, one reading after the other, of which the last one holds on. It reports to watches what
+// the test says.
 type keyed struct {
 	pb.KVServer
 	pb.WatchServer
 	looks []look
 	came  int
-	// The revisions from which watches were asked for, and what each of them is told until it ends. A watch beyond these is told nothing.
+	// The revisions from which watches were asked for, and what is reported to each of them until it ends. Nothing is reported to a watch beyond these.
 	froms   chan int64
 	watches [][]*pb.WatchResponse
+	mutex   sync.Mutex
 }
 
 func (k *keyed) Range(context.Context, *pb.RangeRequest) (*pb.RangeResponse, error) {
@@ -379,15 +380,19 @@ func (k *keyed) Watch(stream pb.Watch_WatchServer) error {
 	if err != nil {
 		return err
 	}
-	k.froms <- asked.GetCreateRequest().StartRevision
+	k.mutex.Lock()
+	var reports []*pb.WatchResponse
 	if len(k.watches) > 0 {
-		for _, told := range append([]*pb.WatchResponse{{Created: true}}, k.watches[0]...) {
-			told.Header = &pb.ResponseHeader{Revision: 100}
-			if err := stream.Send(told); err != nil {
-				return err
-			}
+		reports, k.watches = append([]*pb.WatchResponse{{Created: true}}, k.watches[0]...), k.watches[1:]
+	}
+	k.mutex.Unlock()
+	k.froms <- asked.GetCreateRequest().StartRevision
+	for _, report := range reports {
+		sent := *report
+		sent.Header = &pb.ResponseHeader{Revision: 100}
+		if err := stream.Send(&sent); err != nil {
+			return err
 		}
-		k.watches = k.watches[1:]
 	}
 	<-stream.Context().Done()
 	return nil
@@ -407,7 +412,7 @@ func TestLeads(t *testing.T) {
 	}{
 		{"the key is there", []look{{0, 10, nil}}, 100, "", false, 1},
 		{"it is gone", []look{{0, 0, nil}}, 100, "this program does not lead any more: its key of the lock is gone", true, 1},
-		{"it was made anew", []look{{0, 11, nil}}, 100, "this program does not lead any more: its key of the lock is gone", true, 1},
+		{"it was made again", []look{{0, 11, nil}}, 100, "this program does not lead any more: its key of the lock is gone", true, 1},
 		{"no answer at first", []look{{0, 0, failed}, {0, 0, failed}, {0, 10, nil}}, 100, "", false, 3},
 		{"no answer, and then gone", []look{{0, 0, failed}, {0, 0, nil}}, 100, "this program does not lead any more: its key of the lock is gone", true, 2},
 		{"no answer", []look{{0, 0, failed}}, 100, silent + failed.Error(), false, 0},
@@ -439,8 +444,8 @@ func TestLeads(t *testing.T) {
 	}
 }
 
-// A term ends as soon as a watch tells that the key of the lock is gone or was made anew, and why is known then. Where it was put again, as a fence does,
-// the term goes on. A watch that etcd ends begins again behind what was seen.
+// A term ends as soon as a watch reports that the key of the lock is gone or was made again, and why is known then. Where it was put again, as a fence
+// does, the term goes on. A watch that etcd ends begins again after what was seen.
 func TestWatch(t *testing.T) {
 	event := func(kind mvccpb.Event_EventType, made, put int64) *mvccpb.Event {
 		return &mvccpb.Event{Type: kind, Kv: &mvccpb.KeyValue{Key: []byte("k"), CreateRevision: made, ModRevision: put, Lease: 7}}
@@ -448,7 +453,7 @@ func TestWatch(t *testing.T) {
 	// Where a key is put without a lease.
 	apart := event(mvccpb.PUT, 10, 60)
 	apart.Kv.Lease = 0
-	tells := func(events ...*mvccpb.Event) *pb.WatchResponse { return &pb.WatchResponse{Events: events} }
+	reports := func(events ...*mvccpb.Event) *pb.WatchResponse { return &pb.WatchResponse{Events: events} }
 	canceled := &pb.WatchResponse{Canceled: true, CancelReason: "any"}
 	compacted := &pb.WatchResponse{Canceled: true, CompactRevision: 70}
 	const put, gone = mvccpb.PUT, mvccpb.DELETE
@@ -458,14 +463,14 @@ func TestWatch(t *testing.T) {
 		froms   []int64
 		isOver  bool
 	}{
-		{"deleted", [][]*pb.WatchResponse{{tells(event(gone, 0, 60))}}, []int64{51}, true},
-		{"put without its lease", [][]*pb.WatchResponse{{tells(apart)}}, []int64{51}, true},
-		{"made anew", [][]*pb.WatchResponse{{tells(event(put, 60, 60))}}, []int64{51}, true},
-		{"put again, and then deleted", [][]*pb.WatchResponse{{tells(event(put, 10, 60)), tells(event(put, 10, 61), event(gone, 0, 62))}}, []int64{51}, true},
-		{"put again, and the watch ended", [][]*pb.WatchResponse{{tells(event(put, 10, 60)), canceled}}, []int64{51, 61}, false},
+		{"deleted", [][]*pb.WatchResponse{{reports(event(gone, 0, 60))}}, []int64{51}, true},
+		{"put without its lease", [][]*pb.WatchResponse{{reports(apart)}}, []int64{51}, true},
+		{"made again", [][]*pb.WatchResponse{{reports(event(put, 60, 60))}}, []int64{51}, true},
+		{"put again, and then deleted", [][]*pb.WatchResponse{{reports(event(put, 10, 60)), reports(event(put, 10, 61), event(gone, 0, 62))}}, []int64{51}, true},
+		{"put again, and the watch ended", [][]*pb.WatchResponse{{reports(event(put, 10, 60)), canceled}}, []int64{51, 61}, false},
 		{"ended", [][]*pb.WatchResponse{{canceled}, {canceled}}, []int64{51, 51, 51}, false},
 		{"compacted", [][]*pb.WatchResponse{{compacted}}, []int64{51, 71}, false},
-		{"ended, and then deleted", [][]*pb.WatchResponse{{canceled}, {tells(event(gone, 0, 60))}}, []int64{51, 51}, true},
+		{"ended, and then deleted", [][]*pb.WatchResponse{{canceled}, {reports(event(gone, 0, 60))}}, []int64{51, 51}, true},
 	}
 	for _, row := range rows {
 		row := row

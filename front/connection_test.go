@@ -112,9 +112,9 @@ func TestClosedConnection(t *testing.T) {
 		isUndone bool
 	}{
 		{"an end, behind all of the call", callBytes, "", errUnanswered, false},
-		{"a reset, behind nothing", 0, "", errUnanswered, true},
+		{"a reset, after nothing", 0, "", errUnanswered, true},
 		{"a reset, behind a part", 1, "", errUnanswered, true},
-		{"a reset, behind all but a byte", callBytes - 1, "", errUnanswered, true},
+		{"a reset, after all but a byte", callBytes - 1, "", errUnanswered, true},
 		{"an end within the reply", callBytes, "05 0001", io.ErrUnexpectedEOF, false},
 		{"a reset within the reply", 1, "05 0001", io.ErrUnexpectedEOF, false},
 	}

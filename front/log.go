@@ -103,7 +103,7 @@ func (l *logger) listens(address string) {
 	l.tell("metrics at "+address, entry{Level: levelInfo, Message: "metrics", Address: address})
 }
 
-// drops tells how many lines were dropped.
+// drops reports how many lines were dropped.
 func (l *logger) drops(count uint64) {
 	l.tell(logqueue.Report(count), entry{Level: levelWarn, Message: "lines dropped", Dropped: count})
 }
@@ -125,7 +125,7 @@ func (l *logger) refuses(path string, why *status.Status, took time.Duration) {
 	l.tell(text, entry{Level: levelWarn, Message: "call refused", refusedCall: call})
 }
 
-// saying takes lines that somebody else writes, whom they name in JSON.
+// saying takes lines of others, and names these in JSON.
 type saying struct {
 	*logger
 	who string

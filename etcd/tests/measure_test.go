@@ -263,7 +263,7 @@ func TestMeasureMoves(t *testing.T) {
 	t.Logf("100000 volumes and 50000 attachments: an import takes %v, an export %v", imported.Round(10*time.Millisecond), exported.Round(10*time.Millisecond))
 }
 
-// A question whether csid-etcd leads, which csid asks before it answers a call that only reads, beside the reading of a key.
+// A question whether csid-etcd leads, which csid asks before it answers a call that only reads, next to the reading of a key.
 func TestMeasureQuestions(t *testing.T) {
 	count := measured(t)
 	for _, members := range []int{1, 3} {

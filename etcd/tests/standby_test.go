@@ -235,7 +235,7 @@ func TestLockTakenAway(t *testing.T) {
 	p.says(t, "leads no more")
 	third := p.dial(t)
 	third.commits(t, addVolume(2, "b"))
-	// The key is put without its lease: it is had again by another one, and does not stay behind the program's end.
+	// The key is put without its lease: the program leads again by another one, and nothing is left after its end.
 	lines = strings.Split(cluster.Ctl(t, "get", "--prefix", name+"/lock/"), "\n")
 	before = len(p.Log.String())
 	cluster.Ctl(t, "put", lines[0], "other")
@@ -244,6 +244,6 @@ func TestLockTakenAway(t *testing.T) {
 	p.Terminate(t)
 	p.Status(t)
 	if got := cluster.Ctl(t, "get", "--prefix", name+"/lock/"); got != "" {
-		t.Errorf("behind its end the lock is %q", got)
+		t.Errorf("after its end the lock is %q", got)
 	}
 }

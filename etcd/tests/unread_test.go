@@ -43,7 +43,7 @@ func (p program) saysThatItLeads(t *testing.T) {
 	})
 }
 
-// A program whose standard error takes no line answers and keeps the lock, and it gives the lock up and stands for it again as any other. Lines that find no
+// A program whose standard error takes no line answers and keeps the lock, and it gives the lock up and waits for it again as any other. Lines that find no
 // room are dropped, and reported once somebody reads.
 func TestUnreadLog(t *testing.T) {
 	t.Parallel()

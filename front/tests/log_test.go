@@ -91,7 +91,7 @@ func TestLogOfTheHTTPServer(t *testing.T) {
 	}
 }
 
-// unread is a front that tells metrics, with a standard error that takes no line, and where it tells them.
+// unread is a front whose standard error takes no line, and the address of its metrics.
 func unread(t *testing.T, csid string, errors *os.File) (*processes.Process, string) {
 	t.Helper()
 	free, err := net.Listen("tcp", "127.0.0.1:0")
@@ -151,7 +151,7 @@ func TestUnreadEnd(t *testing.T) {
 		begin := time.Now()
 		status := processes.Start(t, "", command).Status(t)
 		if took := time.Since(begin); status != 7 || took > 5*time.Second {
-			t.Errorf("%s: status %d behind %v", name, status, took)
+			t.Errorf("%s: status %d after %v", name, status, took)
 		}
 	}
 }

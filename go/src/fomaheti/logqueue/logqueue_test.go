@@ -22,7 +22,7 @@ type stuck struct {
 	text  strings.Builder
 	// What is answered to each write; it waits for it.
 	answers chan error
-	// Told of each write that begins.
+	// Has a value for each write that begins.
 	begun chan struct{}
 }
 
@@ -68,7 +68,7 @@ func promptly(t *testing.T, act func()) {
 	}
 }
 
-// No line waits for a writer that stands still. Beyond the room lines are dropped, and reported where they were missing once it goes on.
+// No line waits for a writer that is stuck. Beyond the room lines are dropped, and reported where they are missing once it goes on.
 func TestFull(t *testing.T) {
 	out := newStuck()
 	q := New(out, report)
@@ -95,9 +95,9 @@ func TestFull(t *testing.T) {
 	// One line is written, so there is room for one.
 	out.answers <- nil
 	<-out.begun
-	say("behind")
+	say("after")
 	say("dropped")
-	want = append(want, "dropped 17", "behind", "dropped 1")
+	want = append(want, "dropped 17", "after", "dropped 1")
 	go func() {
 		for {
 			out.answers <- nil
