@@ -1,25 +1,29 @@
 -- What a SELECT inside a transaction reads, and that it keeps what was committed.
-use Rattle.std.proofs.Common.{◌≡◌, ◌∙◌, ◌⊎◌, inl, inr, refl, sym, ap, subst, subst₂, ℕ, List, [], ◌∷◌, map, take, true, if◌then◌else◌, Option, Some, None, Ok, Err, Result, IfOk, IfErr, IsTrue, IsPermutation}
+use Rattle.std.proofs.Common.{◌≡◌, ◌∙◌, ◌⊎◌, inl, inr, refl, sym, ap, subst, subst₂, ℕ, List, [], ◌∷◌, map, filter, take, true, if◌then◌else◌, Option, Some, None, Ok, Err, Result, IfOk, IfErr, IsTrue}
 use Rattle.sqlite.specs.Effect.{Database}
 use Rattle.sqlite.specs.Held.{Held, state}
 use Rattle.sqlite.specs.Listing.{understood}
 use Rattle.sqlite.specs.Order.{Row, column}
 use Rattle.sqlite.specs.Program.{overlay}
-use Rattle.sqlite.specs.Query.{IsAnswer, Output, output, page}
+use Rattle.sqlite.specs.Query.{Output, output, page}
 use Rattle.sqlite.specs.State.{State, HasCleanDisk, KeepsCommit, IsUnchanged, IsRolledBack, Shows, Shown, ShowsRows, IsNotRun, FailsToQuery, FailsToShow, QueriesRow, QueriesRowInside, IsTooLate}
 use Rattle.sqlite.specs.Store.{Ghosts}
 use Rattle.sqlite.specs.Term.{Term, col}
 use Rattle.sqlite.specs.Tree.{Trees}
 use Rattle.sqlite.specs.declared.error.Error.{Error}
 use Rattle.sqlite.specs.declared.types.Value.TheVariants.{Null}
-use Rattle.sqlite.proofs.Callers.{IsPlain, first_as, reads_as, one_permutation}
+use Rattle.sqlite.proofs.Callers.{IsPlain, first_as, reads_as}
 use Rattle.sqlite_resolve.specs.declared.compiled.Compiled.{Compiled}
+use Rattle.sqlite_rules.proofs.ListLemmas.{all_from, all_has, has_filtered}
+use Rattle.sqlite_rules.proofs.ProbeLemmas.{has_mapped}
+use Rattle.sqlite_rules.specs.Lists.{Has}
 use Rattle.sqlite_schema.specs.declared.command.Returning.{Returning}
+use Rattle.sqlite_trees.proofs.ListLemmas.{all-permutation}
 use Rattle.sqlite_value.specs.declared.keys.Key.{Key}
 use Rattle.csi_schema.specs.Transactions.{LeavesNothingNew}
 use Rattle.csi_schema.specs.facts.Failing.{IsSelect}
 use Rattle.csi_statements.specs.Failing.{NothingRefuses}
-use Rattle.csi_statements.specs.Rows.{seen_meta, meta_row, Sees, Selects, Steps, Reads}
+use Rattle.csi_statements.specs.Rows.{Sees, Selects, Steps, Reads}
 use Rattle.csi_statements.specs.Selecting.{Tells, asked, given}
 use Rattle.csi_statements.specs.declared.statements.select.Select.{Select}
 use Rattle.csi_statements.specs.declared.statements.select.Select.TheVariants.{Numbered, Named, Sizes, Page, PageNumbers, Nodes, Attached, Places}
@@ -153,12 +157,7 @@ selects_over {g = g} {old = old} {new = new} q text params is same items r ok er
 pub reads : {What : Database → Type 0} {old new : State} → Steps (Sees What) old new → Reads What old
 reads h = record { was_open = h.shown.was_open; what = λ has. (h.effect has).told }
 
--- ---- the one row of meta
-
-pub one_seen : (f : Row → Row) (rows : List Row) (y : Row) → map f rows ≡ y ∷ [] → (r : Row) × (rows ≡ r ∷ []) × (f r ≡ y)
-one_seen f [] y e = absurd cc
-one_seen f (r ∷ []) y e = (r, refl, cc)
-one_seen f (r ∷ q ∷ rows) y e = absurd cc
+-- ---- a row of meta
 
 step_row : (sql : List ℕ) (old new : State) (row : Row) → IsTrue old.in_transaction → QueriesRow sql [] old new (Ok row) → Shows old new new.now old.committed true
 unfolding QueriesRow
@@ -170,16 +169,21 @@ unfolding QueriesRow
 row_stays sql old new row plain has (inl h) = h.1.0.now_is
 row_stays sql old new row plain has (inr h) = stays sql [] old new h.0 plain has h.1
 
-number_shown : (old new : State) (row : Row) → QueriesRowInside number_text [] old new (Ok row) → old.now.schema ≡ schema → (r : Row) → old.now.trees 0 ≡ r ∷ [] → row ≡ column r 3 ∷ []
-number_shown old new row h has r one =
+first_has : (row : Row) (rows : List Row) (all : List Row) → row ∷ rows ≡ all → Has all row
+first_has row rows all is = subst (λ (xs : List Row). Has xs row) is (inl refl)
+
+of_table : (rows : List Row) (row : Row) (behind : List Row) → IsShownOf number_query rows [] (row ∷ behind) → (kept : Row) × Has rows kept × (row ≡ column kept 3 ∷ [])
+of_table rows row behind h =
+    let out = has_mapped (λ (o : Output). o.1) h.ordered row (first_has row behind _ h.shown_is) in
+    let passed = filter (λ r. true) rows in
+    let before = all_has (Has (map (λ (r : Row). output number_query ([] ∷ r ∷ [])) passed)) h.ordered out.0 (all-permutation (Has (map (λ (r : Row). output number_query ([] ∷ r ∷ [])) passed)) _ h.ordered h.same (all_from _ _ (λ e has. has))) out.1 in
+    let made = has_mapped (λ (r : Row). output number_query ([] ∷ r ∷ [])) passed out.0 before in
+    (made.0, (has_filtered (λ r. true) rows made.0 made.1).0, out.2 ∙ ap (λ (o : Output). o.1) made.2)
+
+number_shown : (old new : State) (row : Row) → QueriesRowInside number_text [] old new (Ok row) → old.now.schema ≡ schema → IsNext old.now row
+number_shown old new row h has =
     let got = (first_as number_text [] old new schema has _ number_select.is number_select.plain number_select.unlisted row h).1 in
-    let a : IsAnswer number_query (overlay old.now.trees []) [] (row ∷ got.0) = got.1 Null in
-    let staged : a.staged ≡ ([] ∷ r ∷ []) ∷ [] = a.grouped ∙ rw one refl in
-    let o : Output = ([], column r 3 ∷ []) in
-    let kept : a.kept ≡ o ∷ [] = a.distinct ∙ ap (map (output number_query)) staged in
-    let ordered = one_permutation o a.ordered (subst (λ k. IsPermutation k a.ordered) kept a.same) in
-    let rows : row ∷ got.0 ≡ (column r 3 ∷ []) ∷ [] = a.shown ∙ ap (λ xs. page number_query [] (map (λ (p : Output). p.1) xs)) ordered in
-    cc
+    of_table (old.now.trees 0) row got.0 (shows_one 0 [] number_query.project [] (overlay old.now.trees []) [] (row ∷ got.0) (got.1 Null))
 
 pub number_read : (old new : State) (r : Result Row Error) → IsTrue old.in_transaction → QueriesRowInside number_text [] old new r
     → IfOk r (λ row. Steps (Sees (λ db. IsNext db row)) old new)
@@ -188,8 +192,6 @@ number_read old new (Ok row) inside h = record {
   shown = step_row number_text old new row inside h;
   effect = λ has. record {
     same = row_stays number_text old new row number_select.plain has h;
-    told = λ format next seen.
-        let it = one_seen seen_meta (old.now.trees 0) (meta_row format next) seen in
-        number_shown old new row h has it.0 it.1 ∙ ap (λ v. v ∷ []) (ap (λ (x : Row). column x 2) it.2);
+    told = number_shown old new row h has;
   };
 }

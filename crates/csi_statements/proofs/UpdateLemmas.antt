@@ -16,9 +16,13 @@ use Rattle.csi_schema.specs.facts.Writes.{IsCommand, updated}
 use Rattle.csi_schema.specs.declared.formats.TheConstants.{LATEST_FORMAT}
 use Rattle.csi_statements.specs.Rows.{number_value, seen_meta, meta_row, SetsNext, SetsFormat}
 use Rattle.csi_statements.specs.Tables.{schema, meta}
-use Rattle.csi_statements.proofs.ReadLemmas.{one_seen}
 use Rattle.csi_statements.specs.Texts.{text, SetNext, SetFormat}
 use Rattle.csi_statements.proofs.TextLemmas.{meta_query, next_query, format_query, is_command}
+
+one_seen : (f : Row → Row) (rows : List Row) (y : Row) → map f rows ≡ y ∷ [] → (r : Row) × (rows ≡ r ∷ []) × (f r ≡ y)
+one_seen f [] y e = absurd cc
+one_seen f (r ∷ []) y e = (r, refl, cc)
+one_seen f (r ∷ q ∷ rows) y e = absurd cc
 
 -- the one row of meta, where the terms that are set are numbers
 module _ (text : List ℕ) (params : Row) (format next : Term) (command : IsCommand text (Update 0 (record { lets = []; body = meta_query format next }))) (old new : State) (count : ℕ) (has : old.now.schema ≡ schema)

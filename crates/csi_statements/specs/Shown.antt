@@ -5,8 +5,9 @@ use Rattle.sqlite.specs.Effect.{Database}
 use Rattle.sqlite.specs.Order.{Row, column}
 use Rattle.sqlite.specs.Query.{Query, Output, output, output_cmp}
 use Rattle.sqlite.specs.Term.{holds}
+use Rattle.sqlite_rules.specs.Lists.{Has}
 use Rattle.csi_statements.specs.Cells.{as_number}
-use Rattle.csi_statements.specs.Rows.{number_value, meta_row, seen_meta}
+use Rattle.csi_statements.specs.Rows.{number_value}
 use Rattle.csi_statements.specs.Statements.{page_query, page_numbers_query, places_query}
 
 -- what is shown of each row that passes, in an order that ORDER BY allows; a LIMIT is not looked at
@@ -41,6 +42,6 @@ pub record IsPageNodes (after count : ℕ) (db : Database) (numbers places : Lis
   pub numbered : IsPageNumbers after count db numbers
   pub placed : IsShownOf places_query (db.trees 3) (number_value after ∷ number_value (last_number after numbers) ∷ []) places
 
--- the one cell is the next number, whatever the format is
+-- the one cell is the next number of a row of meta, whatever its format is
 abbrev pub IsNext : Database → Row → Type 0
-IsNext db row = (format next : ℕ) → map seen_meta (db.trees 0) ≡ meta_row format next ∷ [] → row ≡ number_value next ∷ []
+IsNext db row = (kept : Row) × Has (db.trees 0) kept × (row ≡ column kept 3 ∷ [])

@@ -8,6 +8,7 @@ mod ModeLemmas
 mod NewLemmas
 mod PageLemmas
 mod PlaceLemmas
+mod ReadingLemmas
 mod RefusalLemmas
 mod RowLemmas
 mod ShownLemmas

@@ -25,7 +25,7 @@ use Rattle.csi_tables.proofs.KeepLemmas.{is_quiet, stays_quiet}
 use Rattle.csi_tables.proofs.RefusalLemmas.{told_refused}
 
 -- what is told of an answer
-told_if : {X : Type 0} {P Q : X → Type 0} (answer : Result X Fault) (r : Result X StoreFault) → r ≡ answered answer → ((x : X) → P x → Q x) → IfOk answer P → IfOk r Q
+pub told_if : {X : Type 0} {P Q : X → Type 0} (answer : Result X Fault) (r : Result X StoreFault) → r ≡ answered answer → ((x : X) → P x → Q x) → IfOk answer P → IfOk r Q
 told_if {X} {P} {Q} answer r is f h = subst (λ (x : Result X StoreFault). IfOk x Q) (sym is) (go answer h)
   where
     go : (a : Result X Fault) → IfOk a P → IfOk (answered a) Q

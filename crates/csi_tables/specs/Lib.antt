@@ -4,5 +4,6 @@ pub mod Holding
 pub mod Keeping
 pub mod Laws
 pub mod Places
+pub mod Reading
 pub mod Refusing
 pub mod facts

@@ -11,6 +11,7 @@ ghost use Rattle.csi_codec.specs.Reading.{read_request};
 ghost use Rattle.csi_keeper.specs.Capability.{capability_of, key_of};
 ghost use Rattle.csi_keeper.specs.declared.capability.CapKey.{CapKey as Key};
 ghost use Rattle.csi_tables.specs.Encoding.{create_with, caps_bytes, params_bytes, AreKnown, FitCaps, FitParams, ReadsBack};
+ghost use Rattle.csi_tables.specs.Reading.{AreKeysOf, AreParamsOf};
 ghost use Rattle.csi_tables.specs.declared.fault.Fault.TheVariants.{Refused};
 
 use crate::fault::Fault;
@@ -144,6 +145,8 @@ fn keys_of(alloc: Global, capabilities: &[Capability]) -> Result<Items<CapKey>, 
 pub(crate) fn read_caps(alloc: Global, bytes: &[u8]) -> Result<Items<CapKey>, Fault>
     ensures ok { IfOk result (λ keys. (ks : List Key) → FitCaps ks → bytes.now ≡ caps_bytes ks → keys ≡ ks) }
     ensures refused { IsErrOf result Refused → (ks : List Key) → FitCaps ks → AreKnown ks → bytes.now ≢ caps_bytes ks }
+    ensures exact { IfOk result (λ keys. AreKeysOf bytes.now keys) }
+    ensures unread { IsErrOf result Refused → (ks : List Key) → AreKeysOf bytes.now ks → ⊥ }
 {
     read_back();
     let message = read(alloc, bytes)?;
@@ -154,6 +157,8 @@ pub(crate) fn read_caps(alloc: Global, bytes: &[u8]) -> Result<Items<CapKey>, Fa
 pub(crate) fn read_params(alloc: Global, bytes: &[u8]) -> Result<(Map, Map), Fault>
     ensures ok { IfOk result (λ read. (p m : TextMap) → FitParams p m → bytes.now ≡ params_bytes p m → read ≡ (p, m)) }
     ensures refused { IsErrOf result Refused → (p m : TextMap) → FitParams p m → bytes.now ≢ params_bytes p m }
+    ensures exact { IfOk result (λ read. AreParamsOf bytes.now read) }
+    ensures unread { IsErrOf result Refused → (params : TextMap × TextMap) → AreParamsOf bytes.now params → ⊥ }
 {
     read_back();
     let message = read(alloc, bytes)?;

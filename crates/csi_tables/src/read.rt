@@ -3,10 +3,11 @@
 //! Each function asks that no transaction is open on the connection, and leaves it so. Where a row is
 //! none that was written, as only a disk that is not clean gives it, the read is refused.
 
-ghost use Rattle.std.specs.Prelude.{◌≡◌, ◌<◌, ◌^◌, false};
+ghost use Rattle.std.specs.Prelude.{◌≡◌, ◌<◌, ◌^◌, false, IfOk};
 ghost use Rattle.std.specs.FinMap.{get};
 ghost use Rattle.csi_keeper.specs.Listing.{listing};
 ghost use Rattle.csi_keeper.specs.State.{attached, attached_at, named, page, published_of_page, sizes};
+ghost use Rattle.csi_tables.specs.Reading.{TellsNext};
 ghost use Rattle.csi_tables.specs.Refusing.{ConnReads};
 
 use crate::fault::Fault;
@@ -21,7 +22,8 @@ use std::alloc::Global;
 /// The next number.
 pub(crate) fn next_number<S: Alter>(conn: &mut Connection<S>) -> Result<u64, Fault>
     requires idle { conn.old.in_transaction ≡ false }
-    ensures { ConnReads S.Store conn.old conn.new (λ s n. n ≡ s.next) result }
+    ensures reads { ConnReads S.Store conn.old conn.new (λ s n. n ≡ s.next) result }
+    ensures exact { IfOk result (λ n. TellsNext S.Store conn.old conn.new n) }
 {
     let row = reads::next_number(conn)?;
     number_in(&row, 0)

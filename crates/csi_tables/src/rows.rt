@@ -9,10 +9,10 @@ ghost use Rattle.csi_keeper.specs.State.{Place};
 ghost use Rattle.csi_keeper.specs.declared.capability.CapKey.{CapKey as Key};
 ghost use Rattle.csi_keeper.specs.declared.volume.Attachment.{Attachment as Placed};
 ghost use Rattle.csi_keeper.specs.declared.volume.Volume.{Volume as Stored};
-ghost use Rattle.csi_statements.specs.Cells.{as_flag};
 ghost use Rattle.csi_statements.specs.Rows.{number_value};
 ghost use Rattle.csi_tables.specs.Encoding.{caps_bytes, params_bytes, AreKnown, FitCaps, FitParams};
 ghost use Rattle.csi_tables.specs.Holding.{volume_entry, node_entry, IsStored, IsPlaced, IsReadable, IsReadablePlace};
+ghost use Rattle.csi_tables.specs.Reading.{AreReadOf, HasKeys, HasParams, IsReadOf, ShowsAttachment, ShowsNumber, ShowsVolume};
 ghost use Rattle.csi_tables.specs.declared.fault.Fault.TheVariants.{Refused};
 
 use crate::encoding::{read_caps, read_params};
@@ -42,6 +42,8 @@ pub(crate) fn number_in(row: &Row, at: usize) -> Result<u64, Fault>
 fn caps_in(alloc: Global, row: &Row, at: usize) -> Result<Items<CapKey>, Fault>
     ensures ok { IfOk result (λ keys. (ks : List Key) → FitCaps ks → column row.now at ≡ Blob (caps_bytes ks) → keys ≡ ks) }
     ensures refused { IsErrOf result Refused → (ks : List Key) → FitCaps ks → AreKnown ks → column row.now at ≢ Blob (caps_bytes ks) }
+    ensures exact { IfOk result (λ keys. HasKeys (column row.now at) keys) }
+    ensures unread { IsErrOf result Refused → (ks : List Key) → HasKeys (column row.now at) ks → ⊥ }
 {
     match blob_at(row, at) {
         Some(bytes) => read_caps(alloc, bytes),
@@ -52,6 +54,8 @@ fn caps_in(alloc: Global, row: &Row, at: usize) -> Result<Items<CapKey>, Fault>
 fn params_in(alloc: Global, row: &Row, at: usize) -> Result<(Map, Map), Fault>
     ensures ok { IfOk result (λ read. (p m : TextMap) → FitParams p m → column row.now at ≡ Blob (params_bytes p m) → read ≡ (p, m)) }
     ensures refused { IsErrOf result Refused → (p m : TextMap) → FitParams p m → column row.now at ≢ Blob (params_bytes p m) }
+    ensures exact { IfOk result (λ read. HasParams (column row.now at) read) }
+    ensures unread { IsErrOf result Refused → (params : TextMap × TextMap) → HasParams (column row.now at) params → ⊥ }
 {
     match blob_at(row, at) {
         Some(bytes) => read_params(alloc, bytes),
@@ -63,6 +67,7 @@ fn params_in(alloc: Global, row: &Row, at: usize) -> Result<(Map, Map), Fault>
 pub(crate) fn volume_from(alloc: Global, row: &Row) -> Result<Volume, Fault>
     ensures ok { IfOk result (λ v. (e : ℕ × Stored) → IsStored e → row.now ≡ volume_entry e → v ≡ e.1) }
     ensures refused { IsErrOf result Refused → (e : ℕ × Stored) → IsReadable e → row.now ≢ volume_entry e }
+    ensures exact { IfOk result (λ v. ShowsVolume row.now v) }
 {
     let number = number_in(row, 0)?;
     let name = text_in(row, 1)?;
@@ -85,6 +90,7 @@ pub(crate) fn volume_from(alloc: Global, row: &Row) -> Result<Volume, Fault>
 pub(crate) fn volume_of(alloc: Global, found: Option<Row>) -> Result<Option<Volume>, Fault>
     ensures ok { IfOk result (λ v. (o : Option (ℕ × Stored)) → IfSome o IsStored → found ≡ option_map volume_entry o → v ≡ option_map (λ e. e.1) o) }
     ensures refused { IsErrOf result Refused → (o : Option (ℕ × Stored)) → IfSome o IsReadable → found ≢ option_map volume_entry o }
+    ensures exact { IfOk result (λ v. IsReadOf ShowsVolume found v) }
 {
     match found {
         Some(row) => Ok(Some(volume_from(alloc, &row)?)),
@@ -95,10 +101,12 @@ pub(crate) fn volume_of(alloc: Global, found: Option<Row>) -> Result<Option<Volu
 fn cap_in(alloc: Global, row: &Row, at: usize) -> Result<CapKey, Fault>
     ensures ok { IfOk result (λ key. (k : Key) → FitCaps (k ∷ []) → column row.now at ≡ Blob (caps_bytes (k ∷ [])) → key ≡ k) }
     ensures refused { IsErrOf result Refused → (k : Key) → FitCaps (k ∷ []) → AreKnown (k ∷ []) → column row.now at ≢ Blob (caps_bytes (k ∷ [])) }
+    ensures exact { IfOk result (λ key. HasKeys (column row.now at) (key ∷ [])) }
 {
-    match caps_in(alloc, row, at)?.into_vec().pop() {
-        Some(key) => Ok(key),
-        None => Err(Fault::Refused),
+    let mut keys = caps_in(alloc, row, at)?.into_vec();
+    match keys.pop() {
+        Some(key) if keys.is_empty() => Ok(key),
+        _ => Err(Fault::Refused),
     }
 }
 
@@ -106,7 +114,7 @@ fn cap_in(alloc: Global, row: &Row, at: usize) -> Result<CapKey, Fault>
 pub(crate) fn attachment_from(alloc: Global, row: &Row) -> Result<Attachment, Fault>
     ensures ok { IfOk result (λ a. (e : Place × Placed) → IsPlaced e → row.now ≡ node_entry e → a ≡ e.1) }
     ensures refused { IsErrOf result Refused → (e : Place × Placed) → IsReadablePlace e → row.now ≢ node_entry e }
-    ensures flag { IfOk result (λ a. as_flag (column row.now 2) ≡ Some a.readonly) }
+    ensures exact { IfOk result (λ a. ShowsAttachment row.now a) }
 {
     let Some(readonly) = flag_at(row, 2) else {
         return Err(Fault::Refused);
@@ -122,6 +130,7 @@ pub(crate) fn attachment_from(alloc: Global, row: &Row) -> Result<Attachment, Fa
 pub(crate) fn volumes_from(alloc: Global, rows: &[Row]) -> Result<Items<Volume>, Fault>
     ensures ok { IfOk result (λ vs. (es : List (ℕ × Stored)) → AllByRecursion IsStored es → rows.now ≡ map volume_entry es → vs ≡ map (λ e. e.1) es) }
     ensures refused { IsErrOf result Refused → (es : List (ℕ × Stored)) → AllByRecursion IsReadable es → rows.now ≢ map volume_entry es }
+    ensures exact { IfOk result (λ vs. AreReadOf ShowsVolume rows.now vs) }
 {
     let mut volumes = Items::new(alloc);
     for row in rows {
@@ -134,6 +143,7 @@ pub(crate) fn volumes_from(alloc: Global, rows: &[Row]) -> Result<Items<Volume>,
 pub(crate) fn attachments_from(alloc: Global, rows: &[Row]) -> Result<Items<Attachment>, Fault>
     ensures ok { IfOk result (λ xs. (es : List (Place × Placed)) → AllByRecursion IsPlaced es → rows.now ≡ map node_entry es → xs ≡ map (λ e. e.1) es) }
     ensures refused { IsErrOf result Refused → (es : List (Place × Placed)) → AllByRecursion IsReadablePlace es → rows.now ≢ map node_entry es }
+    ensures exact { IfOk result (λ xs. AreReadOf ShowsAttachment rows.now xs) }
 {
     let mut attachments = Items::new(alloc);
     for row in rows {
@@ -146,6 +156,7 @@ pub(crate) fn attachments_from(alloc: Global, rows: &[Row]) -> Result<Items<Atta
 pub(crate) fn numbers_from(alloc: Global, rows: &[Row]) -> Result<Items<u64>, Fault>
     ensures ok { IfOk result (λ xs. (ns : List ℕ) → rows.now ≡ map (λ n. number_value n ∷ []) ns → xs ≡ ns) }
     ensures refused { IsErrOf result Refused → (ns : List ℕ) → rows.now ≢ map (λ n. number_value n ∷ []) ns }
+    ensures exact { IfOk result (λ xs. AreReadOf ShowsNumber rows.now xs) }
 {
     let mut numbers = Items::new(alloc);
     for row in rows {

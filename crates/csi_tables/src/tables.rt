@@ -1,6 +1,6 @@
 //! The keeper over the tables.
 
-ghost use Rattle.std.specs.Prelude.{◌≡◌, ◌≤◌, ◌^◌, false, IsTrue, OnErr};
+ghost use Rattle.std.specs.Prelude.{◌≡◌, ◌≤◌, ◌^◌, false, IfOk, IsTrue, OnErr};
 ghost use Rattle.std.specs.FinMap.{get};
 ghost use Rattle.std.specs.Option.{option_map};
 ghost use Rattle.csi_keeper.specs.Listing.{listing};
@@ -63,6 +63,7 @@ impl<S: Alter> Tables<S> {
 impl<S: Alter> Keeper for Tables<S> {
     ghost use Rattle.csi_keeper.specs.Keeper.{Applies, Reads};
     ghost use Rattle.csi_tables.specs.Keeping.{TablesRefuses, refuses_change, tables_model};
+    ghost use Rattle.csi_tables.specs.Reading.{TellsNext};
 
     ghost model = { λ t. tables_model S.Store t };
 
@@ -72,6 +73,7 @@ impl<S: Alter> Keeper for Tables<S> {
 
     fn next_number(&mut self) -> Result<u64, StoreFault>
         ensures reads { Reads (tables_model S.Store self.old) (tables_model S.Store self.new) result (λ s n. n ≡ s.next) }
+        ensures exact { IfOk result (λ n. TellsNext S.Store self.old.conn self.new.conn n) }
         ensures refused { TablesRefuses S.Store self.old self.new ⊥ result }
         ensures limit { self.new.conn.step_limit ≡ self.old.conn.step_limit }
     {

@@ -16,3 +16,6 @@ returns-clause-refused c is ks fit known = caps_without_keys c.read_back.ensures
 
 pub returns-clause-ok : goal.returns-clause-ok
 returns-clause-ok c = if_ok (λ js same. caps_read c.read_back.ensures c.args.bytes.now c.in_ok-message.message js c.in_ok-message.ensures.ok (same ∙ ap (map key_of) c.as_slice.ensures)) c.keys_of.result c.keys_of.ensures.ok
+
+pub returns-clause-exact : goal.returns-clause-exact
+returns-clause-exact c = if_ok (λ js same. (c.in_ok-message.message, c.in_ok-message.ensures.ok, same ∙ ap (map key_of) c.as_slice.ensures)) c.keys_of.result c.keys_of.ensures.ok

@@ -1,0 +1,81 @@
+-- What is read of cells and of rows, one after the other.
+use Rattle.std.proofs.Common.{◌≡◌, ◌∙◌, inl, inr, sym, ap, ap₂, subst, arith, ℕ, ◌+◌, ◌<◌, ◌==◌, true, refl, List, [], ◌∷◌, ◌++◌, map, take, length, get_or, Option, Some, Ok, option_to_list}
+use Rattle.std.specs.Bool.{⊤}
+use Rattle.std.specs.List.{AllByRecursion}
+use Rattle.std.proofs.lemmas.Bool.Decides.{nat_tests}
+use Rattle.sqlite.specs.Order.{Row, column}
+use Rattle.sqlite.specs.declared.types.Value.{Value}
+use Rattle.sqlite.specs.declared.types.Value.TheVariants as value
+use Rattle.sqlite_rules.proofs.ProbeLemmas.{mapped_has}
+use Rattle.sqlite_rules.specs.Lists.{Has}
+use Rattle.csi_types.specs.declared.method.Method.TheVariants.{CreateVolume}
+use Rattle.csi_types.specs.declared.requests.CreateVolume as message
+use Rattle.csi_types.specs.declared.requests.Request.TheVariants.{Create}
+use Rattle.csi_codec.specs.Reading.{read_request}
+use Rattle.csi_keeper.specs.Capability.{key_of}
+use Rattle.csi_keeper.specs.declared.capability.CapKey.{CapKey}
+use Rattle.csi_statements.specs.Cells.{as_blob}
+use Rattle.csi_statements.specs.Rows.{meta_row, number_value, seen_meta}
+use Rattle.csi_tables.specs.Reading.{AreKeysOf, AreReadOf}
+use Rattle.csi_tables.proofs.CellLemmas.{read_more}
+use Rattle.csi_tables.proofs.PlaceLemmas.{take_one, take_whole}
+
+-- bytes are read as one request
+same_message : (bytes : List ℕ) (a b : message.CreateVolume) → read_request CreateVolume bytes ≡ Ok (Create a) → read_request CreateVolume bytes ≡ Ok (Create b) → a ≡ b
+same_message bytes a b one other = let both = sym one ∙ other in cc
+
+pub keys_unread : (bytes : List ℕ) (v : message.CreateVolume) → read_request CreateVolume bytes ≡ Ok (Create v) → ((js : List CapKey) → map Some js ≡ map key_of v.capabilities → ⊥) → (ks : List CapKey) → AreKeysOf bytes ks → ⊥
+keys_unread bytes v read none ks are = none ks (are.2 ∙ ap (λ (m : message.CreateVolume). map key_of m.capabilities) (same_message bytes are.0 v are.1 read))
+
+-- the bytes that a cell has
+pub one_blob : (cell : Value) (bytes other : List ℕ) → Some bytes ≡ as_blob cell → cell ≡ value.Blob other → other ≡ bytes
+one_blob cell bytes other found is = let same : Some bytes ≡ Some other = found ∙ ap as_blob is in cc
+
+-- a key that leaves none behind it is the one key
+pub alone : (keys rest : List CapKey) (last : Option CapKey) (key : CapKey) → keys ≡ rest ++ option_to_list last → last ≡ Some key → rest ≡ [] → keys ≡ key ∷ []
+alone keys rest last key are is none = are ∙ ap₂ (λ xs o. xs ++ option_to_list o) none is
+
+pub empty_items : {X : Type 0} (xs : List X) → (length xs == 0) ≡ true → xs ≡ []
+empty_items [] h = refl
+empty_items (x ∷ xs) h = absurd (let none : length (x ∷ xs) ≡ 0 = grind (arith, nat_tests, h) in omega (arith, none))
+
+-- the row of meta that stands says the next number
+pub stated : (rows : List Row) (format next : ℕ) (kept : Row) → map seen_meta rows ≡ meta_row format next ∷ [] → Has rows kept → column kept 3 ≡ number_value next
+stated rows format next kept are has = go (subst (λ (xs : List Row). Has xs (seen_meta kept)) are (mapped_has seen_meta rows kept has))
+  where
+    go : Has (meta_row format next ∷ []) (seen_meta kept) → column kept 3 ≡ number_value next
+    go (inl same) = ap (λ r. column r 2) same
+    go (inr none) = absurd none
+
+pub one_number : (m n : ℕ) → number_value m ≡ number_value n → m ≡ n
+one_number m n same = cc
+
+-- one more number
+pub number_next : (rows : List Row) (i : ℕ) (d : Row) (xs : List ℕ) (x : ℕ) → i < length rows → column (get_or rows i d) 0 ≡ number_value x
+    → (ns : List ℕ) → rows ≡ map (λ n. number_value n ∷ []) ns → xs ≡ take i ns → xs ++ x ∷ [] ≡ take (i + 1) ns
+number_next rows i d xs x low is ns are read =
+    read_more (λ (n : ℕ). number_value n ∷ []) (λ (n : ℕ). n) (λ (n : ℕ). ⊤) rows ns i d xs x low (λ n _ row. one_number x n (sym is ∙ ap (λ (r : Row). column r 0) row)) (each ns) are (read ∙ sym (same (take i ns)))
+    ∙ same (take (i + 1) ns)
+  where
+    each : (ns : List ℕ) → AllByRecursion (λ (n : ℕ). ⊤) ns
+    each [] = tt
+    each (n ∷ ns) = (tt, each ns)
+
+    same : (ns : List ℕ) → map (λ (n : ℕ). n) ns ≡ ns
+    same [] = refl
+    same (n ∷ ns) = ap (λ ms. n ∷ ms) (same ns)
+
+-- ---- a value of each row
+
+module _ {X : Type 0} (Of : Row → X → Type 0) where
+  one_more : (rows : List Row) (xs : List X) (row : Row) (x : X) → AreReadOf Of rows xs → Of row x → AreReadOf Of (rows ++ row ∷ []) (xs ++ x ∷ [])
+  one_more [] [] row x all of = (of, tt)
+  one_more [] (y ∷ xs) row x all of = absurd all
+  one_more (r ∷ rows) [] row x all of = absurd all
+  one_more (r ∷ rows) (y ∷ xs) row x all of = (all.0, one_more rows xs row x all.1 of)
+
+  pub read_next : (rows : List Row) (i : ℕ) (d : Row) (xs : List X) (x : X) → i < length rows → AreReadOf Of (take i rows) xs → Of (get_or rows i d) x → AreReadOf Of (take (i + 1) rows) (xs ++ x ∷ [])
+  read_next rows i d xs x low all of = subst (λ (some : List Row). AreReadOf Of some (xs ++ x ∷ [])) (sym (take_one rows i d low)) (one_more (take i rows) xs (get_or rows i d) x all of)
+
+  pub read_whole : (rows : List Row) (i : ℕ) (xs : List X) → i ≡ length rows → AreReadOf Of (take i rows) xs → AreReadOf Of rows xs
+  read_whole rows i xs last all = subst (λ (some : List Row). AreReadOf Of some xs) (ap (λ n. take n rows) last ∙ take_whole rows) all
