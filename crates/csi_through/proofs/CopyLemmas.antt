@@ -20,7 +20,7 @@ use Rattle.csi_keeper.specs.declared.volume.Attachment.{Attachment}
 use Rattle.csi_keeper.specs.declared.volume.Volume.{Volume}
 use Rattle.csi_keeper.specs.facts.Finite.{all_entries, both, entries_retained, found_below, less_apart, none_some, tied}
 use Rattle.csi_keeper.specs.facts.Orders.{less_is, place_exact, place_total}
-use Rattle.csi_through.specs.Copying.{AllowsEach, AreNext, IsNext, attached_each, last_number, up_to}
+use Rattle.csi_through.specs.Copying.{AllowsEach, AreNext, IsHeld, IsNext, attached_each, last_number, up_to}
 
 -- ---- numbers
 
@@ -393,6 +393,10 @@ module _ (config : Config) (s : State) (inv : IsInvariant config s) where
 pub next_more : (s : State) (n : ℕ) (vs : List Volume) (v : Volume) → AreNext s n (vs ++ v ∷ []) → AreNext s n vs × IsNext s (last_number n vs) v
 next_more s n [] v next = (tt, next.0)
 next_more s n (w ∷ vs) v next = let more = next_more s w.number vs v next.1 in ((next.0, more.0), more.1)
+
+pub held_more : (vs : List Volume) (v : Volume) → AllByRecursion IsHeld vs → IsHeld v → AllByRecursion IsHeld (vs ++ v ∷ [])
+held_more [] v all held = (held, tt)
+held_more (w ∷ vs) v all held = (all.0, held_more vs v all.1 held)
 
 pub last_more : (n : ℕ) (vs : List Volume) (v : Volume) → last_number n (vs ++ v ∷ []) ≡ v.number
 last_more n [] v = refl

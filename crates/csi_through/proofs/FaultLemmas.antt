@@ -22,7 +22,7 @@ use Rattle.csi_keeper.specs.declared.change.StoreFault.{StoreFault}
 use Rattle.csi_keeper.specs.declared.change.StoreFault.TheVariants.{NoMemory, Refused, Down}
 use Rattle.csi_keeper.specs.declared.volume.Volume.{Volume}
 use Rattle.csi_keeper.specs.facts.Sums.{taken_sum}
-use Rattle.csi_through.specs.Copying.{AreNext, IsNext, IsToldFor, IsWhy, last_number}
+use Rattle.csi_through.specs.Copying.{AreNext, IsHeld, IsNext, IsToldFor, IsWhy, last_number}
 
 -- ---- the bytes of a volume
 
@@ -76,11 +76,11 @@ bytes_within config s k v inv stands =
     omega (arith, taken, own, room, one, all)
 
 -- a volume of the invariant is within the bounds of a memory
-pub within : (config : Config) (s : State) (n : ℕ) (v : Volume) → IsInvariant config s → IsNext s n v → (v.number < MAX_NUMBER) × (v.bytes ≤ MAX_POOL_BYTES)
+pub within : (config : Config) (s : State) (n : ℕ) (v : Volume) → IsInvariant config s → IsNext s n v → IsHeld v
 within config s n v inv next =
     let given = (inv.volumes v.number v next.stands).given.1 in
     let most = inv.next.1 in
-    (omega (arith, given, most), bytes_within config s v.number v inv next.stands)
+    record { number = omega (arith, given, most); bytes = bytes_within config s v.number v inv next.stands }
 
 -- ---- numbers that rise
 

@@ -1,6 +1,7 @@
 -- What a copy of a keeper has, so far.
 use Rattle.std.specs.Prelude.{◌≡◌, ◌↔◌, ℕ, ◌+◌, ◌<◌, ◌≤◌, not, nat_lt, List, [], ◌∷◌, map, Some, ⊤, Err, IsTrue}
 use Rattle.std.specs.FinMap.{get, retain_keys}
+use Rattle.csi_types.specs.declared.limits.TheConstants.{MAX_NUMBER, MAX_POOL_BYTES}
 use Rattle.csi_config.specs.declared.config.Config.{Config}
 use Rattle.csi_memory.specs.Holding.{Holds}
 use Rattle.csi_keeper.specs.Invariant.{IsInvariant}
@@ -31,6 +32,15 @@ attached_each s n (a ∷ rest) = attached_each (changed s (Attach n a)) n rest
 abbrev pub AllowsEach : State → ℕ → List Attachment → Type 0
 AllowsEach s n [] = ⊤
 AllowsEach s n (a ∷ rest) = Allows s (Attach n a) × AllowsEach (changed s (Attach n a)) n rest
+
+-- a memory can have this as its next number
+abbrev pub IsNumbered : ℕ → Type 0
+IsNumbered next = next ≤ MAX_NUMBER
+
+-- and it can hold a volume
+pub record IsHeld (v : Volume) : Type 0 where
+  pub number : v.number < MAX_NUMBER
+  pub bytes : v.bytes ≤ MAX_POOL_BYTES
 
 -- the first volume with a greater number
 pub record IsNext (s : State) (n : ℕ) (v : Volume) : Type 0 where
@@ -67,6 +77,10 @@ CopiesAll old new memory copy =
 -- it is a copy
 abbrev pub IsCopy : Model State → Model State → MemKeeper → Type 0
 IsCopy old new copy = new.doubt ≡ 0 → (config : Config) (s : State) → old.holds s → IsInvariant config s → Holds copy s
+
+-- no copy leaves out a number that a memory cannot have
+abbrev pub IsWhole : Model State → Model State → Type 0
+IsWhole old new = new.doubt ≡ 0 → (s : State) → old.holds s → IsNumbered s.next
 
 -- Why a read of the keeper gave nothing, or there was no memory. That it is down is told only where it is; and of each State of the invariant of which P is so,
 -- a refusal is one that the keeper counted, and nothing else is counted.

@@ -1,13 +1,13 @@
 //! A copy in memory of what a keeper has.
 
-ghost use Rattle.std.specs.Prelude.{◌≡◌, ◌≢◌, ◌<◌, ◌+◌, ℕ, [], false, length, get_or, Err, IfErr, IfOk, IsTrue, OnOk, ⊤};
-ghost use Rattle.csi_config.specs.declared.config.Config.{Config};
+ghost use Rattle.std.specs.Prelude.{◌≡◌, ◌≢◌, ◌↔◌, ◌<◌, ◌+◌, [], false, length, get_or, Err, IfErr, IfOk, IsTrue, OnOk, ⊤};
+ghost use Rattle.std.specs.List.{AllByRecursion};
 ghost use Rattle.csi_memory.specs.Holding.{Holds};
-ghost use Rattle.csi_keeper.specs.Invariant.{IsInvariant};
+ghost use Rattle.csi_memory.specs.Restoring.{CanRestore, restored};
 ghost use Rattle.csi_keeper.specs.Keeper.{IsQuiet, count_after};
 ghost use Rattle.csi_keeper.specs.State.{State, attached};
 ghost use Rattle.csi_keeper.specs.declared.change.StoreFault.TheVariants.{Down, NoMemory};
-ghost use Rattle.csi_through.specs.Copying.{AllowsEach, AreNext, CopiesAll, CopiesTo, IsCopy, IsNext, IsToldFor, IsWhy, attached_each, last_number, up_to};
+ghost use Rattle.csi_through.specs.Copying.{AllowsEach, AreNext, CopiesAll, CopiesTo, IsCopy, IsHeld, IsNumbered, IsToldFor, IsWhole, IsWhy, attached_each, last_number};
 
 use csi_keeper::{Attachment, Change, Keeper, StoreFault, Volume};
 use csi_memory::MemKeeper;
@@ -34,19 +34,34 @@ fn attach_each(
     Ok(())
 }
 
-// A volume with its attachments, behind those that the memory has. No store that tells the truth has one that is out of bounds.
+// Whether a memory can have a next number. No store that tells the truth has a greater one.
+fn is_numbered(next: u64) -> bool
+    ensures { IsTrue result ↔ IsNumbered next }
+{
+    next <= MAX_NUMBER
+}
+
+// Whether a memory can hold a volume. No store that tells the truth has one that is out of bounds.
+fn is_held(volume: &Volume) -> bool
+    ensures { IsTrue result ↔ IsHeld volume.now }
+{
+    (volume.number < MAX_NUMBER) & (volume.bytes <= MAX_POOL_BYTES)
+}
+
+// A volume with its attachments, after those that the memory has. One that it cannot hold is refused, not left out.
 fn restore(
     alloc: Global,
     memory: &mut MemKeeper,
     volume: &Volume,
     attachments: Items<Attachment>,
 ) -> Result<(), StoreFault>
-    ensures restored { OnOk result ((config : Config) (s : State) (n : ℕ) → IsInvariant config s → IsNext s n volume.now → attachments ≡ attached s volume.now.number
-        → Holds memory.old (up_to s n) → Holds memory.new (up_to s volume.now.number)) }
+    ensures given { OnOk result ((s : State) → Holds memory.old s → CanRestore s volume.now → AllowsEach (restored s volume.now) volume.now.number attachments
+        → Holds memory.new (attached_each (restored s volume.now) volume.now.number attachments)) }
+    ensures held { OnOk result (IsHeld volume.now) }
     ensures up { IfErr result (λ fault. fault ≢ Down) }
-    ensures fault { IfErr result (λ fault. (config : Config) (s : State) (n : ℕ) → IsInvariant config s → IsNext s n volume.now → fault ≡ NoMemory) }
+    ensures fault { IfErr result (λ fault. IsHeld volume.now → fault ≡ NoMemory) }
 {
-    if (volume.number >= MAX_NUMBER) | (volume.bytes > MAX_POOL_BYTES) {
+    if !is_held(volume) {
         return Err(StoreFault::Refused);
     }
     memory.restore(alloc, volume)?;
@@ -94,6 +109,7 @@ fn restore_page<K: Keeper>(
     ensures quiet { IsQuiet (K.model keeper.old) (K.model keeper.new) }
     ensures copies { IfOk result (λ last. CopiesTo (K.model keeper.old) (K.model keeper.new) memory.old memory.new after volumes.now nodes.now last) }
     ensures last { IfOk result (λ last. last ≡ last_number after volumes.now) }
+    ensures held { OnOk result (AllByRecursion IsHeld volumes.now) }
     ensures count { OnOk result ((K.model keeper.new).refusals ≡ (K.model keeper.old).refusals) }
     ensures why { IfErr result (λ fault. IsToldFor (λ s. AreNext s after volumes.now) (K.model keeper.old) (K.model keeper.new) fault) }
 {
@@ -150,10 +166,11 @@ fn restore_all<K: Keeper>(
 pub(crate) fn copy_of<K: Keeper>(alloc: Global, keeper: &mut K) -> Result<MemKeeper, StoreFault>
     ensures quiet { IsQuiet (K.model keeper.old) (K.model keeper.new) }
     ensures copy { IfOk result (λ memory. IsCopy (K.model keeper.old) (K.model keeper.new) memory) }
+    ensures whole { OnOk result (IsWhole (K.model keeper.old) (K.model keeper.new)) }
     ensures why { IfErr result (λ fault. IsWhy (K.model keeper.old) (K.model keeper.new) fault) }
 {
     let next = keeper.next_number()?;
-    if next > MAX_NUMBER {
+    if !is_numbered(next) {
         return Err(StoreFault::Refused);
     }
     let mut memory = MemKeeper::new(alloc, 1)?;

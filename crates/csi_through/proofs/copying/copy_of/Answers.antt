@@ -2,6 +2,7 @@ use Rattle.std.proofs.Common.{rules, ◌≡◌, ◌+◌, arith, subst, Ok}
 use Rattle.csi_memory.specs.Holding.{Holds}
 use Rattle.csi_memory.specs.Restoring.{from_number}
 use Rattle.csi_keeper.specs.declared.change.StoreFault.TheVariants.{NoMemory, Refused}
+use Rattle.csi_through.specs.Copying.{IsNumbered}
 use Rattle.csi_through.proofs.CopyLemmas.{begins, whole}
 use Rattle.csi_through.proofs.FaultLemmas.{ok_count, on_err, why_here, why_read, why_then}
 use Rattle.csi_through.proofs.copying.copy_of.Goals as goal
@@ -15,6 +16,12 @@ returns-clause-copy g c clean config s held inv =
     let all = c.in_ok-restore_all.ensures.copied clean config s read inv (subst (Holds c.in_ok-memory.memory) (begins config s inv) c.in_ok-memory.ensures) in
     subst (Holds c.skip_to.new.self) (whole config s inv all.0 all.1)
     (subst (λ n. Holds c.skip_to.new.self (from_number (record s { next = all.0 + 1 }) n)) number (c.skip_to.ensures _ all.2))
+
+pub returns-clause-whole : goal.returns-clause-whole
+returns-clause-whole g c clean s held =
+    let model = g.K.Keeper.model in
+    let before : (model c.next_number.new.self).doubt ≡ 0 = omega (arith, clean, c.restore_all.ensures.quiet.clean) in
+    subst IsNumbered (c.in_ok-next.ensures.value before s held) (c.is_numbered.ensures.0 c.if-not-is_numbered.false)
 
 pub returns-in_err-next-clause-why : goal.returns-in_err-next-clause-why
 returns-in_err-next-clause-why g c =

@@ -1,11 +1,12 @@
 use Rattle.std.proofs.Common.{rules, ◌≡◌, ◌∙◌, ◌+◌, ◌++◌, ap, arith, subst, sym, take, get_or, false, [], ◌∷◌}
+use Rattle.std.specs.List.{AllByRecursion}
 use Rattle.std.proofs.lemmas.List.{take_all, take_more}
 use Rattle.csi_memory.specs.Holding.{Holds}
 use Rattle.csi_keeper.specs.State.{attached}
 use Rattle.csi_keeper.specs.facts.Reads.{quiet_then}
-use Rattle.csi_through.specs.Copying.{AreNext, last_number, up_to}
-use Rattle.csi_through.proofs.CopyLemmas.{last_more, next_more, none_attached}
-use Rattle.csi_through.proofs.FaultLemmas.{next_at, of_memory, of_read, ok_count, on_err, told_later}
+use Rattle.csi_through.specs.Copying.{AreNext, IsHeld, last_number, up_to}
+use Rattle.csi_through.proofs.CopyLemmas.{held_more, last_more, next_more, none_attached, restores}
+use Rattle.csi_through.proofs.FaultLemmas.{next_at, of_memory, of_read, ok_count, on_err, told_later, within}
 use Rattle.csi_through.proofs.copying.restore_page.Goals as goal
 
 pub loop-volume-preserved : goal.loop-volume-preserved
@@ -22,6 +23,7 @@ loop-volume-preserved g c =
       refusals = ok_count (g.K.Keeper.model c.loop-volume.keeper).refusals (g.K.Keeper.model c.attachments_of.new.keeper).refusals c.attachments_of.result c.in_ok-attachments.attachments (search rules) c.attachments_of.ensures.count ∙ old.refusals;
       index = ap (λ i. i + 1) old.index;
       last = sym last;
+      held = subst (AllByRecursion IsHeld) (sym more) (held_more done volume old.held c.in_ok-restore.ensures.held);
       copies = λ clean config s held inv next are had.
           let before : (g.K.Keeper.model c.loop-volume.keeper).doubt ≡ 0 = omega (arith, clean, c.attachments_of.ensures.quiet.clean) in
           let two = next_more s after done volume (subst (AreNext s after) more next) in
@@ -30,8 +32,9 @@ loop-volume-preserved g c =
           none_attached s c.args.volumes.now c.args.nodes.now c.loop-volume.volume-index volume are (omega arith) c.volume-item.is
           (ap (λ i. get_or c.args.nodes.now i []) (sym old.index) ∙ at.1) in
           let theirs = c.in_ok-attachments.ensures.value clean s (old.quiet.state before s held) none in
+          let all = restores config s (last_number after done) volume inv two.1 c.in_ok-attachments.attachments theirs in
           subst (λ n. Holds c.restore.new.memory (up_to s n)) (sym last)
-          (c.in_ok-restore.ensures.restored config s _ inv two.1 theirs (old.copies before config s held inv two.0 are had));
+          (subst (Holds c.restore.new.memory) all.2 (c.in_ok-restore.ensures.given _ (old.copies before config s held inv two.0 are had) all.0 all.1));
     }
 
 pub returns-in_err-attachments-clause-why : goal.returns-in_err-attachments-clause-why
@@ -53,7 +56,10 @@ returns-in_err-restore-clause-why g c =
     ok_count (model c.loop-volume.keeper).refusals (model c.attachments_of.new.keeper).refusals c.attachments_of.result c.in_ok-attachments.attachments (search rules) c.attachments_of.ensures.count ∙ old.refusals in
     on_err _ c.from_residual-in_err-restore.result fault (search rules)
     (of_memory (model c.args.keeper.now) (model c.attachments_of.new.keeper) fault c.in_err-restore.ensures.up same (λ config s inv next.
-    c.in_err-restore.ensures.fault config s _ inv (next_at s c.args.after c.args.volumes.now c.loop-volume.volume-index volume (omega arith) c.volume-item.is next)))
+    c.in_err-restore.ensures.fault (within config s _ volume inv (next_at s c.args.after c.args.volumes.now c.loop-volume.volume-index volume (omega arith) c.volume-item.is next))))
+
+pub returns-clause-held : goal.returns-clause-held
+returns-clause-held g c = subst (AllByRecursion IsHeld) (take_all c.loop-volume.volume-index c.args.volumes.now (omega (arith, c.loop-volume-test.false))) c.loop-volume.invariant.held
 
 pub returns-clause-copies : goal.returns-clause-copies
 returns-clause-copies g c clean config s held inv next are had =
