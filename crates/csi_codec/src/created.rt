@@ -1,6 +1,6 @@
 //! The response of CreateVolume, written by parts that are lent.
 
-ghost use Rattle.std.specs.Prelude.{◌≡◌, ◌++◌, OnOk, Some};
+ghost use Rattle.std.specs.Prelude.{◌≡◌, ◌++◌, OnOk, OnErr, Some};
 ghost use Rattle.csi_types.specs.declared.responses.Response.TheVariants as response;
 ghost use Rattle.pbwire.specs.Writing.{spellings};
 ghost use Rattle.pbmessage.specs.Canon.{row_fields, messages_row};
@@ -11,7 +11,7 @@ ghost use Rattle.csi_codec.specs.messages.Topology.{canon_map, FitsTerms};
 
 use crate::messages::Csi;
 use csi_types::Map;
-use pbmessage::{Written, put_joined, put_message, put_signed, put_single};
+use pbmessage::{Written, put_joined, put_message, put_signed, put_single, whole_or_none};
 use std::alloc::AllocError;
 
 /// A volume that was made, or that stands as it is asked for, of which nothing is copied (CSI specification,
@@ -66,12 +66,15 @@ impl Written<Csi> for CreatedVolume<'_> {
 ///
 /// # Errors
 ///
-/// Where memory is refused a part of it may stand behind what the vector had.
+/// Where memory is refused the vector is as it was.
 #[tactic(auto, unfolding(pbmessage::specs::Canon::row_fields, crate::specs::Methods::response_bytes, crate::specs::Methods::FitsResponse))]
 pub fn encode_created(volume: &CreatedVolume, out: &mut Vec<u8>) -> Result<(), AllocError>
     ensures ok { OnOk result (out.new.items ≡ out.old.items ++ response_bytes (response.Create (Some (created_volume volume.now)))) }
     ensures fitting { OnOk result (FitsResponse (response.Create (Some (created_volume volume.now)))) }
+    ensures err { OnErr result (out.new.items ≡ out.old.items) }
     ensures kept { Keeps out.old.items out.new.items }
 {
-    put_message(out, 1, volume)
+    let from = out.len();
+    let written = put_message(out, 1, volume);
+    whole_or_none(out, from, written)
 }

@@ -14,7 +14,7 @@ use crate::messages::Csi;
 use crate::placement::{Placement, put_placement};
 use arrayvec::ArrayVec;
 use csi_types::{Items, Text};
-use pbmessage::{Written, put_joined, put_message, put_signed};
+use pbmessage::{Written, put_joined, put_message, put_signed, whole_or_none};
 use pbwire::laws::short;
 use pbwire::varint_field;
 use std::alloc::AllocError;
@@ -186,12 +186,13 @@ fn append_short(
 ///
 /// # Errors
 ///
-/// Where memory is refused a part of it may stand behind what the vector had.
+/// Where memory is refused the vector is as it was.
 #[inline(always)]
 #[tactic(auto, using(crate::specs::facts::Listing::entries_only), unfolding(crate::specs::Methods::FitsResponse))]
 pub fn encode_entry(entry: &ListedEntry, out: &mut Vec<u8>) -> Result<(), AllocError>
     ensures ok { OnOk result (out.new.items ≡ out.old.items ++ response_bytes (response.List (listed_entry entry.now ∷ []) [])) }
     ensures fitting { OnOk result (FitsResponse (response.List (listed_entry entry.now ∷ []) [])) }
+    ensures err { OnErr result (out.new.items ≡ out.old.items) }
     ensures kept { Keeps out.old.items out.new.items }
 {
     short();
@@ -202,5 +203,7 @@ pub fn encode_entry(entry: &ListedEntry, out: &mut Vec<u8>) -> Result<(), AllocE
             return append_short(entry, size, len, out);
         }
     }
-    put_message(out, 1, entry)
+    let from = out.len();
+    let written = put_message(out, 1, entry);
+    whole_or_none(out, from, written)
 }
