@@ -1,7 +1,9 @@
 -- Pages, one volume more at a time.
 use Rattle.std.specs.declared.alloc.AllocError.{AllocError}
-use Rattle.std.proofs.Common.{◌≡◌, ◌∙◌, ◌<◌, ap, ap₂, arith, refl, subst, sym, ℕ, zero, suc, List, [], ◌∷◌, ◌++◌, map, take, drop, length, get_or, append_assoc, Result, Ok, Err, OnOk, Some, Bool, false, ◌||◌}
+use Rattle.std.proofs.Common.{◌≡◌, ◌∙◌, ◌+◌, ◌<◌, add-one, cond, find, true, ap, ap₂, arith, refl, subst, sym, ℕ, zero, suc, List, [], ◌∷◌, ◌++◌, map, take, drop, length, get_or, append_assoc, Result, Ok, Err, OnOk, Some, Bool, false, ◌||◌}
 use Rattle.std.proofs.Math.Seq.{drop-append_seam, take-append_seam}
+use lib.Pointwise.{bytes_decides}
+use Rattle.csi_types.specs.Maps.{same_text}
 use Rattle.csi_types.specs.declared.responses.Response.TheVariants as response
 use Rattle.csi_types.specs.declared.volume.Entry.{Entry}
 use Rattle.csi_codec.specs.Methods.{response_bytes}
@@ -50,6 +52,21 @@ pub placed_at : (config : Config) (places : List Place) (i : ℕ) (d : Place) �
 placed_at config [] i d low all = absurd (omega (arith, low))
 placed_at config (p ∷ places) zero d low all = all.0
 placed_at config (p ∷ places) (suc i) d low all = placed_at config places i d (omega (arith, low)) all.1
+
+-- places that were looked through, one more
+pub looked_past : (name : Text) (places : List Place) (i : ℕ) (d : Place) → i < length places → ((get_or places i d).pool ≡ name → ⊥) → find (λ p. same_text p.pool name) (drop i places) ≡ find (λ p. same_text p.pool name) (drop (i + 1) places)
+looked_past name [] i d low far = absurd (omega (arith, low))
+looked_past name (p ∷ places) zero d low far = go (same_text p.pool name) refl
+  where
+    go : (b : Bool) → same_text p.pool name ≡ b → cond b (Some p) (find (λ p. same_text p.pool name) places) ≡ find (λ p. same_text p.pool name) places
+    go true t = absurd (far ((bytes_decides p.pool name).0 t))
+    go false t = refl
+looked_past name (p ∷ places) (suc i) d low far = rw add-one (rw add-one at (looked_past name places i d (omega (arith, low)) far))
+
+pub found_here : (name : Text) (places : List Place) (i : ℕ) (d : Place) → i < length places → (get_or places i d).pool ≡ name → find (λ p. same_text p.pool name) (drop i places) ≡ Some (get_or places i d)
+found_here name [] i d low is = absurd (omega (arith, low))
+found_here name (p ∷ places) zero d low is = ap (λ b. cond b (Some p) (find (λ p. same_text p.pool name) places)) ((bytes_decides p.pool name).1 is)
+found_here name (p ∷ places) (suc i) d low is = found_here name places i d (omega (arith, low)) is
 
 -- what follows of what is so after a success
 pub then_ok : {X E : Type 0} {A B : Type 0} (r : Result X E) → (A → B) → OnOk r A → OnOk r B

@@ -1,6 +1,7 @@
 //! What the pools of a configuration give their volumes, spelled as a listing comes to them.
 
-ghost use Rattle.std.specs.Prelude.{◌≡◌, IfOk, IfSome, IsTrue};
+ghost use Rattle.std.specs.Prelude.{◌≡◌, ◌↔◌, IfOk, IfSome, IsTrue, find, option_copied};
+ghost use Rattle.csi_types.specs.Maps.{same_text};
 ghost use Rattle.csi_config.specs.declared.config.Config.{Config as AnyConfig};
 ghost use Rattle.csi_machine.specs.Places.{ArePlaced, IsPlaced};
 
@@ -33,14 +34,15 @@ pub(crate) fn place_of(alloc: Global, config: &Config, pool: &Text) -> Result<Pl
 
 #[inline(always)]
 fn is_of(place: &Place, pool: &str) -> bool
-    ensures { IsTrue result → place.now.pool ≡ pool.now }
+    ensures { IsTrue result ↔ (place.now.pool ≡ pool.now) }
 {
     place.pool.as_str() == pool
 }
 
-/// A place of a pool; `None` where there is none yet.
+/// The first place of a pool; `None` only where there is none yet.
 #[inline(always)]
 pub(crate) fn place_named<'a>(places: &'a [Place], pool: &Text) -> Option<&'a Place>
+    ensures exact { option_copied result ≡ find (λ place. same_text place.pool pool.now) places.now }
     ensures pool { IfSome result (λ place. place.now.pool ≡ pool.now) }
     ensures placed { (config : AnyConfig) → ArePlaced config places.now → IfSome result (λ place. IsPlaced config place.now) }
 {
