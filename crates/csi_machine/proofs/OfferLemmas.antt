@@ -1,5 +1,5 @@
 -- A maximum that GetCapacity tells can be had.
-use Rattle.std.proofs.Common.{◌≡◌, ◌≢◌, ◌∙◌, inl, inr, ap, sym, subst, cond, arith, refl, ℕ, ◌+◌, ◌-◌, ◌*◌, ◌/◌, ◌%◌, ◌==◌, ◌<◌, ◌≤◌, ◌^◌, max, min, nat_lt, nat_le, List, [], ◌∷◌, map, find, fold, sum, sum_by, Bool, true, false, ◌&&◌, ◌||◌, Option, Some, None, option_map, eqb-true}
+use Rattle.std.proofs.Common.{◌≡◌, ◌≢◌, ◌∙◌, inl, inr, ap, sym, subst, cond, arith, refl, ℕ, ◌+◌, ◌-◌, ◌*◌, ◌/◌, ◌%◌, ◌==◌, ◌<◌, ◌≤◌, ◌^◌, max, min, nat_lt, nat_le, List, [], ◌∷◌, length, map, find, fold, sum, sum_by, Bool, true, false, ◌&&◌, ◌||◌, Option, Some, None, option_map, eqb-true}
 use Rattle.std.specs.FinMap as fin
 use Rattle.std.specs.Cmp.{nat_cmp_total}
 use Rattle.std.specs.Cmp.Lexicographic.{slice_cmp}
@@ -11,11 +11,14 @@ use Rattle.std.proofs.lemmas.Nat.{div-mul-add, div-add-mod'}
 use Rattle.csi_types.specs.Checks.{is_supported}
 use Rattle.csi_types.specs.Maps.{TextMap, same_text}
 use Rattle.csi_types.specs.Topology.{is_within, alike}
-use Rattle.csi_types.specs.declared.limits.TheConstants.{MAX_NUMBER, MAX_VOLUMES}
-use Rattle.csi_types.specs.declared.reason.Reason.TheVariants.{TooManyVolumes, NumbersUsedUp}
+use Rattle.csi_types.specs.declared.limits.TheConstants.{MAX_NUMBER, MAX_SEGMENTS, MAX_VOLUMES}
+use Rattle.csi_types.specs.declared.reason.Reason.TheVariants.{TooManyVolumes, NumbersUsedUp, ReplyTooLarge}
 use Rattle.csi_types.specs.declared.requests.CreateVolume.{CreateVolume}
 use Rattle.csi_types.specs.declared.requests.GetCapacity.{GetCapacity}
-use Rattle.csi_config.specs.Faults.{is_whole}
+use Rattle.csi_types.specs.declared.requests.Request.TheVariants.{Create}
+use Rattle.csi_types.specs.declared.responses.Response.TheVariants as response
+use Rattle.csi_codec.specs.Methods.{response_bytes}
+use Rattle.csi_config.specs.Faults.{is_pool_name, is_whole}
 use Rattle.csi_config.specs.Values.{Has}
 use Rattle.csi_config.specs.declared.config.Config.{Config}
 use Rattle.csi_config.specs.declared.pools.Pool.{Pool}
@@ -26,13 +29,20 @@ use Rattle.csi_machine.specs.Choice.{Room, rooms, free, choice, count}
 use Rattle.csi_machine.specs.Configured.{IsConfigured}
 use Rattle.csi_keeper.specs.Invariant.{IsInvariant}
 use Rattle.csi_machine.specs.Offer.{term_of, exactly, AsksFor, IsNew}
-use Rattle.csi_plans.specs.Plan.{refuse}
+use Rattle.csi_plans.specs.Info.{info_at}
+use Rattle.csi_plans.specs.Plan.{after, refuse}
+use Rattle.csi_plans.specs.declared.plan.Plan.{Plan}
+use Rattle.csi_plans.specs.Verdicts.{Told, Says, Denies, told_of}
+use Rattle.envelope.specs.declared.limits.TheConstants.{MAX_BODY_BYTES}
 use Rattle.csi_plans.specs.Size.{size, within, asked, rounded_up, rounded_down}
-use Rattle.csi_keeper.specs.State.{State, used, sizes}
+use Rattle.csi_keeper.specs.State.{State, changed, used, sizes}
+use Rattle.csi_keeper.specs.declared.change.Change.TheVariants.{AddVolume}
 use Rattle.csi_keeper.specs.Texts.{Text}
 use Rattle.csi_plans.specs.Topology.{serves, terms}
 use Rattle.csi_machine.specs.calls.Capacity.{capacity, served, is_served, greatest, greatest_size, tell_capacity}
-use Rattle.csi_machine.specs.calls.Create.{create, create_named, place, place_in}
+use Rattle.csi_machine.specs.Step.{moved, step}
+use Rattle.csi_machine.specs.calls.Create.{create, create_named, made, place, place_in}
+use Rattle.csi_machine.proofs.FitLemmas.{made_fits}
 use Rattle.csi_machine.proofs.ChoiceLemmas.{or_else, choice_one, choice_cons}
 use Rattle.csi_machine.proofs.CreateLemmas.{chosen, has_map}
 use Rattle.csi_keeper.specs.facts.Finite.{all_entries, none_listed}
@@ -197,12 +207,11 @@ offers config good s g available n inv e h = go (choice (rooms config s) (term_o
 
 -- a volume of the maximum that GetCapacity tells is made, where its topology is one of the terms
 pub offered : (config : Config) → IsConfigured config → (s : State) (g : GetCapacity) (available n : ℕ) (r : CreateVolume) → IsInvariant config s
-    → capacity config s g ≡ tell_capacity available n → 0 < n → AsksFor r g.topology n → IsNew config s r.name
+    → capacity config s g ≡ tell_capacity available n → 0 < n → AsksFor config r g.topology n → IsNew config s r.name
     → (pool : Pool) × Has config.pools pool × (create config s r ≡ place_in r s.next n (Some pool))
 offered config good s g available n r inv e h asks new =
     let fit = told_fits config good s g available n inv e h in
-    let sized : size config.sizes r.range ≡ Some n = ap (size config.sizes) asks.size ∙ size_exact config.sizes n h fit.0 fit.1 in
-    go fit.2 sized (choice (rooms config s) (terms r.topology) n) refl
+    go fit.2 asks.sized (choice (rooms config s) (terms r.topology) n) refl
   where
     go : n ≤ greatest (map free (served (rooms config s) (Some (term_of g.topology)))) → size config.sizes r.range ≡ Some n → (o : Option Pool) → choice (rooms config s) (terms r.topology) n ≡ o
         → (pool : Pool) × Has config.pools pool × (create config s r ≡ place_in r s.next n (Some pool))
@@ -216,3 +225,28 @@ offered config good s g available n r inv e h asks new =
           ∙ ap (λ b. cond b (refuse NumbersUsedUp) (place_in r s.next n (choice (rooms config s) (terms r.topology) n))) (under MAX_NUMBER s.next new.numbered)
           ∙ ap (place_in r s.next n) f,
     )
+
+-- a range that has it as both of its limits asks for it
+pub asked_exactly : (config : Config) → IsConfigured config → (s : State) (g : GetCapacity) (available n : ℕ) → IsInvariant config s → capacity config s g ≡ tell_capacity available n → 0 < n → size config.sizes (Some (exactly n)) ≡ Some n
+asked_exactly config good s g available n inv e h = let fit = told_fits config good s g available n inv e h in size_exact config.sizes n h fit.0 fit.1
+
+abbrev told_after : State → State → Told → Told × State
+told_after s t w = (w, moved s t w)
+
+-- the step of a create whose plan makes a volume, and whose body fits into a reply
+stepped : (config : Config) (s : State) (r : CreateVolume) (n : ℕ) (pool : Pool) → create config s r ≡ place_in r s.next n (Some pool) → length (response_bytes (response.Create (Some (info_at pool.segments (made r s.next n pool))))) ≤ MAX_BODY_BYTES
+    → step config s (Create r) ≡ (Says (response_bytes (response.Create (Some (info_at pool.segments (made r s.next n pool))))), changed s (AddVolume (made r s.next n pool)))
+stepped config s r n pool is fits =
+    let v = made r s.next n pool in
+    let body = response_bytes (response.Create (Some (info_at pool.segments v))) in
+    let held : nat_le (length body) MAX_BODY_BYTES ≡ true = le-leb (length body) MAX_BODY_BYTES fits in
+    ap (λ (p : Plan). told_after s (after s p.change) (told_of p.outcome)) is
+    ∙ ap (λ b. told_after s (changed s (AddVolume v)) (cond b (Says body) (Denies ReplyTooLarge))) held
+
+-- and so what GetCapacity offers is answered
+pub answered : (config : Config) → IsConfigured config → ((p : Pool) → Has config.pools p → is_pool_name p.name ≡ true) → ((p : Pool) → Has config.pools p → fin.len p.segments ≤ MAX_SEGMENTS)
+    → (s : State) (g : GetCapacity) (available n : ℕ) (r : CreateVolume) → IsInvariant config s → capacity config s g ≡ tell_capacity available n → 0 < n → AsksFor config r g.topology n → IsNew config s r.name
+    → (pool : Pool) × Has config.pools pool × (step config s (Create r) ≡ (Says (response_bytes (response.Create (Some (info_at pool.segments (made r s.next n pool))))), changed s (AddVolume (made r s.next n pool))))
+answered config good names few s g available n r inv e h asks new =
+    let it = offered config good s g available n r inv e h asks new in
+    (it.0, it.1, stepped config s r n it.0 it.2 (made_fits config names few it.0 it.1 (made r s.next n it.0) refl new.numbered))

@@ -10,6 +10,7 @@ use Rattle.csi_config.specs.declared.config.Config.{Config}
 use Rattle.csi_machine.specs.Choice.{rooms, count}
 use Rattle.csi_keeper.specs.State.{State, named}
 use Rattle.csi_keeper.specs.Texts.{Text}
+use Rattle.csi_plans.specs.Size.{size}
 use Rattle.csi_plans.specs.Topology.{terms}
 
 -- the topology of a GetCapacity as a term; none is the empty one
@@ -21,9 +22,9 @@ term_of (Some t) = t
 abbrev pub exactly : ℕ → CapacityRange
 exactly n = record { required = pos n; limit = pos n }
 
--- exactly that size is asked, and the topology is one of the terms
-pub record AsksFor (r : CreateVolume) (topology : Option TextMap) (n : ℕ) : Type 0 where
-  pub size : r.range ≡ Some (exactly n)
+-- the size of the range that is asked for is this one, as that of `exactly` it is, and the topology is one of the terms
+pub record AsksFor (config : Config) (r : CreateVolume) (topology : Option TextMap) (n : ℕ) : Type 0 where
+  pub sized : size config.sizes r.range ≡ Some n
   pub term : Has (terms r.topology) (term_of topology)
 
 -- no volume has the name, and neither their count nor their numbers are used up

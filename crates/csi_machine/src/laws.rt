@@ -5,25 +5,33 @@ ghost use Rattle.std.specs.Prelude.{◌≡◌, ◌<◌, ◌^◌, ℕ, List, [], 
 ghost use Rattle.csi_plans.specs.Ids.{id, number_of_id};
 ghost use Rattle.csi_keeper.specs.Texts.{Text};
 ghost use Rattle.csi_keeper.specs.Invariant.{IsInvariant};
-ghost use Rattle.csi_keeper.specs.State.{State};
+ghost use Rattle.csi_keeper.specs.State.{State, changed};
+ghost use Rattle.csi_keeper.specs.declared.change.Change.TheVariants.{AddVolume};
 ghost use Rattle.csi_machine.specs.Walk.{Call, pages, AreRead, AreChecked, AreOfVolumes, GoOn, End, Stood, listed_ids, AreApart};
 ghost use Rattle.csi_config.specs.Values.{Has};
 ghost use Rattle.std.specs.List.{AllByRecursion};
 ghost use Rattle.csi_machine.specs.Choice.{choice, rooms};
-ghost use Rattle.csi_machine.specs.Offer.{AsksFor, IsNew, term_of};
+ghost use Rattle.csi_machine.specs.Offer.{AsksFor, IsNew, exactly, term_of};
 ghost use Rattle.csi_machine.specs.calls.Capacity.{capacity, tell_capacity};
-ghost use Rattle.csi_machine.specs.calls.Create.{create, place_in};
+ghost use Rattle.csi_machine.specs.calls.Create.{create, made, place_in};
 ghost use Rattle.csi_machine.specs.Retry.{Try, IsLife, AreTriesOf, all_tries, told_once, after_once, Marked, Unanswered, IsLifeOfTwo};
 ghost use Rattle.csi_machine.specs.Step.{step};
+ghost use Rattle.csi_plans.specs.Info.{info_at};
+ghost use Rattle.csi_plans.specs.Size.{size};
 ghost use Rattle.csi_plans.specs.Verdicts.{Told};
+ghost use Rattle.csi_plans.specs.Verdicts.Told.{Says};
+ghost use Rattle.csi_codec.specs.Methods.{response_bytes};
 ghost use Rattle.csi_config.specs.declared.pools.Pool.{Pool};
 ghost use Rattle.csi_types.specs.declared.requests.CreateVolume.{CreateVolume};
 ghost use Rattle.csi_types.specs.declared.requests.GetCapacity.{GetCapacity};
 ghost use Rattle.csi_types.specs.declared.requests.Request.{Request};
+ghost use Rattle.csi_types.specs.declared.requests.Request.TheVariants.{Create};
+ghost use Rattle.csi_types.specs.declared.responses.Response.TheVariants as response;
 ghost use Rattle.csi_types.specs.Checks.{checked};
 
 use crate::configured::configured;
 use csi_config::Config;
+use csi_config::laws::{pool_keys_differ, pools_named};
 use csi_types::laws::{equal_topologies, inclusions, overlays};
 
 /// An id names the volume that it was made of, and no other text names that volume.
@@ -66,18 +74,27 @@ pub fn walk(config: &Config)
 ///
 /// From a State of the invariant: where the maximum that is told is above zero, a pool of the
 /// configuration is chosen for that size under the topology that was asked for. So a create that asks
-/// for exactly that size, with the topology among its terms, makes a volume of that size in a pool of
-/// the configuration. Its name has to be new, and neither the count of volumes nor their numbers may
-/// be used up.
+/// for that size, by any range whose size it is, with the topology among its terms, is answered a
+/// volume of that size in a pool of the configuration, which exists from then on. Its name must be
+/// new, and neither the count of volumes nor their numbers may be used up. The range that has this
+/// size as both of its limits is such a range.
 #[inline(always)]
 pub fn room(config: &Config)
     ensures chosen { (s : State) (g : GetCapacity) (available n : ℕ) → IsInvariant config.now s → capacity config.now s g ≡ tell_capacity available n → 0 < n
         → (pool : Pool) × Has config.now.pools pool × (choice (rooms config.now s) (term_of g.topology ∷ []) n ≡ Some pool) }
     ensures made { (s : State) (g : GetCapacity) (available n : ℕ) (r : CreateVolume) → IsInvariant config.now s
-        → capacity config.now s g ≡ tell_capacity available n → 0 < n → AsksFor r g.topology n → IsNew config.now s r.name → (pool : Pool)
+        → capacity config.now s g ≡ tell_capacity available n → 0 < n → AsksFor config.now r g.topology n → IsNew config.now s r.name → (pool : Pool)
         × Has config.now.pools pool × (create config.now s r ≡ place_in r s.next n (Some pool)) }
+    ensures exact { (s : State) (g : GetCapacity) (available n : ℕ) → IsInvariant config.now s → capacity config.now s g ≡ tell_capacity available n → 0 < n
+        → size config.now.sizes (Some (exactly n)) ≡ Some n }
+    ensures answered { (s : State) (g : GetCapacity) (available n : ℕ) (r : CreateVolume) → IsInvariant config.now s
+        → capacity config.now s g ≡ tell_capacity available n → 0 < n → AsksFor config.now r g.topology n → IsNew config.now s r.name → (pool : Pool)
+        × Has config.now.pools pool × (step config.now s (Create r)
+        ≡ (Says (response_bytes (response.Create (Some (info_at pool.segments (made r s.next n pool))))), changed s (AddVolume (made r s.next n pool)))) }
 {
     configured(config);
+    pools_named(config);
+    pool_keys_differ(config);
 }
 
 /// Each request is idempotent (CSI specification, 'Timeouts').
