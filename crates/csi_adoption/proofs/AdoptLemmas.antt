@@ -62,7 +62,7 @@ still_kept settled back before keeps clean = record {
 -- ---- tables that stood
 
 module _ {S : Type 0} (g : Ghosts S) (config : Config) (conn two three : Held S) (totals : Totals) (settled : IsSettled g conn two) (live : IsLive (state g two))
-    (survives : Survives (state g two) (state g three) (LeavesLatest (state g two)))
+    {Left : Trees → Type 0} (survives : Survives (state g two) (state g three) Left)
     (taken : HasCleanDisk (state g three) → IsTaken config (state g two) (state g three) totals) where
   before : HasCleanDisk (state g three) → HasCleanDisk (state g two)
   before clean = omega (arith, survives.clean)
@@ -117,7 +117,7 @@ module _ {S : Type 0} (g : Ghosts S) (config : Config) (conn two three : Held S)
 module _ {S : Type 0} (g : Ghosts S) (config : Config) (conn two back : Held S) (fault : AdoptFault) (settled : IsSettled g conn two) (live : IsLive (state g two)) (idle : back.in_transaction ≡ false)
     (failed : AdoptionFails g conn back fault) where
   -- the database is read, and only its format may have been written
-  pub is_refused : (HasCleanDisk (state g back) → KeepsCommit (state g two) (state g back)) → Survives (state g two) (state g back) (LeavesLatest (state g two))
+  pub is_refused : (HasCleanDisk (state g back) → KeepsCommit (state g two) (state g back)) → Survives (state g two) (state g back) (λ db. LeavesLatest config (state g two) db × (is_failure fault ≡ true))
       → (HasCleanDisk (state g back) → is_failure fault ≡ false → IsFaultOf config (state g two).now fault) → (HasCleanDisk (state g back) → (state g two).now.schema ≢ schema → fault ≡ Foreign foreign.Schema) → (HasCleanDisk (state g back) → IsNotRefused config (state g two).now fault)
       → ((state g two).now.schema ≢ no_schema) → (HasCleanDisk (state g back) → (state g back).is_open ≡ false → IsOfShut (state g back).now.schema fault) → IsUnadopted g config conn fault back
   is_refused keeps survives first other sound some shut =
@@ -131,9 +131,9 @@ module _ {S : Type 0} (g : Ghosts S) (config : Config) (conn two back : Held S) 
         crash = λ clean db may. elim (survives.crash clean db may) [
           | inl there ↦ inl (settled.crash (before clean) db there)
           | inr left ↦
-              let same = settled.now (before clean) left.was_open in
-              let it = left.same (subst (λ s. IsSound s (state g two).now.trees) left.was_ours (live left.was_open).0) in
-              inr (inr (it.0, sym (ap (λ (d : Database). d.schema) same) ∙ left.was_ours, subst (λ (d : Database). IsFirstRows it.0 d.trees) same it.1, it.2))
+              let same = settled.now (before clean) left.0.was_open in
+              let it = left.0.same (subst (λ s. IsSound s (state g two).now.trees) left.0.was_ours (live left.0.was_open).0) in
+              inr (inr (it.0, sym (ap (λ (d : Database). d.schema) same) ∙ left.0.was_ours, subst (λ (d : Database). IsFirstRows it.0 d.trees) same it.1, it.2, it.3, left.1))
         ];
         first = λ clean is_open known. subst (λ (d : Database). IsFaultOf config d fault) (seen clean is_open) (first clean known);
         other = λ clean is_open not_ours _. other clean (λ ours. not_ours (sym (ap (λ (d : Database). d.schema) (seen clean is_open)) ∙ ours));

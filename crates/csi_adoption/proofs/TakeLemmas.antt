@@ -81,15 +81,18 @@ module _ {S : Type 0} (g : Ghosts S) (config : Config) (two three four : Held S)
           let other : format ≡ FIRST_FORMAT → ⊥ = λ e. grind (arith, nat_tests, is, e) in
           subst (λ (h : Held S). IsTaken config (state g two) (state g h) totals) (sym (stays other)) (as_it_was (before clean) other)
 
-  pub taken_survives : Survives (state g two) (state g four) (LeavesLatest (state g two))
-  taken_survives = survives_then (state g two) (state g three) (state g four) (λ _. ⊥) (λ db. (format ≡ FIRST_FORMAT) × Leaves SetsFormat (state g three) db) (LeavesLatest (state g two)) (λ _ db none. absurd none) (λ clean db left.
-      let past = before clean in
-      record {
-        was_open = (same past).0.was_open;
-        was_ours = (found past).schema_is;
-        same = λ sound.
-            let it = (found past).found sound in
-            let made = left.1.1 in
-            let rows : IsRows it.1 made.trees = latest format it.1 (state g three).now made (ours past) (stand past it.1 it.2.0) (left.1.2 (ours past)) in
-            (it.1, first it.1 (state g two).now.trees left.0 it.2, subst (IsRows it.1) (sym left.1.3) rows);
-      }) scanned survives
+  -- where they were not made ones of the latest format, something failed
+  pub taken_survives : {Failed : Type 0} → Failed → Survives (state g two) (state g four) (λ db. LeavesLatest config (state g two) db × Failed)
+  taken_survives {Failed} failed = survives_then (state g two) (state g three) (state g four) (λ _. ⊥) (λ db. (format ≡ FIRST_FORMAT) × Leaves SetsFormat (state g three) db) (λ db. LeavesLatest config (state g two) db × Failed) (λ _ db none. absurd none) (λ clean db left.
+      let past = before clean in (
+        record {
+          was_open = (same past).0.was_open;
+          was_ours = (found past).schema_is;
+          same = λ sound.
+              let it = (found past).found sound in
+              let made = left.1.1 in
+              let rows : IsRows it.1 made.trees = latest format it.1 (state g three).now made (ours past) (stand past it.1 it.2.0) (left.1.2 (ours past)) in
+              (it.1, first it.1 (state g two).now.trees left.0 it.2, subst (IsRows it.1) (sym left.1.3) rows, it.3);
+        },
+        failed,
+      )) scanned survives

@@ -52,11 +52,11 @@ pub record IsTaken (config : Config) (old new : sql.State) (totals : Totals) : T
   pub settled : old.now ≡ old.committed → new.now ≡ new.committed
   pub found : IsSound schema old.now.trees → (s : State) × IsEitherRows s old.now.trees × IsRows s new.now.trees × IsInvariant config s × AreTotals totals s
 
--- a stop may leave tables of the latest format in place of those of the first one, of the same State
-pub record LeavesLatest (old : sql.State) (db : Trees) : Type 0 where
+-- a stop may leave tables of the latest format in place of those of the first one, of the same State, which meets every constraint
+pub record LeavesLatest (config : Config) (old : sql.State) (db : Trees) : Type 0 where
   pub was_open : IsTrue old.is_open
   pub was_ours : old.now.schema ≡ schema
-  pub same : IsSound schema old.now.trees → (s : State) × IsFirstRows s old.now.trees × IsRows s db
+  pub same : IsSound schema old.now.trees → (s : State) × IsFirstRows s old.now.trees × IsRows s db × IsInvariant config s
 
 -- rows of such a State are refused only if something failed
 abbrev pub IsNotRefused : Config → Database → AdoptFault → Type 0
@@ -88,8 +88,8 @@ module _ {S : Type 0} (g : Ghosts S) (config : Config) (conn : Held S) where
     -- what was committed stays
     pub kept : HasCleanDisk (state g back) → KeepsCommit (state g conn) (state g back)
     -- a stop leaves what it could leave before; only where there was no table, also the new ones that were to be made, and where there
-    -- were tables of the first format, also those of the latest of the same State
-    pub crash : HasCleanDisk (state g back) → (db : Trees) → (state g back).may_leave db → (state g conn).may_leave db ⊎ ((made : Database) × (committed.schema ≡ no_schema) × MakesTables committed made × (db ≡ made.trees)) ⊎ ((s : State) × (committed.schema ≡ schema) × IsFirstRows s committed.trees × IsRows s db)
+    -- were tables of the first format of a State that meets every constraint, and something failed, also those of the latest of the same State
+    pub crash : HasCleanDisk (state g back) → (db : Trees) → (state g back).may_leave db → (state g conn).may_leave db ⊎ ((made : Database) × (committed.schema ≡ no_schema) × MakesTables committed made × (db ≡ made.trees)) ⊎ ((s : State) × (committed.schema ≡ schema) × IsFirstRows s committed.trees × IsRows s db × IsInvariant config s × (is_failure fault ≡ true))
     -- the fault is the first one of what was committed, unless something failed
     pub first : HasCleanDisk (state g back) → IsTrue (state g back).is_open → is_failure fault ≡ false → IsFaultOf config committed fault
     -- other tables are told, whatever fails

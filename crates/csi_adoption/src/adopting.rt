@@ -1,6 +1,6 @@
 //! The tables on a connection, judged and taken.
 
-ghost use Rattle.std.specs.Prelude.{◌≡◌, ◌≢◌, false, Some, IfErr, IfOk, IsTrue, OnErr, OnOk};
+ghost use Rattle.std.specs.Prelude.{◌≡◌, ◌≢◌, false, true, Some, IfErr, IfOk, IsTrue, OnErr, OnOk};
 ghost use Rattle.sqlite.specs.Held.{state};
 ghost use Rattle.sqlite.specs.State.{HasCleanDisk, KeepsCommit, Survives};
 ghost use Rattle.csi_schema.specs.Tables.{no_schema, schema as our_schema};
@@ -293,7 +293,8 @@ fn take<S: Alter>(
     ensures other { HasCleanDisk (state S.Store conn.new) → (state S.Store conn.old).now.schema ≢ our_schema → IfErr result
         (λ fault. fault ≡ AdoptFault.Foreign Foreign.Schema) }
     ensures sound { HasCleanDisk (state S.Store conn.new) → IfErr result (IsNotRefused config.now (state S.Store conn.old).now) }
-    ensures survives { Survives (state S.Store conn.old) (state S.Store conn.new) (LeavesLatest (state S.Store conn.old)) }
+    ensures survives { Survives (state S.Store conn.old) (state S.Store conn.new)
+        (λ db. LeavesLatest config.now (state S.Store conn.old) db × IfErr result (λ fault. is_failure fault ≡ true)) }
 {
     latest();
     let judged = judge(alloc, conn, config)?;

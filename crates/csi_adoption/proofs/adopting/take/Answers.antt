@@ -1,4 +1,4 @@
-use Rattle.std.proofs.Common.{◌≡◌, ◌∙◌, sym, arith, false, true≢false}
+use Rattle.std.proofs.Common.{◌≡◌, ◌∙◌, sym, arith, true, false, true≢false}
 use Rattle.sqlite.specs.Held.{state}
 use Rattle.sqlite.specs.State.{HasCleanDisk}
 use Rattle.csi_judging.specs.Faults.{failure_of, is_failure}
@@ -13,6 +13,7 @@ pub returns-in_err-upgrade-clause-survives : goal.returns-in_err-upgrade-clause-
 returns-in_err-upgrade-clause-survives g c =
     let judged = c.in_ok-judged.ensures in
     taken_survives g.S.Store c.args.config.now c.args.conn.now c.judge.new.conn c.upgrade.new.conn c.in_ok-judged.judged.format c.in_ok-judged.judged.totals judged.scans.same judged.scans.survives judged.found c.latest.ensures c.upgrade.ensures.survives
+    (if_err (λ fault. is_failure fault ≡ true) c.from_residual-in_err-upgrade.result (failure_of c.in_err-upgrade.field-0.0) c.from_residual-in_err-upgrade.ensures.1 (error_fails c.in_err-upgrade.field-0.0))
 
 pub returns-clause-taken : goal.returns-clause-taken
 returns-clause-taken g c =
@@ -23,7 +24,7 @@ returns-clause-taken g c =
 pub returns-clause-survives : goal.returns-clause-survives
 returns-clause-survives g c =
     let judged = c.in_ok-judged.ensures in
-    taken_survives g.S.Store c.args.config.now c.args.conn.now c.judge.new.conn c.upgrade.new.conn c.in_ok-judged.judged.format c.in_ok-judged.judged.totals judged.scans.same judged.scans.survives judged.found c.latest.ensures c.upgrade.ensures.survives
+    taken_survives g.S.Store c.args.config.now c.args.conn.now c.judge.new.conn c.upgrade.new.conn c.in_ok-judged.judged.format c.in_ok-judged.judged.totals judged.scans.same judged.scans.survives judged.found c.latest.ensures c.upgrade.ensures.survives tt
 
 pub returns-in_err-upgrade-clause-failed : goal.returns-in_err-upgrade-clause-failed
 returns-in_err-upgrade-clause-failed g c =
