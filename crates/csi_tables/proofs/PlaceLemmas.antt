@@ -39,7 +39,7 @@ row_at (q ∷ ps) (suc i) d p low = row_at ps i d p (omega (arith, low))
 
 -- ---- one number
 
-numbers_differ : (m n : ℕ) → (m ≡ n → ⊥) → (m == n) ≡ false
+pub numbers_differ : (m n : ℕ) → (m ≡ n → ⊥) → (m == n) ≡ false
 numbers_differ m n far = go (m == n) refl
   where
     go : (b : Bool) → (m == n) ≡ b → b ≡ false

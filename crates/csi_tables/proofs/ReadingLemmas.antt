@@ -1,8 +1,10 @@
 -- What is read of cells and of rows, one after the other.
-use Rattle.std.proofs.Common.{◌≡◌, ◌∙◌, inl, inr, sym, ap, ap₂, subst, arith, ℕ, ◌+◌, ◌<◌, ◌==◌, true, refl, List, [], ◌∷◌, ◌++◌, map, take, length, get_or, Option, Some, Ok, option_to_list}
+use Rattle.std.proofs.Common.{◌≡◌, ◌∙◌, inl, inr, sym, ap, ap₂, subst, arith, ℕ, ◌+◌, ◌<◌, ◌==◌, true, refl, List, [], ◌∷◌, ◌++◌, append-nil, cond, filter, map, take, length, get_or, Option, Some, Ok, option_to_list}
 use Rattle.std.specs.Bool.{⊤}
 use Rattle.std.specs.List.{AllByRecursion}
 use Rattle.std.proofs.lemmas.Bool.Decides.{nat_tests}
+use Rattle.std.proofs.lemmas.List.{map-append}
+use Rattle.std.proofs.lemmas.List.Elements.{filter-append}
 use Rattle.sqlite.specs.Order.{Row, column}
 use Rattle.sqlite.specs.declared.types.Value.{Value}
 use Rattle.sqlite.specs.declared.types.Value.TheVariants as value
@@ -13,12 +15,13 @@ use Rattle.csi_types.specs.declared.requests.CreateVolume as message
 use Rattle.csi_types.specs.declared.requests.Request.TheVariants.{Create}
 use Rattle.csi_codec.specs.Reading.{read_request}
 use Rattle.csi_keeper.specs.Capability.{key_of}
+use Rattle.csi_keeper.specs.Texts.{Text}
 use Rattle.csi_keeper.specs.declared.capability.CapKey.{CapKey}
-use Rattle.csi_statements.specs.Cells.{as_blob}
+use Rattle.csi_statements.specs.Cells.{as_blob, as_number}
 use Rattle.csi_statements.specs.Rows.{meta_row, number_value, seen_meta}
-use Rattle.csi_tables.specs.Reading.{AreKeysOf, AreReadOf}
+use Rattle.csi_tables.specs.Reading.{AreKeysOf, AreReadOf, ShowNodes, ShowsNumber, is_number}
 use Rattle.csi_tables.proofs.CellLemmas.{read_more}
-use Rattle.csi_tables.proofs.PlaceLemmas.{take_one, take_whole}
+use Rattle.csi_tables.proofs.PlaceLemmas.{numbers_differ, take_one, take_whole}
 
 -- bytes are read as one request
 same_message : (bytes : List ℕ) (a b : message.CreateVolume) → read_request CreateVolume bytes ≡ Ok (Create a) → read_request CreateVolume bytes ≡ Ok (Create b) → a ≡ b
@@ -79,3 +82,32 @@ module _ {X : Type 0} (Of : Row → X → Type 0) where
 
   pub read_whole : (rows : List Row) (i : ℕ) (xs : List X) → i ≡ length rows → AreReadOf Of (take i rows) xs → AreReadOf Of rows xs
   read_whole rows i xs last all = subst (λ (some : List Row). AreReadOf Of some xs) (ap (λ n. take n rows) last ∙ take_whole rows) all
+
+-- ---- the nodes of a number, a row more
+
+module _ (n : ℕ) (rows : List Row) (i : ℕ) (d : Row) (nodes : List Text) (at : ℕ) (low : i < length rows) (is : column (get_or rows i d) 0 ≡ number_value at) (old : ShowNodes n (take i rows) nodes) where
+  test : is_number n (as_number (column (get_or rows i d) 0)) ≡ (at == n)
+  test = ap (λ v. is_number n (as_number v)) is
+
+  abbrev cells : List Row → List Value
+  cells rs = map (λ row. column row 1) (filter (λ row. is_number n (as_number (column row 0))) rs)
+
+  next_cells : cells (take (i + 1) rows) ≡ cells (take i rows) ++ cells (get_or rows i d ∷ [])
+  next_cells =
+      ap cells (take_one rows i d low)
+      ∙ ap (map (λ (row : Row). column row 1)) (filter-append (λ row. is_number n (as_number (column row 0))) (take i rows) (get_or rows i d ∷ []))
+      ∙ map-append (λ (row : Row). column row 1) (filter (λ row. is_number n (as_number (column row 0))) (take i rows)) (filter (λ row. is_number n (as_number (column row 0))) (get_or rows i d ∷ []))
+
+  numbered_next : AreReadOf ShowsNumber (take (i + 1) rows) (old.numbers ++ at ∷ [])
+  numbered_next = read_next ShowsNumber rows i d old.numbers at low old.numbered is
+
+  pub nodes_next : (t : Text) → at ≡ n → column (get_or rows i d) 1 ≡ value.Text t → ShowNodes n (take (i + 1) rows) (nodes ++ t ∷ [])
+  nodes_next t same text =
+      let passes : (at == n) ≡ true = grind (arith, nat_tests, same) in
+      let here : cells (get_or rows i d ∷ []) ≡ value.Text t ∷ [] = ap (λ b. map (λ (row : Row). column row 1) (cond b (get_or rows i d ∷ []) [])) (test ∙ passes) ∙ ap (λ v. v ∷ []) text in
+      record { numbers = old.numbers ++ at ∷ []; numbered = numbered_next; nodes_are = map-append value.Text nodes (t ∷ []) ∙ ap₂ (λ xs ys. xs ++ ys) old.nodes_are (sym here) ∙ sym next_cells }
+
+  pub nodes_kept : (at ≡ n → ⊥) → ShowNodes n (take (i + 1) rows) nodes
+  nodes_kept far =
+      let none : cells (get_or rows i d ∷ []) ≡ [] = ap (λ b. map (λ (row : Row). column row 1) (cond b (get_or rows i d ∷ []) [])) (test ∙ numbers_differ at n far) in
+      record { numbers = old.numbers ++ at ∷ []; numbered = numbered_next; nodes_are = old.nodes_are ∙ sym (next_cells ∙ ap (λ xs. cells (take i rows) ++ xs) none ∙ append-nil (cells (take i rows))) }

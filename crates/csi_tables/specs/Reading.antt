@@ -1,5 +1,5 @@
 -- What is read of rows, also of those that stand for nothing that was written.
-use Rattle.std.specs.Prelude.{◌≡◌, ℕ, List, [], ◌∷◌, Option, None, Some, Ok, map, ⊤}
+use Rattle.std.specs.Prelude.{◌≡◌, ℕ, ◌==◌, Bool, false, List, [], ◌∷◌, Option, None, Some, Ok, map, filter, ⊤}
 use Rattle.sqlite.specs.Effect.{Database}
 use Rattle.sqlite.specs.Held.{Held, state}
 use Rattle.sqlite.specs.Order.{Row, column}
@@ -14,11 +14,12 @@ use Rattle.csi_types.specs.declared.requests.CreateVolume.{CreateVolume}
 use Rattle.csi_types.specs.declared.requests.Request.TheVariants.{Create}
 use Rattle.csi_codec.specs.Reading.{read_request}
 use Rattle.csi_keeper.specs.Capability.{key_of}
+use Rattle.csi_keeper.specs.Texts as texts
 use Rattle.csi_keeper.specs.declared.capability.CapKey.{CapKey}
 use Rattle.csi_keeper.specs.declared.volume.Attachment.{Attachment}
 use Rattle.csi_keeper.specs.declared.volume.Volume.{Volume}
 use Rattle.csi_schema.specs.Tables.{schema}
-use Rattle.csi_statements.specs.Cells.{as_flag}
+use Rattle.csi_statements.specs.Cells.{as_flag, as_number}
 use Rattle.csi_statements.specs.Rows.{number_value}
 
 -- ---- bytes
@@ -71,6 +72,17 @@ abbrev pub AreReadOf : {X : Type 0} → (Row → X → Type 0) → List Row → 
 AreReadOf Of [] [] = ⊤
 AreReadOf Of (row ∷ rows) (x ∷ xs) = Of row x × AreReadOf Of rows xs
 AreReadOf Of _ _ = ⊥
+
+-- a row has this number
+abbrev pub is_number : ℕ → Option ℕ → Bool
+is_number n None = false
+is_number n (Some m) = m == n
+
+-- Nodes of a number, of rows of a number and a node each: every row has a number, and those of this one have these texts.
+pub record ShowNodes (number : ℕ) (rows : List Row) (nodes : List texts.Text) : Type 0 where
+  pub numbers : List ℕ
+  pub numbered : AreReadOf ShowsNumber rows numbers
+  pub nodes_are : map Text nodes ≡ map (λ row. column row 1) (filter (λ row. is_number number (as_number (column row 0))) rows)
 
 -- ---- meta
 

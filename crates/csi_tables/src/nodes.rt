@@ -1,8 +1,9 @@
 //! The nodes of the volumes of a page, of one list of places.
 
-ghost use Rattle.std.specs.Prelude.{◌≡◌, ◌≢◌, ◌==◌, ◌<◌, ◌≤◌, ℕ, List, IfOk, IsErrOf, length, drop, filter, map, nat_lt};
+ghost use Rattle.std.specs.Prelude.{◌≡◌, ◌≢◌, ◌==◌, ◌<◌, ◌≤◌, ℕ, List, IfOk, IsErrOf, length, drop, filter, map, nat_lt, take};
 ghost use Rattle.csi_keeper.specs.State.{Place};
 ghost use Rattle.csi_tables.specs.Places.{place_row, nodes_at, IsRisen, AreRising, AreTexts};
+ghost use Rattle.csi_tables.specs.Reading.{ShowNodes};
 ghost use Rattle.csi_tables.specs.declared.fault.Fault.TheVariants.{Refused};
 
 use crate::fault::Fault;
@@ -17,6 +18,7 @@ fn nodes_of(alloc: Global, places: &[Row], number: u64) -> Result<(Items<Text>, 
     ensures passed { IfOk result (λ found. (ps : List Place) → IsRisen ps → places.now ≡ map place_row ps
         → drop found.1 ps ≡ filter (λ p. nat_lt number p.0) ps) }
     ensures within { IfOk result (λ found. found.1 ≤ length places.now) }
+    ensures exact { IfOk result (λ found. ShowNodes number (take found.1 places.now) found.0) }
     ensures refused { IsErrOf result Refused → (ps : List Place) → AreTexts ps → places.now ≢ map place_row ps }
 {
     let mut nodes = Items::new(alloc);
