@@ -1,5 +1,5 @@
 -- A call that is sent again until it is answered.
-use Rattle.std.specs.Prelude.{ℕ, ◌+◌, ◌-◌, ◌*◌, ◌/◌, ◌%◌, ◌^◌, Bool, true, false, not, min}
+use Rattle.std.specs.Prelude.{ℕ, zero, suc, ◌≡◌, ◌<◌, ◌+◌, ◌-◌, ◌*◌, ◌/◌, ◌%◌, ◌^◌, Bool, true, false, not, min, List}
 use Rattle.envelope.specs.declared.reply_fault.ReplyWhy.{ReplyWhy}
 use Rattle.envelope.specs.declared.reply_fault.ReplyWhy.TheVariants as why
 use Rattle.csi_client.specs.declared.receiving.Received.{Received}
@@ -32,6 +32,21 @@ unanswered_count r = one_if (is_unanswered r)
 
 abbrev pub answered_count : Received → ℕ
 answered_count r = one_if (not (is_unanswered r))
+
+-- So many exchanges with the frame were made, one after the other, and each was unanswered.
+abbrev pub AreUnanswered : {L : Type 0} → (L → L → List ℕ → Received → Type 0) → L → L → List ℕ → ℕ → Type 0
+AreUnanswered exchanged first now frame zero = now ≡ first
+AreUnanswered {L} exchanged first now frame (suc n) =
+    (before : L) × (received : Received) × AreUnanswered exchanged first before frame n × exchanged before now frame received × (is_unanswered received ≡ true)
+
+-- The frame is sent at most so often, and all exchanges but the last are unanswered. What the last one gives is the outcome, which is unanswered only after all of them.
+pub record IsSentAgain {L : Type 0} (exchanged : L → L → List ℕ → Received → Type 0) (first now : L) (frame : List ℕ) (tries : ℕ) (outcome : Received) : Type 0 where
+  pub earlier : ℕ
+  pub few : earlier < tries
+  pub before : L
+  pub unanswered : AreUnanswered exchanged first before frame earlier
+  pub last : exchanged before now frame outcome
+  pub given_up : is_unanswered outcome ≡ true → earlier + 1 ≡ tries
 
 -- the longest pause before a further try, in milliseconds: twice as long after each try, up to 2 s
 abbrev pub longest_pause : ℕ → ℕ

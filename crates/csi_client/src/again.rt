@@ -1,7 +1,8 @@
 //! A call, sent again until it is answered.
 
-ghost use Rattle.std.specs.Prelude.{◌≡◌, ◌≤◌, ◌<◌, ◌+◌, ◌-◌, ◌/◌, ◌^◌, ℕ, true};
-ghost use Rattle.csi_client.specs.Again.{is_unanswered, unanswered_count, answered_count, longest_pause, pause};
+ghost use Rattle.std.specs.Prelude.{◌≡◌, ◌≤◌, ◌<◌, ◌+◌, ◌-◌, ◌/◌, ◌^◌, List, ℕ, true};
+ghost use Rattle.csi_client.specs.declared.receiving.Received.{Received};
+ghost use Rattle.csi_client.specs.Again.{is_unanswered, unanswered_count, answered_count, IsSentAgain, longest_pause, pause};
 
 use crate::receiving::Received;
 use frames_core::ReplyWhy;
@@ -14,6 +15,9 @@ pub trait Line {
     // How many of them were unanswered.
     ghost unanswered: { Self → ℕ };
 
+    // What one exchange does to it: before and after, for a frame and what came. Nothing else says so, so who promises it has sent that frame.
+    ghost exchanged: { Self → Self → List ℕ → Received → Type 0 };
+
     /// Sends the frame of a call on a new connection, and waits for its reply. Where the connection
     /// cannot be made, or the call not be sent, that is [`Received::Failed`].
     ///
@@ -21,7 +25,8 @@ pub trait Line {
     fn exchange(&mut self, frame: &[u8]) -> Received
         requires { exchanges self.old < 2 ^ 64 - 1 }
         ensures made { exchanges self.new ≡ exchanges self.old + 1 }
-        ensures unanswered { unanswered self.new ≡ unanswered self.old + unanswered_count result };
+        ensures unanswered { unanswered self.new ≡ unanswered self.old + unanswered_count result }
+        ensures sent { exchanged self.old self.new frame.now result };
 }
 
 /// Whether it is open if the server took the call: the connection failed, or it ended before the
@@ -84,6 +89,7 @@ pub fn call_again<L: Line>(line: &mut L, frame: &[u8], tries: u32) -> Received
     ensures made { L.exchanges line.old + 1 ≤ L.exchanges line.new }
     ensures bounded { L.exchanges line.new ≤ L.exchanges line.old + tries }
     ensures once { L.exchanges line.new + L.unanswered line.old ≡ L.exchanges line.old + L.unanswered line.new + answered_count result }
+    ensures sent { IsSentAgain L.exchanged line.old line.new frame.now tries result }
     ensures given_up { is_unanswered result ≡ true → L.exchanges line.new ≡ L.exchanges line.old + tries }
 {
     for tried in 1..tries {

@@ -1,6 +1,6 @@
 //! The way to a server on a socket: a connection for each try of a call.
 
-ghost use Rattle.std.specs.Prelude.{◌≡◌};
+ghost use Rattle.std.specs.Prelude.{◌≡◌, ⊤};
 
 use crate::connection::Connection;
 use crate::failure::Failure;
@@ -124,6 +124,9 @@ impl Line for SocketLine<'_> {
     ghost exchanges = { λ line. line.exchanges.made };
 
     ghost unanswered = { λ line. line.exchanges.unanswered };
+
+    // (no contract says what a socket carries)
+    ghost exchanged = { λ old new frame received. ⊤ };
 
     fn exchange(&mut self, frame: &[u8]) -> Received {
         if let Some(why) = &self.unanswered {

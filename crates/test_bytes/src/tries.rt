@@ -1,9 +1,11 @@
 //! Rows about calls that are sent again.
 
+ghost use Rattle.std.specs.Prelude.{⊤};
+
 use crate::shown::displayed;
 use csi_client::{Exchanges, Line, Received, ReceivedReply, call_again, pause_millis};
 use frames_core::{ReplyFault, ReplyWhy};
-use std::alloc::Global;
+use std::alloc::{AllocError, Global};
 use test_kit::{RowFault, number_at, word_at, words_of};
 
 // What is sent; a line does not look into it.
@@ -19,10 +21,49 @@ pub(crate) fn answer(alloc: Global, row: &str) -> Result<String, RowFault> {
     }
 }
 
+// A reply: its status, its text and its body.
+#[derive(Clone, Copy)]
+struct Said {
+    status: u8,
+    text: &'static str,
+    body: &'static [u8],
+}
+
+impl Said {
+    fn named(word: &str) -> Option<Said> {
+        let (status, text, body) = match word {
+            "done" => (0, "", [].as_slice()),
+            "exists" => (6, "", [].as_slice()),
+            "inside" => (13, "", [].as_slice()),
+            "with-text" => (5, "volume not found", [].as_slice()),
+            "with-body" => (0, "", b"\x0a\x02\x08\x01".as_slice()),
+            _ => return None,
+        };
+        Some(Said { status, text, body })
+    }
+
+    fn copied(self, alloc: Global) -> Result<ReceivedReply, AllocError> {
+        Ok(ReceivedReply {
+            status: self.status,
+            text: Vec::from_slice(alloc, self.text.as_bytes())?,
+            body: Vec::from_slice(alloc, self.body)?,
+        })
+    }
+
+    fn is(self, reply: &ReceivedReply) -> bool {
+        reply.status == self.status
+            && reply.text.as_slice() == self.text.as_bytes()
+            && reply.body.as_slice() == self.body
+    }
+}
+
+// The words of replies.
+const REPLIES: [&str; 5] = ["done", "exists", "inside", "with-text", "with-body"];
+
 // What an exchange gives, by its word.
 #[derive(Clone, Copy)]
 enum Outcome {
-    Reply(u8),
+    Reply(Said),
     Nothing,
     Malformed(ReplyWhy),
     Failed,
@@ -31,10 +72,10 @@ enum Outcome {
 
 impl Outcome {
     fn named(word: &str) -> Option<Outcome> {
+        if let Some(said) = Said::named(word) {
+            return Some(Outcome::Reply(said));
+        }
         Some(match word {
-            "done" => Outcome::Reply(0),
-            "exists" => Outcome::Reply(6),
-            "inside" => Outcome::Reply(13),
             "nothing" => Outcome::Nothing,
             "status" => Outcome::Malformed(ReplyWhy::BadStatus),
             "text-length" => Outcome::Malformed(ReplyWhy::BadTextLength),
@@ -50,11 +91,10 @@ impl Outcome {
 
     fn received(self, alloc: Global) -> Received {
         match self {
-            Outcome::Reply(status) => Received::Reply(ReceivedReply {
-                status,
-                text: Vec::new(alloc),
-                body: Vec::new(alloc),
-            }),
+            Outcome::Reply(said) => match said.copied(alloc) {
+                Ok(reply) => Received::Reply(reply),
+                Err(_) => Received::NoMemory,
+            },
             Outcome::Nothing => Received::Nothing,
             Outcome::Malformed(why) => Received::Malformed(ReplyFault { why, at: 0 }),
             Outcome::Failed => Received::Failed,
@@ -63,15 +103,20 @@ impl Outcome {
     }
 }
 
+// The word of a reply.
+fn reply_word(reply: &ReceivedReply) -> &'static str {
+    for word in REPLIES {
+        if Said::named(word).is_some_and(|said| said.is(reply)) {
+            return word;
+        }
+    }
+    "another reply"
+}
+
 // The word of what an exchange gave.
 fn word_of(received: &Received) -> &'static str {
     match received {
-        Received::Reply(reply) => match reply.status {
-            0 => "done",
-            6 => "exists",
-            13 => "inside",
-            _ => "another reply",
-        },
+        Received::Reply(reply) => reply_word(reply),
         Received::Nothing => "nothing",
         Received::Malformed(fault) => match fault.why {
             ReplyWhy::BadStatus => "status",
@@ -108,6 +153,8 @@ impl Line for Script<'_> {
     ghost exchanges = { λ line. line.exchanges.made };
 
     ghost unanswered = { λ line. line.exchanges.unanswered };
+
+    ghost exchanged = { λ old new frame received. ⊤ };
 
     fn exchange(&mut self, frame: &[u8]) -> Received {
         self.is_same &= frame == FRAME;
