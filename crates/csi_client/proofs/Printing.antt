@@ -1,5 +1,5 @@
 -- What one step makes of a run that shows replies.
-use Rattle.std.proofs.Common.{◌≡◌, ◌≢◌, ℕ, ◌+◌, Bool, List, [], ◌∷◌, ◌++◌, length, take, drop, Option, Some, None, refl, sym, ap, subst, ◌∙◌, append_assoc, append-nil, length-append, arith, inr, Err, Ok}
+use Rattle.std.proofs.Common.{◌≡◌, ◌≢◌, ℕ, ◌+◌, Bool, List, [], ◌∷◌, ◌++◌, ◌<◌, ◌≤◌, length, take, drop, Option, Some, None, refl, sym, ap, subst, ◌∙◌, append_assoc, append-nil, length-append, length-drop, arith, inr, Err, Ok}
 use Rattle.std.specs.Prelude.{IfSome, IsNone, ◌||◌, true, false, ⊤}
 use Rattle.std.specs.Io.KnownBytes.{Appends, Keeps}
 use Rattle.std.proofs.KnownBytes.{Appends-kept, Appends-nil, Appends-trans}
@@ -24,7 +24,7 @@ use Rattle.csi_client.specs.declared.showing.Halt.TheVariants as halt
 use Rattle.csi_client.specs.declared.showing.ShowEnd.{ShowEnd}
 use Rattle.csi_client.specs.declared.showing.ShowEnd.TheVariants.{Done, Malformed, BadBody, ReadFailed, WriteFailed, NoMemory}
 use Rattle.csi_client.specs.Replies.{first_line}
-use Rattle.csi_client.specs.Showing.{IsShown, AreShown, Wrote, Ended, frames, has_refusal, is_refusal}
+use Rattle.csi_client.specs.Showing.{IsShown, AreShown, IsPrompt, Wrote, Ended, frames, has_refusal, is_refusal}
 use Rattle.csi_client.specs.Live.{ShowsOne, end_of, Live, IsReady, Advances}
 
 -- ---- lines of replies
@@ -81,14 +81,33 @@ split method read old new rest n a b refused h f = all_of Replies reply_part rep
 split_taken : (method : Option Method) (read : List ℕ) (old new : ReplyFramerState) (rest : List ℕ) (n : ℕ) (a b : Option (List ℕ)) (refused : Bool) → (h : Live method read old a b refused) → ReplyFed old new rest n → read ++ take n rest ≡ frames h.replies ++ new.held
 split_taken method read old new rest n a b refused h f = taken_of Replies reply_part reply_place read (frames h.replies) old new rest n h.wrote.shown.whole f
 
-pub fed_fault : (method : Option Method) (read : List ℕ) (old new : ReplyFramerState) (rest : List ℕ) (n : ℕ) (a b : Option (List ℕ)) (refused : Bool) (f : ReplyFault) → Live method read old a b refused → ReplyFed old new rest n → new.fault ≡ Some f → Ended method (read ++ rest) ⊥ a b (Malformed f)
-fed_fault method read old new rest n a b refused f h fed is =
+-- what was read before this piece is replies and what may yet become one
+prompt_in : (method : Option Method) (read piece : List ℕ) (s : ReplyFramerState) (a b : Option (List ℕ)) (refused : Bool) → Live method read s a b refused → length piece ≤ 4096 → IsPrompt (read ++ piece)
+prompt_in method read piece s a b refused h one = record {
+  before = read;
+  piece = piece;
+  whole = refl;
+  one = one;
+  replies = h.replies;
+  rest = s.held;
+  each = h.wrote.shown.each;
+  parts = h.wrote.shown.whole;
+  unfinished = h.unfinished;
+}
+
+-- after the reply that is whole there is less than a piece
+few_left : (old new : ReplyFramerState) (rest : List ℕ) (n : ℕ) → old.fault ≡ None → IsUnfinished old.held → ReplyFed old new rest n → 0 < length rest → length rest ≤ 4096 → length (drop n rest) < 4096
+few_left old new rest n none open_ f some one = omega (arith, one, length-drop n rest, some_fed Replies reply_part reply_place old new rest n none open_ f some)
+
+pub fed_fault : (method : Option Method) (read : List ℕ) (old new : ReplyFramerState) (rest : List ℕ) (n : ℕ) (a b : Option (List ℕ)) (refused : Bool) (f : ReplyFault) → Live method read old a b refused → ReplyFed old new rest n → length rest ≤ 4096 → new.fault ≡ Some f → Ended method (read ++ rest) ⊥ a b (Malformed f)
+fed_fault method read old new rest n a b refused f h fed one is =
     let k = known_break Replies reply_part reply_place old new rest n f h.unknown fed is in (
       h.replies,
       new.held ++ drop n rest,
       re_read method read a b h.replies old.held [] h.wrote (read ++ rest) (new.held ++ drop n rest) (split method read old new rest n a b refused h fed),
       subst (λ (past : ℕ). IsReplyFaultOf past (new.held ++ drop n rest) f) (fed.past ∙ h.past) (fault_of Replies new.past new.held (drop n rest) (reply_part f) f.at k),
-      λ e. not_at_end Replies new.past new.held (reply_part f) f.at k (ap reply_part_of e),
+      (λ e. not_at_end Replies new.past new.held (reply_part f) f.at k (ap reply_part_of e)),
+      prompt_in method read rest old a b refused h one,
     )
 
 pub fed_open : (method : Option Method) (read : List ℕ) (old new : ReplyFramerState) (rest : List ℕ) (n : ℕ) (a b : Option (List ℕ)) (refused : Bool) → Live method read old a b refused → ReplyFed old new rest n → new.fault ≡ None → IsUnfinished new.held → Live method (read ++ take n rest) new a b refused
@@ -109,18 +128,18 @@ wrote_last method read old new rest n a b c refused r last h fed is k =
     (re_read method read a b h.replies old.held [] h.wrote (read ++ rest) (reply r ++ drop n rest) (split method read old new rest n a b refused h fed ∙ ap (λ (x : List ℕ). frames h.replies ++ (x ++ drop n rest)) is)) k
 
 -- the reply that is whole was not shown, or not whole, or its body is bad
-pub fed_halted : (X : Type 0) (method : Option Method) (read : List ℕ) (old new : ReplyFramerState) (rest : List ℕ) (n : ℕ) (a b c : Option (List ℕ)) (refused : Bool) (r : ReplyBytes) (why : Halt) → Live method read old a b refused → ReplyFed old new rest n → IsReply r → new.held ≡ reply r
-    → ShowsOne {X = X} method r b c (Err why) → Ended method (read ++ rest) ⊥ a c (end_of why)
-fed_halted X method read old new rest n a b c refused r halt.BadBody h fed good is k =
-    (h.replies, r, drop n rest, good, k.0, wrote_last method read old new rest n a b c refused r (first_line code.Ok r) h fed is k.1)
-fed_halted X method read old new rest n a b c refused r halt.WriteFailed h fed good is k =
-    (h.replies, r, drop n rest, k.0, k.2.0, good, k.1, k.2.1, wrote_last method read old new rest n a b c refused r k.2.0 h fed is k.2.2)
-fed_halted X method read old new rest n a b c refused r halt.NoMemory h fed good is k = (
+pub fed_halted : (X : Type 0) (method : Option Method) (read : List ℕ) (old new : ReplyFramerState) (rest : List ℕ) (n : ℕ) (a b c : Option (List ℕ)) (refused : Bool) (r : ReplyBytes) (why : Halt) → Live method read old a b refused → ReplyFed old new rest n → 0 < length rest → length rest ≤ 4096
+    → IsReply r → new.held ≡ reply r → ShowsOne {X = X} method r b c (Err why) → Ended method (read ++ rest) ⊥ a c (end_of why)
+fed_halted X method read old new rest n a b c refused r halt.BadBody h fed some one good is k =
+    (h.replies, r, reply r ++ drop n rest, (drop n rest, good, refl, few_left old new rest n h.unknown h.unfinished fed some one), k.0, wrote_last method read old new rest n a b c refused r (first_line code.Ok r) h fed is k.1)
+fed_halted X method read old new rest n a b c refused r halt.WriteFailed h fed some one good is k =
+    (h.replies, r, reply r ++ drop n rest, k.0, k.2.0, (drop n rest, good, refl, few_left old new rest n h.unknown h.unfinished fed some one), k.1, k.2.1, wrote_last method read old new rest n a b c refused r k.2.0 h fed is k.2.2)
+fed_halted X method read old new rest n a b c refused r halt.NoMemory h fed some one good is k = (
   h.replies,
   new.held ++ drop n rest,
   wrote_kept method (read ++ rest) a b c h.replies (new.held ++ drop n rest) []
       (re_read method read a b h.replies old.held [] h.wrote (read ++ rest) (new.held ++ drop n rest) (split method read old new rest n a b refused h fed)) k,
-  inr (r, drop n rest, good, ap (λ (x : List ℕ). x ++ drop n rest) is),
+  inr (r, (drop n rest, good, ap (λ (x : List ℕ). x ++ drop n rest) is, few_left old new rest n h.unknown h.unfinished fed some one)),
 )
 
 pub fed_shown : {X : Type 0} (method : Option Method) (read : List ℕ) (old new next : ReplyFramerState) (rest : List ℕ) (n : ℕ) (a b c : Option (List ℕ)) (refused then_ : Bool) (r : ReplyBytes) (x : X) → Live method read old a b refused → ReplyFed old new rest n → IsReply r → new.held ≡ reply r
@@ -180,7 +199,7 @@ read_failed method read AtEnd s a b refused h = (h.replies, s.held, h.wrote, h.u
 -- what does not ask for the end of the input holds wherever it is, and so does what was shown to be there
 pub ended_at : (method : Option Method) (read : List ℕ) (Was AtEnd : Type 0) (a b : Option (List ℕ)) (end : ShowEnd) → (Was → AtEnd) → Ended method read Was a b end → Ended method read AtEnd a b end
 ended_at method read Was AtEnd a b (Done refused) f h = (h.0, h.1, h.2, f h.3)
-ended_at method read Was AtEnd a b (Malformed x) f h = (h.0, h.1, h.2, h.3, λ e. f (h.4 e))
+ended_at method read Was AtEnd a b (Malformed x) f h = (h.0, h.1, h.2, h.3, (λ e. f (h.4 e)), h.5)
 ended_at method read Was AtEnd a b BadBody f h = h
 ended_at method read Was AtEnd a b ReadFailed f h = h
 ended_at method read Was AtEnd a b WriteFailed f h = h
@@ -219,7 +238,8 @@ cut_at method read s t (x ∷ xs) a b refused f e h ends kept is =
     let cut = ap (λ (y : ReplyFramerState). y.fault) (ends (is_cut s h.unknown h.unfinished some)) in
     let fault : IsReplyFaultOf (length (frames h.replies)) s.held f =
     subst (λ (o : Option ReplyFault). IfSome o (λ g. IsReplyFaultOf (length (frames h.replies)) s.held g)) (sym cut ∙ is) (omega (arith, h.past), (omega (arith, h.past), (some, h.unfinished))) in
-    (h.replies, s.held, h.wrote, fault, λ why. tt)
+    let prompt : IsPrompt read = subst IsPrompt (append-nil read) (prompt_in method read [] s a b refused h (omega arith)) in
+    (h.replies, s.held, h.wrote, fault, (λ why. tt), prompt)
 
 pub end_cut : (method : Option Method) (read : List ℕ) (s t : ReplyFramerState) (a b : Option (List ℕ)) (refused : Bool) (f : ReplyFault) → Live method read s a b refused → (IsReplyCutShort s → t ≡ reply_cut_short s) → (¬ IsReplyCutShort s → t ≡ s) → t.fault ≡ Some f → Ended method read ⊤ a b (Malformed f)
 end_cut method read s t a b refused f h ends kept is = cut_at method read s t s.held a b refused f refl h ends kept is

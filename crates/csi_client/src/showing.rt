@@ -1,6 +1,6 @@
 //! Replies of a stream, shown for people.
 
-ghost use Rattle.std.specs.Prelude.{◌≡◌, ◌<◌, ◌+◌, ◌^◌, ◌++◌, ◌||◌, ⊤, ℕ, List, Option, Err, OnOk, length};
+ghost use Rattle.std.specs.Prelude.{◌≡◌, ◌<◌, ◌≤◌, ◌+◌, ◌^◌, ◌++◌, ◌||◌, ⊤, ℕ, List, Option, Err, OnOk, length};
 ghost use Rattle.std.specs.Io.KnownBytes.{Appends};
 ghost use Rattle.pbmessage.specs.declared.message.DecodeFault.TheVariants.{Malformed};
 ghost use Rattle.csi_types.specs.Codes.{number_of};
@@ -127,6 +127,8 @@ impl Printer {
         writer: &mut W,
     ) -> Step
         requires room { framer.old.past + length framer.old.held + length rest.now < 2 ^ 63 }
+        requires some { 0 < length rest.now }
+        requires one { length rest.now ≤ PIECE_BYTES }
         requires ready { IsReady framer.old }
         ensures method { self.new.method ≡ self.old.method }
         ensures steps { (read : List ℕ) (held : Option (List ℕ))
@@ -159,6 +161,7 @@ impl Printer {
         writer: &mut W,
     ) -> Step
         requires room { framer.old.past + length framer.old.held + length piece.now < 2 ^ 63 }
+        requires one { length piece.now ≤ PIECE_BYTES }
         requires ready { IsReady framer.old }
         ensures method { self.new.method ≡ self.old.method }
         ensures steps { (read : List ℕ) (held : Option (List ℕ))
@@ -207,7 +210,8 @@ fn halted(halt: Halt) -> ShowEnd
 /// of [`put_body_lines`](crate::put_body_lines).
 ///
 /// It reads at most 4,096 bytes a read and makes at most 2^32 reads. Each reply is shown in one write
-/// and flushed, by [`send`](crate::send), as soon as its frame is whole.
+/// and flushed, by [`send`](crate::send), as soon as its frame is whole. After a fault, a bad body, a
+/// failed write or want of memory nothing more is read.
 pub fn show_all<R: Read, W: Write>(
     alloc: Global,
     method: Option<Method>,

@@ -90,7 +90,7 @@ fed_answered {S} m begin mid now s read old new next rest n call held holds then
 
 -- ---- the ends of a run
 
-open_or_clean : (m : List ℕ) → IsUnfinished m → Ends 0 m Clean ⊎ Ends 0 m Open
+pub open_or_clean : (m : List ℕ) → IsUnfinished m → Ends 0 m Clean ⊎ Ends 0 m Open
 open_or_clean [] u = inl refl
 open_or_clean (b ∷ bs) u = inr ((λ e. absurd cc), u)
 
@@ -125,7 +125,7 @@ finish_at m begin now s read AtEnd fr (b ∷ bs) held holds then_ end e h at_end
 pub finish_ends : {S : Type 0} (m : Machine S) (begin now : Model S) (s : S) (read : List ℕ) (AtEnd : Type 0) (fr : FramerState) (held holds then_ : Option (List ℕ)) (end : RunEnd) → Live m begin now s read fr held holds → AtEnd → Finishes fr holds then_ end → Ended m begin now s read AtEnd held then_ end
 finish_ends m begin now s read AtEnd fr held holds then_ end h at_end f = finish_at m begin now s read AtEnd fr fr.held held holds then_ end refl h at_end f
 
-Keeps-refl : (a : Option (List ℕ)) → Keeps a a
+pub Keeps-refl : (a : Option (List ℕ)) → Keeps a a
 Keeps-refl None = tt
 Keeps-refl (Some xs) = refl
 

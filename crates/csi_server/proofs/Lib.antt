@@ -1,5 +1,6 @@
 mod Runs
 mod Feeding
+mod ReplyingLemmas
 mod Printable
 mod Reasons
 mod Requesting

@@ -20,7 +20,7 @@ pub frames-append : (xs ys : List CallBytes) → frames (xs ++ ys) ≡ frames xs
 frames-append [] ys = refl
 frames-append (x ∷ xs) ys = ap (λ (b : List ℕ). frame x ++ b) (frames-append xs ys) ∙ sym (append_assoc (frame x) (frames xs) (frames ys))
 
-frames-one : (call : CallBytes) → frames (call ∷ []) ≡ frame call
+pub frames-one : (call : CallBytes) → frames (call ∷ []) ≡ frame call
 frames-one call = append-nil (frame call)
 
 pub replies-push : {S : Type 0} (m : Machine S) (s : S) (es : List Event) (e : Event) → replies m s (es ++ e ∷ []) ≡ replies m s es ++ reply (step m (state_after m s es) e).0
@@ -224,13 +224,16 @@ cut_call {S} m start mid new s bytes more rest read call held holds then_ Whole 
     }
 
 -- how what is left of the stream ends it
-pub stream_ends : {S : Type 0} (m : Machine S) (start now : Model S) (s : S) (bytes rest read : List ℕ) (held holds : Option (List ℕ)) (h : SoFar m start now s bytes held holds) (end : End) → read ≡ bytes ++ rest → Ends (length bytes) rest end → Stream read (calls_of h.events) end
-stream_ends m start now s bytes rest read held holds h end e ends = record {
+pub stream_of : (bytes rest read : List ℕ) (calls : List CallBytes) → All IsCall calls → bytes ≡ frames calls → (end : End) → read ≡ bytes ++ rest → Ends (length bytes) rest end → Stream read calls end
+stream_of bytes rest read calls each whole end e ends = record {
   rest = rest;
-  whole = e ∙ ap (λ (x : List ℕ). x ++ rest) h.whole;
-  each = h.each;
-  ends = subst (λ (x : List ℕ). Ends (length x) rest end) h.whole ends;
+  whole = e ∙ ap (λ (x : List ℕ). x ++ rest) whole;
+  each = each;
+  ends = subst (λ (x : List ℕ). Ends (length x) rest end) whole ends;
 }
+
+pub stream_ends : {S : Type 0} (m : Machine S) (start now : Model S) (s : S) (bytes rest read : List ℕ) (held holds : Option (List ℕ)) (h : SoFar m start now s bytes held holds) (end : End) → read ≡ bytes ++ rest → Ends (length bytes) rest end → Stream read (calls_of h.events) end
+stream_ends m start now s bytes rest read held holds h end e ends = stream_of bytes rest read (calls_of h.events) h.each h.whole end e ends
 
 pub answered : {S : Type 0} (m : Machine S) (start now : Model S) (s : S) (bytes read : List ℕ) (held holds : Option (List ℕ)) (IsEnd : List CallBytes → Type 0) (h : SoFar m start now s bytes held holds) → IsEnd (calls_of h.events) → Answered m start now s read held holds IsEnd []
 answered m start now s bytes read held holds IsEnd h end = record {
@@ -240,16 +243,15 @@ answered m start now s bytes read held holds IsEnd h end = record {
   written = subst (λ (x : List ℕ). Appends held holds x) (sym (append-nil (replies m s h.events))) h.written;
 }
 
-fault_ends : {S : Type 0} (m : Machine S) (start now : Model S) (s : S) (bytes rest read : List ℕ) (held holds : Option (List ℕ)) (h : SoFar m start now s bytes held holds) → read ≡ bytes ++ rest → (why : FrameWhy) (at : ℕ) → FaultAt rest why at → HasFault read (calls_of h.events) why (length bytes + at)
-fault_ends m start now s bytes rest read held holds h e EndOfInput at f =
-    (stream_ends m start now s bytes rest read held holds h Open e f.1, omega (arith, f.0, ap length e, length-append bytes rest))
-fault_ends m start now s bytes rest read held holds h e BadPathLength at f = stream_ends m start now s bytes rest read held holds h (Fault BadPathLength (length bytes + at)) e (at, f, refl)
-fault_ends m start now s bytes rest read held holds h e BadPath at f = stream_ends m start now s bytes rest read held holds h (Fault BadPath (length bytes + at)) e (at, f, refl)
-fault_ends m start now s bytes rest read held holds h e BadFlag at f = stream_ends m start now s bytes rest read held holds h (Fault BadFlag (length bytes + at)) e (at, f, refl)
-fault_ends m start now s bytes rest read held holds h e TooLong at f = stream_ends m start now s bytes rest read held holds h (Fault TooLong (length bytes + at)) e (at, f, refl)
+pub fault_in : (bytes rest read : List ℕ) (calls : List CallBytes) → All IsCall calls → bytes ≡ frames calls → read ≡ bytes ++ rest → (why : FrameWhy) (at : ℕ) → FaultAt rest why at → HasFault read calls why (length bytes + at)
+fault_in bytes rest read calls each whole e EndOfInput at f = (stream_of bytes rest read calls each whole Open e f.1, omega (arith, f.0, ap length e, length-append bytes rest))
+fault_in bytes rest read calls each whole e BadPathLength at f = stream_of bytes rest read calls each whole (Fault BadPathLength (length bytes + at)) e (at, f, refl)
+fault_in bytes rest read calls each whole e BadPath at f = stream_of bytes rest read calls each whole (Fault BadPath (length bytes + at)) e (at, f, refl)
+fault_in bytes rest read calls each whole e BadFlag at f = stream_of bytes rest read calls each whole (Fault BadFlag (length bytes + at)) e (at, f, refl)
+fault_in bytes rest read calls each whole e TooLong at f = stream_of bytes rest read calls each whole (Fault TooLong (length bytes + at)) e (at, f, refl)
 
 pub answered_fault : {S : Type 0} (m : Machine S) (start now : Model S) (s : S) (bytes rest read : List ℕ) (held holds : Option (List ℕ)) → SoFar m start now s bytes held holds → read ≡ bytes ++ rest → (why : FrameWhy) (at : ℕ) → FaultAt rest why at → Answered m start now s read held holds (λ calls. HasFault read calls why (length bytes + at)) []
-answered_fault m start now s bytes rest read held holds h e why at f = answered m start now s bytes read held holds (λ calls. HasFault read calls why (length bytes + at)) h (fault_ends m start now s bytes rest read held holds h e why at f)
+answered_fault m start now s bytes rest read held holds h e why at f = answered m start now s bytes read held holds (λ calls. HasFault read calls why (length bytes + at)) h (fault_in bytes rest read (calls_of h.events) h.each h.whole e why at f)
 
 -- ---- the end of a run
 

@@ -1,17 +1,18 @@
 -- A run of a server between two reads.
 use Rattle.std.specs.Prelude.{◌≡◌, ◌≢◌, ℕ, ◌+◌, List, [], ◌++◌, length, All, Option, None}
 use Rattle.std.specs.Io.KnownBytes.{Appends, Keeps}
+use Rattle.std.specs.List.{flat_map}
 use Rattle.envelope.specs.declared.fault.FrameFault.{FrameFault}
 use Rattle.envelope.specs.declared.fault.FrameWhy.TheVariants.{EndOfInput}
 use Rattle.csi_keeper.specs.Model.{Model}
 use Rattle.csi_server.specs.declared.end.RunEnd.{RunEnd}
 use Rattle.csi_server.specs.declared.end.RunEnd.TheVariants.{Done, Malformed, ReadFailed, TurnsSpent, WriteFailed, NoMemory}
-use Rattle.envelope.specs.Envelope.{IsCall}
+use Rattle.envelope.specs.Envelope.{CallBytes, ReplyBytes, IsCall, reply}
 use Rattle.envelope.specs.Stream.{frames, IsUnfinished}
 use Rattle.frames_core.specs.Framer.{FramerState}
 use Rattle.frames_core.specs.Writing.{WrotePrefix}
 use Rattle.csi_server.specs.Machine.{Machine, Runs, Event, replies, calls_of}
-use Rattle.csi_server.specs.Serving.{Answered, CutOff, HasFault, fault_frame}
+use Rattle.csi_server.specs.Serving.{Answered, AreReplied, Broken, CutOff, HasFault, IsPrompt, Replied, fault_frame}
 use Rattle.csi_server.specs.declared.running.Step.{Step}
 use Rattle.csi_server.specs.declared.running.Step.TheVariants.{Fed, Faulty, Cut}
 
@@ -41,6 +42,27 @@ abbrev pub Steps : {S : Type 0} → Machine S → Model S → Model S → S → 
 Steps m start now s read framer held holds Fed = Live m start now s read framer held holds
 Steps m start now s read framer held holds (Faulty f) = (f.why ≢ EndOfInput) × Answered m start now s read held holds (λ calls. HasFault read calls f.why f.at) []
 Steps m start now s read framer held holds Cut = CutOff m start now s read ⊥ held holds
+
+-- ---- whatever the service
+
+-- The same of what was written: one reply of the table to each call.
+pub record Replying (read : List ℕ) (framer : FramerState) (held holds : Option (List ℕ)) : Type 0 where
+  pub given : List ℕ
+  pub calls : List CallBytes
+  pub rs : List ReplyBytes
+  pub each : All IsCall calls
+  pub given_is : given ≡ frames calls
+  pub replied : AreReplied calls rs
+  pub whole : read ≡ given ++ framer.held
+  pub past : framer.past ≡ length given
+  pub unknown : framer.fault ≡ None
+  pub unfinished : IsUnfinished framer.held
+  pub written : Appends held holds (flat_map reply rs)
+
+abbrev pub Replies : List ℕ → FramerState → Option (List ℕ) → Option (List ℕ) → Step → Type 0
+Replies read framer held holds Fed = Replying read framer held holds
+Replies read framer held holds (Faulty f) = (f.why ≢ EndOfInput) × Replied held holds (λ calls. HasFault read calls f.why f.at) [] × IsPrompt read
+Replies read framer held holds Cut = Broken read ⊥ held holds
 
 -- a framer that takes more bytes
 abbrev pub IsReady : FramerState → Type 0

@@ -1,5 +1,6 @@
 -- What a server reads and writes, by the way it ends.
-use Rattle.std.specs.Prelude.{◌≡◌, ℕ, ◌≤◌, ◌^◌, List, [], ◌∷◌, ◌++◌, length, All, Option, ◌⊎◌, decimal}
+use Rattle.std.specs.Prelude.{◌≡◌, ℕ, ◌≤◌, ◌<◌, ◌^◌, List, [], ◌∷◌, ◌++◌, length, All, Option, ◌⊎◌, decimal}
+use Rattle.std.specs.List.{flat_map}
 use Rattle.std.specs.Io.KnownBytes.{Appends, Consumes, IsAtEnd, Keeps}
 use Rattle.csi_types.specs.declared.code.Code.TheVariants as code
 use Rattle.csi_types.specs.Codes.{number_of}
@@ -74,3 +75,68 @@ Ended m old new s read AtEnd held holds NoMemory = Runs m old new s [] × Keeps 
 abbrev pub Serves : {S : Type 0} → Machine S → Model S → Model S → Option (List ℕ) → Option (List ℕ) → Option (List ℕ) → Option (List ℕ) → RunEnd → Type 0
 Serves {S} m old new unread left held holds end =
     (read : List ℕ) × Consumes unread left read × (new.doubt ≡ 0 → (s : S) → old.holds s → Ended m old new s read (IsAtEnd left) held holds end)
+
+-- ---- what is so of every service, also of one whose store lied, or that has a state of which nothing is promised
+
+-- No piece is read after the one in which a fault shows: before the last piece there is none.
+pub record IsPrompt (read : List ℕ) : Type 0 where
+  pub before : List ℕ
+  pub piece : List ℕ
+  pub whole : read ≡ before ++ piece
+  pub one : length piece ≤ 4096
+  pub calls : List CallBytes
+  pub faultless : HasNoFault before calls
+
+-- of each call one reply, and each is one of the envelope's table
+pub record AreReplied (calls : List CallBytes) (rs : List ReplyBytes) : Type 0 where
+  pub one_each : length rs ≡ length calls
+  pub formed : All IsReply rs
+
+-- Such replies were written to these calls, and then this.
+pub record Replied (held holds : Option (List ℕ)) (IsEnd : List CallBytes → Type 0) (last : List ℕ) : Type 0 where
+  pub calls : List CallBytes
+  pub rs : List ReplyBytes
+  pub ended : IsEnd calls
+  pub replied : AreReplied calls rs
+  pub written : Appends held holds (flat_map reply rs ++ last)
+
+-- What was read begins with these calls and one more, whose reply was being written. No piece is read after the one in which that call ends.
+pub record IsLast (read : List ℕ) (calls : List CallBytes) (part : List ℕ) : Type 0 where
+  pub call : CallBytes
+  pub rest : List ℕ
+  pub whole : read ≡ frames (calls ++ call ∷ []) ++ rest
+  pub each : All IsCall (calls ++ call ∷ [])
+  pub few : length rest < 4096
+  pub r : ReplyBytes
+  pub formed : IsReply r
+  pub prefix : IsPrefix part (reply r)
+
+-- What was read has this fault, whose frame was being written.
+pub record IsRefused (read : List ℕ) (AtEnd : Type 0) (calls : List CallBytes) (part : List ℕ) : Type 0 where
+  pub fault : FrameFault
+  pub has : HasFault read calls fault.why fault.at
+  pub at_end : fault.why ≡ EndOfInput → AtEnd
+  pub prompt : IsPrompt read
+  pub prefix : IsPrefix part (fault_frame fault)
+
+-- All replies before the last one were written, and of that, or of the frame that answers the fault, a part.
+pub record Broken (read : List ℕ) (AtEnd : Type 0) (held holds : Option (List ℕ)) : Type 0 where
+  pub calls : List CallBytes
+  pub rs : List ReplyBytes
+  pub replied : AreReplied calls rs
+  pub part : List ℕ
+  pub cut : IsLast read calls part ⊎ IsRefused read AtEnd calls part
+  pub written : Appends held holds (flat_map reply rs ++ part)
+
+-- What a run writes that read these bytes, and found the end of the input or not, by the way it ends.
+abbrev pub Wrote : List ℕ → Type 0 → Option (List ℕ) → Option (List ℕ) → RunEnd → Type 0
+Wrote read AtEnd held holds Done = Replied held holds (λ calls. Stream read calls Clean) [] × AtEnd
+Wrote read AtEnd held holds (Malformed f) = Replied held holds (λ calls. HasFault read calls f.why f.at) (fault_frame f) × (f.why ≡ EndOfInput → AtEnd) × IsPrompt read
+Wrote read AtEnd held holds ReadFailed = Replied held holds (HasNoFault read) []
+Wrote read AtEnd held holds TurnsSpent = Replied held holds (HasNoFault read) [] × (2 ^ 32 ≤ length read)
+Wrote read AtEnd held holds WriteFailed = Broken read AtEnd held holds
+Wrote read AtEnd held holds NoMemory = (read ≡ []) × Keeps held holds
+
+-- A run of any service: the reader goes from unread to left, the writer from held to holds.
+abbrev pub Writes : Option (List ℕ) → Option (List ℕ) → Option (List ℕ) → Option (List ℕ) → RunEnd → Type 0
+Writes unread left held holds end = (read : List ℕ) × Consumes unread left read × Wrote read (IsAtEnd left) held holds end

@@ -6,7 +6,7 @@ ghost use Rattle.csi_codec.specs.Reading.{read_request};
 ghost use Rattle.csi_plans.specs.Verdicts.{told_of, Appended, IsTold};
 ghost use Rattle.csi_server.specs.Identity.{said, known, outcome_of, identity, still};
 ghost use Rattle.csi_server.specs.Requests.{after_check, after_read, AnswersBy, MayBe};
-ghost use Rattle.csi_server.specs.Serving.{Ended};
+ghost use Rattle.csi_server.specs.Serving.{Ended, Writes};
 ghost use Rattle.csi_server.specs.Service.{reply_of, HoldsBody, room};
 
 use crate::end::RunEnd;
@@ -152,6 +152,7 @@ pub fn serve_identity<R: Read, W: Write>(
     requires short { (length name.now ≤ 128) × (length version.now ≤ 128) }
     ensures serves { (read : List ℕ) × Consumes (R.remaining reader.old) (R.remaining reader.new) read
         × Ended (identity name.now version.now) still still tt read (IsAtEnd (R.remaining reader.new)) (W.contents writer.old) (W.contents writer.new) result }
+    ensures writes { Writes (R.remaining reader.old) (R.remaining reader.new) (W.contents writer.old) (W.contents writer.new) result }
     ensures unread { result ≡ RunEnd.NoMemory → Keeps (R.remaining reader.old) (R.remaining reader.new) }
     ensures unwritten { result ≡ RunEnd.NoMemory → Keeps (W.contents writer.old) (W.contents writer.new) }
 {

@@ -1,7 +1,7 @@
 ghost use Rattle.std.specs.Prelude.{◌≡◌, ◌≤◌, ◌<◌, ◌+◌, ◌^◌, [], ◌++◌, length, ℕ, List, Option, None, take};
 ghost use Rattle.std.specs.Io.KnownBytes.{Keeps};
-ghost use Rattle.csi_server.specs.Serving.{Serves};
-ghost use Rattle.csi_server.specs.Live.{IsLive, Steps, AdvancesBy, IsReady, Refuses, Finishes};
+ghost use Rattle.csi_server.specs.Serving.{Serves, Writes};
+ghost use Rattle.csi_server.specs.Live.{IsLive, Steps, Replying, Replies, AdvancesBy, IsReady, Refuses, Finishes};
 
 use crate::end::RunEnd;
 use crate::service::Service;
@@ -37,12 +37,15 @@ fn answer_piece<C, S: Service<C>, W: Write>(
 ) -> Step
     requires room { framer.old.past + length framer.old.held + length piece.now < 2 ^ 63 }
     requires ready { IsReady framer.old }
+    requires one { length piece.now ≤ PIECE_BYTES }
     ensures clean { (S.model config.now service.old).doubt ≤ (S.model config.now service.new).doubt }
     ensures steps { (start : S) (s : S.State) (read : List ℕ) (held : Option (List ℕ))
         → IsLive (S.machine config.now) (S.model config.now start) (S.model config.now service.old) s read framer.old held (W.contents writer.old)
         → (S.model config.now service.new).doubt ≡ 0
         → Steps (S.machine config.now) (S.model config.now start) (S.model config.now service.new) s (read ++ piece.now) framer.new held
         (W.contents writer.new) result }
+    ensures replies { (read : List ℕ) (held : Option (List ℕ)) → Replying read framer.old held (W.contents writer.old)
+        → Replies (read ++ piece.now) framer.new held (W.contents writer.new) result }
     ensures count { AdvancesBy framer.old framer.new (length piece.now) result }
 {
     let mut at = 0;
@@ -67,8 +70,11 @@ fn answer_piece<C, S: Service<C>, W: Write>(
 /// Runs a service over the calls that a reader gives, and writes their replies.
 ///
 /// It reads at most 4,096 bytes a read and makes at most 2^32 reads. Each call is answered and its reply flushed as soon as its
-/// frame is whole, before the next frame is looked at. An interrupted read or write is a failure. Memory is taken for one buffer of
-/// frames at the start, and for the bodies of replies, in one buffer that is kept from call to call.
+/// frame is whole, before the next frame is looked at. After a fault or a failed write nothing more is read. An interrupted read or
+/// write is a failure. Memory is taken for one buffer of frames at the start, and for the bodies of replies, in one buffer that is
+/// kept from call to call.
+///
+/// `serves` speaks of a service that is clean to its end, and `writes` of any: one reply of the envelope's table is written to each call.
 pub fn run_service<C, S: Service<C>, R: Read, W: Write>(
     alloc: Global,
     config: &C,
@@ -78,6 +84,7 @@ pub fn run_service<C, S: Service<C>, R: Read, W: Write>(
 ) -> RunEnd
     ensures serves { Serves (S.machine config.now) (S.model config.now service.old) (S.model config.now service.new)
         (R.remaining reader.old) (R.remaining reader.new) (W.contents writer.old) (W.contents writer.new) result }
+    ensures writes { Writes (R.remaining reader.old) (R.remaining reader.new) (W.contents writer.old) (W.contents writer.new) result }
     ensures clean { (S.model config.now service.old).doubt ≤ (S.model config.now service.new).doubt }
     ensures unread { result ≡ RunEnd.NoMemory → Keeps (R.remaining reader.old) (R.remaining reader.new) }
     ensures unwritten { result ≡ RunEnd.NoMemory → Keeps (W.contents writer.old) (W.contents writer.new) }

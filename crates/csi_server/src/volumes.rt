@@ -7,7 +7,7 @@ ghost use Rattle.csi_machine.specs.Step.{step};
 ghost use Rattle.csi_types.specs.Checks.{checked};
 ghost use Rattle.csi_server.specs.Requests.{after_check, AnswersBy, MayBe};
 ghost use Rattle.csi_server.specs.Service.{reply_of, HasBody, HoldsBody};
-ghost use Rattle.csi_server.specs.Serving.{Serves};
+ghost use Rattle.csi_server.specs.Serving.{Serves, Writes};
 ghost use Rattle.csi_server.specs.Volumes.{asks_keeper, volumes, seen, RepliesTo};
 
 use crate::end::RunEnd;
@@ -100,6 +100,9 @@ impl<K: Keeper> Service<Config> for K {
 /// rose exactly as often as a call was answered that the store refused or that it is down, up to
 /// 2^64 - 1, and where a stop at the start could only leave the State, a stop at the end leaves the
 /// last State, or what [`pending`](crate::laws::pending) says.
+///
+/// `writes` says without any premise what is written: one reply of the envelope's table to each call that was read. It also says
+/// that a fault or a failed write is the end of reading: no piece, of at most 4,096 bytes, is read after the one in which it shows.
 pub fn serve<K: Keeper, R: Read, W: Write>(
     alloc: Global,
     config: &Config,
@@ -109,6 +112,7 @@ pub fn serve<K: Keeper, R: Read, W: Write>(
 ) -> RunEnd
     ensures serves { Serves (volumes config.now) (seen config.now (K.model keeper.old)) (seen config.now (K.model keeper.new))
         (R.remaining reader.old) (R.remaining reader.new) (W.contents writer.old) (W.contents writer.new) result }
+    ensures writes { Writes (R.remaining reader.old) (R.remaining reader.new) (W.contents writer.old) (W.contents writer.new) result }
     ensures clean { (K.model keeper.old).doubt ≤ (K.model keeper.new).doubt }
     ensures unread { result ≡ RunEnd.NoMemory → Keeps (R.remaining reader.old) (R.remaining reader.new) }
     ensures unwritten { result ≡ RunEnd.NoMemory → Keeps (W.contents writer.old) (W.contents writer.new) }

@@ -8,6 +8,33 @@ use std::io::{ErrorKind, Read, Write};
 /// The most bytes that the server reads at once, and so the greatest piece.
 pub(crate) const GREATEST_PIECE: usize = 4096;
 
+/// What the reader and the writer of one run see of each other.
+#[derive(Drop)]
+pub(crate) struct Watch {
+    // Whether all is flushed that was written.
+    is_flushed: Cell<bool>,
+    // Whether a fault is known, or writing failed.
+    is_over: Cell<bool>,
+    // Whether a read was made after that.
+    has_read_on: Cell<bool>,
+}
+
+impl Watch {
+    /// Nothing was read or written.
+    pub(crate) fn new() -> Watch {
+        Watch {
+            is_flushed: Cell::new(true),
+            is_over: Cell::new(false),
+            has_read_on: Cell::new(false),
+        }
+    }
+
+    /// Whether a read was made after a fault was known, or after writing failed.
+    pub(crate) fn has_read_on(&self) -> bool {
+        self.has_read_on.get()
+    }
+}
+
 /// Bytes, and how a reader gives them: in pieces, where one read may fail.
 #[derive(Clone, Copy)]
 pub(crate) struct Pieces<'a> {
@@ -17,6 +44,8 @@ pub(crate) struct Pieces<'a> {
     size: usize,
     // How many reads come before the one that fails, if one does.
     fails_after: Option<u64>,
+    // How many bytes are still to come until a fault is known, if there is one.
+    until_fault: Option<usize>,
 }
 
 impl<'a> Pieces<'a> {
@@ -27,6 +56,7 @@ impl<'a> Pieces<'a> {
             first: size,
             size,
             fails_after: None,
+            until_fault: None,
         }
     }
 
@@ -37,6 +67,7 @@ impl<'a> Pieces<'a> {
             first,
             size: GREATEST_PIECE,
             fails_after: None,
+            until_fault: None,
         }
     }
 
@@ -47,6 +78,15 @@ impl<'a> Pieces<'a> {
             first: 1,
             size: 1,
             fails_after: Some(pieces),
+            until_fault: None,
+        }
+    }
+
+    /// The same, of which so many bytes make a fault known.
+    pub(crate) fn with_fault_at(self, known_at: Option<usize>) -> Pieces<'a> {
+        Pieces {
+            until_fault: known_at,
+            ..self
         }
     }
 }
@@ -56,13 +96,24 @@ impl<'a> Pieces<'a> {
 #[derive(Drop)]
 pub(crate) struct Reader<'a> {
     pieces: Pieces<'a>,
-    is_flushed: &'a Cell<bool>,
+    watch: &'a Watch,
 }
 
 impl<'a> Reader<'a> {
-    /// The cell says whether all is flushed that was written.
-    pub(crate) fn new(pieces: Pieces<'a>, is_flushed: &'a Cell<bool>) -> Reader<'a> {
-        Reader { pieces, is_flushed }
+    /// A reader of these pieces.
+    pub(crate) fn new(pieces: Pieces<'a>, watch: &'a Watch) -> Reader<'a> {
+        Reader { pieces, watch }
+    }
+
+    // Counts bytes that are given: with the last of them a fault may be known.
+    fn count(&mut self, given: usize) {
+        if let Some(left) = self.pieces.until_fault {
+            let left = left.saturating_sub(given);
+            self.pieces.until_fault = Some(left);
+            if left == 0 {
+                self.watch.is_over.set(true);
+            }
+        }
     }
 
     // Whether this read fails. One read less is left before the one that does.
@@ -83,7 +134,10 @@ impl<'a> Reader<'a> {
 
 impl Read for Reader<'_> {
     fn read(&mut self, buf: &mut [u8]) -> io::Result<usize> {
-        if !self.is_flushed.get() || buf.len() != GREATEST_PIECE {
+        if self.watch.is_over.get() {
+            self.watch.has_read_on.set(true);
+        }
+        if !self.watch.is_flushed.get() || buf.len() != GREATEST_PIECE {
             return Err(io::Error::from(ErrorKind::Other));
         }
         if self.is_failing() {
@@ -99,6 +153,7 @@ impl Read for Reader<'_> {
         let (piece, rest) = self.pieces.bytes.split_at(count);
         buf[..count].copy_from_slice(piece);
         self.pieces.bytes = rest;
+        self.count(count);
         Ok(count)
     }
 }
@@ -146,16 +201,16 @@ impl Takes {
 pub(crate) struct Writer<'a> {
     takes: Takes,
     bytes: Vec<u8>,
-    is_flushed: &'a Cell<bool>,
+    watch: &'a Watch,
 }
 
 impl<'a> Writer<'a> {
-    /// The cell says whether all is flushed that was written.
-    pub(crate) fn new(alloc: Global, takes: Takes, is_flushed: &'a Cell<bool>) -> Writer<'a> {
+    /// A writer that has taken nothing.
+    pub(crate) fn new(alloc: Global, takes: Takes, watch: &'a Watch) -> Writer<'a> {
         Writer {
             takes,
             bytes: Vec::new(alloc),
-            is_flushed,
+            watch,
         }
     }
 
@@ -171,6 +226,7 @@ impl<'a> Writer<'a> {
         }
         if self.takes.after == 0 {
             self.takes.trouble = Trouble::Never;
+            self.watch.is_over.set(true);
             return true;
         }
         self.takes.after -= 1;
@@ -189,7 +245,7 @@ impl Write for Writer<'_> {
         let count = self.takes.size.min(buf.len());
         let (taken, _) = buf.split_at(count);
         self.bytes.extend_from_slice(taken)?;
-        self.is_flushed.set(false);
+        self.watch.is_flushed.set(false);
         Ok(count)
     }
 
@@ -197,7 +253,7 @@ impl Write for Writer<'_> {
         if self.is_due(Trouble::Flush) {
             return Err(io::Error::from(ErrorKind::Interrupted));
         }
-        self.is_flushed.set(true);
+        self.watch.is_flushed.set(true);
         Ok(())
     }
 }

@@ -1,14 +1,13 @@
 //! The two servers that a stream is tried with.
 
 use super::compared::Served;
-use super::fakes::{Pieces, Reader, Takes, Writer};
+use super::fakes::{Pieces, Reader, Takes, Watch, Writer};
 use super::kept::kept;
 use csi_config::Config;
 use csi_keeper::Keeper;
 use csi_memory::MemKeeper;
 use csi_server::{RunEnd, serve, serve_identity};
 use std::alloc::Global;
-use std::cell::Cell;
 use test_kit::RowFault;
 
 // The most bytes of a name and of a version.
@@ -63,7 +62,7 @@ impl Server<'_> {
     ///
     /// # Errors
     ///
-    /// A name that is too long.
+    /// A name that is too long, or a read after a fault was known or writing failed.
     pub(crate) fn run_over<K: Keeper>(
         self,
         alloc: Global,
@@ -71,9 +70,9 @@ impl Server<'_> {
         pieces: Pieces<'_>,
         takes: Takes,
     ) -> Result<(RunEnd, Vec<u8>), RowFault> {
-        let is_flushed = Cell::new(true);
-        let mut reader = Reader::new(pieces, &is_flushed);
-        let mut writer = Writer::new(alloc, takes, &is_flushed);
+        let watch = Watch::new();
+        let mut reader = Reader::new(pieces, &watch);
+        let mut writer = Writer::new(alloc, takes, &watch);
         let end = match self {
             Server::Volumes(config) => serve(alloc, config, keeper, &mut reader, &mut writer),
             Server::Identity { name, version } => {
@@ -83,6 +82,9 @@ impl Server<'_> {
                 serve_identity(alloc, name, version, &mut reader, &mut writer)
             }
         };
+        if watch.has_read_on() {
+            return Err(RowFault::Refused("it read on after a fault or a failed write"));
+        }
         Ok((end, writer.into_bytes()))
     }
 }

@@ -127,10 +127,18 @@ impl Stream {
         }
     }
 
+    /// How many bytes make the fault known, if there is one.
+    pub(crate) fn fault_known_at(&self) -> Option<usize> {
+        match &self.fault {
+            Some(fault) => Some(fault.known_at),
+            None => None,
+        }
+    }
+
     /// Whether the first bytes make the fault known.
     pub(crate) fn is_faulty_within(&self, bytes: usize) -> bool {
-        match &self.fault {
-            Some(fault) => fault.known_at <= bytes,
+        match self.fault_known_at() {
+            Some(known_at) => known_at <= bytes,
             None => false,
         }
     }

@@ -89,7 +89,9 @@ impl Trials<'_> {
 
     /// The stream in the greatest pieces.
     pub(crate) fn whole_pieces(&self) -> Pieces<'_> {
-        Pieces::new(self.stream.input.as_slice(), GREATEST_PIECE)
+        Pieces::new(self.stream.input.as_slice(), GREATEST_PIECE).with_fault_at(
+            self.stream.fault_known_at(),
+        )
     }
 
     // Serves the pieces, and compares what comes.
@@ -100,6 +102,7 @@ impl Trials<'_> {
         takes: Takes,
         wanted: &Wanted<'_>,
     ) -> Result<(), RowFault> {
+        let pieces = pieces.with_fault_at(self.stream.fault_known_at());
         let served = self.server.run(self.alloc, pieces, takes)?;
         compare(self.alloc, trial, &served, wanted)
     }
