@@ -7,9 +7,11 @@ use Rattle.csi_keeper.specs.State.{State}
 use Rattle.csi_machine.specs.Step.{step}
 use Rattle.csi_plans.specs.Verdicts.{Told}
 
--- how a try ends: marked, that is refused inside, for memory or by the store; or done, and the client is answered or is not
+-- how a try ends: marked, that is refused inside, for memory or by the store; refused since the store is down, which does nothing; or done, and the client
+-- is answered or is not
 pub data Ending : Type 0 where
   Marked : Ending
+  Down : Ending
   Unanswered : Ending
   Answered : Ending
 
@@ -22,10 +24,11 @@ pub record Try : Type 0 where
 
 abbrev pub moved_by : Config → State → Request → Ending → State
 moved_by config s r Marked = s
+moved_by config s r Down = s
 moved_by config s r Unanswered = (step config s r).1
 moved_by config s r Answered = (step config s r).1
 
--- the State after a try: a marked one keeps it
+-- the State after a try: one that is refused keeps it
 abbrev pub after_try : Config → State → Try → State
 after_try config s t = moved_by config s t.request t.end
 
@@ -36,6 +39,7 @@ state_after config s (t ∷ ts) = state_after config (after_try config s t) ts
 
 abbrev pub told_by : Config → State → Request → Ending → List Told
 told_by config s r Marked = []
+told_by config s r Down = []
 told_by config s r Unanswered = []
 told_by config s r Answered = (step config s r).0 ∷ []
 
@@ -82,6 +86,7 @@ without_first (r ∷ rs) = rs
 -- the requests that are still to be answered
 abbrev pub still_open : List Request → Ending → List Request
 still_open rs Marked = rs
+still_open rs Down = rs
 still_open rs Unanswered = rs
 still_open rs Answered = without_first rs
 

@@ -116,8 +116,9 @@ pub fn repeat(config: &Config)
 ///
 /// From a State of the invariant a lone client tries requests that pass the checks of their
 /// arguments, one after the other, each over and over until it is answered. A try may be refused
-/// inside, an answer may be lost, and between any two tries a stop may end the session. The answers,
-/// and each State that may be left in the end, are those of the requests taken once each.
+/// inside, or since the store is down, an answer may be lost, and between any two tries a stop may
+/// end the session. The answers, and each State that may be left in the end, are those of the
+/// requests taken once each.
 #[inline(always)]
 pub fn retry(config: &Config)
     ensures { (s t : State) (requests : List Request) (sessions : List (List Try)) (told : List Told) → IsInvariant config.now s

@@ -1,11 +1,11 @@
 -- Lives of one call that is made twice.
-use Rattle.std.proofs.Common.{◌≡◌, ◌≢◌, inl, ap, sym, subst, refl, false, true, List, [], ◌∷◌, ◌++◌, Option, Some, None}
+use Rattle.std.proofs.Common.{◌≡◌, inl, ap, sym, subst, refl, false, true, List, [], ◌∷◌, ◌++◌, Option, Some, None}
 use Rattle.envelope.specs.Envelope.{CallBytes, ReplyBytes}
 use Rattle.csi_types.specs.declared.requests.Request.{Request}
 use Rattle.csi_config.specs.declared.config.Config.{Config}
 use Rattle.csi_keeper.specs.State.{State}
 use Rattle.csi_machine.specs.Retry.{Ending, Answered, AreTriesOf, all_tries, still_open}
-use Rattle.csi_server.specs.Machine.{Mark, Unmarked, OutOfMemory, StoreRefused, StoreDown, done, state_after}
+use Rattle.csi_server.specs.Machine.{Mark, Unmarked, OutOfMemory, StoreRefused, StoreDown, done, may_leave, state_after}
 use Rattle.csi_server.specs.Tries.{Asks, asked, ending, heard_by, tries_for, IsLeft, IsLifeOfTwo}
 use Rattle.csi_server.specs.Volumes.{volumes, IsPending}
 use Rattle.csi_server.proofs.TriesLemmas.{asked_answers, is_asked}
@@ -55,15 +55,15 @@ module _ (config : Config) (s : State) (call : CallBytes) (r : Request) where
   unfolding state_after
   after = refl
 
-  -- a stop may leave what a call would have made that was refused inside
-  pub pending : (mark : Mark) → Asks call r → mark ≢ Unmarked → IsPending config s (record { call = call; mark = mark } ∷ []) (done (volumes config) s call)
+  -- a stop may leave what a call would have made that was refused for memory or by the store
+  pub pending : (mark : Mark) → Asks call r → may_leave mark ≡ true → IsPending config s (record { call = call; mark = mark } ∷ []) (done (volumes config) s call)
   unfolding state_after
   pending mark asks marked = record {
     before = [];
     refused = record { call = call; mark = mark };
     after = [];
     whole = refl;
-    is_marked = marked;
+    is_left = marked;
     still = tt;
     method = asks.method;
     request = r;

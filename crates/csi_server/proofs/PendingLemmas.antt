@@ -13,14 +13,14 @@ use Rattle.csi_server.specs.Machine.{Event, IsAllowed, IsDue, state_after}
 use Rattle.csi_types.specs.Methods.{method_at}
 use Rattle.csi_server.specs.Requests.{IsRequest, after_path, after_read, after_check}
 use Rattle.csi_server.specs.Volumes.{asks_keeper, volumes, IsPending}
-use Rattle.csi_server.proofs.Runs.{due_state}
+use Rattle.csi_server.proofs.Runs.{due_state, left_marks}
 
 middle : (P : Event → Type 0) (before : List Event) (e : Event) (after : List Event) → AllByRecursion P (before ++ e ∷ after) → P e
 middle P [] e after a = a.0
 middle P (x ∷ xs) e after a = middle P xs e after a.1
 
 pub pending : (config : Config) (s : State) (events : List Event) → AllByRecursion (IsAllowed (volumes config)) events → (t : State) → IsDue (volumes config) s events t → (t ≡ state_after (volumes config) s events) ⊎ IsPending config s events t
-pending config s events allowed t d = by (method_at d.refused.call.path) refl (may d.is_marked)
+pending config s events allowed t d = by (method_at d.refused.call.path) refl (may (left_marks d.refused.mark d.is_left))
   where
     may : IsAllowed (volumes config) d.refused
     may = middle (IsAllowed (volumes config)) d.before d.refused d.after (subst (λ (es : List Event). AllByRecursion (IsAllowed (volumes config)) es) d.whole allowed)
@@ -37,7 +37,7 @@ pending config s events allowed t d = by (method_at d.refused.call.path) refl (m
       refused = d.refused;
       after = d.after;
       whole = d.whole;
-      is_marked = d.is_marked;
+      is_left = d.is_left;
       still = d.still;
       method = m;
       request = r;

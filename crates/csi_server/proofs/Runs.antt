@@ -12,7 +12,7 @@ use Rattle.envelope.specs.Envelope.{CallBytes, ReplyBytes, IsCall, IsReply, fram
 use Rattle.envelope.specs.Stream.{Stream, End, Ends, Fault, Open, frames, FaultAt}
 use Rattle.frames_core.specs.Writing.{IsPrefix, WrotePrefix}
 use Rattle.csi_keeper.specs.Model.{Model}
-use Rattle.csi_server.specs.Machine.{Machine, Mark, Unmarked, OutOfMemory, StoreRefused, StoreDown, Event, Runs, Answers, IsDue, Leaves, RoseBy, IsAllowed, IsIdle, KnowsDown, StaysDown, is_down_after, told_down, done, replies, state_after, store_mark, store_marks, step, calls_of, AreReplies}
+use Rattle.csi_server.specs.Machine.{Machine, Mark, Unmarked, OutOfMemory, StoreRefused, StoreDown, Event, Runs, Answers, IsDue, Leaves, RoseBy, IsAllowed, IsIdle, KnowsDown, StaysDown, is_down_after, told_down, may_leave, done, replies, state_after, store_mark, store_marks, step, calls_of, AreReplies}
 use Rattle.csi_server.specs.Live.{SoFar}
 use Rattle.csi_server.specs.Serving.{Answered, CutOff, HasFault, BeginsWithCalls, AnswersCall, fault_frame}
 
@@ -68,6 +68,13 @@ marked_keeps m s call OutOfMemory h = refl
 marked_keeps m s call StoreRefused h = refl
 marked_keeps m s call StoreDown h = refl
 
+-- a call that may leave something was refused
+pub left_marks : (mark : Mark) → may_leave mark ≡ true → mark ≢ Unmarked
+left_marks Unmarked h e = absurd (cc)
+left_marks OutOfMemory h e = absurd (cc)
+left_marks StoreRefused h e = absurd (cc)
+left_marks StoreDown h e = absurd (cc)
+
 abbrev Stays : {S : Type 0} → Machine S → S → Event → Type 0
 Stays m s e = (step m s e).1 ≡ s
 
@@ -88,7 +95,7 @@ after_refused {S} m s e es marked still = ap (λ (t : S). state_after m t es) (m
 pub due_state : {S : Type 0} (m : Machine S) (s : S) (es : List Event) (t : S) (d : IsDue m s es t) → state_after m s es ≡ state_after m s d.before
 due_state m s es t d =
     ap (λ (xs : List Event). state_after m s xs) d.whole
-    ∙ (state_after-append m s d.before (d.refused ∷ d.after) ∙ after_refused m (state_after m s d.before) d.refused d.after d.is_marked d.still)
+    ∙ (state_after-append m s d.before (d.refused ∷ d.after) ∙ after_refused m (state_after m s d.before) d.refused d.after (left_marks d.refused.mark d.is_left) d.still)
 
 due_kept : {S : Type 0} (m : Machine S) (s : S) (es : List Event) (e : Event) (t : S) → IsDue m s es t → Stays m (state_after m s es) e → IsDue m s (es ++ e ∷ []) t
 due_kept {S} m s es e t d keeps = record {
@@ -96,7 +103,7 @@ due_kept {S} m s es e t d keeps = record {
   refused = d.refused;
   after = d.after ++ e ∷ [];
   whole = ap (λ (xs : List Event). xs ++ e ∷ []) d.whole ∙ append_assoc d.before (d.refused ∷ d.after) (e ∷ []);
-  is_marked = d.is_marked;
+  is_left = d.is_left;
   still = stays_push m (state_after m s d.before) d.after e d.still (subst (λ (x : S). Stays m x e) (due_state m s es t d) keeps);
   is = d.is;
 }
@@ -109,16 +116,16 @@ left_stays : {S : Type 0} (m : Machine S) (s : S) (es : List Event) (e : Event) 
 left_stays m s es e t (inl is) keeps = inl (is ∙ (sym keeps ∙ sym (state_after-push m s es e)))
 left_stays m s es e t (inr due) keeps = inr (due_kept m s es e t due keeps)
 
--- a marked call adds what it would have made
-left_marked : {S : Type 0} (m : Machine S) (s : S) (es : List Event) (e : Event) (t : S) (Old : Type 0) → e.mark ≢ Unmarked → (Old → Left m s es t) → Old ⊎ (t ≡ done m (state_after m s es) e.call) → Left m s (es ++ e ∷ []) t
-left_marked m s es e t Old marked u (inl old) = left_stays m s es e t (u old) (marked_keeps m (state_after m s es) e.call e.mark marked)
-left_marked m s es e t Old marked u (inr is) = inr (record { before = es; refused = e; after = []; whole = refl; is_marked = marked; still = tt; is = is })
+-- a call that memory or the store refused adds what it would have made
+left_marked : {S : Type 0} (m : Machine S) (s : S) (es : List Event) (e : Event) (t : S) (Old : Type 0) → may_leave e.mark ≡ true → (Old → Left m s es t) → Old ⊎ (t ≡ done m (state_after m s es) e.call) → Left m s (es ++ e ∷ []) t
+left_marked m s es e t Old marked u (inl old) = left_stays m s es e t (u old) (marked_keeps m (state_after m s es) e.call e.mark (left_marks e.mark marked))
+left_marked m s es e t Old marked u (inr is) = inr (record { before = es; refused = e; after = []; whole = refl; is_left = marked; still = tt; is = is })
 
 left_push : {S : Type 0} (m : Machine S) (s : S) (es : List Event) (call : CallBytes) (mark : Mark) (old new : S → Type 0) → ((t : S) → old t → Left m s es t) → Leaves m old new (state_after m s es) call mark → (t : S) → new t → Left m s (es ++ record { call = call; mark = mark } ∷ []) t
 left_push m s es call Unmarked old new u (inl kept) t h = left_stays m s es (record { call = call; mark = Unmarked }) t (u t (kept.1 t h)) kept.0
 left_push m s es call Unmarked old new u (inr made) t h = inl (made t h ∙ sym (state_after-push m s es (record { call = call; mark = Unmarked })))
-left_push m s es call OutOfMemory old new u l t h = left_marked m s es (record { call = call; mark = OutOfMemory }) t (old t) (λ e. absurd cc) (u t) (l t h)
-left_push m s es call StoreRefused old new u l t h = left_marked m s es (record { call = call; mark = StoreRefused }) t (old t) (λ e. absurd cc) (u t) (l t h)
+left_push m s es call OutOfMemory old new u l t h = left_marked m s es (record { call = call; mark = OutOfMemory }) t (old t) refl (u t) (l t h)
+left_push m s es call StoreRefused old new u l t h = left_marked m s es (record { call = call; mark = StoreRefused }) t (old t) refl (u t) (l t h)
 left_push m s es call StoreDown old new u l t h = left_stays m s es (record { call = call; mark = StoreDown }) t (u t (l t h)) (marked_keeps m (state_after m s es) call StoreDown (λ e. absurd cc))
 
 -- ---- a store that is down, with one call more
@@ -301,13 +308,16 @@ answered_kept m start now s read held holds then_ IsEnd last h k = record {
   written = Appends-kept held holds then_ (replies m s h.events ++ last) h.written k;
 }
 
-unmarked_at : (before after : List Event) (e : Event) → AllByRecursion (λ x. x.mark ≡ Unmarked) (before ++ e ∷ after) → e.mark ≡ Unmarked
-unmarked_at [] after e h = h.0
-unmarked_at (x ∷ xs) after e h = unmarked_at xs after e h.1
+adds_nothing_at : (before after : List Event) (e : Event) → AllByRecursion (λ x. may_leave x.mark ≡ false) (before ++ e ∷ after) → may_leave e.mark ≡ false
+adds_nothing_at [] after e h = h.0
+adds_nothing_at (x ∷ xs) after e h = adds_nothing_at xs after e h.1
 
-left_settled : {S : Type 0} (m : Machine S) (s : S) (es : List Event) (t : S) → Left m s es t → AllByRecursion (λ x. x.mark ≡ Unmarked) es → t ≡ state_after m s es
+left_settled : {S : Type 0} (m : Machine S) (s : S) (es : List Event) (t : S) → Left m s es t → AllByRecursion (λ x. may_leave x.mark ≡ false) es → t ≡ state_after m s es
 left_settled m s es t (inl is) none = is
-left_settled m s es t (inr due) none = absurd (due.is_marked (unmarked_at due.before due.after due.refused (subst (λ (xs : List Event). AllByRecursion (λ x. x.mark ≡ Unmarked) xs) due.whole none)))
+left_settled m s es t (inr due) none =
+    let not_left : may_leave due.refused.mark ≡ false = adds_nothing_at due.before due.after due.refused (subst (λ (xs : List Event). AllByRecursion (λ x. may_leave x.mark ≡ false) xs) due.whole none) in
+    let left : may_leave due.refused.mark ≡ true = due.is_left in
+    absurd (cc)
 
-pub run_settled : {S : Type 0} (m : Machine S) (old new : Model S) (s : S) (es : List Event) → Runs m old new s es → AllByRecursion (λ x. x.mark ≡ Unmarked) es → ((t : S) → old.survivors t → t ≡ s) → (t : S) → new.survivors t → t ≡ state_after m s es
+pub run_settled : {S : Type 0} (m : Machine S) (old new : Model S) (s : S) (es : List Event) → Runs m old new s es → AllByRecursion (λ x. may_leave x.mark ≡ false) es → ((t : S) → old.survivors t → t ≡ s) → (t : S) → new.survivors t → t ≡ state_after m s es
 run_settled m old new s es run none only t h = left_settled m s es t (run.survive only t h) none

@@ -1,5 +1,5 @@
 -- Calls of the volume machine are tries of the requests that they ask for.
-use Rattle.std.proofs.Common.{◌≡◌, ◌≢◌, ◌∙◌, inl, inr, ap, sym, subst, refl, ℕ, Bool, true, false, List, [], ◌∷◌, ◌++◌, append_assoc, map, Option, Some, None, Result, Ok, Err}
+use Rattle.std.proofs.Common.{◌≡◌, ◌∙◌, inl, inr, ap, sym, subst, refl, ℕ, Bool, true, false, List, [], ◌∷◌, ◌++◌, append_assoc, map, Option, Some, None, Result, Ok, Err}
 use Rattle.std.proofs.lemmas.List.{map-append}
 use Rattle.std.proofs.lemmas.List.Concat.{flat_map-append}
 use Rattle.std.specs.List.{AllByRecursion}
@@ -14,11 +14,11 @@ use Rattle.csi_codec.specs.Reading.{read_request}
 use Rattle.csi_config.specs.declared.config.Config.{Config}
 use Rattle.csi_keeper.specs.Invariant.{IsInvariant}
 use Rattle.csi_keeper.specs.State.{State}
-use Rattle.csi_machine.specs.Retry.{Try, Ending, Marked, Unanswered, Answered, after_try, told_by, told_of, IsDue, Leaves, IsLife, AreTriesOf, all_tries, told_once, after_once, still_open}
+use Rattle.csi_machine.specs.Retry.{Try, Ending, Marked, Down, Unanswered, Answered, after_try, told_by, told_of, IsDue, Leaves, IsLife, AreTriesOf, all_tries, told_once, after_once, still_open}
 use Rattle.csi_machine.specs.Retry.{state_after as after_tries}
 use Rattle.csi_machine.specs.Step.{step}
 use Rattle.csi_plans.specs.Verdicts.{Told}
-use Rattle.csi_server.specs.Machine.{Event, Mark, Unmarked, OutOfMemory, StoreRefused, StoreDown, marked, refused, state_after}
+use Rattle.csi_server.specs.Machine.{Event, Mark, Unmarked, OutOfMemory, StoreRefused, StoreDown, marked, may_leave, refused, state_after}
 use Rattle.csi_server.specs.Machine.{step as call_step}
 use Rattle.csi_server.specs.Requests.{after_check, after_path, after_read, malformed, told}
 use Rattle.csi_server.specs.Tries.{Exchange, Asks, asked, asked_in, asked_of, unless_refused, ending, events_of, heard_by, heard_of, tries_for, tries_in, tries_of, IsLeft, IsLifeOfCalls}
@@ -226,18 +226,18 @@ try_of call end (Some r) t e h =
     let same : record { request = r; end = end } ≡ t = cc in
     (e ∙ ap (λ (u : Try). Some u.request) same, ap (λ (u : Try). u.end) (sym same))
 
-ends_marked : (mark : Mark) (is_heard : Bool) → ending mark is_heard ≡ Marked → mark ≢ Unmarked
-ends_marked Unmarked true h e = absurd (cc)
-ends_marked Unmarked false h e = absurd (cc)
-ends_marked OutOfMemory is_heard h e = absurd (cc)
-ends_marked StoreRefused is_heard h e = absurd (cc)
-ends_marked StoreDown is_heard h e = absurd (cc)
+ends_marked : (mark : Mark) (is_heard : Bool) → ending mark is_heard ≡ Marked → may_leave mark ≡ true
+ends_marked Unmarked true h = absurd (cc)
+ends_marked Unmarked false h = absurd (cc)
+ends_marked OutOfMemory is_heard h = refl
+ends_marked StoreRefused is_heard h = refl
+ends_marked StoreDown is_heard h = absurd (cc)
 
-marked_ends : (mark : Mark) (is_heard : Bool) → mark ≢ Unmarked → ending mark is_heard ≡ Marked
-marked_ends Unmarked is_heard h = absurd (h refl)
+marked_ends : (mark : Mark) (is_heard : Bool) → may_leave mark ≡ true → ending mark is_heard ≡ Marked
+marked_ends Unmarked is_heard h = absurd (cc)
 marked_ends OutOfMemory is_heard h = refl
 marked_ends StoreRefused is_heard h = refl
-marked_ends StoreDown is_heard h = refl
+marked_ends StoreDown is_heard h = absurd (cc)
 
 module _ (config : Config) where
   due : (s t : State) (session : List Exchange) → IsPending config s (events_of session) t → IsDue config s (tries_of session) t
@@ -246,7 +246,7 @@ module _ (config : Config) where
     refused = record { request = p.request; end = ending a.middle.event.mark a.middle.is_heard };
     after = tries_of a.last;
     whole = ap tries_of a.whole ∙ (flat_map-append tries_in a.first (a.middle ∷ a.last) ∙ ap (λ (o : Option Request). tries_of a.first ++ (tries_for o (ending a.middle.event.mark a.middle.is_heard) ++ tries_of a.last)) asks);
-    is_marked = marked_ends a.middle.event.mark a.middle.is_heard (subst (λ (e : Event). e.mark ≢ Unmarked) (sym same) p.is_marked);
+    is_marked = marked_ends a.middle.event.mark a.middle.is_heard (subst (λ (e : Event). may_leave e.mark ≡ true) (sym same) p.is_left);
     still = still config (after_tries config s (tries_of a.first)) a.last (subst (λ (l : List Event). AllByRecursion (λ e. (call_step (volumes config) (after_tries config s (tries_of a.first)) e).1 ≡ after_tries config s (tries_of a.first)) l) (sym a.is_after)
         (subst (λ (z : State). AllByRecursion (λ e. (call_step (volumes config) z e).1 ≡ z) p.after) at p.still));
     is = p.is ∙ ap (λ (z : State). (step config z p.request).1) at;
@@ -288,7 +288,7 @@ module _ (config : Config) where
     refused = a.middle.event;
     after = events_of a.last;
     whole = ap events_of a.whole ∙ map-append (λ (x : Exchange). x.event) a.first (a.middle ∷ a.last);
-    is_marked = ends_marked a.middle.event.mark a.middle.is_heard (sym tried.1 ∙ d.is_marked);
+    is_left = ends_marked a.middle.event.mark a.middle.is_heard (sym tried.1 ∙ d.is_marked);
     still = stays (state_after (volumes config) s (events_of a.first)) a.last (subst (λ (l : List Try). AllByRecursion (λ u. after_try config (state_after (volumes config) s (events_of a.first)) u ≡ state_after (volumes config) s (events_of a.first)) l) (sym a.is_after)
         (subst (λ (z : State). AllByRecursion (λ u. after_try config z u ≡ z) d.after) (sym at) d.still));
     method = asks.method;
@@ -361,6 +361,7 @@ requests_pass (t ∷ ts) (r ∷ rs) h tries = by_end (λ qs more. requests_pass 
   where
     by_end : ((qs : List Request) → AreTriesOf qs ts → AllByRecursion (λ q. checked q ≡ None) qs) → (e : Ending) → AreTriesOf (still_open (r ∷ rs) e) ts → AllByRecursion (λ q. checked q ≡ None) (r ∷ rs)
     by_end next Marked more = next (r ∷ rs) more
+    by_end next Down more = next (r ∷ rs) more
     by_end next Unanswered more = next (r ∷ rs) more
     by_end next Answered more = (subst (λ (q : Request). checked q ≡ None) tries.0 h.0, next rs more)
 

@@ -10,7 +10,7 @@ use Rattle.csi_types.specs.Methods.{method_at}
 use Rattle.csi_codec.specs.Reading.{read_request}
 use Rattle.csi_config.specs.declared.config.Config.{Config}
 use Rattle.csi_keeper.specs.State.{State}
-use Rattle.csi_machine.specs.Retry.{Try, Ending, Marked, Unanswered, Answered, AreTriesOf, all_tries}
+use Rattle.csi_machine.specs.Retry.{Try, Ending, Marked, Down, Unanswered, Answered, AreTriesOf, all_tries}
 use Rattle.csi_server.specs.Machine.{Event, Mark, Unmarked, OutOfMemory, StoreRefused, StoreDown, done, state_after}
 use Rattle.csi_server.specs.Machine.{step as call_step}
 use Rattle.csi_server.specs.Volumes.{volumes, IsPending}
@@ -50,13 +50,13 @@ pub record Exchange : Type 0 where
 abbrev pub events_of : List Exchange → List Event
 events_of session = map (λ x. x.event) session
 
--- how a try ends: a call that was refused inside is marked, whether its client heard so or not
+-- how a try ends: a call that was refused inside is marked or down, whether its client heard so or not
 abbrev pub ending : Mark → Bool → Ending
 ending Unmarked true = Answered
 ending Unmarked false = Unanswered
 ending OutOfMemory is_heard = Marked
 ending StoreRefused is_heard = Marked
-ending StoreDown is_heard = Marked
+ending StoreDown is_heard = Down
 
 abbrev pub tries_for : Option Request → Ending → List Try
 tries_for None end = []
@@ -89,7 +89,7 @@ heard_of config s (x ∷ xs) =
 
 -- ---- over stops
 
--- what the law `pending` says that a session leaves: the State after its calls, or what a call would have made that was refused inside
+-- what the law `pending` says that a session leaves: the State after its calls, or what a call would have made that was refused for memory or by the store
 abbrev pub IsLeft : Config → State → List Event → State → Type 0
 IsLeft config s events t = (t ≡ state_after (volumes config) s events) ⊎ IsPending config s events t
 

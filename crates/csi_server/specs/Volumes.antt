@@ -1,5 +1,5 @@
 -- The volume machine over calls, and what is seen of a keeper.
-use Rattle.std.specs.Prelude.{◌≡◌, ◌≢◌, ℕ, Bool, not, List, [], ◌∷◌, ◌++◌, drop, Some, None, Result, Ok, Err}
+use Rattle.std.specs.Prelude.{◌≡◌, ℕ, Bool, true, not, List, [], ◌∷◌, ◌++◌, drop, Some, None, Result, Ok, Err}
 use Rattle.std.specs.List.{AllByRecursion}
 use Rattle.envelope.specs.Envelope.{ReplyBytes}
 use Rattle.envelope.specs.declared.limits.TheConstants.{REPLY_HEAD_BYTES}
@@ -18,7 +18,7 @@ use Rattle.csi_keeper.specs.declared.change.StoreFault.TheVariants as fault
 use Rattle.csi_machine.specs.Step.{is_of_plugin, step}
 use Rattle.csi_plans.specs.declared.body.Verdict.{Verdict}
 use Rattle.csi_plans.specs.declared.body.Verdict.TheVariants as verdict
-use Rattle.csi_server.specs.Machine.{Machine, Event, Unmarked, refused, state_after}
+use Rattle.csi_server.specs.Machine.{Machine, Event, may_leave, refused, state_after}
 use Rattle.csi_server.specs.Machine.{step as call_step}
 use Rattle.csi_server.specs.Requests.{requests}
 
@@ -42,14 +42,14 @@ RepliesTo out r (Err fault.NoMemory) = r ≡ refused reason.OutOfMemory
 RepliesTo out r (Err fault.Refused) = r ≡ refused reason.StoreRefused
 RepliesTo out r (Err fault.Down) = r ≡ refused reason.StoreDown
 
--- What a stop may leave beside the last State: what a call would have made that was refused inside, whose request was read and passed the checks,
--- and after which no call moved the State.
+-- What a stop may leave beside the last State: what a call would have made that was refused for memory or by the store, whose request was read and passed
+-- the checks, and after which no call moved the State.
 pub record IsPending (config : Config) (s : State) (events : List Event) (t : State) : Type 0 where
   pub before : List Event
   pub refused : Event
   pub after : List Event
   pub whole : events ≡ before ++ refused ∷ after
-  pub is_marked : refused.mark ≢ Unmarked
+  pub is_left : may_leave refused.mark ≡ true
   pub still : AllByRecursion (λ e. (call_step (volumes config) (state_after (volumes config) s before) e).1 ≡ state_after (volumes config) s before) after
   pub method : Method
   pub request : Request

@@ -1,6 +1,6 @@
 //! Laws of the definitions and of the machines that are served.
 
-ghost use Rattle.std.specs.Prelude.{◌≡◌, ◌≢◌, ◌⊎◌, ◌↔◌, ◌≤◌, ◌<◌, ◌^◌, ◌++◌, ℕ, List, None, Some, length, decimal, map};
+ghost use Rattle.std.specs.Prelude.{[], ◌≡◌, ◌⊎◌, ◌↔◌, ◌≤◌, ◌<◌, ◌^◌, ◌++◌, ℕ, List, None, Some, true, false, length, decimal, map};
 ghost use Rattle.std.specs.List.{AllByRecursion};
 ghost use Rattle.envelope.specs.declared.fault.FrameFault.{FrameFault};
 ghost use Rattle.envelope.specs.declared.limits.TheConstants.{MAX_MESSAGE_BYTES};
@@ -10,7 +10,7 @@ ghost use Rattle.csi_types.specs.declared.code.Code.TheVariants as Code;
 ghost use Rattle.csi_types.specs.Codes.{number_of};
 ghost use Rattle.csi_types.specs.declared.requests.Request.{Request};
 ghost use Rattle.csi_keeper.specs.Invariant.{IsInvariant};
-ghost use Rattle.csi_server.specs.Machine.{Unmarked, Event, Mark, Runs, AreReplies, refusal, state_after};
+ghost use Rattle.csi_server.specs.Machine.{Unmarked, Event, Mark, Runs, AreReplies, may_leave, refusal, state_after};
 ghost use Rattle.csi_server.specs.Identity.{identity};
 ghost use Rattle.csi_server.specs.Requests.{told};
 ghost use Rattle.csi_server.specs.Tries.{Asks, Exchange, asked, events_of, tries_of, heard_of, IsLeft, IsLifeOfCalls, IsLifeOfTwo};
@@ -30,10 +30,11 @@ use csi_machine::laws::{
 };
 use frames_core::laws::decimal_is_text;
 
-/// After a run in which no call is marked, what a stop may leave is the state after the run.
+/// After a run in which neither memory nor the store refused a call, what a stop may leave is the state after the run: a call that is
+/// answered, also that the store is down, adds nothing to it.
 pub fn settled<C, S: Service<C>>(config: &C)
     ensures { (old new : S) (s : S.State) (events : List Event) → Runs (S.machine config.now) (S.model config.now old) (S.model config.now new) s events
-        → AllByRecursion (λ e. e.mark ≡ Unmarked) events
+        → AllByRecursion (λ e. may_leave e.mark ≡ false) events
         → ((t : S.State) → (S.model config.now old).survivors t → t ≡ s)
         → (t : S.State) → (S.model config.now new).survivors t → t ≡ state_after (S.machine config.now) s events }
 {}
@@ -134,11 +135,11 @@ pub fn retry(config: &Config)
 
 /// There are such lives, of each call that asks for a request and from each State, so [`retry`] does not speak of nothing.
 ///
-/// The call is made and its reply is lost; or it is refused inside, and a stop leaves its change all the same. In the next
-/// session it is made again, and its reply is heard.
+/// The call is made and its reply is lost; or it is refused for memory or by the store, and a stop leaves its change all the same. In
+/// the next session it is made again, and its reply is heard.
 pub fn made_twice(config: &Config)
     ensures lost { (s : MachineState) (call : CallBytes) (r : Request) → Asks call r → IsLifeOfTwo config.now s call r Unmarked }
-    ensures refused { (s : MachineState) (call : CallBytes) (r : Request) (mark : Mark) → Asks call r → mark ≢ Unmarked → IsLifeOfTwo config.now s call r mark }
+    ensures refused { (s : MachineState) (call : CallBytes) (r : Request) (mark : Mark) → Asks call r → may_leave mark ≡ true → IsLifeOfTwo config.now s call r mark }
 {}
 
 /// Each call is idempotent (CSI specification, 'Timeouts'): from a State of the invariant the same call, made again
