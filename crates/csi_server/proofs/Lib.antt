@@ -10,3 +10,4 @@ mod PendingLemmas
 mod KeptLemmas
 mod TriesLemmas
 mod LifeLemmas
+mod WalksLemmas

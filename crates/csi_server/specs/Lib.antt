@@ -6,3 +6,4 @@ pub mod Requests
 pub mod Identity
 pub mod Volumes
 pub mod Tries
+pub mod Walks

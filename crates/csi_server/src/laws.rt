@@ -18,7 +18,11 @@ ghost use Rattle.csi_server.specs.Volumes.{volumes, seen, IsPending};
 ghost use Rattle.csi_machine.specs.Retry.{Leaves, AreTriesOf, all_tries, told_of, told_once, after_once};
 ghost use Rattle.csi_machine.specs.Retry.{state_after as after_tries};
 ghost use Rattle.csi_machine.specs.Step.{step};
+ghost use Rattle.csi_config.specs.Values.{Has};
 ghost use Rattle.csi_config.specs.declared.config.Config.{Config as AnyConfig};
+ghost use Rattle.csi_machine.specs.Walk.{AreApart, AreOfVolumes, End, GoOn, Stood, listed_ids};
+ghost use Rattle.csi_plans.specs.Ids.{id};
+ghost use Rattle.csi_server.specs.Walks.{AreAsked, AreRead, Turn, pages};
 ghost use Rattle.csi_keeper.specs.State.{State as MachineState};
 
 use crate::service::Service;
@@ -27,6 +31,7 @@ use csi_config::Config;
 use csi_keeper::Keeper;
 use csi_machine::laws::{
     kept as kept_by_answers, repeat as repeat_request, retry as retry_requests,
+    walk as walk_by_requests,
 };
 use frames_core::laws::decimal_is_text;
 
@@ -131,6 +136,25 @@ pub fn retry(config: &Config)
         → (heard ≡ map told (told_once config.now s requests)) × (t ≡ after_once config.now s requests) }
 {
     retry_requests(config);
+}
+
+/// Calls that walk over the pages of a listing, from a State of the invariant (CSI specification, 'ListVolumes').
+///
+/// The first page is asked for with an empty token, each next one with the token of the page before. A call for a page that is refused
+/// inside, or whose reply is not heard, is no page of the walk, and the page is asked for again with its token. Other calls may come
+/// anywhere, from anyone. No page is refused for its token; what is listed stood at its page; nothing is listed twice; and what stood
+/// at each page of a walk that came to its end is listed.
+pub fn walk(config: &Config)
+    ensures read { (s : MachineState) (turns : List Turn) → IsInvariant config.now s → AreAsked config.now s [] turns → AreRead config.now s [] turns }
+    ensures stood { (s : MachineState) (turns : List Turn) → AreAsked config.now s [] turns
+        → AllByRecursion (AreOfVolumes config.now) (pages config.now s [] turns) }
+    ensures once { (s : MachineState) (turns : List Turn) → IsInvariant config.now s → AreAsked config.now s [] turns
+        → GoOn (pages config.now s [] turns) → AreApart (listed_ids (pages config.now s [] turns)) }
+    ensures each { (s : MachineState) (turns : List Turn) (n : ℕ) → IsInvariant config.now s → AreAsked config.now s [] turns
+        → GoOn (pages config.now s [] turns) → End (pages config.now s [] turns) → Stood n (pages config.now s [] turns)
+        → Has (listed_ids (pages config.now s [] turns)) (id n) }
+{
+    walk_by_requests(config);
 }
 
 /// There are such lives, of each call that asks for a request and from each State, so [`retry`] does not speak of nothing.
