@@ -5,11 +5,13 @@ use Rattle.std.proofs.lemmas.List.Concat.{flat_map-append}
 use Rattle.std.specs.List.{AllByRecursion}
 use Rattle.envelope.specs.Envelope.{CallBytes, ReplyBytes}
 use Rattle.csi_types.specs.declared.method.Method.{Method}
+use Rattle.csi_types.specs.declared.method.Method.TheVariants as method
 use Rattle.csi_types.specs.declared.reason.Reason.{Reason}
 use Rattle.csi_types.specs.declared.reason.Reason.TheVariants as reason
 use Rattle.csi_types.specs.declared.requests.Request.{Request}
 use Rattle.csi_types.specs.Checks.{checked}
-use Rattle.csi_types.specs.Methods.{method_at}
+use Rattle.csi_types.specs.Methods.{method_at, path_of}
+use Rattle.csi_codec.specs.Methods.{FitsRequest, MeansRequest, request_bytes, request_method}
 use Rattle.csi_codec.specs.Reading.{read_request}
 use Rattle.csi_config.specs.declared.config.Config.{Config}
 use Rattle.csi_keeper.specs.Invariant.{IsInvariant}
@@ -21,7 +23,7 @@ use Rattle.csi_plans.specs.Verdicts.{Told}
 use Rattle.csi_server.specs.Machine.{Event, Mark, Unmarked, OutOfMemory, StoreRefused, StoreDown, marked, may_leave, refused, state_after}
 use Rattle.csi_server.specs.Machine.{step as call_step}
 use Rattle.csi_server.specs.Requests.{after_check, after_path, after_read, malformed, told}
-use Rattle.csi_server.specs.Tries.{Exchange, Asks, asked, asked_in, asked_of, unless_refused, ending, events_of, heard_by, heard_of, tries_for, tries_in, tries_of, IsLeft, IsLifeOfCalls}
+use Rattle.csi_server.specs.Tries.{Exchange, Asks, asked, asked_in, asked_of, spelled_call, unless_refused, ending, events_of, heard_by, heard_of, tries_for, tries_in, tries_of, IsLeft, IsLifeOfCalls}
 use Rattle.csi_server.specs.Volumes.{volumes, IsPending}
 
 all_append : (P : Try → Type 0) (ts us : List Try) → AllByRecursion P ts → AllByRecursion P us → AllByRecursion P (ts ++ us)
@@ -55,6 +57,32 @@ asked_is call r = by_path (method_at call.path) refl
 
 pub is_asked : (call : CallBytes) (r : Request) → Asks call r → asked call ≡ Some r
 is_asked call r a = ap (λ (p : Option Method). asked_of p call.message) a.called ∙ (ap asked_in a.read ∙ ap (unless_refused r) a.passed)
+
+-- a path names its method
+known_path : (m : Method) → method_at (path_of m) ≡ Some m
+unfolding method_at
+known_path method.GetPluginInfo = refl
+known_path method.GetPluginCapabilities = refl
+known_path method.Probe = refl
+known_path method.CreateVolume = refl
+known_path method.DeleteVolume = refl
+known_path method.ControllerPublishVolume = refl
+known_path method.ControllerUnpublishVolume = refl
+known_path method.ValidateVolumeCapabilities = refl
+known_path method.ListVolumes = refl
+known_path method.GetCapacity = refl
+known_path method.ControllerGetCapabilities = refl
+known_path method.ControllerModifyVolume = refl
+
+-- the call that spells a request asks for it
+pub spelled_asks : ((r : Request) → FitsRequest r → MeansRequest (request_method r) (request_bytes r) r) → ((m : Method) (bytes : List ℕ) (r : Request) → MeansRequest m bytes r → read_request m bytes ≡ Ok r)
+    → (r : Request) → FitsRequest r → checked r ≡ None → Asks (spelled_call r) r
+spelled_asks means reads r fits passed = record {
+  method = request_method r;
+  called = known_path (request_method r);
+  read = reads (request_method r) (request_bytes r) r (means r fits);
+  passed = passed;
+}
 
 -- a call that asks for nothing is refused from each State alike
 pub unasked_stays : (call : CallBytes) → asked call ≡ None → (reply : ReplyBytes) × ((config : Config) (s : State) → (volumes config).respond s call ≡ (reply, s))

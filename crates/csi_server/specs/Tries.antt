@@ -6,7 +6,8 @@ use Rattle.csi_types.specs.declared.method.Method.{Method}
 use Rattle.csi_types.specs.declared.reason.Reason.{Reason}
 use Rattle.csi_types.specs.declared.requests.Request.{Request}
 use Rattle.csi_types.specs.Checks.{checked}
-use Rattle.csi_types.specs.Methods.{method_at}
+use Rattle.csi_types.specs.Methods.{method_at, path_of}
+use Rattle.csi_codec.specs.Methods.{request_bytes, request_method}
 use Rattle.csi_codec.specs.Reading.{read_request}
 use Rattle.csi_config.specs.declared.config.Config.{Config}
 use Rattle.csi_keeper.specs.State.{State}
@@ -39,6 +40,10 @@ pub record Asks (call : CallBytes) (r : Request) : Type 0 where
   pub called : method_at call.path ≡ Some method
   pub read : read_request method call.message ≡ Ok r
   pub passed : checked r ≡ None
+
+-- the call with the path of a request's method, and its spelling as the message
+abbrev pub spelled_call : Request → CallBytes
+spelled_call r = record { path = path_of (request_method r); message = request_bytes r }
 
 -- ---- the calls of a session
 

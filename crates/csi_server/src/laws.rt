@@ -9,11 +9,13 @@ ghost use Rattle.envelope.specs.Texts.{fault_words};
 ghost use Rattle.csi_types.specs.declared.code.Code.TheVariants as Code;
 ghost use Rattle.csi_types.specs.Codes.{number_of};
 ghost use Rattle.csi_types.specs.declared.requests.Request.{Request};
+ghost use Rattle.csi_types.specs.Checks.{checked};
+ghost use Rattle.csi_codec.specs.Methods.{FitsRequest};
 ghost use Rattle.csi_keeper.specs.Invariant.{IsInvariant};
 ghost use Rattle.csi_server.specs.Machine.{Unmarked, Event, Mark, Runs, AreReplies, may_leave, refusal, state_after};
 ghost use Rattle.csi_server.specs.Identity.{identity};
 ghost use Rattle.csi_server.specs.Requests.{told};
-ghost use Rattle.csi_server.specs.Tries.{Asks, Exchange, asked, events_of, tries_of, heard_of, IsLeft, IsLifeOfCalls, IsLifeOfTwo};
+ghost use Rattle.csi_server.specs.Tries.{Asks, Exchange, asked, spelled_call, events_of, tries_of, heard_of, IsLeft, IsLifeOfCalls, IsLifeOfTwo};
 ghost use Rattle.csi_server.specs.Volumes.{volumes, seen, IsPending};
 ghost use Rattle.csi_machine.specs.Retry.{Leaves, AreTriesOf, all_tries, told_of, told_once, after_once};
 ghost use Rattle.csi_machine.specs.Retry.{state_after as after_tries};
@@ -26,7 +28,7 @@ ghost use Rattle.csi_server.specs.Walks.{AreAsked, AreRead, Turn, pages};
 ghost use Rattle.csi_keeper.specs.State.{State as MachineState};
 
 use crate::service::Service;
-use csi_codec::laws::reading;
+use csi_codec::laws::{read_as_meant, reading, round_trip};
 use csi_config::Config;
 use csi_keeper::Keeper;
 use csi_machine::laws::{
@@ -98,14 +100,19 @@ pub fn pending<K: Keeper>(config: &Config)
 
 /// A call asks for a request exactly where its path names a method, its message is read as that request, and the
 /// request passes the checks of its arguments. It is answered as the machine answers the request. One that asks for
-/// none has the same reply from each State, under each configuration, and leaves each as it is.
+/// none has the same reply from each State, under each configuration, and leaves each as it is. Each request that can be
+/// spelled and passes the checks is asked for by a call.
 pub fn asking()
     ensures exact { (call : CallBytes) (r : Request) → (asked call ≡ Some r) ↔ Asks call r }
     ensures answered { (config : AnyConfig) (s : MachineState) (call : CallBytes) (r : Request) → asked call ≡ Some r
         → (volumes config).respond s call ≡ (told (step config s r).0, (step config s r).1) }
     ensures unasked { (call : CallBytes) → asked call ≡ None → (reply : ReplyBytes)
         × ((config : AnyConfig) (s : MachineState) → (volumes config).respond s call ≡ (reply, s)) }
-{}
+    ensures spelled { (r : Request) → FitsRequest r → checked r ≡ None → Asks (spelled_call r) r }
+{
+    read_as_meant();
+    round_trip();
+}
 
 /// The calls of a session are tries of the requests that they ask for: the State after them and the replies that
 /// were heard are those of the tries, and what [`pending`] says that they leave is just what the tries leave. So

@@ -1,5 +1,5 @@
-use Rattle.csi_server.proofs.TriesLemmas.{asked_answers, asked_is, is_asked, unasked_stays}
+use Rattle.csi_server.proofs.TriesLemmas.{asked_answers, asked_is, is_asked, spelled_asks, unasked_stays}
 use Rattle.csi_server.proofs.laws.asking.Goals as goal
 
 pub returns : goal.returns
-returns c = record { exact = λ call r. (asked_is call r, is_asked call r); answered = asked_answers; unasked = unasked_stays }
+returns c = record { exact = λ call r. (asked_is call r, is_asked call r); answered = asked_answers; unasked = unasked_stays; spelled = spelled_asks c.round_trip.ensures.requests c.read_as_meant.ensures.requests }
