@@ -1,46 +1,51 @@
--- Runs of lines, and what a flush leaves of them.
-use Rattle.std.proofs.Common.{◌≡◌, ◌==◌, ◌+◌, ◌∙◌, if◌then◌else◌, ℕ, zero, suc, Bool, List, [], Option, Some, None, Err, IsErrOf, ◌||◌, ◌≢◌, ◌⊎◌, ⊎_elim, true, false, true≢false, arith, refl, ap, sym, subst}
+-- Runs of lines.
+use Rattle.std.proofs.Common.{◌≡◌, ◌==◌, ◌+◌, ◌∙◌, if◌then◌else◌, ℕ, suc, Bool, List, [], Option, Some, None, Err, IsErrOf, ◌||◌, ◌≢◌, ◌⊎◌, ⊎_elim, true, false, true≢false, arith, refl, ap, sym, subst}
 use Rattle.std.specs.Io.Buffered.{reader_buffer, reader_capacity, reader_inner, reader_remaining}
 use Rattle.std.specs.declared.io.buffered.BufReader.{BufReader}
-use Rattle.std.specs.Io.KnownBytes.{Appends, Keeps, prepend_known}
-use Rattle.std.proofs.KnownBytes.{Keeps-trans, Appends-kept}
+use Rattle.std.specs.Io.KnownBytes.{Appends, prepend_known}
+use Rattle.std.specs.Prelude.{bytes_eq, not, IsUtf8}
 use Rattle.csi_config.specs.declared.config.Config.{Config}
+use Rattle.frames_core.specs.Writing.{WrotePrefix}
+use Rattle.csi_vectors.specs.Judging.{IsWritten}
+use Rattle.csi_vectors.specs.Lines.{IsLineOf}
 use Rattle.csi_vectors.specs.declared.running.VectorsEnd.{VectorsEnd}
-use Rattle.csi_vectors.specs.declared.running.VectorsEnd.TheVariants.{Done, BadLine, LinesSpent, ReadFailed, WriteFailed, NoMemory}
+use Rattle.csi_vectors.specs.declared.running.VectorsEnd.TheVariants.{ReadFailed, NoMemory}
 use Rattle.csi_vectors.specs.declared.running.Halt.{Halt}
 use Rattle.csi_vectors.specs.declared.running.Halt.TheVariants as halt
-use Rattle.csi_vectors.specs.Running.{AreRun, EndsAs, IsDone, IsJudged, IsNoVector, IsTextOf, Takes, end_of}
+use Rattle.csi_vectors.specs.Running.{AreRun, EndsAs, IsCut, IsDone, IsNoVector, IsRun, IsSkipped, IsTextOf, Takes, end_of, told}
 
 pub none_before : (known : Option (List ℕ)) → prepend_known [] known ≡ known
 none_before None = refl
 none_before (Some bytes) = refl
 
-pub run_kept : (config : Config) (unread held : Option (List ℕ)) (count : ℕ) (left a b : Option (List ℕ)) (failed : Bool) → AreRun config unread held count left a failed → Keeps a b → AreRun config unread held count left b failed
-run_kept config unread held zero left a b failed run kept = (run.0, Keeps-trans held a b run.1 kept, run.2)
-run_kept config unread held (suc n) left a b failed run kept = record {
-  mid = run.mid;
-  held = run.held;
-  already = run.already;
-  before = run.before;
-  line = run.line;
-  text = run.text;
-  lines = run.lines;
-  now = run.now;
-  some = run.some;
-  taken = run.taken;
-  is_text = run.is_text;
-  done = run.done;
-  wrote = Appends-kept run.held a b run.lines run.wrote kept;
-  either = run.either;
+-- ---- one vector
+
+pub no_line : (given text : List ℕ) → given ≡ text → ((name input output : List ℕ) → IsLineOf given name input output → ⊥) → (name input output : List ℕ) → IsLineOf text name input output → ⊥
+no_line given text same none name input output h = none name input output (subst (λ (l : List ℕ). IsLineOf l name input output) (sym same) h)
+
+pub was_run : (config : Config) (text given name input output bytes : List ℕ) (ok : Bool) → (IsSkipped text → ⊥) → given ≡ text → IsUtf8 text → IsLineOf given name input output → IsWritten config input bytes
+    → ok ≡ bytes_eq bytes output → IsRun config text (told (not ok) name) (not ok)
+was_run config text given name input output bytes ok run same utf8 line written judged = record {
+  name = name;
+  input = input;
+  output = output;
+  bytes = bytes;
+  run = run;
+  utf8 = utf8;
+  line = subst (λ (l : List ℕ). IsLineOf l name input output) same line;
+  written = written;
+  judged = ap not judged;
+  said = refl;
 }
 
-pub end_kept : (config : Config) (unread held a b : Option (List ℕ)) (end : VectorsEnd) → EndsAs config unread held a end → Keeps a b → EndsAs config unread held b end
-end_kept config unread held a b (Done failed) h kept = (h.0, h.1, run_kept config unread held h.0 h.1 a b failed h.2 kept, h.3)
-end_kept config unread held a b (BadLine number) h kept = (h.0, h.1, h.2, h.3, h.4, run_kept config unread held h.0 h.1 a b h.2 h.5 kept, h.6, h.7, h.8)
-end_kept config unread held a b ReadFailed h kept = (h.0, h.1, h.2, run_kept config unread held h.0 h.1 a b h.2 h.3 kept)
-end_kept config unread held a b LinesSpent h kept = (h.0, h.1, h.2, run_kept config unread held h.0 h.1 a b h.2 h.3 kept, h.4)
-end_kept config unread held a b WriteFailed h kept = h
-end_kept config unread held a b NoMemory h kept = (h.0, h.1, h.2, run_kept config unread held h.0 h.1 a b h.2 h.3 kept)
+-- the line that was made is what is told
+pub appended_as : (a b : Option (List ℕ)) (slice items line : List ℕ) → slice ≡ items → items ≡ line → Appends a b slice → Appends a b line
+appended_as a b slice items line s i h = subst (λ (l : List ℕ). Appends a b l) (s ∙ i) h
+
+pub cut_as : (a b : Option (List ℕ)) (slice items line : List ℕ) → slice ≡ items → items ≡ line → WrotePrefix a b slice → WrotePrefix a b line
+cut_as a b slice items line s i h = subst (λ (l : List ℕ). WrotePrefix a b l) (s ∙ i) h
+
+-- ---- lines
 
 -- a buffer that holds nothing leaves what its reader leaves
 pub fresh : {T A : Type 0} (remaining : T → Option (List ℕ)) (r : BufReader T A) (inner : T) → reader_inner r ≡ inner → reader_buffer r ≡ [] → reader_capacity r ≡ 8192
@@ -90,8 +95,8 @@ unwritten why is e = true≢false (sym (ap is_write e) ∙ is)
 -- a line ended the run
 pub halted : (config : Config) (unread held left after holds now : Option (List ℕ)) (count number : ℕ) (failed : Bool) (line given : List ℕ) (why : Halt) (end : VectorsEnd)
     → AreRun config unread held count left holds failed → Takes left after line → given ≡ line → (why ≢ halt.WriteFailed → now ≡ holds) → (IsErrOf {T = Bool} {E = Halt} (Err why) halt.BadLine → IsNoVector given)
-    → (IsErrOf {T = Bool} {E = Halt} (Err why) halt.WriteFailed → (text : List ℕ) × IsTextOf given text × IsJudged config text) → number ≡ count + 1 → end ≡ end_of why number → EndsAs config unread held now end
-halted config unread held left after holds now count number failed line given halt.BadLine end run taken same kept bad untold is e =
+    → (IsErrOf {T = Bool} {E = Halt} (Err why) halt.WriteFailed → (text : List ℕ) × IsTextOf given text × IsCut config text holds now) → number ≡ count + 1 → end ≡ end_of why number → EndsAs config unread held now end
+halted config unread held left after holds now count number failed line given halt.BadLine end run taken same kept bad cut is e =
     subst (λ (x : VectorsEnd). EndsAs config unread held now x) (sym e) (
       count,
       left,
@@ -103,9 +108,9 @@ halted config unread held left after holds now count number failed line given ha
       subst IsNoVector same (bad refl),
       is,
     )
-halted config unread held left after holds now count number failed line given halt.WriteFailed end run taken same kept bad untold is e =
-    let told = untold refl in
-    subst (λ (x : VectorsEnd). EndsAs config unread held now x) (sym e) (count, left, failed, after, line, holds, told.0, run, taken, subst (λ (l : List ℕ). IsTextOf l told.0) same told.1, told.2)
-halted config unread held left after holds now count number failed line given halt.NoMemory end run taken same kept bad untold is e =
+halted config unread held left after holds now count number failed line given halt.WriteFailed end run taken same kept bad cut is e =
+    let part = cut refl in
+    subst (λ (x : VectorsEnd). EndsAs config unread held now x) (sym e) (count, left, failed, after, line, holds, part.0, run, taken, subst (λ (l : List ℕ). IsTextOf l part.0) same part.1, part.2)
+halted config unread held left after holds now count number failed line given halt.NoMemory end run taken same kept bad cut is e =
     subst (λ (x : VectorsEnd). EndsAs config unread held now x) (sym e)
     (count, left, failed, subst (λ (h : Option (List ℕ)). AreRun config unread held count left h failed) (sym (kept (unwritten halt.NoMemory refl))) run)

@@ -4,6 +4,7 @@ use Rattle.std.specs.Io.BufRead.{take_through, DropsThrough}
 use Rattle.std.specs.Io.KnownBytes.{Appends, Keeps, IsAtEnd}
 use Rattle.csi_config.specs.declared.config.Config.{Config}
 use Rattle.csi_config.specs.Sample.{sample_plugin, sample_pools, sample_nodes}
+use Rattle.frames_core.specs.Writing.{WrotePrefix}
 use Rattle.csi_vectors.specs.Judging.{IsWritten}
 use Rattle.csi_vectors.specs.Lines.{IsLineOf}
 use Rattle.csi_vectors.specs.declared.vector.LineFault.{LineFault}
@@ -17,13 +18,17 @@ use Rattle.csi_vectors.specs.declared.running.VectorsEnd.TheVariants.{Done, BadL
 abbrev pub IsTextOf : List ℕ → List ℕ → Type 0
 IsTextOf line text = (line ≡ text ++ codes "\n") ⊎ ((line ≡ text) × ((front : List ℕ) → line ≢ front ++ codes "\n"))
 
--- an empty line, or a comment
+-- an empty line, or a comment, whose bytes need not be a text
 abbrev pub IsSkipped : List ℕ → Type 0
 IsSkipped text = (text ≡ []) ⊎ ((rest : List ℕ) × (text ≡ codes "#" ++ rest))
 
--- a line is no vector: it is no text, or one that is not skipped and has not the form
+-- these bytes are not skipped, and are no text or one that has not the form
+abbrev pub IsNoText : List ℕ → Type 0
+IsNoText text = (¬ IsSkipped text) × ((¬ IsUtf8 text) ⊎ ((name input output : List ℕ) → ¬ IsLineOf text name input output))
+
+-- a line is no vector
 abbrev pub IsNoVector : List ℕ → Type 0
-IsNoVector line = (text : List ℕ) × IsTextOf line text × ((¬ IsUtf8 text) ⊎ ((¬ IsSkipped text) × ((name input output : List ℕ) → ¬ IsLineOf text name input output)))
+IsNoVector line = (text : List ℕ) × IsTextOf line text × IsNoText text
 
 -- what is written of a vector
 abbrev pub told : Bool → List ℕ → List ℕ
@@ -37,14 +42,15 @@ pub record IsRun (config : Config) (text lines : List ℕ) (failed : Bool) : Typ
   pub output : List ℕ
   pub bytes : List ℕ
   pub run : ¬ IsSkipped text
+  pub utf8 : IsUtf8 text
   pub line : IsLineOf text name input output
   pub written : IsWritten config input bytes
   pub judged : failed ≡ not (bytes_eq bytes output)
   pub said : lines ≡ told failed name
 
--- a vector was run, whatever came of it
-abbrev pub IsJudged : Config → List ℕ → Type 0
-IsJudged config text = (lines : List ℕ) × (failed : Bool) × IsRun config text lines failed
+-- a vector was run, and of its line a prefix was written, which may be none or all of it
+abbrev pub IsCut : Config → List ℕ → Option (List ℕ) → Option (List ℕ) → Type 0
+IsCut config text held holds = (lines : List ℕ) × (failed : Bool) × IsRun config text lines failed × WrotePrefix held holds lines
 
 -- of a line that is skipped nothing is written
 abbrev pub IsDone : Config → List ℕ → List ℕ → Bool → Type 0
@@ -76,7 +82,7 @@ abbrev pub AreRun : Config → Option (List ℕ) → Option (List ℕ) → ℕ �
 AreRun config unread held zero left holds failed = (left ≡ unread) × Keeps held holds × (failed ≡ false)
 AreRun config unread held (suc n) left holds failed = Step config (AreRun config unread held n) left holds failed
 
--- How a run ends; after a write that failed, which was to tell of a vector, the writer may hold anything.
+-- How a run ends. After a failed write or flush, which was that of a vector's line, the writer holds a prefix of that line after all lines before it.
 abbrev pub EndsAs : Config → Option (List ℕ) → Option (List ℕ) → Option (List ℕ) → VectorsEnd → Type 0
 EndsAs config unread held holds (Done failed) = (count : ℕ) × (left : Option (List ℕ)) × AreRun config unread held count left holds failed × IsAtEnd left
 EndsAs config unread held holds (BadLine number) = (count : ℕ) × (left : Option (List ℕ)) × (failed : Bool) × (after : Option (List ℕ)) × (line : List ℕ)
@@ -84,7 +90,7 @@ EndsAs config unread held holds (BadLine number) = (count : ℕ) × (left : Opti
 EndsAs config unread held holds LinesSpent = (count : ℕ) × (left : Option (List ℕ)) × (failed : Bool) × AreRun config unread held count left holds failed × (count ≡ 2 ^ 64 - 1)
 EndsAs config unread held holds ReadFailed = (count : ℕ) × (left : Option (List ℕ)) × (failed : Bool) × AreRun config unread held count left holds failed
 EndsAs config unread held holds WriteFailed = (count : ℕ) × (left : Option (List ℕ)) × (failed : Bool) × (after : Option (List ℕ)) × (line : List ℕ) × (before : Option (List ℕ)) × (text : List ℕ)
-    × AreRun config unread held count left before failed × Takes left after line × IsTextOf line text × IsJudged config text
+    × AreRun config unread held count left before failed × Takes left after line × IsTextOf line text × IsCut config text before holds
 EndsAs config unread held holds NoMemory = (count : ℕ) × (left : Option (List ℕ)) × (failed : Bool) × AreRun config unread held count left holds failed
 
 -- why a line ends the run
@@ -106,7 +112,7 @@ pub record IsSample (config : Config) : Type 0 where
   pub pools : config.pools ≡ sample_pools
   pub nodes : config.nodes ≡ sample_nodes
 
--- A run under the sample configuration, whose flush failed or not; nothing is written where there is no memory for that.
+-- A run under the sample configuration; nothing is written where there is no memory for that.
 abbrev pub Runs : Option (List ℕ) → Option (List ℕ) → Option (List ℕ) → VectorsEnd → Type 0
 Runs unread held holds end = ((end ≡ NoMemory) × Keeps held holds)
-    ⊎ ((config : Config) × IsSample config × (EndsAs config unread held holds end ⊎ ((end ≡ WriteFailed) × (unflushed : VectorsEnd) × EndsAs config unread held holds unflushed)))
+    ⊎ ((config : Config) × IsSample config × EndsAs config unread held holds end)

@@ -1,17 +1,17 @@
 //! Vectors line by line.
 
-ghost use Rattle.std.specs.Prelude.{◌≡◌, ◌≢◌, ◌⊎◌, [], List, ℕ, IfErr, IfOk, IsErrOf, IsTrue, Ok, OnOk, false, true};
+ghost use Rattle.std.specs.Prelude.{◌≡◌, ◌≢◌, ◌⊎◌, [], List, ℕ, IfErr, IfOk, IsErrOf, IsTrue, IsUtf8, Ok, OnOk, false, true};
 ghost use Rattle.std.specs.IoError.{error_kind};
 ghost use Rattle.std.specs.declared.io.ErrorKind.TheVariants.{OutOfMemory};
 ghost use Rattle.std.specs.Io.KnownBytes.{Appends, IsAtEnd};
-ghost use Rattle.csi_vectors.specs.Running.{EndsAs, IsDone, IsJudged, IsNoVector, IsSkipped, IsTextOf, Runs, Takes, end_of, halt_of, told};
-ghost use Rattle.csi_vectors.specs.Lines.{IsLineOf};
+ghost use Rattle.csi_vectors.specs.Running.{EndsAs, IsCut, IsDone, IsNoText, IsNoVector, IsSkipped, IsTextOf, Runs, Takes, end_of, halt_of, told};
 ghost use Rattle.csi_vectors.specs.declared.running.Halt.TheVariants.{BadLine, NoMemory, WriteFailed};
 ghost use Rattle.csi_vectors.specs.declared.running.VectorsEnd.TheVariants as ends;
 
 use crate::judging::passes;
 use crate::vector::{LineFault, Vector};
 use csi_config::Config;
+use frames_core::send;
 use std::alloc::{AllocError, Global};
 use std::io::{self, BufRead, BufReader, ErrorKind, Read, Write};
 use std::str;
@@ -27,7 +27,7 @@ pub enum VectorsEnd {
     LinesSpent,
     /// A read failed.
     ReadFailed,
-    /// A write or a flush failed.
+    /// A write or a flush failed, or a write was interrupted. The lines before were written, and of this one a part.
     WriteFailed,
     /// Memory was refused.
     NoMemory,
@@ -60,43 +60,52 @@ impl From<LineFault> for Halt {
     }
 }
 
-// Whether nothing is run of a text: an empty line, or a comment.
-fn is_skipped(text: &str) -> bool
+// Whether nothing is run of a line without its end: it is empty, or a comment.
+fn is_skipped(text: &[u8]) -> bool
     ensures skipped { IsTrue result → IsSkipped text.now }
     ensures run { IsSkipped text.now → IsTrue result }
 {
-    text.is_empty() || text.starts_with('#')
+    text.is_empty() || text.starts_with(b"#")
 }
 
-// Prints whether a vector failed.
-fn tell<W: Write>(writer: &mut W, name: &str, failed: bool) -> io::Result<()>
-    ensures { OnOk result (Appends (W.contents writer.old) (W.contents writer.new) (told failed name.now)) }
+// The text that these bytes are.
+fn text_of(bytes: &[u8]) -> Result<&str, Halt>
+    ensures ok { IfOk result (λ text. (text.now ≡ bytes.now) × IsUtf8 bytes.now) }
+    ensures bad { IfErr result (λ halt. (halt ≡ BadLine) × ¬ IsUtf8 bytes.now) }
 {
-    if failed {
-        writeln!(writer, "FAIL {name}")
-    } else {
-        writeln!(writer, "ok {name}")
-    }
+    str::from_utf8(bytes).map_err(|_| Halt::BadLine)
 }
 
-// Runs the vector of a text, and prints whether it failed.
+// The line that says whether a vector failed. It is made before any of it is written, so that no part of it is written for want of memory.
+fn line_of(alloc: Global, name: &str, failed: bool) -> Result<Vec<u8>, AllocError>
+    ensures { IfOk result (λ line. line.items ≡ told failed name.now) }
+{
+    let mut line = Vec::new(alloc);
+    line.extend_from_slice(if failed { b"FAIL " } else { b"ok " })?;
+    line.extend_from_slice(name.as_bytes())?;
+    line.push(b'\n')?;
+    Ok(line)
+}
+
+// Runs the vector of a line without its end, and writes whether it failed.
 fn run_text<W: Write>(
     alloc: Global,
     config: &Config,
-    text: &str,
+    text: &[u8],
     writer: &mut W,
 ) -> Result<bool, Halt>
     ensures ok { IfOk result (λ failed. (lines : List ℕ) × IsDone config.now text.now lines failed × Appends (W.contents writer.old) (W.contents writer.new) lines) }
     ensures kept { IfErr result (λ halt. halt ≢ WriteFailed → W.contents writer.new ≡ W.contents writer.old) }
-    ensures bad { IsErrOf result BadLine → (¬ IsSkipped text.now) × ((name input output : List ℕ) → ¬ IsLineOf text.now name input output) }
-    ensures untold { IsErrOf result WriteFailed → IsJudged config.now text.now }
+    ensures bad { IsErrOf result BadLine → IsNoText text.now }
+    ensures cut { IsErrOf result WriteFailed → IsCut config.now text.now (W.contents writer.old) (W.contents writer.new) }
 {
     if is_skipped(text) {
         return Ok(false);
     }
-    let vector = Vector::of_line(alloc, text)?;
+    let vector = Vector::of_line(alloc, text_of(text)?)?;
     let failed = !passes(alloc, config, &vector)?;
-    match tell(writer, vector.name, failed) {
+    let line = line_of(alloc, vector.name, failed)?;
+    match send(writer, line.as_slice()) {
         Ok(()) => Ok(failed),
         Err(_) => Err(Halt::WriteFailed),
     }
@@ -112,14 +121,6 @@ fn without_end(line: &[u8]) -> &[u8]
     }
 }
 
-// The text of a line, without its end.
-fn text_of(line: &[u8]) -> Result<&str, Halt>
-    ensures ok { IfOk result (λ text. IsTextOf line.now text.now) }
-    ensures bad { IfErr result (λ halt. (halt ≡ BadLine) × IsNoVector line.now) }
-{
-    str::from_utf8(without_end(line)).map_err(|_| Halt::BadLine)
-}
-
 // The same of a line with its end.
 fn run_line<W: Write>(
     alloc: Global,
@@ -130,10 +131,9 @@ fn run_line<W: Write>(
     ensures ok { IfOk result (λ failed. (text lines : List ℕ) × IsTextOf line.now text × IsDone config.now text lines failed × Appends (W.contents writer.old) (W.contents writer.new) lines) }
     ensures kept { IfErr result (λ halt. halt ≢ WriteFailed → W.contents writer.new ≡ W.contents writer.old) }
     ensures bad { IsErrOf result BadLine → IsNoVector line.now }
-    ensures untold { IsErrOf result WriteFailed → (text : List ℕ) × IsTextOf line.now text × IsJudged config.now text }
+    ensures cut { IsErrOf result WriteFailed → (text : List ℕ) × IsTextOf line.now text × IsCut config.now text (W.contents writer.old) (W.contents writer.new) }
 {
-    let text = text_of(line)?;
-    run_text(alloc, config, text, writer)
+    run_text(alloc, config, without_end(line), writer)
 }
 
 // How a run ends where a read failed with this error.
@@ -197,8 +197,9 @@ fn run_lines<B: BufRead, W: Write>(
 }
 
 /// Runs the vectors of a text, a line each, under the sample configuration, and writes `ok NAME` or
-/// `FAIL NAME` for each. A line is what [`Vector::of_line`] takes; an empty one, and one that begins
-/// with `#`, is skipped. A line that is no vector ends the run. At most 2^64 - 1 lines are run.
+/// `FAIL NAME` for each, which is flushed at once. A line is what [`Vector::of_line`] takes; an empty
+/// one, and one that begins with `#`, whatever its bytes are, is skipped. A line that is no vector
+/// ends the run. At most 2^64 - 1 lines are run.
 pub fn run_vectors<R: Read, W: Write>(alloc: Global, reader: &mut R, writer: &mut W) -> VectorsEnd
     ensures { Runs (R.remaining reader.old) (W.contents writer.old) (W.contents writer.new) result }
 {
@@ -208,9 +209,5 @@ pub fn run_vectors<R: Read, W: Write>(alloc: Global, reader: &mut R, writer: &mu
     let Ok(mut lines) = BufReader::new(alloc, reader) else {
         return VectorsEnd::NoMemory;
     };
-    let end = run_lines(alloc, &config, &mut lines, writer);
-    match writer.flush() {
-        Ok(()) => end,
-        Err(_) => VectorsEnd::WriteFailed,
-    }
+    run_lines(alloc, &config, &mut lines, writer)
 }

@@ -20,7 +20,7 @@ returns-in-Err-run_line g c =
     let i = c.loop-count in
     halted c.args.config.now (r c.args.reader.now) (w c.args.writer.now) (r i.reader) (r c.next_line.new.reader) (w i.writer) (w c.run_line.new.writer) i.count (i.count + 1) i.failed
     c.next_line.new.line.items c.deref.result.now c.in-Err-run_line.halt c.ended.result i.invariant c.in-Ok-true.ensures.line c.deref.ensures.value
-    c.in-Err-run_line.ensures.kept c.in-Err-run_line.ensures.bad c.in-Err-run_line.ensures.untold refl c.ended.ensures
+    c.in-Err-run_line.ensures.kept c.in-Err-run_line.ensures.bad c.in-Err-run_line.ensures.cut refl c.ended.ensures
 
 pub loop-count-preserved : goal.loop-count-preserved
 loop-count-preserved g c =

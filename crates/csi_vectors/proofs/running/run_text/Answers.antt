@@ -1,7 +1,8 @@
-use Rattle.std.proofs.Common.{inl, inr, refl, [], Err, ap, not, sym, true≢false}
+use Rattle.std.proofs.Common.{inl, inr, [], Err, ap, not, sym, true≢false, refl}
 use Rattle.std.proofs.KnownBytes.{Appends-nil}
 use Rattle.csi_vectors.specs.Running.{told}
 use Rattle.csi_vectors.proofs.Faults.{bad_line}
+use Rattle.csi_vectors.proofs.Kept.{appended_as, cut_as, no_line, was_run}
 use Rattle.csi_vectors.proofs.running.run_text.Goals as goal
 
 pub returns-then-is_skipped-clause-ok : goal.returns-then-is_skipped-clause-ok
@@ -10,39 +11,29 @@ returns-then-is_skipped-clause-ok g c = ([], inl (c.if-is_skipped.ensures.skippe
 pub returns-in_err-vector-clause-bad : goal.returns-in_err-vector-clause-bad
 returns-in_err-vector-clause-bad g c h = (
   λ s. true≢false (sym (c.if-is_skipped.ensures.run s)),
-  c.in_err-vector.ensures.refused (ap Err (bad_line c.from_residual.result c.in_err-vector.field-0.0 c.from_residual.ensures.1 h)),
+  inr (no_line c.in_ok-text_of.field-0.now c.args.text.now c.in_ok-text_of.ensures.ok.0
+      (c.in_err-vector.ensures.refused (ap Err (bad_line c.from_residual-in_err-vector.result c.in_err-vector.field-0.0 c.from_residual-in_err-vector.ensures.1 h)))),
 )
 
 pub returns-in-Ok-clause-ok : goal.returns-in-Ok-clause-ok
-returns-in-Ok-clause-ok g c = (
-  told (not c.in_ok-failed.field-0) c.in_ok-vector.vector.name.now,
-  inr (record {
-    name = c.in_ok-vector.vector.name.now;
-    input = c.in_ok-vector.vector.input.items;
-    output = c.in_ok-vector.vector.output.items;
-    bytes = c.in_ok-failed.ensures.0;
-    run = λ s. true≢false (sym (c.if-is_skipped.ensures.run s));
-    line = c.in_ok-vector.ensures.ok;
-    written = c.in_ok-failed.ensures.1;
-    judged = ap not c.in_ok-failed.ensures.2;
-    said = refl;
-  }),
-  c.in-Ok.ensures,
-)
+returns-in-Ok-clause-ok g c =
+    let w = g.W.Write.contents in
+    let v = c.in_ok-vector.vector in
+    let failed = not c.in_ok-failed.field-0 in (
+      told failed v.name.now,
+      inr (was_run c.args.config.now c.args.text.now c.in_ok-text_of.field-0.now v.name.now v.input.items v.output.items c.in_ok-failed.ensures.0 c.in_ok-failed.field-0
+          (λ s. true≢false (sym (c.if-is_skipped.ensures.run s))) c.in_ok-text_of.ensures.ok.0 c.in_ok-text_of.ensures.ok.1 c.in_ok-vector.ensures.ok c.in_ok-failed.ensures.1 c.in_ok-failed.ensures.2),
+      appended_as (w c.args.writer.now) (w c.send.new.writer) c.as_slice.result.now c.in_ok-line.line.items (told failed v.name.now) c.as_slice.ensures.value c.in_ok-line.ensures c.in-Ok.ensures.all,
+    )
 
-pub returns-clause-untold : goal.returns-clause-untold
-returns-clause-untold g c h = (
-  told (not c.in_ok-failed.field-0) c.in_ok-vector.vector.name.now,
-  not c.in_ok-failed.field-0,
-  record {
-    name = c.in_ok-vector.vector.name.now;
-    input = c.in_ok-vector.vector.input.items;
-    output = c.in_ok-vector.vector.output.items;
-    bytes = c.in_ok-failed.ensures.0;
-    run = λ s. true≢false (sym (c.if-is_skipped.ensures.run s));
-    line = c.in_ok-vector.ensures.ok;
-    written = c.in_ok-failed.ensures.1;
-    judged = ap not c.in_ok-failed.ensures.2;
-    said = refl;
-  },
-)
+pub returns-clause-cut : goal.returns-clause-cut
+returns-clause-cut g c h =
+    let w = g.W.Write.contents in
+    let v = c.in_ok-vector.vector in
+    let failed = not c.in_ok-failed.field-0 in (
+      told failed v.name.now,
+      failed,
+      was_run c.args.config.now c.args.text.now c.in_ok-text_of.field-0.now v.name.now v.input.items v.output.items c.in_ok-failed.ensures.0 c.in_ok-failed.field-0
+          (λ s. true≢false (sym (c.if-is_skipped.ensures.run s))) c.in_ok-text_of.ensures.ok.0 c.in_ok-text_of.ensures.ok.1 c.in_ok-vector.ensures.ok c.in_ok-failed.ensures.1 c.in_ok-failed.ensures.2,
+      cut_as (w c.args.writer.now) (w c.send.new.writer) c.as_slice.result.now c.in_ok-line.line.items (told failed v.name.now) c.as_slice.ensures.value c.in_ok-line.ensures c.send.ensures.part,
+    )
