@@ -23,7 +23,7 @@ none_before (Some bytes) = refl
 pub no_line : (given text : List ℕ) → given ≡ text → ((name input output : List ℕ) → IsLineOf given name input output → ⊥) → (name input output : List ℕ) → IsLineOf text name input output → ⊥
 no_line given text same none name input output h = none name input output (subst (λ (l : List ℕ). IsLineOf l name input output) (sym same) h)
 
-pub was_run : (config : Config) (text given name input output bytes : List ℕ) (ok : Bool) → (IsSkipped text → ⊥) → given ≡ text → IsUtf8 text → IsLineOf given name input output → IsWritten config input bytes
+pub was_run : (config : Config) (text given name input output bytes : List ℕ) (ok : Bool) → (IsSkipped text → ⊥) → given ≡ text → IsUtf8 text → IsLineOf given name input output → IsWritten config (not ok) input bytes
     → ok ≡ bytes_eq bytes output → IsRun config text (told (not ok) name) (not ok)
 was_run config text given name input output bytes ok run same utf8 line written judged = record {
   name = name;

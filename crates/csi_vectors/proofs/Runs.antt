@@ -1,5 +1,5 @@
 -- What was written by a run over memory.
-use Rattle.std.proofs.Common.{◌≡◌, ◌≢◌, ◌⊎◌, ℕ, List, [], ◌∷◌, ◌++◌, Option, Some, None, inl, inr, ◌∙◌, refl, subst, arith}
+use Rattle.std.proofs.Common.{false, ◌≡◌, ◌≢◌, ◌⊎◌, ℕ, List, [], ◌∷◌, ◌++◌, Option, Some, None, inl, inr, ◌∙◌, refl, subst, arith}
 use Rattle.std.specs.List.{AllByRecursion}
 use Rattle.envelope.specs.Envelope.{CallBytes}
 use Rattle.csi_config.specs.declared.config.Config.{Config}
@@ -35,10 +35,11 @@ run_answered config old new events o n run = all_answered config events run.allo
 
 -- ---- what was written
 
-ended : (config : Config) (old new : Model State) (end : RunEnd) (read ys w : List ℕ) → old.refusals ≡ 0 → new.refusals ≡ 0 → IsWhole end → Ended (volumes config) old new (first_state 1) read (ys ≡ []) (Some []) (Some w) end → IsWritten config (read ++ ys) w
+ended : (config : Config) (old new : Model State) (end : RunEnd) (read ys w : List ℕ) → old.refusals ≡ 0 → new.refusals ≡ 0 → IsWhole end → Ended (volumes config) old new (first_state 1) read (ys ≡ []) (Some []) (Some w) end → IsWritten config false (read ++ ys) w
 ended config old new Done read ys w o n is h = record {
   events = h.0.events;
   answered = run_answered config old new h.0.events o n h.0.run;
+  formed = h.0.run.formed;
   read = read;
   left = ys;
   whole = refl;
@@ -49,6 +50,7 @@ ended config old new Done read ys w o n is h = record {
 ended config old new (Malformed f) read ys w o n is h = record {
   events = h.0.events;
   answered = run_answered config old new h.0.events o n h.0.run;
+  formed = h.0.run.formed;
   read = read;
   left = ys;
   whole = refl;
@@ -61,14 +63,14 @@ ended config old new TurnsSpent read ys w o n is h = absurd is
 ended config old new WriteFailed read ys w o n is h = absurd is
 ended config old new NoMemory read ys w o n is h = absurd is
 
-read_as : (config : Config) (read ys input w : List ℕ) → input ≡ read ++ ys → IsWritten config (read ++ ys) w → IsWritten config input w
-read_as config read ys input w e h = record { events = h.events; answered = h.answered; read = h.read; left = h.left; whole = e ∙ h.whole; last = h.last; ended = h.ended; all = h.all }
+read_as : (config : Config) (read ys input w : List ℕ) → input ≡ read ++ ys → IsWritten config false (read ++ ys) w → IsWritten config false input w
+read_as config read ys input w e h = record { events = h.events; answered = h.answered; formed = h.formed; read = h.read; left = h.left; whole = e ∙ h.whole; last = h.last; ended = h.ended; all = h.all }
 
-run_left : (config : Config) (old new : Model State) (end : RunEnd) (input w : List ℕ) (left : Option (List ℕ)) → old.refusals ≡ 0 → new.refusals ≡ 0 → IsWhole end → Serves (volumes config) old new (Some input) left (Some []) (Some w) end → new.doubt ≡ 0 → old.holds (first_state 1) → IsWritten config input w
+run_left : (config : Config) (old new : Model State) (end : RunEnd) (input w : List ℕ) (left : Option (List ℕ)) → old.refusals ≡ 0 → new.refusals ≡ 0 → IsWhole end → Serves (volumes config) old new (Some input) left (Some []) (Some w) end → new.doubt ≡ 0 → old.holds (first_state 1) → IsWritten config false input w
 run_left config old new end input w None o n is h clean holds = absurd h.1
 run_left config old new end input w (Some ys) o n is h clean holds = read_as config h.0 ys input w h.1 (ended config old new end h.0 ys w o n is (h.2 clean (first_state 1) holds))
 
 pub run_written : (config : Config) (old new : Model State) (end : RunEnd) (input held w : List ℕ) (left : Option (List ℕ)) → IsWhole end → held ≡ [] → Serves (volumes config) old new (Some input) left (Some held) (Some w) end
-    → old.refusals ≡ 0 → new.refusals ≡ 0 → new.doubt ≡ 0 → old.holds (first_state 1) → IsWritten config input w
+    → old.refusals ≡ 0 → new.refusals ≡ 0 → new.doubt ≡ 0 → old.holds (first_state 1) → IsWritten config false input w
 run_written config old new end input held w left is e h o n clean holds =
     run_left config old new end input w left o n is (subst (λ (x : List ℕ). Serves (volumes config) old new (Some input) left (Some x) (Some w) end) e h) clean holds

@@ -1,15 +1,16 @@
 -- What a new server writes for a stream of calls.
-use Rattle.std.specs.Prelude.{ℕ, ◌≡◌, ◌⊎◌, List, [], ◌++◌}
-use Rattle.std.specs.List.{AllByRecursion}
+use Rattle.std.specs.Prelude.{ℕ, ◌≡◌, ◌≢◌, ◌⊎◌, Bool, true, false, List, [], ◌++◌}
+use Rattle.std.specs.List.{AllByRecursion, flat_map}
 use Rattle.csi_config.specs.declared.config.Config.{Config}
 use Rattle.csi_keeper.specs.State.{first_state}
+use Rattle.csi_types.specs.declared.reason.Reason.TheVariants as reason
 use Rattle.envelope.specs.declared.fault.FrameFault.{FrameFault}
 use Rattle.envelope.specs.declared.fault.FrameWhy.TheVariants.{EndOfInput}
-use Rattle.envelope.specs.Envelope.{CallBytes}
+use Rattle.envelope.specs.Envelope.{CallBytes, ReplyBytes, IsReply, reply}
 use Rattle.envelope.specs.Stream.{Stream, Clean}
 use Rattle.csi_server.specs.declared.end.RunEnd.{RunEnd}
 use Rattle.csi_server.specs.declared.end.RunEnd.TheVariants.{Done, Malformed, ReadFailed, TurnsSpent, WriteFailed, NoMemory}
-use Rattle.csi_server.specs.Machine.{Event, Unmarked, OutOfMemory, calls_of, replies}
+use Rattle.csi_server.specs.Machine.{AreReplies, Event, Unmarked, OutOfMemory, calls_of, refused, replies}
 use Rattle.csi_server.specs.Serving.{HasFault, fault_frame}
 use Rattle.csi_server.specs.Volumes.{volumes}
 
@@ -33,13 +34,23 @@ IsEnd read left calls last =
 abbrev pub IsAnswered : Config → Event → Type 0
 IsAnswered config e = (e.mark ≡ Unmarked) ⊎ ((e.mark ≡ OutOfMemory) × (volumes config).may_fail e.call OutOfMemory)
 
--- The replies of the volume machine from no volumes to the calls of the input, of which some may have been refused for want of memory, were written.
-pub record IsWritten (config : Config) (input written : List ℕ) : Type 0 where
+-- what may have come of a call of a vector: where that fails, each call was answered
+abbrev pub MayCome : Config → Bool → Event → Type 0
+MayCome config false e = IsAnswered config e
+MayCome config true e = e.mark ≡ Unmarked
+
+-- The replies of the volume machine from no volumes to the calls of the input were written. Some may have been refused for want of memory, but for those of a vector that fails.
+pub record IsWritten (config : Config) (failed : Bool) (input written : List ℕ) : Type 0 where
   pub events : List Event
-  pub answered : AllByRecursion (IsAnswered config) events
+  pub answered : AllByRecursion (MayCome config failed) events
+  pub formed : AreReplies (volumes config) (first_state 1) events
   pub read : List ℕ
   pub left : List ℕ
   pub whole : input ≡ read ++ left
   pub last : List ℕ
   pub ended : IsEnd read left (calls_of events) last
   pub all : written ≡ replies (volumes config) (first_state 1) events ++ last
+
+-- of the replies with which these bytes begin none refuses its call for want of memory
+abbrev pub IsUnrefused : List ℕ → Type 0
+IsUnrefused bytes = (rs : List ReplyBytes) (last : List ℕ) → AllByRecursion IsReply rs → bytes ≡ flat_map reply rs ++ last → AllByRecursion (λ r. r ≢ refused reason.OutOfMemory) rs

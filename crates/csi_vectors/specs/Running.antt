@@ -35,7 +35,7 @@ abbrev pub told : Bool → List ℕ → List ℕ
 told true name = codes "FAIL " ++ name ++ codes "\n"
 told false name = codes "ok " ++ name ++ codes "\n"
 
--- a vector was run: a new server writes these bytes for its input, and it failed where they are not its output
+-- a vector was run: a new server writes these bytes for its input, and it failed where they are not its output and no call was refused
 pub record IsRun (config : Config) (text lines : List ℕ) (failed : Bool) : Type 0 where
   pub name : List ℕ
   pub input : List ℕ
@@ -44,7 +44,7 @@ pub record IsRun (config : Config) (text lines : List ℕ) (failed : Bool) : Typ
   pub run : ¬ IsSkipped text
   pub utf8 : IsUtf8 text
   pub line : IsLineOf text name input output
-  pub written : IsWritten config input bytes
+  pub written : IsWritten config failed input bytes
   pub judged : failed ≡ not (bytes_eq bytes output)
   pub said : lines ≡ told failed name
 

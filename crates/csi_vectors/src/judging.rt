@@ -1,13 +1,19 @@
 //! Whether a server writes what a vector says.
 
-ghost use Rattle.std.specs.Prelude.{◌≡◌, IfOk, IsTrue, List, ℕ, bytes_eq};
-ghost use Rattle.csi_vectors.specs.Judging.{IsWhole, IsWritten};
+ghost use Rattle.std.specs.Prelude.{◌≡◌, ◌≢◌, IfOk, IsTrue, List, ℕ, bytes_eq, false, not};
+ghost use Rattle.csi_types.specs.declared.reason.Reason.TheVariants as reason;
+ghost use Rattle.envelope.specs.Envelope.{reply_bytes_of};
+ghost use Rattle.csi_server.specs.Machine.{refused};
+ghost use Rattle.csi_vectors.specs.Judging.{IsUnrefused, IsWhole, IsWritten};
 
 use crate::vector::Vector;
 use csi_config::Config;
 use csi_keeper::laws::first;
 use csi_memory::MemKeeper;
 use csi_server::{RunEnd, serve};
+use csi_types::Reason;
+use frames_core::laws::reply_read_back;
+use frames_core::{Reply, TakenReply, take_reply};
 use std::alloc::{AllocError, Global};
 
 // The number that the first volume gets.
@@ -23,7 +29,7 @@ fn is_whole(end: RunEnd) -> bool
 
 // What a new server writes for these bytes.
 fn written(alloc: Global, config: &Config, input: &[u8]) -> Result<Vec<u8>, AllocError>
-    ensures { IfOk result (λ bytes. IsWritten config.now input.now bytes.items) }
+    ensures { IfOk result (λ bytes. IsWritten config.now false input.now bytes.items) }
 {
     first(config);
     let mut keeper = MemKeeper::new(alloc, FIRST_NUMBER)?;
@@ -37,15 +43,48 @@ fn written(alloc: Global, config: &Config, input: &[u8]) -> Result<Vec<u8>, Allo
     }
 }
 
+// Whether a reply refuses its call for want of memory.
+fn is_refusal(reply: &Reply<'_>) -> bool
+    ensures { result ≡ false → reply_bytes_of reply.now ≢ refused reason.OutOfMemory }
+{
+    let reason = Reason::OutOfMemory;
+    reply.status == reason.code().number() && reply.text == reason.text().as_bytes()
+}
+
+// Whether one of these replies does.
+fn has_refusal(replies: &[u8]) -> bool
+    ensures { result ≡ false → IsUnrefused replies.now }
+{
+    reply_read_back();
+    let mut rest = replies;
+    loop {
+        let TakenReply::Frame(reply, size) = take_reply(rest) else {
+            return false;
+        };
+        if is_refusal(&reply) {
+            return true;
+        }
+        let (_, more) = rest.split_at(size);
+        rest = more;
+    }
+}
+
 /// Whether a new server with this configuration and no volumes, which keeps them in memory, writes
 /// for the input of a vector its output, and no byte more.
 ///
 /// # Errors
 ///
-/// Where memory was refused.
+/// Where memory was refused, also to a call of a vector whose output differs for that.
 pub fn passes(alloc: Global, config: &Config, vector: &Vector<'_>) -> Result<bool, AllocError>
-    ensures { IfOk result (λ ok. (bytes : List ℕ) × IsWritten config.now vector.now.input.items bytes × (ok ≡ bytes_eq bytes vector.now.output.items)) }
+    ensures { IfOk result (λ ok. (bytes : List ℕ) × IsWritten config.now (not ok) vector.now.input.items bytes × (ok ≡ bytes_eq bytes vector.now.output.items)) }
 {
     let bytes = written(alloc, config, &vector.input)?;
-    Ok(bytes.as_slice() == vector.output.as_slice())
+    let replies = bytes.as_slice();
+    if replies == vector.output.as_slice() {
+        return Ok(true);
+    }
+    if has_refusal(replies) {
+        return Err(AllocError);
+    }
+    Ok(false)
 }
