@@ -24,9 +24,7 @@ mod showing;
 
 pub use again::{Exchanges, Line, call_again, is_unanswered, pause_millis};
 pub use calling::put_call;
-pub use escape::put_escaped;
 pub use frames_core::send;
-pub use lines::put_lines;
 pub use receiving::{Received, ReceivedReply, receive};
 pub use replies::{put_body_lines, put_reply_line};
 pub use showing::{ShowEnd, show_all};

@@ -201,16 +201,11 @@ fn put_capacity(out: &mut Vec<u8>, available: i64, maximum: Option<i64>) -> Resu
     out.extend_from_slice(b"\n")
 }
 
-/// Appends what a response says, a line a part, texts as one word each.
-///
-/// The names and ids of a response, its numbers (sizes in bytes), and `-` where a part is absent;
-/// nothing for the responses of DeleteVolume, ControllerUnpublishVolume and ControllerModifyVolume,
-/// which have no parts.
-///
-/// # Errors
-///
-/// Where memory was refused. Nothing is promised of the vector then.
-pub fn put_lines(out: &mut Vec<u8>, response: &Response) -> Result<(), AllocError>
+// Appends what a response says, a line a part, texts as one word each: its names and ids, its numbers
+// (sizes in bytes), and `-` where a part is absent; nothing for the responses of DeleteVolume,
+// ControllerUnpublishVolume and ControllerModifyVolume, which have no parts. Where memory is refused, the
+// vector may have a part of it.
+pub(crate) fn put_lines(out: &mut Vec<u8>, response: &Response) -> Result<(), AllocError>
     ensures { OnOk result (out.new.items ≡ out.old.items ++ lines response.now) }
 {
     match response {

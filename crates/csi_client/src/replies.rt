@@ -1,6 +1,6 @@
 //! What a reply says, as lines.
 
-ghost use Rattle.std.specs.Prelude.{◌≡◌, ◌≢◌, ◌++◌, ℕ, IfErr, IfOk, OnOk, Some, Err, codes, decimal};
+ghost use Rattle.std.specs.Prelude.{◌≡◌, ◌≢◌, ◌++◌, ℕ, IfErr, IfOk, OnErr, OnOk, Some, Err, codes, decimal};
 ghost use Rattle.pbmessage.specs.declared.message.DecodeFault.TheVariants.{Malformed, NoMemory};
 ghost use Rattle.csi_types.specs.Codes.{name_of, number_of};
 ghost use Rattle.csi_types.specs.declared.code.Code.{Code};
@@ -40,24 +40,54 @@ fn put_content(alloc: Global, out: &mut Vec<u8>, text: &[u8], body: &[u8]) -> Re
     out.extend_from_slice(if text.is_empty() { b"-" } else { text })
 }
 
+// The line of a reply.
+fn reply_line(alloc: Global, reply: &Reply<'_>) -> Result<Vec<u8>, AllocError>
+    ensures { IfOk result (λ line. (code : Code) → reply.now.status ≡ number_of code → line.items ≡ first_line code (reply_bytes_of reply.now)) }
+{
+    let mut line = Vec::new(alloc);
+    put_status(&mut line, reply.status)?;
+    line.extend_from_slice(b" ")?;
+    put_content(alloc, &mut line, reply.text, reply.body)?;
+    line.extend_from_slice(b"\n")?;
+    Ok(line)
+}
+
 /// Appends a line that says a reply: its status as a number, the name of the status, and its body
 /// in lower case hexadecimal digits or its text, `-` where there is neither. This is promised of a
 /// reply whose status is one of the ten codes, as [`take_reply`](frames_core::take_reply) gives it.
 ///
 /// # Errors
 ///
-/// Where memory was refused. Nothing is promised of the vector then.
+/// Where memory was refused. The vector is as it was then.
 pub fn put_reply_line(alloc: Global, out: &mut Vec<u8>, reply: &Reply<'_>) -> Result<(), AllocError>
-    ensures { OnOk result ((code : Code) → reply.now.status ≡ number_of code → out.new.items ≡ out.old.items ++ first_line code (reply_bytes_of reply.now)) }
+    ensures line { OnOk result ((code : Code) → reply.now.status ≡ number_of code → out.new.items ≡ out.old.items ++ first_line code (reply_bytes_of reply.now)) }
+    ensures kept { OnErr result (out.new.items ≡ out.old.items) }
 {
-    put_status(out, reply.status)?;
-    out.extend_from_slice(b" ")?;
-    put_content(alloc, out, reply.text, reply.body)?;
-    out.extend_from_slice(b"\n")
+    let line = reply_line(alloc, reply)?;
+    out.extend_from_slice(line.as_slice())
+}
+
+// The lines of a response.
+fn lines_of(alloc: Global, response: &Response) -> Result<Vec<u8>, AllocError>
+    ensures { IfOk result (λ said. said.items ≡ lines response.now) }
+{
+    let mut said = Vec::new(alloc);
+    put_lines(&mut said, response)?;
+    Ok(said)
+}
+
+// Appends what a response says, or nothing.
+fn put_response(alloc: Global, out: &mut Vec<u8>, response: &Response) -> Result<(), AllocError>
+    ensures said { OnOk result (out.new.items ≡ out.old.items ++ lines response.now) }
+    ensures kept { OnErr result (out.new.items ≡ out.old.items) }
+{
+    let said = lines_of(alloc, response)?;
+    out.extend_from_slice(said.as_slice())
 }
 
 // Appends what a response says that was read. It is lent, so that what owns one does nothing else that may fail.
 fn put_decoded(
+    alloc: Global,
     out: &mut Vec<u8>,
     decoded: &Result<Response, DecodeFault>,
 ) -> Result<(), DecodeFault>
@@ -65,9 +95,10 @@ fn put_decoded(
     ensures err { IfErr decoded.now (λ fault. (result ≡ Err fault) × (out.new.items ≡ out.old.items)) }
     ensures malformed { (at : ℕ) → result ≡ Err (Malformed at) → decoded.now ≡ Err (Malformed at) }
     ensures memory { result ≡ Err NoMemory → (at : ℕ) → decoded.now ≢ Err (Malformed at) }
+    ensures kept { OnErr result (out.new.items ≡ out.old.items) }
 {
     match decoded {
-        Ok(response) => put_lines(out, response).map_err(|_| DecodeFault::NoMemory),
+        Ok(response) => { put_response(alloc, out, response).map_err(|_| DecodeFault::NoMemory) }
         Err(fault) => Err(*fault),
     }
 }
@@ -77,9 +108,9 @@ fn put_decoded(
 ///
 /// # Errors
 ///
-/// [`DecodeFault::Malformed`] where the body is no response of the method; then nothing was
-/// appended. [`DecodeFault::NoMemory`] where memory was refused, and only where the body is one;
-/// nothing is promised of the vector then.
+/// [`DecodeFault::Malformed`] where the body is no response of the method.
+/// [`DecodeFault::NoMemory`] where memory was refused, and only where the body is one. The vector is
+/// as it was then.
 pub fn put_body_lines(
     alloc: Global,
     out: &mut Vec<u8>,
@@ -89,6 +120,7 @@ pub fn put_body_lines(
     ensures ok { OnOk result (out.new.items ≡ out.old.items ++ body_lines method (reply_bytes_of reply.now)) }
     ensures readable { OnOk result (¬ IsBad method (reply_bytes_of reply.now)) }
     ensures malformed { (at : ℕ) → result ≡ Err (Malformed at) → IsBadAt method (reply_bytes_of reply.now) at × (out.new.items ≡ out.old.items) }
+    ensures kept { OnErr result (out.new.items ≡ out.old.items) }
     ensures memory { result ≡ Err NoMemory → IsReadable method (reply_bytes_of reply.now) }
 {
     let Some(method) = method else {
@@ -98,7 +130,7 @@ pub fn put_body_lines(
         return Ok(());
     }
     let decoded = decode_response(alloc, method, reply.body);
-    let put = put_decoded(out, &decoded);
+    let put = put_decoded(alloc, out, &decoded);
     // Named, it is dropped by one function, and not by a step for each part of each variant.
     drop(decoded);
     put

@@ -7,4 +7,4 @@ use Rattle.csi_client.proofs.showing.Printer.make_lines.Goals as goal
 pub returns-in-Ok-clause-bad : goal.returns-in-Ok-clause-bad
 returns-in-Ok-clause-bad c at e =
     let bad = c.put_body_lines.ensures.malformed at e in
-    ((at, bad.0), bad.1 ∙ (c.in-Ok.ensures code.Ok bad.0.done ∙ ap (λ (x : List ℕ). x ++ first_line code.Ok (reply_bytes_of c.args.reply.now)) c.clear.ensures.items))
+    ((at, bad.0), bad.1 ∙ (c.in-Ok.ensures.line code.Ok bad.0.done ∙ ap (λ (x : List ℕ). x ++ first_line code.Ok (reply_bytes_of c.args.reply.now)) c.clear.ensures.items))
