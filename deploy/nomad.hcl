@@ -66,8 +66,8 @@ job "pools-controller" {
         image      = "registry.example.org/csid:1"
         entrypoint = ["tini", "--"]
         command    = "sh"
-        # Where NEW says so, and where no file is, one is made. Else csid says that there is none, and ends.
-        args       = ["-c", "test x$NEW != xyes || test -e /tables/volumes.db || csid pipe --tables /tables/volumes.db --config /local/config.toml </dev/null; rm -f /alloc/csid.sock && exec csid serve --socket /alloc/csid.sock --tables /tables/volumes.db --existing --config /local/config.toml --idle 60"]
+        # Where NEW says so, a file is made where there is none. Otherwise csid says that there is none, and ends. What is in a file stays.
+        args       = ["-c", "test x$NEW != xyes || csid pipe --tables /tables/volumes.db --config /local/config.toml </dev/null; rm -f /alloc/csid.sock && exec csid serve --socket /alloc/csid.sock --tables /tables/volumes.db --existing --config /local/config.toml --idle 60"]
 
         readonly_rootfs = true
         cap_drop        = ["all"]

@@ -18,7 +18,7 @@ mod options;
 mod standard;
 
 pub use command::{ArgumentsFault, arguments, matches};
-pub use lines::{is_decimal, say};
+pub use lines::{error_line, is_decimal, say};
 pub use named::{Cause, Named, cause};
 pub use options::{CommandLine, CommandOption, OPTION, Subcommand, Takes};
 pub use standard::take_closed;

@@ -33,7 +33,17 @@ fn line(alloc: Global, program: &str, text: &str) -> Result<String, AllocError> 
     Ok(line)
 }
 
-fn line_of<T: Display>(alloc: Global, program: &str, what: &T) -> Result<String, AllocError> {
+/// A line for standard error, with its end: the program's name, a colon and a text. What in the text would end the line, and every
+/// other control, is escaped.
+///
+/// # Errors
+///
+/// Where memory was refused.
+pub fn error_line<T: Display>(
+    alloc: Global,
+    program: &str,
+    what: &T,
+) -> Result<String, AllocError> {
     let text = format!(in alloc; "{what}")?;
     line(alloc, program, text.as_str())
 }
@@ -48,7 +58,7 @@ fn say_no_memory(rt: &HostRuntime, program: &str) -> io::Result<()> {
 /// Says one line on standard error, behind the program's name. What in it would end the line, and every
 /// other control, is escaped. That it cannot be written changes no status.
 pub fn say<T: Display>(rt: &HostRuntime, program: &str, what: &T) {
-    let _ = match line_of(rt.alloc(), program, what) {
+    let _ = match error_line(rt.alloc(), program, what) {
         Ok(line) => rt.stderr().write_all(line.as_bytes()),
         Err(_) => say_no_memory(rt, program),
     };

@@ -3,6 +3,7 @@
 ghost use Rattle.std.specs.Prelude.{◌≡◌, false};
 
 use crate::config::configuration;
+use crate::console::Console;
 use crate::content::{Content, read_content};
 use crate::copy::open_copy;
 use crate::failure::Failure;
@@ -42,14 +43,14 @@ fn tell<T: Display>(rt: &HostRuntime, what: &T) -> Result<(), Failure> {
 /// # Errors
 ///
 /// Where it is refused, the line cannot be written, or memory is refused.
-pub(crate) fn check_config(rt: &HostRuntime, path: &str) -> Result<(), Failure> {
-    let config = configuration(rt, Some(path), true)?;
-    tell(rt, &Summary { config: &config })
+pub(crate) fn check_config(console: &Console<'_>, path: &str) -> Result<(), Failure> {
+    let config = configuration(console, Some(path), true)?;
+    tell(console.rt, &Summary { config: &config })
 }
 
 // What tables have that are adopted. It is read first, since an adoption makes them ones of the latest format.
 fn adopted<S: Alter + Drop>(
-    rt: &HostRuntime,
+    console: &Console<'_>,
     path: &str,
     mut conn: Connection<S>,
     config: &Config,
@@ -57,10 +58,10 @@ fn adopted<S: Alter + Drop>(
     requires { conn.in_transaction ≡ false }
 {
     let content = read_content(&mut conn);
-    let _tables = take(rt, path, conn, config, Blank::Refuse)?;
+    let _tables = take(console, path, conn, config, Blank::Refuse)?;
     match content {
         Ok(content) => Ok(content),
-        Err(error) => Err(of_database(rt.alloc(), path, &error)),
+        Err(error) => Err(of_database(console.rt.alloc(), path, &error)),
     }
 }
 
@@ -70,15 +71,16 @@ fn adopted<S: Alter + Drop>(
 ///
 /// Where the configuration or the tables are refused, the line cannot be written, or memory is refused.
 pub(crate) fn check_tables(
-    rt: &HostRuntime,
+    console: &Console<'_>,
     path: &str,
     config: Option<&str>,
 ) -> Result<(), Failure> {
-    let config = configuration(rt, config, true)?;
+    let rt = console.rt;
+    let config = configuration(console, config, true)?;
     if path.is_empty() {
         return Err(Failure::NoTablesPath);
     }
     check_standing(rt, path)?;
-    let content = adopted(rt, path, open_copy(rt, path)?, &config)?;
+    let content = adopted(console, path, open_copy(rt, path)?, &config)?;
     tell(rt, &content)
 }

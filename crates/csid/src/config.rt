@@ -3,8 +3,8 @@
 ghost use Rattle.std.specs.Prelude.{IfErr};
 ghost use Rattle.csid.specs.Statuses.{IsOrNoMemory};
 
+use crate::console::Console;
 use crate::failure::Failure;
-use crate::say::{say, say_of};
 use csi_config::Config;
 use csi_config_file::{ConfigError, read_config, unknown_keys};
 use std::alloc::Global;
@@ -34,14 +34,14 @@ fn config_of(alloc: Global, path: &str, bytes: &[u8]) -> Result<Config, Failure>
 }
 
 // Says each key of a configuration that is not known, a line each: it may be a slip of the pen.
-fn tell_unknown(rt: &HostRuntime, path: &str, bytes: &[u8]) {
-    match unknown_keys(rt.alloc(), bytes) {
+fn tell_unknown(console: &Console<'_>, path: &str, bytes: &[u8]) {
+    match unknown_keys(console.rt.alloc(), bytes) {
         Ok(keys) => {
             for key in &keys {
-                say_of(rt, path, key);
+                console.say_of(path, key);
             }
         }
-        Err(_) => say(rt, &"out of memory"),
+        Err(_) => console.say(&"out of memory"),
     }
 }
 
@@ -51,19 +51,20 @@ fn tell_unknown(rt: &HostRuntime, path: &str, bytes: &[u8]) {
 ///
 /// Where the file cannot be read or holds no configuration, or memory is refused.
 pub(crate) fn configuration(
-    rt: &HostRuntime,
+    console: &Console<'_>,
     path: Option<&str>,
     names_unknown: bool,
 ) -> Result<Config, Failure>
     ensures { IfErr result (λ failure. IsOrNoMemory 3 failure) }
 {
+    let rt = console.rt;
     let Some(path) = path else {
         return Ok(Config::sample(rt.alloc())?);
     };
     let bytes = read_file(rt, path)?;
     let config = config_of(rt.alloc(), path, bytes.as_slice())?;
     if names_unknown {
-        tell_unknown(rt, path, bytes.as_slice());
+        tell_unknown(console, path, bytes.as_slice());
     }
     Ok(config)
 }

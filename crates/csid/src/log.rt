@@ -3,9 +3,11 @@
 ghost use Rattle.std.specs.Prelude.{◌≡◌, false, IfErr};
 ghost use Rattle.csid.specs.Statuses.{IsOrNoMemory};
 
+use crate::console::Console;
 use crate::content::read_content;
 use crate::failure::Failure;
 use crate::memory::{files_of, open};
+use crate::peer::Lead;
 use crate::rows::{RowsFault, Told, take_no_meta, take_page};
 use crate::tables::{keep, of_database, of_reading, tell_content};
 use csi_client::{Received, ReceivedReply};
@@ -69,7 +71,7 @@ pub(crate) struct OpenLog {
     pub(crate) keeper: Remote,
     /// Its connection, to ask whether it leads.
     pub(crate) stream: UnixStream,
-    /// Whether it was asked for a change since calls were read.
+    /// Whether it was asked for a change since the last reply.
     pub(crate) is_asked: Rc<Cell<bool>>,
     /// Whether it did not lead once: what it has is read anew.
     pub(crate) is_cut: bool,
@@ -101,6 +103,23 @@ pub(crate) fn leads(alloc: Global, stream: &UnixStream) -> bool {
     };
     let received = Channel::new(stream, stream).exchange(alloc, frame.as_slice());
     matches!(received, Received::Reply(reply) if reply.status == 0)
+}
+
+/// A log, as the replies to a peer have to do with it.
+#[derive(Clone, Copy, Drop)]
+pub(crate) struct Leading<'a> {
+    pub(crate) stream: &'a UnixStream,
+    /// Whether it was asked for a change since the last reply.
+    pub(crate) is_asked: &'a Rc<Cell<bool>>,
+    pub(crate) alloc: Global,
+}
+
+impl Lead for Leading<'_> {
+    // A change that was asked for tells it too: it is made while the log leads alone. Else another log may have led since, and made changes that are not
+    // in memory.
+    fn holds(&mut self) -> bool {
+        self.is_asked.replace(false) || leads(self.alloc, self.stream)
+    }
 }
 
 // A log that cannot be had.
@@ -250,7 +269,7 @@ fn read_tables<P: Peer, S: Alter + Drop>(
 
 // Reads and judges all that a log has, over a connection to a new database, and says what that is. The database is gone behind it.
 fn read_log<P: Peer + Drop, S: Alter + Drop>(
-    rt: &HostRuntime,
+    console: &Console<'_>,
     config: &Config,
     path: &str,
     mut log: P,
@@ -259,10 +278,11 @@ fn read_log<P: Peer + Drop, S: Alter + Drop>(
     requires { conn.in_transaction ≡ false }
     ensures { IfErr result (λ failure. IsOrNoMemory 4 failure) }
 {
+    let rt = console.rt;
     let mut tables = read_tables(rt, config, path, &mut log, conn)?;
     match Through::copied(rt.alloc(), &mut tables, RemoteLog::new(log)) {
         Ok(keeper) => {
-            tell_content(rt, path, read_content(&mut tables.into_connection()));
+            tell_content(console, path, read_content(&mut tables.into_connection()));
             Ok(keeper)
         }
         Err(fault) => Err(of_reading(rt.alloc(), path, fault)),
@@ -272,15 +292,16 @@ fn read_log<P: Peer + Drop, S: Alter + Drop>(
 // The same over files in memory: there a row that comes in takes as many steps as its tree is deep, where the store of rows in memory would move all
 // rows behind it.
 fn read_over_memory<P: Peer + Drop>(
-    rt: &HostRuntime,
+    console: &Console<'_>,
     config: &Config,
     path: &str,
     log: P,
 ) -> Result<Through<MemKeeper, RemoteLog<P>>, Failure>
     ensures { IfErr result (λ failure. IsOrNoMemory 4 failure) }
 {
-    let conn = open(rt.alloc(), path, files_of(rt.alloc(), &[], &[])?)?;
-    read_log(rt, config, path, log, conn)
+    let alloc = console.rt.alloc();
+    let conn = open(alloc, path, files_of(alloc, &[], &[])?)?;
+    read_log(console, config, path, log, conn)
 }
 
 // A connection to a log. It gives up what takes too long.
@@ -312,9 +333,14 @@ fn reach(rt: &HostRuntime, path: &str, is_asked: Rc<Cell<bool>>) -> io::Result<(
 /// # Errors
 ///
 /// Where the log cannot be had, its rows are refused, or memory is.
-pub(crate) fn open_log(rt: &HostRuntime, config: &Config, path: &str) -> Result<OpenLog, Failure>
+pub(crate) fn open_log(
+    console: &Console<'_>,
+    config: &Config,
+    path: &str,
+) -> Result<OpenLog, Failure>
     ensures { IfErr result (λ failure. IsOrNoMemory 4 failure) }
 {
+    let rt = console.rt;
     let Ok(is_asked) = Rc::new(rt.alloc(), Cell::new(false)) else {
         return Err(Failure::NoMemory);
     };
@@ -322,7 +348,7 @@ pub(crate) fn open_log(rt: &HostRuntime, config: &Config, path: &str) -> Result<
         Ok(reached) => reached,
         Err(error) => return Err(of_log(rt.alloc(), path, &error)),
     };
-    let keeper = read_over_memory(rt, config, path, line)?;
+    let keeper = read_over_memory(console, config, path, line)?;
     Ok(OpenLog {
         keeper,
         stream,

@@ -4,35 +4,39 @@
 mod check;
 mod command;
 mod config;
+mod console;
 mod content;
 mod copy;
 mod failure;
 mod group;
 mod keeping;
 pub mod laws;
+mod limits;
 mod log;
 mod making;
 mod memory;
 mod peer;
 mod pending;
+mod ready;
 mod rows;
 mod run;
-mod say;
 mod socket;
 mod standing;
 mod tables;
+mod turn;
 mod waiting;
 
 use command_line::take_closed;
-use say::say;
+use console::Console;
 use std::process::ExitCode;
 
 fn main(rt: HostRuntime) -> ExitCode {
     let _standard = take_closed(&rt);
-    match run::run(&rt) {
+    let console = Console::new(&rt);
+    match run::run(&console) {
         Ok(()) => ExitCode::SUCCESS,
         Err(failure) => {
-            say(&rt, &failure);
+            console.say(&failure);
             ExitCode::from(failure.status())
         }
     }

@@ -1,8 +1,9 @@
 //! How a file of tables is made, before it is opened.
 
-ghost use Rattle.std.specs.Prelude.{◌≡◌, ◌⊎◌, ◌==◌, length, IfOk, IsTrue};
+ghost use Rattle.std.specs.Prelude.{◌≡◌, ◌⊎◌, ◌≤◌, ◌==◌, length, IfOk, IsTrue};
 ghost use Rattle.std.specs.List.{list_all};
-ghost use Rattle.csid.specs.Making.{AreZero, AsBefore};
+ghost use Rattle.csid.specs.Making.{AsBefore, BeginsPage, IsUnmade, page_byte};
+ghost use Rattle.csid.specs.declared.making.TheConstants.{PAGE_BYTES};
 
 use sqlite::Files;
 use sqlite_disk::Disk;
@@ -50,7 +51,7 @@ fn make_private(rt: &HostRuntime, path: &str) {
     }
 }
 
-// Whether there may be no more in a file than a stop left of its first page: no byte, or some of 0.
+// Whether there may be no more in a file than a stop left of its first page.
 fn is_short(rt: &HostRuntime, path: &str) -> bool {
     matches!(fs::metadata(rt, path), Ok(found) if found.is_file() && found.len() <= PAGE_BYTES as u64)
 }
@@ -69,31 +70,50 @@ fn is_zero(bytes: &[u8]) -> bool
     bytes.iter().all(|byte| *byte == 0)
 }
 
-// Whether the first bytes of a file are all 0, as many as there is room for.
-fn begins_zero<D: Disk>(file: &mut D, room: &mut [u8]) -> io::Result<bool>
+// A byte of the first page.
+fn page_byte(at: usize) -> u8
+    ensures { result ≡ page_byte at }
+{
+    if at < HEAD.len() { HEAD[at] } else { 0 }
+}
+
+// Whether bytes, which are no more than a page has, are those that the first page begins with.
+fn begins_page(bytes: &[u8]) -> bool
+    ensures { IsTrue result → length bytes.now ≤ PAGE_BYTES → BeginsPage bytes.now }
+{
+    for at in 0..bytes.len() {
+        if bytes[at] != page_byte(at) {
+            return false;
+        }
+    }
+    true
+}
+
+// Whether a file of no more than a page has what a stop may leave of its first page. There is room for all of it.
+fn is_unmade<D: Disk>(file: &mut D, room: &mut [u8]) -> io::Result<bool>
     requires { IsTrue (D.Disk.is_usable file.old) }
     ensures usable { IsTrue (D.Disk.is_usable file.new) }
     ensures clean { IsTrue (D.Disk.is_clean file.new) → IsTrue (D.Disk.is_clean file.old) }
     ensures read { AsBefore D.Disk.seen D.Disk.may_leave file.old file.new }
-    ensures zero { IfOk result (λ is. IsTrue is → IsTrue (D.Disk.is_clean file.new) → length room.old ≡ length (D.Disk.seen file.old) → AreZero (D.Disk.seen file.old)) }
+    ensures unmade { IfOk result (λ is. IsTrue is → IsTrue (D.Disk.is_clean file.new) → length room.old ≡ length (D.Disk.seen file.old) → length room.old ≤ PAGE_BYTES → IsUnmade (D.Disk.seen file.old)) }
 {
     file.read_at(0, room)?;
-    Ok(is_zero(room))
+    Ok(is_zero(room) || begins_page(room))
 }
 
 // The same of so many bytes.
-fn are_zero<D: Disk>(alloc: Global, file: &mut D, len: usize) -> io::Result<bool>
+fn has_nothing<D: Disk>(alloc: Global, file: &mut D, len: usize) -> io::Result<bool>
     requires { IsTrue (D.Disk.is_usable file.old) }
     ensures usable { IsTrue (D.Disk.is_usable file.new) }
     ensures clean { IsTrue (D.Disk.is_clean file.new) → IsTrue (D.Disk.is_clean file.old) }
     ensures read { AsBefore D.Disk.seen D.Disk.may_leave file.old file.new }
-    ensures zero { IfOk result (λ is. IsTrue is → IsTrue (D.Disk.is_clean file.new) → len ≡ length (D.Disk.seen file.old) → AreZero (D.Disk.seen file.old)) }
+    ensures unmade { IfOk result (λ is. IsTrue is → IsTrue (D.Disk.is_clean file.new) → len ≡ length (D.Disk.seen file.old) → len ≤ PAGE_BYTES → IsUnmade (D.Disk.seen file.old)) }
 {
     let mut bytes = vec![in alloc; 0; len]?;
-    begins_zero(file, bytes.as_mut_slice())
+    is_unmade(file, bytes.as_mut_slice())
 }
 
-/// Writes the first page of a database into files that have nothing, or as much of it as a stop may have left: bytes of 0. Others stay.
+/// Writes the first page of a database into files that have nothing, or what a stop may have left of that page. Others stay as they are.
 ///
 /// # Errors
 ///
@@ -102,10 +122,10 @@ pub(crate) fn lay_out<D: Disk>(alloc: Global, files: &mut Files<D>) -> io::Resul
     requires log { IsTrue (D.Disk.is_usable files.old.log) }
     requires db { IsTrue (D.Disk.is_usable files.old.db) }
     ensures log { AsBefore D.Disk.seen D.Disk.may_leave files.old.log files.new.log }
-    ensures kept { IsTrue (D.Disk.is_clean files.new.db) → AsBefore D.Disk.seen D.Disk.may_leave files.old.db files.new.db ⊎ AreZero (D.Disk.seen files.old.db) }
+    ensures kept { IsTrue (D.Disk.is_clean files.new.db) → AsBefore D.Disk.seen D.Disk.may_leave files.old.db files.new.db ⊎ IsUnmade (D.Disk.seen files.old.db) }
 {
     let len = files.db.len()?;
-    if len > PAGE_BYTES || files.log.len()? > 0 || !are_zero(alloc, &mut files.db, len)? {
+    if len > PAGE_BYTES || files.log.len()? > 0 || !has_nothing(alloc, &mut files.db, len)? {
         return Ok(());
     }
     let page = first_page(alloc)?;
@@ -113,8 +133,8 @@ pub(crate) fn lay_out<D: Disk>(alloc: Global, files: &mut Files<D>) -> io::Resul
     files.db.sync()
 }
 
-/// Makes a file that is missing, for its owner alone, and gives one that has nothing the first page of a database. Nobody else opens it meanwhile. What
-/// cannot be made so is left to the opening, which makes larger pages, or says why it cannot.
+/// Makes a file that is missing, for its owner alone, and gives one that has nothing, or a part of it, the first page of a database. Nobody else opens it
+/// meanwhile, and its folder is synced with it. What cannot be made so is left to the opening, which makes larger pages, or says why it cannot.
 pub(crate) fn prepare_new(rt: &HostRuntime, path: &str) {
     if names_no_file(path) {
         return;

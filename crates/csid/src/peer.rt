@@ -1,12 +1,9 @@
-//! The peer of a connection: whether it is there, and how long it may say nothing.
+//! The peer of a connection: whether it is there, and what it is told.
 
-use crate::log::leads;
-use std::alloc::Global;
-use std::cell::Cell;
-use std::io::{self, ErrorKind, Read, Write};
+ghost use Rattle.std.specs.Prelude.{◌≡◌};
+
+use std::io::{self, ErrorKind, Write};
 use std::os::unix::net::UnixStream;
-use std::rc::Rc;
-use std::time::Duration;
 
 /// Whether the peer has closed its end. Nothing can be written to it then, not even no byte, which is all that is tried. A peer that
 /// has closed only its sending half is there: it waits for replies.
@@ -15,119 +12,67 @@ pub(crate) fn has_gone(stream: &UnixStream) -> bool {
     writer.write(&[]).is_err()
 }
 
-/// Has a connection wait for its peer, for so many seconds and no longer.
-///
-/// # Errors
-///
-/// Where the system refuses.
-pub(crate) fn settle(stream: &UnixStream, idle: Option<u32>) -> io::Result<()> {
-    stream.set_nonblocking(false)?;
-    let Some(seconds) = idle else {
-        return Ok(());
-    };
-    let longest = Some(Duration::from_secs(u64::from(seconds)));
-    stream.set_read_timeout(longest)?;
-    stream.set_write_timeout(longest)
+/// Who says whether replies hold that were made of what is in memory.
+pub(crate) trait Lead {
+    /// Whether they hold. It is asked before the first byte of each reply.
+    fn holds(&mut self) -> bool;
 }
 
-/// A log, as the connection of a peer has to do with it.
-#[derive(Clone, Copy)]
-pub(crate) struct Watched<'a> {
-    pub(crate) stream: &'a UnixStream,
-    /// Whether it was asked for something since calls were read.
-    pub(crate) is_asked: &'a Rc<Cell<bool>>,
-}
+/// Replies that always hold.
+#[derive(Clone, Copy, Drop)]
+pub(crate) struct Always;
 
-/// What a connection gives, behind the bytes that it has sent already.
-#[derive(Drop)]
-pub(crate) struct Patient<'a> {
-    stream: &'a UnixStream,
-    sent: &'a [u8],
-    log: Option<Watched<'a>>,
-    /// Whether the last read waited for as long as it may.
-    pub(crate) is_idle: bool,
-}
-
-impl<'a> Patient<'a> {
-    pub(crate) fn new(
-        stream: &'a UnixStream,
-        sent: &'a [u8],
-        log: Option<Watched<'a>>,
-    ) -> Patient<'a> {
-        Patient {
-            stream,
-            sent,
-            log,
-            is_idle: false,
-        }
+impl Lead for Always {
+    fn holds(&mut self) -> bool {
+        true
     }
 }
 
-impl Read for Patient<'_> {
-    fn read(&mut self, buf: &mut [u8]) -> io::Result<usize> {
-        if let Some(log) = &self.log {
-            log.is_asked.set(false);
-        }
-        if !self.sent.is_empty() {
-            return self.sent.read(buf);
-        }
-        let mut stream = self.stream;
-        let answer = stream.read(buf);
-        self.is_idle = matches!(&answer, Err(error) if error.kind() == ErrorKind::WouldBlock);
-        answer
-    }
-}
-
-/// What a connection is told. Nothing is, once its log does not lead any more: another one may have changed the volumes, and what was answered from memory is
-/// what they were.
+/// A writer of replies, each of which is written only where it holds. None is, once one did not.
 #[derive(Drop)]
-pub(crate) struct Guarded<'a> {
-    stream: &'a UnixStream,
-    log: Option<Watched<'a>>,
-    alloc: Global,
-    /// Whether the log did not lead any more.
+pub(crate) struct Guarded<L, W> {
+    lead: L,
+    writer: W,
+    // Whether a reply has begun that holds.
+    is_open: bool,
+    /// Whether a reply did not hold.
     pub(crate) is_cut: bool,
 }
 
-impl<'a> Guarded<'a> {
-    pub(crate) fn new(
-        stream: &'a UnixStream,
-        log: Option<Watched<'a>>,
-        alloc: Global,
-    ) -> Guarded<'a> {
+impl<L: Lead, W: Write> Guarded<L, W> {
+    pub(crate) fn new(lead: L, writer: W) -> Guarded<L, W> {
         Guarded {
-            stream,
-            log,
-            alloc,
+            lead,
+            writer,
+            is_open: false,
             is_cut: false,
         }
     }
 
-    // Whether what was answered since calls were read holds. A change that was asked for meanwhile tells it too: it is made while the log leads alone.
-    fn may_answer(&self) -> bool {
-        let Some(log) = &self.log else {
-            return true;
-        };
-        if log.is_asked.get() {
-            return true;
+    // Whether a reply may be written, which begins here where none has begun.
+    fn may_write(&mut self) -> bool
+        ensures { self.new.writer ≡ self.old.writer }
+    {
+        if !self.is_open && !self.is_cut {
+            self.is_open = self.lead.holds();
+            self.is_cut = !self.is_open;
         }
-        log.is_asked.set(true);
-        leads(self.alloc, log.stream)
+        self.is_open
     }
 }
 
-impl Write for Guarded<'_> {
+impl<L: Lead, W: Write> Write for Guarded<L, W> {
+    ghost contents = { λ guarded. W.contents guarded.writer };
+
     fn write(&mut self, buf: &[u8]) -> io::Result<usize> {
-        if self.is_cut || !self.may_answer() {
-            self.is_cut = true;
+        if !self.may_write() {
             return Err(io::Error::from(ErrorKind::ConnectionAborted));
         }
-        let mut stream = self.stream;
-        stream.write(buf)
+        self.writer.write(buf)
     }
 
     fn flush(&mut self) -> io::Result<()> {
-        let mut stream = self.stream;
-        stream.flush()
+        self.is_open = false;
+        self.writer.flush()
     }
 }

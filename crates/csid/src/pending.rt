@@ -4,11 +4,13 @@ ghost use Rattle.std.specs.Prelude.{◌≡◌, ◌⊎◌, ◌≤◌, ◌<◌, tr
 ghost use Rattle.csid.specs.declared.pending.TheConstants.{ENOUGH};
 ghost use Rattle.csid.specs.Starting.{BeginsCall, BeginsNoCall, BeginsFault, MayBeginCall};
 
+use crate::console::Ending;
+use crate::limits::{CALL_SECONDS, least, left_of};
 use frames_core::{FrameWhy, Taken, take_frame};
 use std::alloc::Global;
 use std::io::{self, ErrorKind, Read};
 use std::os::unix::net::UnixStream;
-use std::time::Instant;
+use std::time::{Duration, Instant};
 
 /// With so many bytes of a first frame a connection is served: the rest is under way. So what waits takes little memory.
 const ENOUGH: usize = 4096;
@@ -42,7 +44,9 @@ pub(crate) struct Pending {
     /// None where it was not looked at yet.
     pub(crate) start: Option<Start>,
     /// When a byte of it came last, or it itself.
-    pub(crate) since: Instant,
+    since: Instant,
+    /// When its first byte came.
+    begun: Option<Instant>,
 }
 
 impl Drop for Pending {
@@ -52,6 +56,7 @@ impl Drop for Pending {
             sent: _sent,
             start: _,
             since: _,
+            begun: _,
         } = self;
     }
 }
@@ -84,6 +89,7 @@ impl Pending {
             sent: Vec::new(alloc),
             start: None,
             since,
+            begun: None,
         }
     }
 
@@ -92,12 +98,30 @@ impl Pending {
         matches!(self.start, Some(Start::Call | Start::NoCall))
     }
 
+    /// How long it may go on without a whole call, or how it ends: its peer may send nothing for so long.
+    pub(crate) fn patience(
+        &self,
+        idle: Option<Duration>,
+        now: Instant,
+    ) -> Result<Option<Duration>, Ending> {
+        let mut longest = None;
+        if let Some(idle) = idle {
+            longest = Some(left_of(idle, self.since, now).ok_or(Ending::Idle)?);
+        }
+        if let Some(begun) = self.begun {
+            let left = left_of(Duration::from_secs(CALL_SECONDS), begun, now).ok_or(Ending::Slow)?;
+            longest = least(longest, Some(left));
+        }
+        Ok(longest)
+    }
+
     // Takes a piece of what it sends, which is empty at the end.
     fn take(&mut self, piece: &[u8], now: Instant) -> Heard {
         if self.sent.extend_from_slice(piece).is_err() {
             return Heard::Lost;
         }
         self.since = now;
+        self.begun = Some(self.begun.unwrap_or(now));
         self.start = Some(start_of(self.sent.as_slice(), piece.is_empty()));
         Heard::Something
     }

@@ -6,11 +6,11 @@ ghost use Rattle.csid.specs.Statuses.{IsOrNoMemory};
 use crate::check::{check_config, check_tables};
 use crate::command::{Piped, Serving, Task, asked, odd_number, odd_store, read_arguments};
 use crate::config::configuration;
+use crate::console::Console;
 use crate::failure::{Failure, Peer, outcome};
 use crate::keeping::{OverKeeper, Place, over_keeper};
-use crate::say::say;
 use crate::socket::{listen, serve_all};
-use crate::tables::{Blank, check_standing, survey};
+use crate::tables::{Blank, check_log, check_standing, survey};
 use clap::ArgMatches;
 use command_line::{ArgumentsFault, arguments};
 use csi_config::Config;
@@ -42,7 +42,7 @@ fn pipe_over_memory(rt: &HostRuntime, config: &Config) -> Result<(), Failure> {
 
 // What came of calls and of the file behind them: both are said, and the program ends with what became of the file.
 fn ended(
-    rt: &HostRuntime,
+    console: &Console<'_>,
     served: Result<(), Failure>,
     closed: Result<(), Failure>,
 ) -> Result<(), Failure> {
@@ -50,7 +50,7 @@ fn ended(
         return served;
     };
     if let Err(failure) = &served {
-        say(rt, failure);
+        console.say(failure);
     }
     Err(closing)
 }
@@ -71,6 +71,9 @@ impl OverKeeper for Piping<'_> {
     // The replies have told of each refusal.
     fn tell(&mut self, _is_down: bool, _refusals: u64, _what: &str) {}
 
+    // It is answered the same.
+    fn note(&mut self, _what: &str) {}
+
     fn fail(&mut self, failure: Failure) {
         self.served = Err(failure);
     }
@@ -78,7 +81,7 @@ impl OverKeeper for Piping<'_> {
 
 // Answers the calls of standard input, and keeps the volumes in a file.
 fn pipe_over_tables(
-    rt: &HostRuntime,
+    console: &Console<'_>,
     config: &Config,
     path: &str,
     pipe: &Piped<'_>,
@@ -89,24 +92,24 @@ fn pipe_over_tables(
         is_low_memory: pipe.is_low_memory,
     };
     let mut piping = Piping {
-        rt,
+        rt: console.rt,
         config,
         served: Ok(()),
     };
-    let closed = over_keeper(rt, config, &place, &mut piping);
-    ended(rt, piping.served, closed)
+    let closed = over_keeper(console, config, &place, &mut piping);
+    ended(console, piping.served, closed)
 }
 
 // Answers the calls of standard input, and keeps the volumes in a file if there is to be one.
-fn answer_pipe(rt: &HostRuntime, pipe: &Piped<'_>) -> Result<(), Failure> {
-    let config = configuration(rt, pipe.config, false)?;
+fn answer_pipe(console: &Console<'_>, pipe: &Piped<'_>) -> Result<(), Failure> {
+    let config = configuration(console, pipe.config, false)?;
     match pipe.tables {
-        Some(path) => pipe_over_tables(rt, &config, path, pipe),
-        None => pipe_over_memory(rt, &config),
+        Some(path) => pipe_over_tables(console, &config, path, pipe),
+        None => pipe_over_memory(console.rt, &config),
     }
 }
 
-// Looks whether the tables have a path, and whether they stand, if they have to.
+// Looks whether the tables have a path, and whether there are some, or new ones may be made.
 fn check_serving(rt: &HostRuntime, serving: &Serving<'_>) -> Result<(), Failure>
     ensures { IfErr result (λ failure. IsOrNoMemory 4 failure) }
 {
@@ -119,26 +122,30 @@ fn check_serving(rt: &HostRuntime, serving: &Serving<'_>) -> Result<(), Failure>
     if serving.is_existing {
         check_standing(rt, serving.tables)
     } else {
-        Ok(())
+        check_log(rt, serving.tables)
     }
 }
 
 // A socket, and then what the tables have is said. The socket is made first, so that the file of a server that
 // runs is left alone.
-fn listen_over(rt: &HostRuntime, config: &Config, serving: &Serving<'_>) -> Result<(), Failure> {
-    let listener = listen(rt, serving.socket, serving.group)?;
+fn listen_over(
+    console: &Console<'_>,
+    config: &Config,
+    serving: &Serving<'_>,
+) -> Result<(), Failure> {
+    let listener = listen(console.rt, serving.socket, serving.group)?;
     if serving.log.is_none() {
         let blank = Blank::refused_if(serving.is_existing, Blank::MakeAndSay);
-        survey(rt, serving.tables, config, blank);
+        survey(console, serving.tables, config, blank);
     }
-    serve_all(rt, config, serving, &listener)
+    serve_all(console, config, serving, listener)
 }
 
 // Answers the calls of connections, and keeps the volumes in a file.
-fn listening(rt: &HostRuntime, serving: &Serving<'_>) -> Result<(), Failure> {
-    let config = configuration(rt, serving.config, true)?;
-    check_serving(rt, serving)?;
-    listen_over(rt, &config, serving)
+fn listening(console: &Console<'_>, serving: &Serving<'_>) -> Result<(), Failure> {
+    let config = configuration(console, serving.config, true)?;
+    check_serving(console.rt, serving)?;
+    listen_over(console, &config, serving)
 }
 
 // The number of an option that is no number in decimal digits.
@@ -159,18 +166,18 @@ fn refused_store(alloc: Global, why: &str) -> Failure
 }
 
 // Does what the arguments ask.
-fn obey(rt: &HostRuntime, arguments: &ArgMatches<'_>) -> Result<(), Failure> {
+fn obey(console: &Console<'_>, arguments: &ArgMatches<'_>) -> Result<(), Failure> {
     if let Some((option, number)) = odd_number(arguments) {
-        return Err(refused_number(rt.alloc(), option, number));
+        return Err(refused_number(console.rt.alloc(), option, number));
     }
     if let Some(why) = odd_store(arguments) {
-        return Err(refused_store(rt.alloc(), why));
+        return Err(refused_store(console.rt.alloc(), why));
     }
     match asked(arguments) {
-        Task::Pipe(pipe) => answer_pipe(rt, &pipe),
-        Task::Serve(serving) => listening(rt, &serving),
-        Task::CheckConfig(path) => check_config(rt, path),
-        Task::CheckTables { tables, config } => check_tables(rt, tables, config),
+        Task::Pipe(pipe) => answer_pipe(console, &pipe),
+        Task::Serve(serving) => listening(console, &serving),
+        Task::CheckConfig(path) => check_config(console, path),
+        Task::CheckTables { tables, config } => check_tables(console, tables, config),
     }
 }
 
@@ -179,10 +186,11 @@ fn obey(rt: &HostRuntime, arguments: &ArgMatches<'_>) -> Result<(), Failure> {
 /// # Errors
 ///
 /// Why the program ends with a status other than 0. It is not said yet.
-pub(crate) fn run(rt: &HostRuntime) -> Result<(), Failure> {
+pub(crate) fn run(console: &Console<'_>) -> Result<(), Failure> {
+    let rt = console.rt;
     let arguments = arguments(rt)?;
     match read_arguments(rt, arguments.as_slice())? {
-        Some(matches) => obey(rt, &matches),
+        Some(matches) => obey(console, &matches),
         None => Ok(()),
     }
 }

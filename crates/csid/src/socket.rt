@@ -4,25 +4,27 @@ ghost use Rattle.std.specs.Prelude.{IfErr};
 ghost use Rattle.csid.specs.Statuses.{IsOrNoMemory};
 
 use crate::command::Serving;
+use crate::console::{Console, Ending};
 use crate::failure::{Failure, Peer, outcome};
 use crate::group::group_number;
 use crate::keeping::{IS_BEHIND, OverKeeper, Place, over_keeper};
-use crate::log::{OpenLog, open_log};
-use crate::peer::{Guarded, Patient, Watched, has_gone, settle};
+use crate::log::{Leading, OpenLog, open_log};
+use crate::peer::{Always, Guarded, Lead, has_gone};
 use crate::pending::{Pending, Start};
 use crate::run::FIRST_NUMBER;
-use crate::say::{say, say_of};
 use crate::tables::Blank;
-use crate::waiting::Waiting;
+use crate::turn::Turn;
+use crate::waiting::{Waiting, tell_ending};
 use csi_config::Config;
 use csi_keeper::Keeper;
 use csi_memory::MemKeeper;
 use csi_server::{RunEnd, serve};
 use std::alloc::Global;
 use std::fs::{self, Permissions};
-use std::io::{self, ErrorKind};
+use std::io::{self, ErrorKind, Read};
 use std::os::unix::fs::{PermissionsExt, chown};
 use std::os::unix::net::UnixListener;
+use std::time::Instant;
 
 // Who may connect: the owner, or the owner and a group.
 const OWNER: u32 = 0o600;
@@ -88,104 +90,146 @@ pub(crate) fn listen(
     }
 }
 
-// Says how a connection ended.
-fn tell_end(rt: &HostRuntime, is_idle: bool, is_cut: bool, end: RunEnd) {
-    match end {
-        RunEnd::ReadFailed if is_idle => say(rt, &"a connection that sent nothing was closed"),
-        RunEnd::WriteFailed if is_cut => say(rt, &"the log does not lead any more"),
-        _ => {
-            if let Err(failure) = outcome(Peer::Connection, end) {
-                say(rt, &failure);
-            }
-        }
+// Says how a run of calls ended.
+fn tell_run(console: &Console<'_>, ending: Ending, now: Instant, end: RunEnd) {
+    if let Err(failure) = outcome(Peer::Connection, end) {
+        console.tell_end(ending, now, &failure);
     }
 }
 
+// Says how a connection ended, whose peer was waited for no longer, or not.
+fn tell_end(console: &Console<'_>, ending: Option<Ending>, is_cut: bool, end: RunEnd) {
+    let Ok(now) = Instant::now(console.rt) else {
+        return;
+    };
+    match (end, ending) {
+        (RunEnd::ReadFailed, Some(ending)) => tell_ending(console, ending, now),
+        (RunEnd::WriteFailed, _) if is_cut => console.say(&"the log does not lead any more"),
+        (RunEnd::Malformed(_), _) => tell_run(console, Ending::Malformed, now, end),
+        _ => tell_run(console, Ending::Failed, now, end),
+    }
+}
+
+/// What the connections of a socket are served with.
+#[derive(Clone, Copy)]
+struct Service<'a> {
+    console: &'a Console<'a>,
+    config: &'a Config,
+    serving: &'a Serving<'a>,
+}
+
 // Answers the calls of one connection over a keeper, until it ends or a log does not lead any more. Whether that is why it ended.
-fn serve_one<K: Keeper>(
-    rt: &HostRuntime,
-    config: &Config,
+fn serve_one<K: Keeper, L: Lead + Drop>(
+    service: &Service<'_>,
+    waiting: &mut Waiting,
     keeper: &mut K,
     peer: &Pending,
-    log: Option<Watched<'_>>,
+    lead: L,
 ) -> bool {
-    let mut reader = Patient::new(&peer.stream, peer.sent.as_slice(), log);
-    let mut writer = Guarded::new(&peer.stream, log, rt.alloc());
-    let end = serve(rt.alloc(), config, keeper, &mut reader, &mut writer);
-    tell_end(rt, reader.is_idle, writer.is_cut, end);
+    let turn = match Turn::new(service.console, &peer.stream, waiting) {
+        Ok(turn) => turn,
+        Err(error) => {
+            let what = "a connection's time cannot be limited";
+            service.console.say_of(what, &error);
+            return false;
+        }
+    };
+    let mut reader = peer.sent.as_slice().chain(&turn);
+    let mut writer = Guarded::new(lead, &turn);
+    let end = serve(
+        service.console.rt.alloc(),
+        service.config,
+        keeper,
+        &mut reader,
+        &mut writer,
+    );
+    tell_end(service.console, turn.ending.get(), writer.is_cut, end);
     writer.is_cut
 }
 
 // Refuses what a connection has sent, which begins no call: so no volume is asked for, and the tables are not opened.
-fn refuse_peer(rt: &HostRuntime, config: &Config, peer: &Pending) {
-    match MemKeeper::new(rt.alloc(), FIRST_NUMBER) {
+fn refuse_peer(service: &Service<'_>, waiting: &mut Waiting, peer: &Pending) {
+    match MemKeeper::new(service.console.rt.alloc(), FIRST_NUMBER) {
         Ok(mut keeper) => {
-            serve_one(rt, config, &mut keeper, peer, None);
+            serve_one(service, waiting, &mut keeper, peer, Always);
         }
-        Err(_) => say(rt, &Failure::NoMemory),
+        Err(_) => service.console.say(&Failure::NoMemory),
     }
 }
 
 // Says what a keeper refused: a change, or this.
-fn tell_refusals(rt: &HostRuntime, path: &str, is_down: bool, refusals: u64, what: &str) {
+fn tell_refusals(console: &Console<'_>, path: &str, is_down: bool, refusals: u64, what: &str) {
     if is_down {
         let what =
             "a change was refused, by the database or for memory; from then on the connection was told that the store is down";
-        say_of(rt, path, &what);
+        console.say_of(path, &what);
     } else if refusals > 0 {
-        say_of(rt, path, &what);
+        console.say_of(path, &what);
     }
 }
 
 // Answers the calls of a connection.
-#[derive(Clone, Copy)]
 struct Answering<'a> {
-    rt: &'a HostRuntime,
-    config: &'a Config,
-    path: &'a str,
+    service: &'a Service<'a>,
+    waiting: &'a mut Waiting,
     peer: &'a Pending,
+}
+
+impl Drop for Answering<'_> {
+    fn drop(self) {
+        let Answering {
+            service: _,
+            waiting: _,
+            peer: _,
+        } = self;
+    }
 }
 
 impl OverKeeper for Answering<'_> {
     fn serve<K: Keeper>(&mut self, keeper: &mut K) {
-        serve_one(self.rt, self.config, keeper, self.peer, None);
+        serve_one(self.service, self.waiting, keeper, self.peer, Always);
     }
 
     fn tell(&mut self, is_down: bool, refusals: u64, what: &str) {
-        tell_refusals(self.rt, self.path, is_down, refusals, what);
+        let path = self.service.serving.tables;
+        tell_refusals(self.service.console, path, is_down, refusals, what);
+    }
+
+    fn note(&mut self, what: &str) {
+        let path = self.service.serving.tables;
+        self.service.console.say_of(path, &what);
     }
 
     fn fail(&mut self, failure: Failure) {
-        say(self.rt, &failure);
+        self.service.console.say(&failure);
     }
 }
 
 // Opens the tables for a connection, answers its calls over them, and closes them.
 fn answer_over_tables(
-    rt: &HostRuntime,
-    config: &Config,
-    serving: &Serving<'_>,
+    service: &Service<'_>,
+    waiting: &mut Waiting,
     peer: &Pending,
 ) -> Result<(), Failure> {
+    let serving = service.serving;
     let place = Place {
         path: serving.tables,
         blank: Blank::refused_if(serving.is_existing, Blank::MakeAndSay),
         is_low_memory: serving.is_low_memory,
     };
     let mut answering = Answering {
-        rt,
-        config,
-        path: serving.tables,
+        service,
+        waiting,
         peer,
     };
-    over_keeper(rt, config, &place, &mut answering)
+    over_keeper(service.console, service.config, &place, &mut answering)
 }
 
 // Answers the calls of one connection over the tables, which are opened for it; where they cannot be,
-// the connection is closed unanswered. What went wrong is said, and the next connection opens them anew.
-fn serve_over_tables(rt: &HostRuntime, config: &Config, serving: &Serving<'_>, peer: &Pending) {
-    if let Err(failure) = answer_over_tables(rt, config, serving, peer) {
-        say(rt, &failure);
+// the connection is closed unanswered. What went wrong is said, and the next connection opens them again.
+fn serve_over_tables(service: &Service<'_>, waiting: &mut Waiting, peer: &Pending) {
+    if let Err(failure) = answer_over_tables(service, waiting, peer) {
+        service.console.say(&failure);
     }
 }
 
@@ -207,53 +251,55 @@ impl Drop for KnownLog {
 }
 
 // Says why the log cannot be had, unless that was said last: where another program leads, each connection finds it so.
-fn say_why(rt: &HostRuntime, said: &mut String, failure: &Failure) {
-    let Ok(text) = format!(in rt.alloc(); "{failure}") else {
-        say(rt, failure);
+fn say_why(console: &Console<'_>, said: &mut String, failure: &Failure) {
+    let Ok(text) = format!(in console.rt.alloc(); "{failure}") else {
+        console.say(failure);
         return;
     };
     if text.as_str() != said.as_str() {
-        say(rt, failure);
+        console.say(failure);
         *said = text;
     }
 }
 
 // The log as it stands, or read anew where it does not stand.
 fn standing_log(
-    rt: &HostRuntime,
+    console: &Console<'_>,
     config: &Config,
     path: &str,
     log: Option<OpenLog>,
 ) -> Result<OpenLog, Failure> {
     if let Some(open) = log {
-        if open.stands(rt.alloc()) {
+        if open.stands(console.rt.alloc()) {
             return Ok(open);
         }
     }
-    open_log(rt, config, path)
+    open_log(console, config, path)
 }
 
 // Answers the calls of a connection over a log, and gives the log back.
 fn serve_open(
-    rt: &HostRuntime,
-    config: &Config,
+    service: &Service<'_>,
+    waiting: &mut Waiting,
     path: &str,
     mut open: OpenLog,
     peer: &Pending,
 ) -> OpenLog {
-    let log = Watched {
+    // What was read at its opening says nothing of a reply.
+    open.is_asked.set(false);
+    let leading = Leading {
         stream: &open.stream,
         is_asked: &open.is_asked,
+        alloc: service.console.rt.alloc(),
     };
-    open.is_cut = serve_one(rt, config, &mut open.keeper, peer, Some(log));
+    open.is_cut = serve_one(service, waiting, &mut open.keeper, peer, leading);
     if open.keeper.is_down() {
-        say_of(
-            rt,
+        service.console.say_of(
             path,
             &"a change was refused by the log, or nobody knows of it, or there was no memory; from then on the connection was told that the store is down",
         );
     } else if !open.keeper.is_current() {
-        say_of(rt, path, &IS_BEHIND);
+        service.console.say_of(path, &IS_BEHIND);
     }
     open
 }
@@ -261,81 +307,86 @@ fn serve_open(
 // Answers the calls of one connection over a log. Where it cannot be had, the connection is closed unanswered, and the next one tries
 // again.
 fn serve_over_log(
-    rt: &HostRuntime,
-    config: &Config,
+    service: &Service<'_>,
+    waiting: &mut Waiting,
     path: &str,
     log: &mut KnownLog,
     peer: &Pending,
 ) {
-    match standing_log(rt, config, path, log.open.take()) {
+    let console = service.console;
+    match standing_log(console, service.config, path, log.open.take()) {
         Ok(open) => {
             log.said.clear();
-            log.open = Some(serve_open(rt, config, path, open, peer));
+            log.open = Some(serve_open(service, waiting, path, open, peer));
         }
-        Err(failure) => say_why(rt, &mut log.said, &failure),
+        Err(failure) => say_why(console, &mut log.said, &failure),
     }
 }
 
 // Answers the calls of one connection, where the volumes are.
 fn serve_over_store(
-    rt: &HostRuntime,
-    config: &Config,
-    serving: &Serving<'_>,
+    service: &Service<'_>,
+    waiting: &mut Waiting,
     log: &mut KnownLog,
     peer: &Pending,
 ) {
-    match serving.log {
-        Some(path) => serve_over_log(rt, config, path, log, peer),
-        None => serve_over_tables(rt, config, serving, peer),
+    match service.serving.log {
+        Some(path) => serve_over_log(service, waiting, path, log, peer),
+        None => serve_over_tables(service, waiting, peer),
+    }
+}
+
+// Says that the peer of a connection had gone. One that sent nothing was not refused anything.
+fn tell_gone(console: &Console<'_>, peer: &Pending) {
+    if peer.sent.is_empty() {
+        return;
+    }
+    if let Ok(now) = Instant::now(console.rt) {
+        tell_ending(console, Ending::Gone, now);
     }
 }
 
 // Answers the calls of one connection, if somebody is there. Who has gone, as after a call that was given up
 // while another was answered, costs no opening of the tables.
-fn serve_peer(
-    rt: &HostRuntime,
-    config: &Config,
-    serving: &Serving<'_>,
-    log: &mut KnownLog,
-    peer: &Pending,
-) {
+fn serve_peer(service: &Service<'_>, waiting: &mut Waiting, log: &mut KnownLog, peer: &Pending) {
     if has_gone(&peer.stream) {
-        return;
-    }
-    match settle(&peer.stream, serving.idle) {
-        Ok(()) if matches!(peer.start, Some(Start::NoCall)) => refuse_peer(rt, config, peer),
-        Ok(()) => serve_over_store(rt, config, serving, log, peer),
-        Err(error) => say_of(rt, "a connection's time cannot be limited", &error),
+        tell_gone(service.console, peer);
+    } else if matches!(peer.start, Some(Start::NoCall)) {
+        refuse_peer(service, waiting, peer);
+    } else {
+        serve_over_store(service, waiting, log, peer);
     }
 }
 
 // The log as it is at the start, if volumes are to be in one. Where it cannot be had, that is said, and the first connection tries again.
-fn first_log(rt: &HostRuntime, config: &Config, serving: &Serving<'_>) -> KnownLog {
+fn first_log(service: &Service<'_>) -> KnownLog {
+    let console = service.console;
     let mut log = KnownLog {
         open: None,
-        said: String::new(rt.alloc()),
+        said: String::new(console.rt.alloc()),
     };
-    if let Some(path) = serving.log {
-        match open_log(rt, config, path) {
+    if let Some(path) = service.serving.log {
+        match open_log(console, service.config, path) {
             Ok(open) => log.open = Some(open),
-            Err(failure) => say_why(rt, &mut log.said, &failure),
+            Err(failure) => say_why(console, &mut log.said, &failure),
         }
     }
     log
 }
 
 // Answers the calls of connections as they come, until all are taken or the socket fails.
-fn serve_each(
-    rt: &HostRuntime,
-    config: &Config,
-    serving: &Serving<'_>,
-    listener: &UnixListener,
-) -> io::Result<()> {
-    let mut waiting = Waiting::new(rt, listener, serving.connections, serving.idle)?;
-    let mut log = first_log(rt, config, serving);
+fn serve_each(service: &Service<'_>, listener: UnixListener) -> io::Result<()> {
+    let serving = service.serving;
+    let mut waiting = Waiting::new(
+        service.console.rt,
+        listener,
+        serving.connections,
+        serving.idle,
+    )?;
+    let mut log = first_log(service);
     for _ in 0..serving.connections {
-        match waiting.next(rt)? {
-            Some(peer) => serve_peer(rt, config, serving, &mut log, &peer),
+        match waiting.next(service.console)? {
+            Some(peer) => serve_peer(service, &mut waiting, &mut log, &peer),
             None => return Ok(()),
         }
     }
@@ -348,15 +399,22 @@ fn serve_each(
 ///
 /// Where the socket gives no connection, or memory is refused.
 pub(crate) fn serve_all(
-    rt: &HostRuntime,
+    console: &Console<'_>,
     config: &Config,
     serving: &Serving<'_>,
-    listener: &UnixListener,
+    listener: UnixListener,
 ) -> Result<(), Failure>
     ensures { IfErr result (λ failure. IsOrNoMemory 7 failure) }
 {
-    match serve_each(rt, config, serving, listener) {
+    let service = Service {
+        console,
+        config,
+        serving,
+    };
+    let served = serve_each(&service, listener);
+    console.finish();
+    match served {
         Ok(()) => Ok(()),
-        Err(error) => Err(of_socket(rt.alloc(), serving.socket, &error)),
+        Err(error) => Err(of_socket(console.rt.alloc(), serving.socket, &error)),
     }
 }

@@ -1,4 +1,4 @@
-//! A file of tables before it is opened: whether it stands.
+//! A file of tables and its log before they are opened: whether there are tables, and whether new ones may be made.
 
 use std::fs::{self, File};
 use std::io::{self, ErrorKind, Read};
@@ -16,7 +16,7 @@ const LEAF: u8 = 13;
 // The header of SQLite's log, and the least frame behind it: its own header and a page.
 const LOG_WITH_FRAME_BYTES: u64 = 32 + 24 + 512;
 
-/// Why a file does not stand for tables, where none may be made.
+/// Why a file is not taken for tables, and none are made in it.
 #[derive(Clone, Copy, Debug, Error)]
 pub(crate) enum Fault {
     /// There is no file.
@@ -25,6 +25,9 @@ pub(crate) enum Fault {
     /// It has no tables.
     #[error("it has no tables, and none are made")]
     Blank,
+    /// What was in it is lost: its log has changes of it.
+    #[error("it is empty or missing, but the log next to it, '-wal', has changes: put back the copy of the file that this log belongs to, or move the log away to begin with no volumes")]
+    Emptied,
 }
 
 // Whether the first bytes of a file are those of one without tables: its first page is a leaf of no cells.
@@ -32,20 +35,48 @@ fn is_blank(head: &[u8; HEADER_BYTES]) -> bool {
     head[KIND_AT] == LEAF && head[CELLS_AT] == 0 && head[CELLS_AT + 1] == 0
 }
 
-// Whether the log beside a file has something. The log stands beside the file that links lead to.
+// The path of a file's log, which lies next to the file that links lead to, or to where it would be made.
+fn log_path(rt: &HostRuntime, path: &str) -> io::Result<String> {
+    match fs::canonicalize(rt, path) {
+        Ok(real) => Ok(format!(in rt.alloc(); "{}-wal", real.as_str())?),
+        Err(error) if error.kind() == ErrorKind::NotFound => {
+            Ok(format!(in rt.alloc(); "{path}-wal")?)
+        }
+        Err(error) => Err(error),
+    }
+}
+
+// Whether a file's log has a change.
 fn has_frames(rt: &HostRuntime, path: &str) -> io::Result<bool> {
-    let real = fs::canonicalize(rt, path)?;
-    let log = format!(in rt.alloc(); "{}-wal", real.as_str())?;
+    let log = log_path(rt, path)?;
     Ok(fs::metadata(rt, log.as_str()).is_ok_and(|found| found.len() >= LOG_WITH_FRAME_BYTES))
+}
+
+// Whether a file has no byte, or is missing.
+fn is_empty(rt: &HostRuntime, path: &str) -> io::Result<bool> {
+    match fs::metadata(rt, path) {
+        Ok(found) => Ok(found.is_file() && found.len() == 0),
+        Err(error) if error.kind() == ErrorKind::NotFound => Ok(true),
+        Err(error) => Err(error),
+    }
+}
+
+/// Why no tables may be made in a file, as far as its length and its log show it. An opening would begin the log again, and the changes in it would be lost.
+pub(crate) fn fault_of_log(rt: &HostRuntime, path: &str) -> Option<Fault> {
+    match (is_empty(rt, path), has_frames(rt, path)) {
+        (Ok(true), Ok(true)) => Some(Fault::Emptied),
+        _ => None,
+    }
 }
 
 // Whether the file has nothing of tables, and nothing is in its log.
 fn has_nothing(rt: &HostRuntime, path: &str) -> io::Result<bool> {
+    let mut file = File::open(rt, path)?;
     if has_frames(rt, path)? {
         return Ok(false);
     }
     let mut head = [0; HEADER_BYTES];
-    match File::open(rt, path)?.read_exact(&mut head) {
+    match file.read_exact(&mut head) {
         Ok(()) => Ok(is_blank(&head)),
         Err(error) if error.kind() == ErrorKind::UnexpectedEof => Ok(true),
         Err(error) => Err(error),
@@ -54,6 +85,9 @@ fn has_nothing(rt: &HostRuntime, path: &str) -> io::Result<bool> {
 
 /// Why a file has no tables, as far as that is seen without an opening. What cannot be read is left to the opening.
 pub(crate) fn fault_of_standing(rt: &HostRuntime, path: &str) -> Option<Fault> {
+    if let Some(fault) = fault_of_log(rt, path) {
+        return Some(fault);
+    }
     match has_nothing(rt, path) {
         Ok(true) => Some(Fault::Blank),
         Err(error) if error.kind() == ErrorKind::NotFound => Some(Fault::Missing),

@@ -3,11 +3,11 @@
 ghost use Rattle.std.specs.Prelude.{◌≡◌, false, IfErr, IfOk, IsTrue};
 ghost use Rattle.csid.specs.Statuses.{IsOrNoMemory};
 
+use crate::console::Console;
 use crate::content::{Content, read_content};
 use crate::failure::Failure;
 use crate::making::prepare_new;
-use crate::say::{say, say_of};
-use crate::standing::{Fault, fault_of_standing};
+use crate::standing::{Fault, fault_of_log, fault_of_standing};
 use csi_adoption::{AdoptError, AdoptFault, adopt};
 use csi_config::Config;
 use csi_keeper::StoreFault;
@@ -52,7 +52,17 @@ pub(crate) fn of_database(alloc: Global, path: &str, error: &Error) -> Failure
     }
 }
 
-/// Looks whether a file that has to have tables has some, as far as that is seen without an opening. Nothing is changed.
+// Whether a file was found to be without fault.
+fn of_standing(alloc: Global, path: &str, fault: Option<Fault>) -> Result<(), Failure>
+    ensures { IfErr result (λ failure. IsOrNoMemory 4 failure) }
+{
+    match fault {
+        None => Ok(()),
+        Some(fault) => Err(Failure::of_tables(alloc, path, &fault)),
+    }
+}
+
+/// Looks whether a file that must have tables has some, as far as that is seen without an opening. Nothing is changed.
 ///
 /// # Errors
 ///
@@ -60,10 +70,18 @@ pub(crate) fn of_database(alloc: Global, path: &str, error: &Error) -> Failure
 pub(crate) fn check_standing(rt: &HostRuntime, path: &str) -> Result<(), Failure>
     ensures { IfErr result (λ failure. IsOrNoMemory 4 failure) }
 {
-    match fault_of_standing(rt, path) {
-        None => Ok(()),
-        Some(fault) => Err(Failure::of_tables(rt.alloc(), path, &fault)),
-    }
+    of_standing(rt.alloc(), path, fault_of_standing(rt, path))
+}
+
+/// Looks whether new tables may be made in a file that has none, as far as that is seen without an opening. Nothing is changed.
+///
+/// # Errors
+///
+/// Where the file has no byte and its log has changes, or memory is refused.
+pub(crate) fn check_log(rt: &HostRuntime, path: &str) -> Result<(), Failure>
+    ensures { IfErr result (λ failure. IsOrNoMemory 4 failure) }
+{
+    of_standing(rt.alloc(), path, fault_of_log(rt, path))
 }
 
 // What is done of a file before it is opened.
@@ -73,6 +91,7 @@ fn prepare(rt: &HostRuntime, path: &str, blank: Blank) -> Result<(), Failure>
     match blank {
         Blank::Refuse => check_standing(rt, path),
         Blank::Make | Blank::MakeAndSay => {
+            check_log(rt, path)?;
             prepare_new(rt, path);
             Ok(())
         }
@@ -126,7 +145,7 @@ pub(crate) fn keep<S: Alter + Drop>(
 ///
 /// Where the tables are refused, or memory is.
 pub(crate) fn take<S: Alter + Drop>(
-    rt: &HostRuntime,
+    console: &Console<'_>,
     path: &str,
     conn: Connection<S>,
     config: &Config,
@@ -137,11 +156,11 @@ pub(crate) fn take<S: Alter + Drop>(
 {
     let is_new = conn.schema().tables.is_empty();
     if is_new & (blank == Blank::Refuse) {
-        return Err(Failure::of_tables(rt.alloc(), path, &Fault::Blank));
+        return Err(Failure::of_tables(console.rt.alloc(), path, &Fault::Blank));
     }
-    let kept = keep(rt, path, conn, config);
+    let kept = keep(console.rt, path, conn, config);
     if is_new & kept.is_ok() & (blank == Blank::MakeAndSay) {
-        say_of(rt, path, &"no tables stood there, and new ones were made");
+        console.say_of(path, &"no tables stood there, and new ones were made");
     }
     kept
 }
@@ -174,7 +193,7 @@ pub(crate) trait OverTables {
 
 // Does a task over the tables on a connection, and gives it back.
 fn run_over<S: Alter + Drop, T: OverTables>(
-    rt: &HostRuntime,
+    console: &Console<'_>,
     path: &str,
     conn: Connection<S>,
     config: &Config,
@@ -184,7 +203,7 @@ fn run_over<S: Alter + Drop, T: OverTables>(
     requires { conn.in_transaction ≡ false }
     ensures { IfErr result (λ failure. IsOrNoMemory 4 failure) }
 {
-    match take(rt, path, conn, config, blank) {
+    match take(console, path, conn, config, blank) {
         Ok(tables) => Ok(task.run(tables)),
         Err(failure) => Err(failure),
     }
@@ -197,7 +216,7 @@ fn run_over<S: Alter + Drop, T: OverTables>(
 ///
 /// Where the tables cannot be had, and then the task is not done; where the file cannot be closed; or where memory is refused.
 pub(crate) fn over_tables<T: OverTables>(
-    rt: &HostRuntime,
+    console: &Console<'_>,
     path: &str,
     config: &Config,
     blank: Blank,
@@ -208,18 +227,19 @@ pub(crate) fn over_tables<T: OverTables>(
     if path.is_empty() {
         return Err(Failure::NoTablesPath);
     }
+    let rt = console.rt;
     prepare(rt, path, blank)?;
-    match run_over(rt, path, connect(rt, path)?, config, blank, task) {
+    match run_over(console, path, connect(rt, path)?, config, blank, task) {
         Ok(conn) => disconnect(rt.alloc(), path, conn),
         Err(failure) => Err(failure),
     }
 }
 
 /// Says what tables have.
-pub(crate) fn tell_content(rt: &HostRuntime, path: &str, content: Result<Content, Error>) {
+pub(crate) fn tell_content(console: &Console<'_>, path: &str, content: Result<Content, Error>) {
     match content {
-        Ok(content) => say_of(rt, path, &content),
-        Err(error) => say(rt, &of_database(rt.alloc(), path, &error)),
+        Ok(content) => console.say_of(path, &content),
+        Err(error) => console.say(&of_database(console.rt.alloc(), path, &error)),
     }
 }
 
@@ -238,12 +258,12 @@ impl OverTables for Surveying {
 }
 
 /// Opens and judges the tables in a file once, and says what they have, or why they cannot be had. The file is closed by then.
-pub(crate) fn survey(rt: &HostRuntime, path: &str, config: &Config, blank: Blank) {
+pub(crate) fn survey(console: &Console<'_>, path: &str, config: &Config, blank: Blank) {
     let mut surveying = Surveying { content: None };
-    if let Err(failure) = over_tables(rt, path, config, blank, &mut surveying) {
-        say(rt, &failure);
+    if let Err(failure) = over_tables(console, path, config, blank, &mut surveying) {
+        console.say(&failure);
     }
     if let Some(content) = surveying.content {
-        tell_content(rt, path, content);
+        tell_content(console, path, content);
     }
 }

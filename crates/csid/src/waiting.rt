@@ -1,9 +1,11 @@
-//! The connections that wait to be served. They are looked at beside each other, so that one that says nothing keeps no other one waiting.
+//! The connections that wait to be served. All are looked at, so that one that sends nothing keeps no other one waiting.
 
+use crate::console::{Console, Ending};
+use crate::limits::least;
 use crate::pending::{Heard, Pending, Start};
-use crate::say::{say, say_of};
 use mio::unix::SourceFd;
 use mio::{Events, Interest, Poll, Token};
+use std::alloc::Global;
 use std::collections::VecDeque;
 use std::io::{self, ErrorKind};
 use std::os::fd::{AsRawFd, RawFd};
@@ -20,8 +22,8 @@ const AT_ONCE: usize = 64;
 const ANY: Token = Token(0);
 
 /// The connections that wait, and the socket that they come from.
-pub(crate) struct Waiting<'a> {
-    listener: &'a UnixListener,
+pub(crate) struct Waiting {
+    listener: UnixListener,
     poll: Poll,
     events: Events,
     pending: VecDeque<Pending>,
@@ -33,10 +35,10 @@ pub(crate) struct Waiting<'a> {
     is_stirring: bool,
 }
 
-impl Drop for Waiting<'_> {
+impl Drop for Waiting {
     fn drop(self) {
         let Waiting {
-            listener: _,
+            listener: _listener,
             poll: _poll,
             events: _events,
             pending: _pending,
@@ -53,7 +55,24 @@ fn watch(poll: &Poll, source: RawFd) -> io::Result<()> {
         .register(&mut SourceFd(&source), ANY, Interest::READABLE)
 }
 
-impl<'a> Waiting<'a> {
+// How a connection reads that ended so.
+fn words_of(ending: Ending) -> &'static str {
+    match ending {
+        Ending::Idle => "a connection that sent nothing was closed",
+        Ending::Slow => "a connection that sent no whole call in 10 seconds was closed",
+        Ending::Gone => "a connection whose peer had gone was closed",
+        Ending::Crowded => "a connection that had sent no call was closed, as too many wait",
+        Ending::Malformed => "a connection that sent a malformed frame was closed",
+        Ending::Failed => "a read of a connection failed",
+    }
+}
+
+/// Says that a connection ended so.
+pub(crate) fn tell_ending(console: &Console<'_>, ending: Ending, now: Instant) {
+    console.tell_end(ending, now, &words_of(ending));
+}
+
+impl Waiting {
     /// Nobody yet; so many connections are taken from the socket, and none of them waits for its peer longer than so many seconds.
     ///
     /// # Errors
@@ -61,10 +80,10 @@ impl<'a> Waiting<'a> {
     /// Where the system or memory refuses.
     pub(crate) fn new(
         rt: &HostRuntime,
-        listener: &'a UnixListener,
+        listener: UnixListener,
         connections: u32,
         idle: Option<u32>,
-    ) -> io::Result<Waiting<'a>> {
+    ) -> io::Result<Waiting> {
         listener.set_nonblocking(true)?;
         let poll = Poll::new(rt)?;
         watch(&poll, listener.as_raw_fd())?;
@@ -79,11 +98,34 @@ impl<'a> Waiting<'a> {
         })
     }
 
+    /// How long a peer may send nothing, or take nothing; without an end where nothing is said.
+    pub(crate) fn idle(&self) -> Option<Duration> {
+        self.idle
+    }
+
+    /// Whether one that waits has sent what it is served for.
+    pub(crate) fn has_ready(&self) -> bool {
+        self.pending.iter().any(|one| one.is_told())
+    }
+
+    /// Has a wait also end when a connection that was taken from here can be written.
+    ///
+    /// # Errors
+    ///
+    /// Where the system refuses.
+    pub(crate) fn watch_both(&self, stream: &UnixStream) -> io::Result<()> {
+        let source = stream.as_raw_fd();
+        let both = Interest::READABLE | Interest::WRITABLE;
+        self.poll
+            .registry()
+            .reregister(&mut SourceFd(&source), ANY, both)
+    }
+
     // A connection that is waited for.
-    fn begin(&self, rt: &HostRuntime, stream: UnixStream) -> io::Result<Pending> {
+    fn begin(&self, alloc: Global, stream: UnixStream, now: Instant) -> io::Result<Pending> {
         stream.set_nonblocking(true)?;
         watch(&self.poll, stream.as_raw_fd())?;
-        Ok(Pending::new(rt.alloc(), stream, Instant::now(rt)?))
+        Ok(Pending::new(alloc, stream, now))
     }
 
     // The place of the oldest one of those that have sent no call.
@@ -94,13 +136,10 @@ impl<'a> Waiting<'a> {
     }
 
     // Closes that one.
-    fn close_oldest(&mut self, rt: &HostRuntime) {
+    fn close_oldest(&mut self, console: &Console<'_>, now: Instant) {
         if let Some(place) = self.oldest() {
             let _ = self.pending.remove(place);
-            say(
-                rt,
-                &"a connection that had sent no call was closed, as too many wait",
-            );
+            tell_ending(console, Ending::Crowded, now);
         }
     }
 
@@ -110,79 +149,75 @@ impl<'a> Waiting<'a> {
     }
 
     // Takes a connection in.
-    fn admit(&mut self, rt: &HostRuntime, stream: UnixStream) {
+    fn admit(&mut self, console: &Console<'_>, stream: UnixStream, now: Instant) {
         self.left = self.left.saturating_sub(1);
         self.is_stirring = true;
         if self.pending.len() >= MOST {
-            self.close_oldest(rt);
+            self.close_oldest(console, now);
         }
-        match self.begin(rt, stream) {
+        match self.begin(console.rt.alloc(), stream, now) {
             Ok(one) => {
                 let _ = self.pending.push_back(one);
             }
-            Err(error) => say_of(rt, "a connection cannot be waited for", &error),
+            Err(error) => console.say_of("a connection cannot be waited for", &error),
         }
     }
 
     // Where the system gives no further connection while some wait, as for want of descriptors, half of them make room.
-    fn make_room(&mut self, rt: &HostRuntime, error: io::Error) -> io::Result<()> {
+    fn make_room(
+        &mut self,
+        console: &Console<'_>,
+        error: io::Error,
+        now: Instant,
+    ) -> io::Result<()> {
         if self.pending.is_empty() {
             return Err(error);
         }
-        say_of(rt, "no further connection can be taken", &error);
+        console.say_of("no further connection can be taken", &error);
         self.is_stirring = true;
         for _ in 0..self.pending.len().div_ceil(2) {
-            self.close_oldest(rt);
+            self.close_oldest(console, now);
         }
         Ok(())
     }
 
     // Takes the connections in that are there, some at a time.
-    fn accept_some(&mut self, rt: &HostRuntime) -> io::Result<()> {
+    fn accept_some(&mut self, console: &Console<'_>, now: Instant) -> io::Result<()> {
         for _ in 0..AT_ONCE {
             if self.left == 0 || self.is_full() {
                 return Ok(());
             }
             match self.listener.accept() {
-                Ok((stream, _)) => self.admit(rt, stream),
+                Ok((stream, _)) => self.admit(console, stream, now),
                 Err(error) if error.kind() == ErrorKind::WouldBlock => return Ok(()),
-                Err(error) => return self.make_room(rt, error),
+                Err(error) => return self.make_room(console, error, now),
             }
         }
         Ok(())
     }
 
-    // Whether a connection has sent nothing for as long as it may.
-    fn is_overdue(&self, one: &Pending, now: Instant) -> bool {
-        match self.idle {
-            Some(longest) => matches!(one.start, Some(Start::Open))
-                && now.duration_since(one.since) >= longest,
-            None => false,
-        }
-    }
-
-    // Looks at a connection, and tells whether it goes on waiting.
-    fn stays(&mut self, rt: &HostRuntime, one: &mut Pending, now: Instant) -> bool {
+    // Looks at a connection. Nothing, where it goes on waiting, or how it ended.
+    fn ending_of(&mut self, one: &mut Pending, now: Instant) -> Option<Ending> {
         match one.hear(now) {
             Heard::Something => {
                 self.is_stirring = true;
-                true
+                None
             }
-            Heard::Lost => false,
-            Heard::Nothing if self.is_overdue(one, now) => {
-                say(rt, &"a connection that sent nothing was closed");
-                false
-            }
-            Heard::Nothing => true,
+            Heard::Lost => Some(Ending::Failed),
+            Heard::Nothing if one.is_told() => None,
+            Heard::Nothing => one.patience(self.idle, now).err(),
         }
     }
 
     // Looks at each connection, in order.
-    fn hear_all(&mut self, rt: &HostRuntime, now: Instant) {
+    fn hear_all(&mut self, console: &Console<'_>, now: Instant) {
         for _ in 0..self.pending.len() {
             if let Some(mut one) = self.pending.pop_front() {
-                if self.stays(rt, &mut one, now) {
-                    let _ = self.pending.push_back(one);
+                match self.ending_of(&mut one, now) {
+                    Some(ending) => tell_ending(console, ending, now),
+                    None => {
+                        let _ = self.pending.push_back(one);
+                    }
                 }
             }
         }
@@ -194,27 +229,47 @@ impl<'a> Waiting<'a> {
         self.pending.remove(place)
     }
 
-    // How long none is overdue; without an end where none can be.
+    // How long all of them may go on waiting; without an end where they may for ever.
     fn patience(&self, now: Instant) -> Option<Duration> {
-        let longest = self.idle?;
-        let mut least = None;
+        let mut longest = None;
         for one in self.pending.iter() {
-            let left = longest.saturating_sub(now.duration_since(one.since));
-            least = match least {
-                Some(other) if other < left => Some(other),
-                _ => Some(left),
-            };
+            if !one.is_told() {
+                let left = one.patience(self.idle, now).unwrap_or(Some(Duration::ZERO));
+                longest = least(longest, left);
+            }
         }
-        least
+        longest
     }
 
-    // Waits until something comes, or a connection is overdue.
-    fn wait(&mut self, now: Instant) -> io::Result<()> {
+    /// Takes connections in that are there, and what has come of those that wait.
+    ///
+    /// # Errors
+    ///
+    /// Where the socket gives no connection while none waits.
+    pub(crate) fn look(&mut self, console: &Console<'_>, now: Instant) -> io::Result<()> {
+        self.is_stirring = false;
+        console.settle(now);
+        let accepted = self.accept_some(console, now);
+        self.hear_all(console, now);
+        accepted
+    }
+
+    /// Waits until something comes, one that waits may wait no longer, or so long a time is over. Where the last look found something, it does not.
+    ///
+    /// # Errors
+    ///
+    /// Where the system lets nobody wait.
+    pub(crate) fn wait(
+        &mut self,
+        console: &Console<'_>,
+        now: Instant,
+        longest: Option<Duration>,
+    ) -> io::Result<()> {
         if self.is_stirring {
             return Ok(());
         }
-        let longest = self.patience(now);
-        self.poll.poll(&mut self.events, longest)
+        let own = least(self.patience(now), console.patience(now));
+        self.poll.poll(&mut self.events, least(longest, own))
     }
 
     /// The next connection of which is told what it begins, the oldest first; none where no further one is taken.
@@ -222,19 +277,17 @@ impl<'a> Waiting<'a> {
     /// # Errors
     ///
     /// Where the socket gives no connection while none waits, or the system lets nobody wait.
-    pub(crate) fn next(&mut self, rt: &HostRuntime) -> io::Result<Option<Pending>> {
+    pub(crate) fn next(&mut self, console: &Console<'_>) -> io::Result<Option<Pending>> {
         for _ in 0..u64::MAX {
-            self.is_stirring = false;
-            self.accept_some(rt)?;
-            let now = Instant::now(rt)?;
-            self.hear_all(rt, now);
+            let now = Instant::now(console.rt)?;
+            self.look(console, now)?;
             if let Some(ready) = self.take_ready() {
                 return Ok(Some(ready));
             }
             if self.left == 0 && self.pending.is_empty() {
                 return Ok(None);
             }
-            self.wait(now)?;
+            self.wait(console, now, None)?;
         }
         Ok(None)
     }
