@@ -1,15 +1,19 @@
 //! Lines on standard error.
 
-ghost use Rattle.std.specs.Prelude.{◌≡◌, ◌&&◌, nat_lt, length};
+ghost use Rattle.std.specs.Prelude.{◌≡◌, ◌&&◌, ◌++◌, IfOk, IfSome, List, OnOk, encode_utf8_all, nat_lt, length, ℕ};
 ghost use Rattle.std.specs.Char.{is_ascii_digit};
 ghost use Rattle.std.specs.List.{list_all};
+ghost use Rattle.std.specs.String.{string_bytes};
+ghost use Rattle.command_line.specs.Lines.{line_of, shown};
 
 use std::alloc::{AllocError, Global};
 use std::fmt::Display;
 use std::io::{self, Write};
 
 // Appends a character. An end of line or another control is escaped, as `\n` or `\u{1b}`.
-fn push_shown(line: &mut String, character: char) -> Result<(), AllocError> {
+fn push_shown(line: &mut String, character: char) -> Result<(), AllocError>
+    ensures ok { OnOk result (string_bytes line.new ≡ string_bytes line.old ++ encode_utf8_all (shown character)) }
+{
     if !character.is_control() {
         return line.push(character);
     }
@@ -22,7 +26,9 @@ fn push_shown(line: &mut String, character: char) -> Result<(), AllocError> {
 // What a program says, as one line with its end: the program's name, a colon and the text. Paths, names and
 // ids in the text may come from files or from the command line, so what would end the line, and every other
 // control, is escaped, as `\n` or `\u{1b}`.
-fn line(alloc: Global, program: &str, text: &str) -> Result<String, AllocError> {
+fn line(alloc: Global, program: &str, text: &str) -> Result<String, AllocError>
+    ensures ok { IfOk result (λ said. string_bytes said ≡ line_of program.now text.now) }
+{
     let mut line = String::new(alloc);
     line.push_str(program)?;
     line.push_str(": ")?;
@@ -33,17 +39,15 @@ fn line(alloc: Global, program: &str, text: &str) -> Result<String, AllocError> 
     Ok(line)
 }
 
-/// A line for standard error, with its end: the program's name, a colon and a text. What in the text would end the line, and every
-/// other control, is escaped.
+/// A line for standard error, with its end: the program's name, a colon and a text, which is what is displayed where its type says
+/// that. What in the text would end the line, and every other control, is escaped.
 ///
 /// # Errors
 ///
 /// Where memory was refused.
-pub fn error_line<T: Display>(
-    alloc: Global,
-    program: &str,
-    what: &T,
-) -> Result<String, AllocError> {
+pub fn error_line<T: Display>(alloc: Global, program: &str, what: &T) -> Result<String, AllocError>
+    ensures ok { IfOk result (λ said. (text : List ℕ) × (string_bytes said ≡ line_of program.now text) × IfSome (T.output what.now) (λ displayed. text ≡ displayed)) }
+{
     let text = format!(in alloc; "{what}")?;
     line(alloc, program, text.as_str())
 }
