@@ -1,0 +1,12 @@
+mod CleanLemmas
+mod FilesLemmas
+mod FirstLemmas
+mod LeaveLemmas
+mod LifeLemmas
+mod MakingLemmas
+mod PageLemmas
+mod ReserveLemmas
+mod ResultLemmas
+mod RunLemmas
+mod StartingLemmas
+mod ThroughLemmas

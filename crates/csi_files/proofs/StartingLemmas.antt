@@ -1,0 +1,73 @@
+-- Files in which a database is made start as the first State.
+use Rattle.std.proofs.Common.{◌⊎◌, ◌≡◌, ℕ, List, Option, IsTrue, inl, inr, refl, sym, subst}
+use Rattle.std.proofs.Math.Logic.{∥∥₁_elim}
+use Rattle.sqlite_disk.specs.declared.Disk.{Ghosts}
+use Rattle.sqlite_disk.specs.declared.Files.{Files}
+use Rattle.sqlite_wal.specs.Reads.{AreClean, are_clean}
+use Rattle.sqlite_wal.specs.Recovery.{Image}
+use Rattle.sqlite_wal.proofs.LogLemmas.{SeenMayStay}
+use Rattle.sqlite_trees.proofs.Doubt.{clean_of}
+use Rattle.sqlite.specs.Files.{image_of}
+use Rattle.csi_config.specs.declared.config.Config.{Config}
+use Rattle.csi_keeper.specs.State.{State, first_state}
+use Rattle.csi_server.specs.Serving.{Serves}
+use Rattle.csi_server.specs.Volumes.{seen, volumes}
+use Rattle.csi_files.specs.Files.{HasState, files_model, image_model}
+use Rattle.csi_files.specs.Making.{IsLaidOut, IsMade, IsNotLaidOut, IsToMake}
+use Rattle.csi_files.specs.Starting.{KeepsStart, MayStart, StartsAs, start_model}
+use Rattle.csi_files.specs.declared.serving.Closed.{Closed}
+use Rattle.csi_files.proofs.MakingLemmas.{not_torn}
+use Rattle.csi_files.proofs.PageLemmas.{made_holds, torn_holds_none, unmade_holds_none}
+use Rattle.csi_files.proofs.RunLemmas.{Carries, ends}
+
+made_state : (image : Image) (s : State) → IsMade image → s ≡ first_state 1 → HasState image s
+made_state image s made is = let it = made_holds image made in subst (HasState image) (sym is) (record { db = it.0; holds = ∣ it.1 ∣₁; state = inr (it.2, refl) })
+
+no_state : (image : Image) (s : State) → HasState image s → ¬ IsToMake image
+no_state image s has wanted = ∥∥₁_elim has.holds (λ x y. absurd x) (λ held. elim wanted [ inl unmade ↦ unmade_holds_none image has.db unmade held | inr torn ↦ torn_holds_none image has.db torn held ])
+
+module _ {D : Type 0} (g : Ghosts D) (before after : Files D) where
+  pub starts_as : IsLaidOut g before after → StartsAs g before after
+  starts_as it clean s (inl has) = subst (λ (i : Image). HasState i s) (sym (it.kept clean (no_state _ s has)).seen) has
+  starts_as it clean s (inr unmade) = made_state _ s (it.shown clean (inl unmade.0)) unmade.1
+
+  module _ (stays : SeenMayStay g) where
+    pub laid_out_keeps : IsLaidOut g before after → KeepsStart g before after
+    laid_out_keeps it clean s all image may = ∥∥₁_elim (all (image_of g before) (stays before.log, stays before.db)) squash₁ (λ (start : MayStart (image_of g before) s). elim start [
+      | inl has ↦ all image ((it.kept clean (no_state _ s has)).crash image may)
+      | inr unmade ↦ ∣ inl (made_state image s (it.made clean (inl unmade.0) image may) unmade.1) ∣₁
+    ])
+
+    pub not_laid_out_keeps : IsNotLaidOut g before after → KeepsStart g before after
+    not_laid_out_keeps it clean s all image may = ∥∥₁_elim (all (image_of g before) (stays before.log, stays before.db)) squash₁ (λ (start : MayStart (image_of g before) s). elim start [
+      | inl has ↦ all image ((it.kept clean (no_state _ s has)).crash image may)
+      | inr unmade ↦ elim (it.crash clean (not_torn _ unmade.0) image may) [
+        | inl was ↦ all image was
+        | inr other ↦ elim other [ inl none ↦ ∣ inr (none, unmade.1) ∣₁ | inr made ↦ ∣ inl (made_state image s made unmade.1) ∣₁ ]
+      ]
+    ])
+
+  -- a run over the files in which it was made is one from what they would have started as
+  pub started : (config : Config) (unread left held holds : Option (List ℕ)) (closed : Closed D) → IsLaidOut g before after → (AreClean g closed.files.log closed.files.db → AreClean g after.log after.db)
+      → Serves (volumes config) (image_model (image_of g after) closed.served.is_new) (seen config (files_model g closed.files closed.served.refusals closed.served.is_down)) unread left held holds closed.served.end
+      → Serves (volumes config) (start_model (image_of g before) closed.served.is_new) (seen config (files_model g closed.files closed.served.refusals closed.served.is_down)) unread left held holds closed.served.end
+  started config unread left held holds closed laid honest it =
+      let last = seen config (files_model g closed.files closed.served.refusals closed.served.is_down) in (
+        it.0,
+        it.1,
+        λ z s may.
+            let carries : Carries (image_model (image_of g after) closed.served.is_new) last (start_model (image_of g before) closed.served.is_new) last s = record {
+              refused = (refl, refl);
+              down = (refl, refl);
+              held = λ t has. has;
+              only = λ alone t there. absurd there;
+              left = λ a t has there. inl there;
+              tied = λ tied. tied;
+              ties = λ a has tied. tied;
+            } in
+            let had = elim may as (λ _. HasState (image_of g after) s ⊎ (IsTrue closed.served.is_new × (s ≡ first_state 1))) [
+              | inl start ↦ inl (starts_as laid (honest (clean_of (are_clean g closed.files.log closed.files.db) z)) s start)
+              | inr new ↦ inr new
+            ] in
+            ends (volumes config) (image_model (image_of g after) closed.served.is_new) last _ _ s carries it.0 _ held holds closed.served.end (it.2 z s had),
+      )

@@ -1,0 +1,52 @@
+-- What a database file and its log hold of volumes.
+use Rattle.std.specs.Prelude.{◌≡◌, ◌⊎◌, ℕ, Bool, false, IsTrue, ⊤}
+use Rattle.sqlite_disk.specs.declared.Disk as disk
+use Rattle.sqlite_disk.specs.declared.Files.{Files}
+use Rattle.sqlite_wal.specs.Files.{outcomes}
+use Rattle.sqlite_wal.specs.Reads.{are_clean}
+use Rattle.sqlite_wal.specs.Recovery.{Image}
+use Rattle.sqlite_trees.specs.Tree.{Trees}
+use Rattle.sqlite_trees.specs.View.{doubt}
+use Rattle.sqlite_catalog.specs.Listing.{IsSound}
+use Rattle.sqlite_store.specs.declared.store.FileStore.{FileStore}
+use Rattle.sqlite.specs.Files.{HoldsDatabase, IsOpened, file_state, image_of}
+use Rattle.sqlite.specs.Held.{Held}
+use Rattle.sqlite.specs.Start.{FindsIn}
+use Rattle.csi_keeper.specs.Model.{Model}
+use Rattle.csi_keeper.specs.State.{State, first_state}
+use Rattle.csi_schema.specs.Tables.{no_schema}
+use Rattle.csi_tables.specs.Holding.{IsEitherRows}
+use Rattle.csi_adoption.specs.Adopting.{IsStateOf}
+
+-- the trees are the rows of the State, or there is no table among them and it is the first State
+abbrev pub IsStateIn : Trees → State → Type 0
+IsStateIn db s = IsEitherRows s db ⊎ (IsSound no_schema db × (s ≡ first_state 1))
+
+-- The contents of two files are a database of the State. Such files are not opened only for want of memory, for a failure of the disk or for a limit.
+pub record HasState (image : Image) (s : State) : Type 0 where
+  pub db : Trees
+  pub holds : ∥ HoldsDatabase image db ∥₁
+  pub state : IsStateIn db s
+
+-- What contracts see of two files by their contents, from which calls are served. Where no table was found in them, their State is the first one.
+abbrev pub image_model : Image → Bool → Model State
+image_model image is_new = record { holds = λ s. HasState image s ⊎ (IsTrue is_new × (s ≡ first_state 1)); doubt = 0; refusals = 0; survivors = λ _. ⊥; tied = ⊤; is_down = false }
+
+module _ {D : Type 0} (g : disk.Ghosts D) where
+  -- an opening of files with these contents, over a disk that returns what they hold, may find a database of the State
+  pub record MayFind (image : Image) (s : State) : Type 0 where
+    pub conn : Held (FileStore D g)
+    pub opened : IsOpened conn
+    pub found : FindsIn image (file_state conn)
+    pub state : IsStateOf (file_state conn).committed s
+
+  -- What contracts see of two files that nobody has open. The States that a stop leaves are those that may be found in what it leaves of the files.
+  abbrev pub files_model : Files D → ℕ → Bool → Model State
+  files_model files refusals is_down = record {
+    holds = HasState (image_of g files);
+    doubt = doubt (are_clean g files.log files.db);
+    refusals = refusals;
+    survivors = λ s. (image : Image) × outcomes g files.log files.db image × MayFind image s;
+    tied = (image : Image) → outcomes g files.log files.db image → ∥ ((s : State) × HasState image s) ∥₁;
+    is_down = is_down;
+  }

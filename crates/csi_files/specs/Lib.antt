@@ -1,0 +1,9 @@
+pub mod Again
+pub mod Files
+pub mod Leaving
+pub mod Lives
+pub mod Making
+pub mod Over
+pub mod Path
+pub mod Serving
+pub mod Starting

@@ -1,0 +1,89 @@
+-- What files have of a database that is being made.
+use Rattle.std.specs.Prelude.{◌≡◌, ◌⊎◌, ◌<◌, ◌≤◌, ◌==◌, ℕ, List, length, slice_index, get_or, IsTrue}
+use Rattle.std.specs.List.{list_all}
+use Rattle.sqlite_disk.specs.declared.Disk as disk
+use Rattle.sqlite_disk.specs.declared.Files.{Files}
+use Rattle.sqlite_pages.specs.PageMap.{PageMap}
+use Rattle.sqlite_pool.specs.Opening.{IsBlankFile, IsNew}
+use Rattle.sqlite_pool.specs.Stored.{Recovers}
+use Rattle.sqlite_wal.specs.Files.{outcomes}
+use Rattle.sqlite_wal.specs.Reads.{AreClean}
+use Rattle.sqlite_wal.specs.Recovery.{Image}
+use Rattle.sqlite.specs.Files.{image_of}
+use Rattle.csi_files.specs.declared.making.TheConstants.{HEAD, LOG_WITH_FRAME_BYTES, PAGE_BYTES}
+
+-- no database is made yet: the database file is empty, or has what a stop left of its first page, of which the log then tells
+abbrev pub IsUnmade : Image → Type 0
+IsUnmade = IsBlankFile PAGE_BYTES
+
+-- the database file is empty, and its log is long enough for a change
+abbrev pub IsLost : Image → Type 0
+IsLost image = (length image.db ≡ 0) × (LOG_WITH_FRAME_BYTES ≤ length image.log)
+
+-- the database file is longer than a page
+abbrev pub IsLarger : Image → Type 0
+IsLarger image = PAGE_BYTES < length image.db
+
+-- a byte of the first page that earlier releases wrote: of its header, or 0 after it
+abbrev pub page_byte : ℕ → ℕ
+page_byte at = get_or HEAD at 0
+
+-- that page begins with these bytes
+abbrev pub BeginsPage : List ℕ → Type 0
+BeginsPage bytes = (i : ℕ) → i < length bytes → slice_index bytes i ≡ page_byte i
+
+-- a stop may have left these bytes of it: some of 0 alone, or fewer than its own
+pub record IsPart (bytes : List ℕ) : Type 0 where
+  pub some : 2 ≤ length bytes
+  pub fits : length bytes ≤ PAGE_BYTES
+  pub part : IsTrue (list_all (λ b. b == 0) bytes) ⊎ ((length bytes < PAGE_BYTES) × BeginsPage bytes)
+
+-- the database file has no more, and no log
+abbrev pub IsTorn : Image → Type 0
+IsTorn image = (length image.log ≡ 0) × IsPart image.db
+
+-- a database is to be made
+abbrev pub IsToMake : Image → Type 0
+IsToMake image = IsUnmade image ⊎ IsTorn image
+
+-- a database of one page, without tables
+abbrev pub IsMade : Image → Type 0
+IsMade image = (pages : PageMap) × Recovers PAGE_BYTES image pages × IsNew PAGE_BYTES pages
+
+module _ {D : Type 0} (g : disk.Ghosts D) where
+  -- reads return what they did, and a crash leaves nothing that it could not have left before
+  pub record AreAsBefore (before after : Files D) : Type 0 where
+    pub seen : image_of g after ≡ image_of g before
+    pub crash : (left : Image) → outcomes g after.log after.db left → outcomes g before.log before.db left
+
+  -- each outcome of a crash is one of before, no database, or the first page
+  abbrev pub MayMake : Files D → Files D → Type 0
+  MayMake before after = (left : Image) → outcomes g after.log after.db left → outcomes g before.log before.db left ⊎ (IsUnmade left ⊎ IsMade left)
+
+  -- The database is made where there was none. Each `Wanted` is of the contents of before.
+  pub record IsMadeOf (Wanted : Image → Type 0) (before after : Files D) : Type 0 where
+    pub clean : AreClean g after.log after.db → AreClean g before.log before.db
+    pub usable : IsTrue (g.is_usable after.log) × IsTrue (g.is_usable after.db)
+    pub made : AreClean g after.log after.db → Wanted (image_of g before) → (left : Image) → outcomes g after.log after.db left → IsMade left
+    pub shown : AreClean g after.log after.db → Wanted (image_of g before) → IsMade (image_of g after)
+    pub kept : AreClean g after.log after.db → ¬ Wanted (image_of g before) → AreAsBefore before after
+
+  -- of files without one
+  abbrev pub IsCreated : Files D → Files D → Type 0
+  IsCreated = IsMadeOf IsUnmade
+
+  -- and of those of an earlier release
+  abbrev pub IsLaidOut : Files D → Files D → Type 0
+  IsLaidOut = IsMadeOf IsToMake
+
+  -- it may have been made in part
+  pub record IsNotCreated (before after : Files D) : Type 0 where
+    pub clean : AreClean g after.log after.db → AreClean g before.log before.db
+    pub kept : AreClean g after.log after.db → ¬ IsUnmade (image_of g before) → AreAsBefore before after
+    pub crash : AreClean g after.log after.db → MayMake before after
+
+  -- The same. What a stop leaves of a first page of an earlier release is not said.
+  pub record IsNotLaidOut (before after : Files D) : Type 0 where
+    pub clean : AreClean g after.log after.db → AreClean g before.log before.db
+    pub kept : AreClean g after.log after.db → ¬ IsToMake (image_of g before) → AreAsBefore before after
+    pub crash : AreClean g after.log after.db → ¬ IsTorn (image_of g before) → MayMake before after

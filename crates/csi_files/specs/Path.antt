@@ -1,0 +1,49 @@
+-- The files at a path as disks, and why they were not closed after calls.
+use Rattle.std.specs.Prelude.{◌≡◌, ◌⊎◌, ℕ, Bool, true, false, List, Option, Err}
+use Rattle.sqlite_disk.specs.declared.Disk as disk
+use Rattle.sqlite_disk.specs.declared.calls.Calls as calls
+use Rattle.sqlite_disk.specs.declared.start.Start as start
+use Rattle.sqlite_disk.specs.declared.modelled.Modelled.{Modelled}
+use Rattle.sqlite_disk.specs.Events.{replay}
+use Rattle.sqlite_disk.specs.History.{MayLeave}
+use Rattle.sqlite_disk.specs.Modelled.{start_of}
+use Rattle.sqlite_disk.specs.declared.Files.{Files}
+use Rattle.sqlite_std_file.specs.declared.host.Host.{Host}
+use Rattle.sqlite_std_file.specs.File.{IsFresh}
+use Rattle.sqlite.specs.declared.error.Error.{Error}
+use Rattle.sqlite.specs.declared.error.Error.TheVariants.{SqliteFailure}
+use Rattle.sqlite.specs.declared.error.ErrorCode.TheVariants.{CannotOpen, DatabaseBusy, OutOfMemory}
+use Rattle.csi_config.specs.declared.config.Config.{Config}
+use Rattle.csi_files.specs.Serving.{AreUntouched, IsAsked}
+use Rattle.csi_files.specs.Starting.{IsNotStarted}
+use Rattle.csi_files.specs.declared.path.NotServedAt.{NotServedAt}
+use Rattle.csi_files.specs.declared.path.NotServedAt.TheVariants.{NoFiles, NotServed}
+
+module _ {C S : Type 0} {g : calls.Ghosts C} {first : start.Ghosts S} where
+  -- what is said of a file whose calls are recorded, by its record and by what it held
+  abbrev pub over_calls : disk.Ghosts (Modelled C S g first)
+  over_calls = record {
+    seen = λ f. (replay (start_of first f) (g.history f.calls)).seen;
+    may_leave = λ f. let m = replay (start_of first f) (g.history f.calls) in MayLeave first.is_mixing m.seen m.synced m.steps;
+    is_usable = λ f. (replay (start_of first f) (g.history f.calls)).is_usable;
+    faults = λ f. (replay (start_of first f) (g.history f.calls)).faults;
+    tally_of = λ f. let m = replay (start_of first f) (g.history f.calls) in record { caught = m.caught; refused = m.refused };
+    is_clean = λ f. (replay (start_of first f) (g.history f.calls)).is_honest;
+    key_of = λ f. (replay (start_of first f) (g.history f.calls)).key;
+    is_fair = λ f. (replay (start_of first f) (g.history f.calls)).is_fair;
+    is_frozen = λ _. false;
+    is_rotten = λ _ _ _. false;
+    is_mixing = λ _. first.is_mixing;
+  }
+
+-- the operating system did not give the files
+abbrev pub IsNoFile : Error → Type 0
+IsNoFile e = (e ≡ SqliteFailure CannotOpen) ⊎ ((e ≡ SqliteFailure OutOfMemory) ⊎ (e ≡ SqliteFailure DatabaseBusy))
+
+module _ {S : Type 0} {g : calls.Ghosts Host} (first : start.Ghosts S) (config : Config) (is_existing : Bool) (unread left held holds : Option (List ℕ)) where
+  -- why files that held what `first` says were not closed after calls, and what is left of them
+  abbrev pub IsNotServedAt : NotServedAt (Modelled Host S g first) over_calls → Type 0
+  IsNotServedAt (NoFiles error) = AreUntouched unread left held holds × IsNoFile error
+  IsNotServedAt (NotServed e) =
+      ((files : Files (Modelled Host S g first)) × IsFresh true files.log × IsFresh false files.db × IsNotStarted over_calls config files unread left held holds e)
+      × IsAsked over_calls is_existing (Err e)

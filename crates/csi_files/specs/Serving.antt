@@ -1,0 +1,155 @@
+-- What is served over two files and what is left of them, where they are not closed in the end.
+use Rattle.std.specs.Prelude.{◌≡◌, ◌⊎◌, ◌↔◌, ◌<◌, ℕ, Bool, true, false, List, [], Option, Result, Ok, Err, IsTrue, ⊤}
+use Rattle.std.specs.Io.KnownBytes.{Consumes, IsAtEnd}
+use Rattle.sqlite_disk.specs.declared.Disk as disk
+use Rattle.sqlite_disk.specs.declared.Files.{Files}
+use Rattle.sqlite_wal.specs.Files.{outcomes}
+use Rattle.sqlite_wal.specs.Reads.{AreClean}
+use Rattle.sqlite_wal.specs.Recovery.{Image}
+use Rattle.sqlite_trees.specs.Tree.{Trees}
+use Rattle.sqlite_trees.specs.View.{IsClean}
+use Rattle.sqlite_trees.specs.declared.error.StoreError.{StoreError}
+use Rattle.sqlite_store.specs.FileStore.{recovers, view}
+use Rattle.sqlite_store.specs.declared.store.FileStore.{FileStore}
+use Rattle.sqlite.specs.Files.{FailsToOpenFiles, HoldsDatabase, IsCleanLeft, IsOpened, LeavesFiles, file_state}
+use Rattle.sqlite.specs.Held.{Held}
+use Rattle.sqlite.specs.Start.{FindsIn}
+use Rattle.sqlite.specs.Effect.{Database, IsDatabase}
+use Rattle.sqlite.specs.State.{HasCleanDisk, store_error}
+use Rattle.sqlite.specs.declared.error.Error.{Error}
+use Rattle.sqlite.specs.declared.file.Leftover.{Leftover}
+use Rattle.csi_config.specs.declared.config.Config.{Config}
+use Rattle.csi_keeper.specs.Invariant.{IsInvariant}
+use Rattle.csi_keeper.specs.Model.{Model}
+use Rattle.csi_keeper.specs.State.{State, first_state}
+use Rattle.csi_keeper.specs.declared.change.StoreFault.TheVariants.{Refused}
+use Rattle.csi_schema.specs.Tables.{no_schema}
+use Rattle.csi_tables.specs.Holding.{IsRows}
+use Rattle.csi_judging.specs.Faults.{is_failure}
+use Rattle.csi_judging.specs.declared.fault.AdoptFault.{AdoptFault}
+use Rattle.csi_judging.specs.declared.fault.AdoptFault.TheVariants.{Foreign}
+use Rattle.csi_judging.specs.declared.fault.Foreign.TheVariants as foreign
+use Rattle.csi_adoption.specs.Judging.{IsFaultOf}
+use Rattle.csi_server.specs.Machine.{Event, Machine, state_after}
+use Rattle.csi_server.specs.Serving.{Ended}
+use Rattle.csi_server.specs.Volumes.{IsPending, volumes}
+use Rattle.csi_server.specs.declared.end.RunEnd.{RunEnd}
+use Rattle.csi_server.specs.declared.end.RunEnd.TheVariants.{Done, Malformed, ReadFailed, TurnsSpent, WriteFailed, NoMemory}
+use Rattle.csi_files.specs.Files.{HasState, IsStateIn, image_model}
+use Rattle.csi_files.specs.declared.over.Served.{Served}
+use Rattle.csi_files.specs.declared.serving.Closed.{Closed}
+use Rattle.csi_files.specs.declared.serving.NotServed.{NotServed}
+use Rattle.csi_files.specs.declared.serving.NotServed.TheVariants.{NotOpened, Blank, NotAdopted, NotCopied, Left, NotClosed}
+
+-- the calls that a run answered, by the way it ended
+abbrev pub events_of : {S : Type 0} (m : Machine S) (old new : Model S) (s : S) (read : List ℕ) (AtEnd : Type 0) (held holds : Option (List ℕ)) (end : RunEnd)
+    → Ended m old new s read AtEnd held holds end → List Event
+events_of m old new s read AtEnd held holds Done it = it.0.events
+events_of m old new s read AtEnd held holds (Malformed f) it = it.0.events
+events_of m old new s read AtEnd held holds ReadFailed it = it.events
+events_of m old new s read AtEnd held holds TurnsSpent it = it.0.events
+events_of m old new s read AtEnd held holds WriteFailed it = it.events
+events_of m old new s read AtEnd held holds NoMemory it = []
+
+-- the store refused some
+abbrev pub HasRefused : Served → Type 0
+HasRefused served = IsTrue served.is_down ⊎ (0 < served.refusals)
+
+-- what contracts see of a store by its counts alone: how many calls it refused, and whether it is down
+abbrev pub counts_model : ℕ → Bool → Model State
+counts_model refusals is_down = record { holds = λ _. ⊤; doubt = 0; refusals = refusals; survivors = λ _. ⊥; tied = ⊤; is_down = is_down }
+
+-- The State after these calls, or the one that a refused call among them would have made, whose request was read and passed the checks and after which no call moved the State.
+-- It meets the invariant.
+pub record IsStateAfter (config : Config) (s : State) (events : List Event) (t : State) : Type 0 where
+  pub is : (t ≡ state_after (volumes config) s events) ⊎ IsPending config s events t
+  pub invariant : IsInvariant config t
+
+-- the run says whether the database that the files had was without tables
+abbrev pub SaysNew : Image → Served → Type 0
+SaysNew was served = (db : Database) → ∥ HoldsDatabase was db.trees ∥₁ → IsDatabase db → IsTrue served.is_new ↔ (db.schema ≡ no_schema)
+
+module _ {D : Type 0} (g : disk.Ghosts D) where
+  -- each outcome of a crash has the State that the files had
+  abbrev pub Keeps : Image → Files D → Type 0
+  Keeps was now = AreClean g now.log now.db → (s : State) → HasState was s → (image : Image) → outcomes g now.log now.db image → ∥ HasState image s ∥₁
+
+  -- the database that the files had is in each outcome of a crash, or the State that it had
+  abbrev pub KeepsDatabase : Image → Files D → Type 0
+  KeepsDatabase was now = AreClean g now.log now.db → (db : Database) → ∥ HoldsDatabase was db.trees ∥₁ → IsDatabase db → (image : Image) → outcomes g now.log now.db image
+      → ∥ (HoldsDatabase image db.trees ⊎ ((s : State) × IsStateIn db.trees s × HasState image s)) ∥₁
+
+  -- No table exists. The files keep what they had: the first State alone.
+  pub record HasNone (was : Image) (now : Files D) : Type 0 where
+    pub state : Keeps was now
+    pub first : AreClean g now.log now.db → (s : State) → HasState was s → s ≡ first_state 1
+
+  -- Tables that are not adopted. The files keep what they had. Rows of a State that meets every constraint are refused only where the disk or memory failed; otherwise the fault is the first one
+  -- of the database. Where the store shut itself, no row is judged, and `Foreign::Schema` may be answered.
+  pub record Refuses (config : Config) (was : Image) (fault : AdoptFault) (now : Files D) : Type 0 where
+    pub state : Keeps was now
+    pub database : KeepsDatabase was now
+    pub sound : AreClean g now.log now.db → (s : State) → HasState was s → IsInvariant config s → (is_failure fault ≡ true) ⊎ (fault ≡ Foreign foreign.Schema)
+    pub first : AreClean g now.log now.db → (db : Database) → ∥ HoldsDatabase was db.trees ∥₁ → IsDatabase db → is_failure fault ≡ false → IsFaultOf config db fault ⊎ (fault ≡ Foreign foreign.Schema)
+
+  -- each outcome of a crash has the State after the calls, or one that a refused call would have made
+  abbrev pub LeavesAfter : Config → Files D → State → List Event → Type 0
+  LeavesAfter config now s events = (image : Image) → outcomes g now.log now.db image → ∥ ((t : State) × HasState image t × IsStateAfter config s events t) ∥₁
+
+module _ {D : Type 0} {g : disk.Ghosts D} where
+  -- so have the databases that the store reads in what a crash leaves
+  abbrev pub ReadsAfter : Config → FileStore D g → State → List Event → Type 0
+  ReadsAfter config store s events = (db : Trees) → recovers store db → (t : State) × IsRows t db × IsStateAfter config s events t
+
+module _ (config : Config) (was : Image) (unread left held holds : Option (List ℕ)) where
+  -- Calls were served from the State of files with these contents, and this is so of what the calls left.
+  pub record ServesThen (served : Served) (Clean : Type 0) (Leaves : State → List Event → Type 0) : Type 0 where
+    pub read : List ℕ
+    pub consumed : Consumes unread left read
+    pub new : Clean → SaysNew was served
+    pub ended : Clean → (s : State) → (image_model was served.is_new).holds s
+        → (run : Ended (volumes config) (counts_model 0 false) (counts_model served.refusals served.is_down) s read (IsAtEnd left) held holds served.end)
+        × IsInvariant config s
+        × Leaves s (events_of (volumes config) (counts_model 0 false) (counts_model served.refusals served.is_down) s read (IsAtEnd left) held holds served.end run)
+
+-- nothing was read or written
+abbrev pub AreUntouched : Option (List ℕ) → Option (List ℕ) → Option (List ℕ) → Option (List ℕ) → Type 0
+AreUntouched unread left held holds = (left ≡ unread) × (holds ≡ held)
+
+module _ {D : Type 0} (g : disk.Ghosts D) where
+  -- why files that had these contents were not closed after calls, and what is left of them; a clause of its own says what is so where they were not opened
+  abbrev pub IsNotServed : Config → Image → Option (List ℕ) → Option (List ℕ) → Option (List ℕ) → Option (List ℕ) → (Error → Leftover D g → Type 0) → NotServed D g → Type 0
+  IsNotServed config was unread left held holds Unopened (NotOpened error rest) = Unopened error rest
+  IsNotServed config was unread left held holds Unopened (Blank now) = AreUntouched unread left held holds × HasNone g was now
+  IsNotServed config was unread left held holds Unopened (NotAdopted fault now) = AreUntouched unread left held holds × Refuses g config was fault now
+  IsNotServed config was unread left held holds Unopened (NotCopied fault now) = AreUntouched unread left held holds × Keeps g was now × (fault ≡ Refused)
+  IsNotServed config was unread left held holds Unopened (Left served now) = HasRefused served × ServesThen config was unread left held holds served (AreClean g now.log now.db) (LeavesAfter g config now)
+  IsNotServed config was unread left held holds Unopened (NotClosed served error store) = ((cause : StoreError) × (error ≡ store_error cause)) × ServesThen config was unread left held holds served (IsClean (view store)) (ReadsAfter config store)
+
+  -- why files were not opened, and what is left of them
+  abbrev pub IsNotOpened : Files D → Error → Leftover D g → Type 0
+  IsNotOpened files error rest = IsCleanLeft rest → FailsToOpenFiles files rest error × LeavesFiles files rest
+
+  -- a connection that an opening of files with these contents gives
+  abbrev pub Opens : Image → Held (FileStore D g) → Type 0
+  Opens was conn = HasCleanDisk (file_state conn) → IsOpened conn × FindsIn was (file_state conn)
+
+  -- what calls came to, also where the files were not closed after them
+  abbrev pub AllServed : (Served → Type 0) → Result (Closed D) (NotServed D g) → Type 0
+  AllServed P (Ok closed) = P closed.served
+  AllServed P (Err (NotOpened error rest)) = ⊤
+  AllServed P (Err (Blank now)) = ⊤
+  AllServed P (Err (NotAdopted fault now)) = ⊤
+  AllServed P (Err (NotCopied fault now)) = ⊤
+  AllServed P (Err (Left served now)) = P served
+  AllServed P (Err (NotClosed served error store)) = P served
+
+  -- files without a table are refused where they had to have some, and nowhere else
+  abbrev pub IsAsked : Bool → Result (Closed D) (NotServed D g) → Type 0
+  IsAsked is_existing (Ok closed) = IsTrue is_existing → closed.served.is_new ≡ false
+  IsAsked is_existing (Err (NotOpened error rest)) = ⊤
+  IsAsked is_existing (Err (Blank now)) = IsTrue is_existing
+  IsAsked is_existing (Err (NotAdopted fault now)) = ⊤
+  IsAsked is_existing (Err (NotCopied fault now)) = ⊤
+  IsAsked is_existing (Err (Left served now)) = IsTrue is_existing → served.is_new ≡ false
+  IsAsked is_existing (Err (NotClosed served error store)) = IsTrue is_existing → served.is_new ≡ false

@@ -1,0 +1,69 @@
+-- Files from which a run may start, a first one too.
+use Rattle.std.specs.Prelude.{◌≡◌, ◌⊎◌, ℕ, Bool, List, Option, IsTrue}
+use Rattle.sqlite_disk.specs.declared.Disk as disk
+use Rattle.sqlite_disk.specs.declared.Files.{Files}
+use Rattle.sqlite_wal.specs.Files.{outcomes}
+use Rattle.sqlite_wal.specs.Reads.{AreClean}
+use Rattle.sqlite_wal.specs.Recovery.{Image}
+use Rattle.sqlite_trees.specs.View.{IsClean}
+use Rattle.sqlite_store.specs.FileStore.{view}
+use Rattle.sqlite.specs.Files.{image_of}
+use Rattle.sqlite.specs.declared.error.Error.{Error}
+use Rattle.sqlite.specs.declared.file.Leftover.{Leftover}
+use Rattle.sqlite.specs.declared.file.Leftover.TheVariants as left
+use Rattle.csi_config.specs.declared.config.Config.{Config}
+use Rattle.csi_keeper.specs.Model.{Model}
+use Rattle.csi_keeper.specs.State.{State, first_state}
+use Rattle.csi_files.specs.Files.{HasState, image_model}
+use Rattle.csi_files.specs.Making.{IsLaidOut, IsNotLaidOut, IsUnmade}
+use Rattle.csi_files.specs.Serving.{AreUntouched, IsNotOpened, IsNotServed}
+use Rattle.csi_files.specs.declared.serving.NotServed.{NotServed}
+use Rattle.csi_files.specs.declared.serving.NotServed.TheVariants.{NotOpened, Blank, NotAdopted, NotCopied, Left, NotClosed}
+
+-- Contents of two files from which a run may start as this State: they hold a database of it, or none yet, and it is the first State.
+abbrev pub MayStart : Image → State → Type 0
+MayStart image s = HasState image s ⊎ (IsUnmade image × (s ≡ first_state 1))
+
+-- what contracts see of such files
+abbrev pub start_model : Image → Bool → Model State
+start_model image is_new = record (image_model image is_new) { holds = λ s. MayStart image s ⊎ (IsTrue is_new × (s ≡ first_state 1)) }
+
+module _ {D : Type 0} (g : disk.Ghosts D) where
+  -- a run may start as this State from each outcome of a crash
+  abbrev pub MayStartAgain : Files D → State → Type 0
+  MayStartAgain files s = (image : Image) → outcomes g files.log files.db image → ∥ MayStart image s ∥₁
+
+  -- the State that a run would have started as is had now
+  abbrev pub StartsAs : Files D → Files D → Type 0
+  StartsAs before after = AreClean g after.log after.db → (s : State) → MayStart (image_of g before) s → HasState (image_of g after) s
+
+  -- and after a crash a run starts as the State that it would have started as after an earlier one
+  abbrev pub KeepsStart : Files D → Files D → Type 0
+  KeepsStart before after = AreClean g after.log after.db → (s : State) → MayStartAgain before s → MayStartAgain after s
+
+module _ {D : Type 0} {g : disk.Ghosts D} where
+  -- the disk told the truth to the end, of files that were opened
+  abbrev pub EndsClean : NotServed D g → Type 0
+  EndsClean (NotOpened error rest) = ⊥
+  EndsClean (Blank now) = AreClean g now.log now.db
+  EndsClean (NotAdopted fault now) = AreClean g now.log now.db
+  EndsClean (NotCopied fault now) = AreClean g now.log now.db
+  EndsClean (Left served now) = AreClean g now.log now.db
+  EndsClean (NotClosed served error store) = IsClean (view store)
+
+  -- no database was made
+  abbrev pub IsLeftUnmade : Files D → Leftover D g → Type 0
+  IsLeftUnmade before (left.Files now) = IsNotLaidOut g before now × KeepsStart g before now
+  IsLeftUnmade before (left.Unopened now) = ⊥
+  IsLeftUnmade before (left.Store now) = ⊥
+
+module _ {D : Type 0} (g : disk.Ghosts D) where
+  -- one was not made, or what was made was not opened
+  abbrev pub IsNotMade : Files D → Error → Leftover D g → Type 0
+  IsNotMade before error rest = IsLeftUnmade before rest ⊎ ((laid : Files D) × IsLaidOut g before laid × IsNotOpened g laid error rest)
+
+  -- why files are not closed after a database was made where there was none: what is said of their contents then, which had the State that a run would have started as
+  pub record IsNotStarted (config : Config) (before : Files D) (unread left held holds : Option (List ℕ)) (e : NotServed D g) : Type 0 where
+    pub was : Image
+    pub starts : EndsClean e → (s : State) → MayStart (image_of g before) s → HasState was s
+    pub why : IsNotServed g config was unread left held holds (λ error rest. AreUntouched unread left held holds × IsNotMade before error rest) e

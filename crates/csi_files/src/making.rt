@@ -1,0 +1,279 @@
+//! How a database file is made that has none yet.
+
+ghost use Rattle.std.specs.Prelude.{◌≡◌, ◌≢◌, ◌↔◌, ◌<◌, ◌==◌, length, IfErr, IfOk, IsTrue, OnOk};
+ghost use Rattle.std.specs.List.{list_all};
+ghost use Rattle.sqlite_wal.specs.Reads.{AreClean, OnlyReads};
+ghost use Rattle.sqlite.specs.Files.{image_of};
+ghost use Rattle.sqlite_pool.specs.Opening.{AreUsable};
+ghost use Rattle.sqlite_pool.specs.Pool.{state, files};
+ghost use Rattle.csi_files.specs.Making.{AreAsBefore, BeginsPage, IsCreated, IsLaidOut, IsLarger, IsLost, IsNotCreated, IsNotLaidOut, IsPart, IsTorn, IsUnmade, page_byte};
+ghost use Rattle.csi_files.specs.Starting.{KeepsStart, StartsAs};
+ghost use Rattle.csi_files.specs.declared.making.TheConstants.{PAGE_BYTES};
+
+use sqlite_disk::{Disk, Files};
+use sqlite_pager::{Options, Pager};
+use sqlite_pages::Error;
+use sqlite_pool::Pool;
+use sqlite_wal::PageSize;
+use std::alloc::{AllocFailed, Global};
+use std::io::{self, ErrorKind};
+
+// The bytes of a page of a file that is made. A change writes each page whole that it touches, some five of them, and most rows have a few hundred
+// bytes: SQLite's own choice, 4,096, is four times as much to write.
+const PAGE_BYTES: usize = 1024;
+
+// The header of SQLite's log, and after it the least frame: its own header and a page.
+const LOG_WITH_FRAME_BYTES: usize = 32 + 24 + 512;
+
+// How the first page began that earlier releases wrote, which a stop could tear: its header, and a leaf of no cells. All else of it is 0.
+const HEAD: [u8; 108] = *b"SQLite format 3\0\
+    \x04\x00\x02\x02\x00\x40\x20\x20\0\0\0\0\0\0\0\x01\
+    \0\0\0\0\0\0\0\0\0\0\0\0\0\0\0\x04\
+    \0\0\0\0\0\0\0\0\0\0\0\x01\0\0\0\0\
+    \0\0\0\0\0\0\0\0\0\0\0\0\0\0\0\0\
+    \0\0\0\0\0\0\0\0\0\0\0\0\0\0\0\0\
+    \x00\x2e\x76\x88\x0d\0\0\0\0\x04\0\0";
+
+/// Why no database was made.
+#[derive(Clone, Copy, Debug)]
+pub enum NotLaidOut {
+    /// The database file is empty, and its log is long enough for changes, which would be lost.
+    Emptied,
+    /// The files could not be read or written, or memory was refused.
+    Failed(Error),
+}
+
+// Only the first page is written, so there is nothing to keep in memory.
+fn options(seed: u64) -> Options {
+    Options {
+        cache_pages: 1,
+        spill_pages: 1,
+        checkpoint_frames: 1,
+        seed,
+    }
+}
+
+// The pages of files, which are not read yet.
+fn pages_of<D: Disk>(alloc: Global, pair: Files<D>, seed: u64) -> Result<Pool<D>, Files<D>>
+    ensures back { IfErr result (λ left. left ≡ pair) }
+    ensures size { IfOk result (λ pool. (state pool).page_size ≡ PAGE_BYTES) }
+    ensures files { IfOk result (λ pool. files pool ≡ (pair.log, pair.db)) }
+{
+    let size = PageSize::new(PAGE_BYTES).unwrap();
+    let pager = match Pager::new(alloc, pair, size, options(seed)) {
+        Ok(pager) => pager,
+        Err(AllocFailed { value }) => return Err(value),
+    };
+    match Pool::new(alloc, pager, false) {
+        Ok(pool) => Ok(pool),
+        Err(AllocFailed { value }) => Err(value.close()),
+    }
+}
+
+// Files that are given back, unless a sync of one has failed.
+fn given_back<D: Disk>(pool: Pool<D>) -> Result<Files<D>, (Error, Files<D>)>
+    ensures ok { IfOk result (λ pair. ((pair.log, pair.db) ≡ files pool) × IsTrue (D.Disk.is_usable pair.log) × IsTrue (D.Disk.is_usable pair.db)) }
+    ensures err { IfErr result (λ e. (e.1.log, e.1.db) ≡ files pool) }
+{
+    let pair = pool.close();
+    if pair.may_be_used() {
+        Ok(pair)
+    } else {
+        Err((Error::Io, pair))
+    }
+}
+
+// Makes an empty database of files that hold none yet, and leaves others as they are.
+fn make<D: Disk>(alloc: Global, pair: Files<D>, seed: u64) -> Result<Files<D>, (Error, Files<D>)>
+    requires log { IsTrue (D.Disk.is_usable pair.log) }
+    requires db { IsTrue (D.Disk.is_usable pair.db) }
+    ensures created { IfOk result (IsCreated D.Disk pair) }
+    ensures not_created { IfErr result (λ e. IsNotCreated D.Disk pair e.1) }
+{
+    let mut pool = match pages_of(alloc, pair, seed) {
+        Ok(pool) => pool,
+        Err(left) => return Err((Error::OutOfMemory, left)),
+    };
+    match pool.create() {
+        Ok(()) => given_back(pool),
+        Err(Error::Corrupt) => given_back(pool),
+        Err(error) => Err((error, pool.close())),
+    }
+}
+
+// What is seen of files by their lengths, so that nothing of a database is read or synced here.
+#[derive(Clone, Copy)]
+enum Lengths {
+    // The database file is longer than a page.
+    Larger,
+    // It is empty, and its log may have changes.
+    Emptied,
+    // Neither.
+    Short,
+}
+
+fn lengths_of<D: Disk>(pair: &mut Files<D>) -> io::Result<Lengths>
+    requires log { IsTrue (D.Disk.is_usable pair.old.log) }
+    requires db { IsTrue (D.Disk.is_usable pair.old.db) }
+    ensures larger { IfOk result (λ is. AreClean D.Disk pair.new.log pair.new.db → (is ≡ Lengths.Larger) ↔ IsLarger (image_of D.Disk pair.old)) }
+    ensures emptied { IfOk result (λ is. AreClean D.Disk pair.new.log pair.new.db → (is ≡ Lengths.Emptied) ↔ IsLost (image_of D.Disk pair.old)) }
+    ensures log { OnlyReads D.Disk pair.old.log pair.new.log }
+    ensures db { OnlyReads D.Disk pair.old.db pair.new.db }
+{
+    let len = pair.db.len()?;
+    let log = pair.log.len()?;
+    if len > PAGE_BYTES {
+        return Ok(Lengths::Larger);
+    }
+    if len == 0 && log >= LOG_WITH_FRAME_BYTES {
+        return Ok(Lengths::Emptied);
+    }
+    Ok(Lengths::Short)
+}
+
+fn is_zero(bytes: &[u8]) -> bool
+    ensures { result ≡ list_all (λ b. b == 0) bytes.now }
+{
+    bytes.iter().all(|byte| *byte == 0)
+}
+
+// A byte of that page.
+fn page_byte(at: usize) -> u8
+    ensures { result ≡ page_byte at }
+{
+    if at < HEAD.len() { HEAD[at] } else { 0 }
+}
+
+// Whether that page begins with these bytes.
+fn begins_page(bytes: &[u8]) -> bool
+    ensures { IsTrue result ↔ BeginsPage bytes.now }
+{
+    for at in 0..bytes.len() {
+        if bytes[at] != page_byte(at) {
+            return false;
+        }
+    }
+    true
+}
+
+// Whether a stop may have left these bytes of it.
+fn is_torn(bytes: &[u8]) -> bool
+    ensures { IsTrue result ↔ IsPart bytes.now }
+{
+    let len = bytes.len();
+    if len < 2 || len > PAGE_BYTES {
+        return false;
+    }
+    is_zero(bytes) || (len < PAGE_BYTES && begins_page(bytes))
+}
+
+// Whether a file has no more than that. There is room for all of it.
+fn reads_torn<D: Disk>(file: &mut D, room: &mut [u8]) -> io::Result<bool>
+    requires { IsTrue (D.Disk.is_usable file.old) }
+    ensures is { IfOk result (λ is. IsTrue (D.Disk.is_clean file.new) → length room.old ≡ length (D.Disk.seen file.old) → 0 < length room.old → (IsTrue is ↔ IsPart (D.Disk.seen file.old))) }
+    ensures read { OnlyReads D.Disk file.old file.new }
+{
+    file.read_at(0, room)?;
+    Ok(is_torn(room))
+}
+
+// The same of so many bytes.
+fn has_torn<D: Disk>(alloc: Global, file: &mut D, len: usize) -> io::Result<bool>
+    requires { IsTrue (D.Disk.is_usable file.old) }
+    ensures is { IfOk result (λ is. IsTrue (D.Disk.is_clean file.new) → len ≡ length (D.Disk.seen file.old) → 0 < len → (IsTrue is ↔ IsPart (D.Disk.seen file.old))) }
+    ensures read { OnlyReads D.Disk file.old file.new }
+{
+    let mut bytes = vec![in alloc; 0; len]?;
+    reads_torn(file, bytes.as_mut_slice())
+}
+
+// Whether the database file has no more than that, and no log.
+fn holds_torn<D: Disk>(alloc: Global, pair: &mut Files<D>) -> io::Result<bool>
+    requires log { IsTrue (D.Disk.is_usable pair.old.log) }
+    requires db { IsTrue (D.Disk.is_usable pair.old.db) }
+    ensures is { IfOk result (λ is. AreClean D.Disk pair.new.log pair.new.db → (IsTrue is ↔ IsTorn (image_of D.Disk pair.old))) }
+    ensures log { OnlyReads D.Disk pair.old.log pair.new.log }
+    ensures db { OnlyReads D.Disk pair.old.db pair.new.db }
+{
+    let log = pair.log.len()?;
+    let len = pair.db.len()?;
+    if log > 0 || len < 2 || len > PAGE_BYTES {
+        return Ok(false);
+    }
+    has_torn(alloc, &mut pair.db, len)
+}
+
+// Leaves no byte of it.
+fn clear<D: Disk>(db: &mut D) -> io::Result<()>
+    requires { IsTrue (D.Disk.is_usable db.old) }
+    ensures empty { OnOk result (length (D.Disk.seen db.new) ≡ 0) }
+    ensures usable { OnOk result (IsTrue (D.Disk.is_usable db.new)) }
+    ensures clean { IsTrue (D.Disk.is_clean db.new) → IsTrue (D.Disk.is_clean db.old) }
+{
+    db.set_len(0)?;
+    db.sync()
+}
+
+// Clears a file that has what a stop left of that page.
+fn clear_torn<D: Disk>(alloc: Global, pair: &mut Files<D>) -> io::Result<()>
+    requires log { IsTrue (D.Disk.is_usable pair.old.log) }
+    requires db { IsTrue (D.Disk.is_usable pair.old.db) }
+    ensures clean { AreClean D.Disk pair.new.log pair.new.db → AreClean D.Disk pair.old.log pair.old.db }
+    ensures kept { AreClean D.Disk pair.new.log pair.new.db → ¬ IsTorn (image_of D.Disk pair.old) → AreAsBefore D.Disk pair.old pair.new }
+    ensures cleared { OnOk result (AreClean D.Disk pair.new.log pair.new.db → IsTorn (image_of D.Disk pair.old) → IsUnmade (image_of D.Disk pair.new)) }
+    ensures usable { OnOk result (IsTrue (D.Disk.is_usable pair.new.log) × IsTrue (D.Disk.is_usable pair.new.db)) }
+{
+    if holds_torn(alloc, pair)? {
+        return clear(&mut pair.db);
+    }
+    Ok(())
+}
+
+// Why it was not cleared.
+fn failed(error: io::Error) -> NotLaidOut
+    ensures { result ≢ NotLaidOut.Emptied }
+{
+    if error.kind() == ErrorKind::OutOfMemory {
+        NotLaidOut::Failed(Error::OutOfMemory)
+    } else {
+        NotLaidOut::Failed(Error::Io)
+    }
+}
+
+/// Makes an empty database of files that hold none yet: new files, and what a stop left of an earlier call. Other files stay as they are. Wherever it
+/// stops, the next call makes it.
+///
+/// A first page that an earlier release was stopped in, bytes of 0 or its beginning without a log, is cleared first.
+///
+/// # Errors
+///
+/// Where the log of an empty file may have changes, the files cannot be read or written, or memory is refused. The files come back: unchanged in the first
+/// case, otherwise with what a stop might have left.
+pub fn lay_out<D: Disk>(
+    alloc: Global,
+    mut pair: Files<D>,
+    seed: u64,
+) -> Result<Files<D>, (NotLaidOut, Files<D>)>
+    requires log { IsTrue (D.Disk.is_usable pair.log) }
+    requires db { IsTrue (D.Disk.is_usable pair.db) }
+    ensures laid_out { IfOk result (IsLaidOut D.Disk pair) }
+    ensures not_lost { IfOk result (λ after. AreClean D.Disk after.log after.db → ¬ IsLost (image_of D.Disk pair)) }
+    ensures not_laid_out { IfErr result (λ e. IsNotLaidOut D.Disk pair e.1) }
+    ensures starts { IfOk result (λ after. StartsAs D.Disk pair after × KeepsStart D.Disk pair after) }
+    ensures kept { IfErr result (λ e. KeepsStart D.Disk pair e.1) }
+    ensures emptied { IfErr result (λ e. e.0 ≡ NotLaidOut.Emptied → AreAsBefore D.Disk pair e.1 × (AreClean D.Disk e.1.log e.1.db → IsLost (image_of D.Disk pair))) }
+{
+    match lengths_of(&mut pair) {
+        Ok(Lengths::Larger) => return Ok(pair),
+        Ok(Lengths::Emptied) => return Err((NotLaidOut::Emptied, pair)),
+        Ok(Lengths::Short) => {}
+        Err(error) => return Err((failed(error), pair)),
+    }
+    if let Err(error) = clear_torn(alloc, &mut pair) {
+        return Err((failed(error), pair));
+    }
+    match make(alloc, pair, seed) {
+        Ok(pair) => Ok(pair),
+        Err((error, pair)) => Err((NotLaidOut::Failed(error), pair)),
+    }
+}

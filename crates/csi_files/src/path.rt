@@ -1,0 +1,138 @@
+//! Calls over the files at a path.
+
+ghost use Rattle.std.specs.Prelude.{◌≡◌, false, true, IfErr, IfOk, IsTrue};
+ghost use Rattle.sqlite_std_file.specs.File.{IsFresh, file_is_usable};
+ghost use Rattle.sqlite_wal.specs.Files.{image_at};
+ghost use Rattle.csi_server.specs.Serving.{Serves};
+ghost use Rattle.csi_server.specs.Volumes.{seen, volumes};
+ghost use Rattle.csi_files.specs.Files.{files_model};
+ghost use Rattle.csi_files.specs.Path.{IsNoFile, IsNotServedAt, over_calls};
+ghost use Rattle.csi_files.specs.Starting.{start_model};
+
+use crate::over::{Observer, ServeOptions};
+use crate::serving::{Closed, NotServed};
+use crate::starting::{open_made, serve_made};
+use csi_config::Config;
+use sqlite::{Connection, Error, ErrorCode, FileFrom, FileStore, Files, Options, Start};
+use sqlite_disk::Disk;
+use sqlite_std_file::{OpenError, open};
+use std::hash::{BuildHasher, RandomState};
+use std::io::{ErrorKind, Read, Write};
+
+const NO_MEMORY: Error = Error::SqliteFailure(ErrorCode::OutOfMemory);
+
+const CANNOT_OPEN: Error = Error::SqliteFailure(ErrorCode::CannotOpen);
+
+const BUSY: Error = Error::SqliteFailure(ErrorCode::DatabaseBusy);
+
+/// Why the files at a path were not closed after calls, and what is left of them.
+#[derive(Drop)]
+pub enum NotServedAt<D: Disk> {
+    /// The operating system did not give them.
+    NoFiles(Error),
+    /// It gave them.
+    NotServed(NotServed<D>),
+}
+
+// The files at a path, which are made where they are missing. SQLite takes `:memory:` and a URI for something else than a file.
+fn files_at<S: Start>(rt: &HostRuntime, path: &str, start: S) -> Result<Files<FileFrom<S>>, Error>
+    ensures usable { IfOk result (λ files. IsTrue (file_is_usable S.Start files.log) × IsTrue (file_is_usable S.Start files.db)) }
+    ensures fresh { IfOk result (λ files. IsFresh true files.log × IsFresh false files.db) }
+    ensures failed { IfErr result IsNoFile }
+{
+    if path == ":memory:" || path.starts_with("file:") {
+        return Err(CANNOT_OPEN);
+    }
+    match open(rt, path, start) {
+        Ok(files) => Ok(files),
+        Err(OpenError::OutOfMemory) => Err(NO_MEMORY),
+        Err(OpenError::Busy) => Err(BUSY),
+        Err(OpenError::Io(error)) if error.kind() == ErrorKind::OutOfMemory => Err(NO_MEMORY),
+        Err(_) => Err(CANNOT_OPEN),
+    }
+}
+
+// How files are opened: with a seed drawn at random, by which the frames of a new log are told from those of an old one.
+fn opening(rt: &HostRuntime) -> Result<Options, Error>
+    ensures { IfErr result IsNoFile }
+{
+    match RandomState::new(rt) {
+        Ok(state) => Ok(Options::new(state.hash_one(&0u8))),
+        Err(_) => Err(CANNOT_OPEN),
+    }
+}
+
+/// Serves the volume machine over the database file at a path and its log, as [`serve_made`] does over files. `start` stands for what the files held; the clauses
+/// hold for whatever that was.
+///
+/// That these are the files at the path, and that nobody else writes to them, is trusted, as in `sqlite_std_file::open`.
+///
+/// # Errors
+///
+/// As of [`serve_made`]; also where the operating system does not give the files. No call is read then.
+pub fn serve_path<S: Start, O: Observer, R: Read, W: Write>(
+    rt: &HostRuntime,
+    config: &Config,
+    path: &str,
+    start: S,
+    options: &ServeOptions,
+    observer: &O,
+    reader: &mut R,
+    writer: &mut W,
+) -> Result<Closed<FileFrom<S>>, NotServedAt<FileFrom<S>>>
+    ensures served { IfOk result (λ r. Serves (volumes config.now) (start_model (image_at S.Start) r.served.is_new)
+        (seen config.now (files_model over_calls r.files r.served.refusals r.served.is_down))
+        (R.remaining reader.old) (R.remaining reader.new) (W.contents writer.old) (W.contents writer.new) r.served.end) }
+    ensures uncopied { IfOk result (λ r. IsTrue options.now.is_low_memory → r.served.is_copied ≡ false) }
+    ensures existing { IfOk result (λ r. IsTrue options.now.is_existing → r.served.is_new ≡ false) }
+    ensures not_served { IfErr result (IsNotServedAt S.Start config.now options.now.is_existing
+        (R.remaining reader.old) (R.remaining reader.new) (W.contents writer.old) (W.contents writer.new)) }
+{
+    let files = match files_at(rt, path, start) {
+        Ok(files) => files,
+        Err(error) => return Err(NotServedAt::NoFiles(error)),
+    };
+    let opening = match opening(rt) {
+        Ok(opening) => opening,
+        Err(error) => return Err(NotServedAt::NoFiles(error)),
+    };
+    match serve_made(
+        rt.alloc(),
+        config,
+        files,
+        opening,
+        options,
+        observer,
+        reader,
+        writer,
+    ) {
+        Ok(closed) => Ok(closed),
+        Err(error) => Err(NotServedAt::NotServed(error)),
+    }
+}
+
+/// Opens the database file at a path and its log; where they hold no database yet, an empty one is made first.
+///
+/// # Errors
+///
+/// Where the operating system does not give the files, they hold no database, or memory is refused.
+pub fn open_path<S: Start>(
+    rt: &HostRuntime,
+    path: &str,
+    start: S,
+) -> Result<Connection<FileStore<FileFrom<S>>>, Error>
+    ensures { IfOk result (λ conn. conn.in_transaction ≡ false) }
+{
+    let files = match files_at(rt, path, start) {
+        Ok(files) => files,
+        Err(error) => return Err(error),
+    };
+    let opening = match opening(rt) {
+        Ok(opening) => opening,
+        Err(error) => return Err(error),
+    };
+    match open_made(rt.alloc(), files, opening) {
+        Ok(conn) => Ok(conn),
+        Err((error, _left)) => Err(error),
+    }
+}

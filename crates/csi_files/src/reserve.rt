@@ -1,0 +1,238 @@
+//! Memory that is kept for the next opening of tables.
+//!
+//! An opening reads each table whole, where calls over a file take a few pages. So tables could grow, call by call, until no opening of them has enough memory,
+//! and nobody could delete a volume any more.
+
+ghost use Rattle.std.specs.Prelude.{◌≡◌, false, IfErr};
+ghost use Rattle.csi_keeper.specs.declared.change.StoreFault.TheVariants.{NoMemory};
+ghost use Rattle.csi_tables.specs.Keeping.{is_down};
+
+use csi_keeper::{
+    Attachment, CapKey, Change, Keeper, Kind, Listed, PageFold, StoreFault, Usage, Volume,
+};
+use csi_tables::Tables;
+use csi_types::{Items, Text, map_bytes};
+use sqlite::Alter;
+use std::alloc::{AllocError, Global};
+
+// An opening reads each table whole. A row takes so many bytes then, and those of what is in it.
+const ROW_BYTES: usize = 256;
+
+// So does a capability, and the name of its file system.
+const CAP_BYTES: usize = 4;
+
+// Memory is kept in blocks of so many bytes.
+const BLOCK_BYTES: usize = 1 << 20;
+
+/// So many bytes are left for calls where no more memory can be kept: for the pages that they read and write, for their frames and for their replies.
+pub(crate) const ROOM_BYTES: usize = 4 << 20;
+
+/// Memory that is only held. The call is not inlined: otherwise a compiler may see that nobody uses it, and take none.
+#[inline(never)]
+pub(crate) fn held(alloc: Global, bytes: usize) -> Result<Vec<u8>, AllocError> {
+    Vec::with_capacity(alloc, bytes)
+}
+
+// Memory that is kept.
+struct Reserve {
+    alloc: Global,
+    blocks: Vec<Vec<u8>>,
+    // How many bytes are to be kept.
+    wanted: usize,
+}
+
+impl Drop for Reserve {
+    fn drop(self) {
+        let Reserve {
+            alloc: _,
+            blocks: _blocks,
+            wanted: _,
+        } = self;
+    }
+}
+
+impl Reserve {
+    // So many bytes, as far as there is memory.
+    fn new(alloc: Global, wanted: usize) -> Reserve {
+        let mut reserve = Reserve {
+            alloc,
+            blocks: Vec::new(alloc),
+            wanted,
+        };
+        let _ = reserve.fill();
+        reserve
+    }
+
+    // Keeps what is to be kept.
+    fn fill(&mut self) -> Result<(), AllocError> {
+        for _ in self.blocks.len()..self.wanted.div_ceil(BLOCK_BYTES) {
+            let _room = held(self.alloc, ROOM_BYTES)?;
+            self.blocks.push(held(self.alloc, BLOCK_BYTES)?)?;
+        }
+        Ok(())
+    }
+
+    // Keeps so many bytes more.
+    fn grow(&mut self, bytes: usize) -> Result<(), AllocError> {
+        let before = self.wanted;
+        self.wanted = before.saturating_add(bytes);
+        let grown = self.fill();
+        if grown.is_err() {
+            self.wanted = before;
+        }
+        grown
+    }
+}
+
+fn cap_bytes(cap: &CapKey) -> usize {
+    match &cap.kind {
+        Kind::Block => CAP_BYTES,
+        Kind::Mount(name) => name.len().saturating_add(CAP_BYTES),
+    }
+}
+
+fn volume_bytes(volume: &Volume) -> usize {
+    let mut bytes = ROW_BYTES
+        .saturating_add(volume.name.len())
+        .saturating_add(volume.pool.len());
+    for cap in volume.caps.iter() {
+        bytes = bytes.saturating_add(cap_bytes(cap));
+    }
+    bytes
+        .saturating_add(map_bytes(&volume.params))
+        .saturating_add(map_bytes(&volume.mutable))
+}
+
+// How many bytes more an opening takes after a change.
+fn bytes_of(change: &Change) -> usize {
+    match change {
+        Change::AddVolume(volume) => volume_bytes(volume),
+        Change::Attach(_, attachment) => {
+            ROW_BYTES
+                .saturating_add(attachment.node.len())
+                .saturating_add(cap_bytes(&attachment.cap))
+        }
+        Change::SetMutable(_, mutable) => map_bytes(mutable),
+        Change::RemoveVolume(_) | Change::Detach(..) | Change::DetachAll(_) => 0,
+    }
+}
+
+/// Tables, and memory for their next opening. A change that adds to them keeps memory for what it adds first, and is answered `NoMemory` where there is none, and
+/// not made; the tables are not down then. One that takes away keeps no memory.
+#[derive(Drop)]
+pub(crate) struct Reserved<S: Alter> {
+    tables: Tables<S>,
+    reserve: Reserve,
+}
+
+impl<S: Alter> Reserved<S> {
+    /// Tables with so many bytes for their next opening, as far as there is memory.
+    pub(crate) fn new(alloc: Global, tables: Tables<S>, wanted: usize) -> Reserved<S>
+        ensures { result.tables ≡ tables }
+    {
+        Reserved {
+            tables,
+            reserve: Reserve::new(alloc, wanted),
+        }
+    }
+
+    /// Whether each further call is answered `Down`.
+    pub(crate) fn is_down(&self) -> bool
+        ensures { result ≡ is_down S.Store self.now.tables }
+    {
+        self.tables.is_down()
+    }
+
+    /// The tables.
+    pub(crate) fn into_tables(self) -> Tables<S>
+        ensures { result ≡ self.tables }
+    {
+        self.tables
+    }
+
+    // Keeps memory for what a change adds. One that takes away is made also where less is kept than is to be.
+    fn keep_for(&mut self, change: &Change) -> Result<(), StoreFault>
+        ensures same { self.new.tables ≡ self.old.tables }
+        ensures refused { IfErr result (λ fault. (fault ≡ NoMemory) × (is_down S.Store self.old.tables ≡ false)) }
+    {
+        let bytes = bytes_of(change);
+        if bytes == 0 || self.tables.is_down() {
+            return Ok(());
+        }
+        match self.reserve.grow(bytes) {
+            Ok(()) => Ok(()),
+            Err(_) => Err(StoreFault::NoMemory),
+        }
+    }
+}
+
+impl<S: Alter> Keeper for Reserved<S> {
+    ghost use Rattle.csi_tables.specs.Keeping.{tables_model};
+
+    ghost model = { λ reserved. tables_model S.Store reserved.tables };
+
+    fn refusals(&self) -> u64 {
+        self.tables.refusals()
+    }
+
+    fn next_number(&mut self) -> Result<u64, StoreFault> {
+        self.tables.next_number()
+    }
+
+    fn by_name(&mut self, alloc: Global, name: &str) -> Result<Option<Volume>, StoreFault> {
+        self.tables.by_name(alloc, name)
+    }
+
+    fn by_number(&mut self, alloc: Global, number: u64) -> Result<Option<Volume>, StoreFault> {
+        self.tables.by_number(alloc, number)
+    }
+
+    fn caps_of(&mut self, alloc: Global, number: u64) -> Result<Option<Items<CapKey>>, StoreFault> {
+        self.tables.caps_of(alloc, number)
+    }
+
+    fn attachments(&mut self, alloc: Global, number: u64) -> Result<Items<Attachment>, StoreFault> {
+        self.tables.attachments(alloc, number)
+    }
+
+    fn attached_at(&mut self, alloc: Global, node: &str) -> Result<Items<u64>, StoreFault> {
+        self.tables.attached_at(alloc, node)
+    }
+
+    fn sizes_in(&mut self, alloc: Global, pool: &str) -> Result<Items<u64>, StoreFault> {
+        self.tables.sizes_in(alloc, pool)
+    }
+
+    fn used_in(&mut self, pool: &Text) -> Result<Usage, StoreFault> {
+        self.tables.used_in(pool)
+    }
+
+    fn page(&mut self, alloc: Global, after: u64, count: u32) -> Result<Items<Volume>, StoreFault> {
+        self.tables.page(alloc, after, count)
+    }
+
+    fn published_nodes(
+        &mut self,
+        alloc: Global,
+        after: u64,
+        count: u32,
+    ) -> Result<Items<Items<Text>>, StoreFault> {
+        self.tables.published_nodes(alloc, after, count)
+    }
+
+    fn listing(
+        &mut self,
+        alloc: Global,
+        after: u64,
+        count: u32,
+    ) -> Result<Items<Listed>, StoreFault> {
+        self.tables.listing(alloc, after, count)
+    }
+
+    fn apply(&mut self, alloc: Global, change: &Change) -> Result<(), StoreFault> {
+        match self.keep_for(change) {
+            Ok(()) => self.tables.apply(alloc, change),
+            Err(fault) => Err(fault),
+        }
+    }
+}

@@ -1,0 +1,198 @@
+//! Calls over two files.
+
+ghost use Rattle.std.specs.Prelude.{◌≡◌, ◌↔◌, false, IfErr, IfOk, IsTrue};
+ghost use Rattle.sqlite.specs.Files.{file_state, image_of};
+ghost use Rattle.sqlite.specs.State.{HasCleanDisk};
+ghost use Rattle.sqlite_wal.specs.Reads.{AreClean};
+ghost use Rattle.sqlite_wal.specs.Recovery.{Image};
+ghost use Rattle.csi_schema.specs.Tables.{no_schema};
+ghost use Rattle.csi_server.specs.Serving.{Serves};
+ghost use Rattle.csi_server.specs.Volumes.{seen, volumes};
+ghost use Rattle.csi_files.specs.Files.{files_model, image_model};
+ghost use Rattle.csi_files.specs.Leaving.{GivesUp, IsFinished, IsUnfinished, files_of};
+ghost use Rattle.csi_files.specs.Starting.{EndsClean};
+ghost use Rattle.csi_files.specs.Serving.{AllServed, AreUntouched, IsAsked, IsNotOpened, IsNotServed, LeavesAfter, Opens, ServesThen};
+
+use crate::leaving::leave;
+use crate::over::{Observer, ServeOptions, Served, Unserved, serve_over};
+use csi_adoption::AdoptFault;
+use csi_config::Config;
+use csi_keeper::StoreFault;
+use csi_server::laws::{kept, pending};
+use csi_tables::Tables;
+use csi_tables::laws::one_state;
+use sqlite::{Connection, Error, FileStore, Files, Leftover, Options};
+use sqlite_disk::Disk;
+use std::alloc::Global;
+use std::io::{Read, Write};
+
+/// Files that were closed after calls.
+#[derive(Drop)]
+pub struct Closed<D: Disk> {
+    /// What the run came to.
+    pub served: Served,
+    /// The files. All that was committed is in the database file, also without its log.
+    pub files: Files<D>,
+}
+
+/// Why files were not closed after calls, and what is left of them. The next run may begin with what is left.
+pub enum NotServed<D: Disk> {
+    /// The files were not opened: why, and what is left of them. No call was read.
+    NotOpened(Error, Leftover<D>),
+    /// They have no table, and had to have some: the files, which keep what they had. No call was read.
+    Blank(Files<D>),
+    /// Their tables were not adopted: why, and the files, which keep what they had. No call was read.
+    NotAdopted(AdoptFault, Files<D>),
+    /// The database refused a read while the volumes were copied into memory: that fault, and the files, which keep what they had. No call was read.
+    NotCopied(StoreFault, Files<D>),
+    /// Calls were served, and the store refused some: what the run came to, and the files as they were left then. What was committed may be in the log alone.
+    Left(Served, Files<D>),
+    /// Calls were served, and the files were not closed: what the run came to, why, and what is left of the files. What was committed is in the log, in the
+    /// database file or in both.
+    NotClosed(Served, Error, FileStore<D>),
+}
+
+// Written out, so that what drops one has one call for it, and its proof no branch for each of its parts.
+impl<D: Disk + Drop> Drop for NotServed<D> {
+    fn drop(self) {
+        match self {
+            NotServed::NotOpened(_, _left) => {}
+            NotServed::Blank(_files) => {}
+            NotServed::NotAdopted(_fault, _files) => {}
+            NotServed::NotCopied(_, _files) => {}
+            NotServed::Left(_, _files) => {}
+            NotServed::NotClosed(_, _, _store) => {}
+        }
+    }
+}
+
+impl<D: Disk + Drop> NotServed<D> {
+    /// What is left of the files, with no further input or output on them.
+    pub fn into_files(self) -> Files<D>
+        ensures { (result.log, result.db) ≡ files_of self }
+    {
+        match self {
+            NotServed::NotOpened(_, left) => left.into_files(),
+            NotServed::Blank(files) => files,
+            NotServed::NotAdopted(_fault, files) => files,
+            NotServed::NotCopied(_, files) => files,
+            NotServed::Left(_, files) => files,
+            NotServed::NotClosed(_, _, store) => store.close(),
+        }
+    }
+}
+
+// Gives up the connection to files over which no calls were served, and says why.
+fn not_served<D: Disk + Drop>(unserved: Unserved<FileStore<D>>) -> NotServed<D>
+    ensures { GivesUp D.Disk unserved result }
+{
+    match unserved {
+        Unserved::Blank(conn) => NotServed::Blank(leave(conn)),
+        Unserved::NotAdopted(fault, conn) => NotServed::NotAdopted(fault, leave(conn)),
+        Unserved::NotCopied(fault, conn) => NotServed::NotCopied(fault, leave(conn)),
+    }
+}
+
+// Closes the connection to files over which calls were served. Where the store refused some, the files are left as a stop would leave them.
+fn finish<D: Disk + Drop>(
+    served: Served,
+    conn: Connection<FileStore<D>>,
+) -> Result<Closed<D>, NotServed<D>>
+    ensures finished { IfOk result (IsFinished D.Disk served conn) }
+    ensures unfinished { IfErr result (IsUnfinished D.Disk served conn) }
+{
+    if served.is_down | (served.refusals > 0) {
+        return Err(NotServed::Left(served, leave(conn)));
+    }
+    match conn.close_files() {
+        Ok(files) => Ok(Closed { served, files }),
+        Err((error, store)) => Err(NotServed::NotClosed(served, error, store)),
+    }
+}
+
+/// Serves the volume machine over the database of two files that are open: adopts their tables, serves calls, and closes the files.
+///
+/// A database without a table gets new ones, unless the options refuse it. Where memory has no room for a copy of the volumes, reads are answered from the file. A
+/// change is committed to the file before it is answered.
+///
+/// The clauses hold for whatever the files held as they were opened (`Opens`).
+///
+/// # Errors
+///
+/// As of [`serve_files`], without `NotOpened`.
+pub fn serve_open<D: Disk + Drop, O: Observer, R: Read, W: Write>(
+    alloc: Global,
+    config: &Config,
+    conn: Connection<FileStore<D>>,
+    options: &ServeOptions,
+    observer: &O,
+    reader: &mut R,
+    writer: &mut W,
+) -> Result<Closed<D>, NotServed<D>>
+    requires { conn.in_transaction ≡ false }
+    ensures served { IfOk result (λ r. (was : Image) → Opens D.Disk was conn
+        → Serves (volumes config.now) (image_model was r.served.is_new) (seen config.now (files_model D.Disk r.files r.served.refusals r.served.is_down))
+        (R.remaining reader.old) (R.remaining reader.new) (W.contents writer.old) (W.contents writer.new) r.served.end) }
+    ensures usable { IfOk result (λ r. IsTrue (D.Disk.is_usable r.files.log) × IsTrue (D.Disk.is_usable r.files.db)) }
+    ensures uncopied { AllServed D.Disk (λ served. IsTrue options.now.is_low_memory → served.is_copied ≡ false) result }
+    ensures existing { IsAsked D.Disk options.now.is_existing result }
+    ensures blank { AllServed D.Disk (λ served. IsTrue served.is_new ↔ (conn.schema ≡ no_schema)) result }
+    ensures after { IfOk result (λ r. (was : Image) → Opens D.Disk was conn → ServesThen config.now was
+        (R.remaining reader.old) (R.remaining reader.new) (W.contents writer.old) (W.contents writer.new) r.served
+        (AreClean D.Disk r.files.log r.files.db) (LeavesAfter D.Disk config.now r.files)) }
+    ensures clean { IfOk result (λ r. AreClean D.Disk r.files.log r.files.db → HasCleanDisk (file_state conn)) }
+    ensures not_served_clean { IfErr result (λ e. EndsClean e → HasCleanDisk (file_state conn)) }
+    ensures not_served { IfErr result (λ e. (was : Image) → Opens D.Disk was conn
+        → IsNotServed D.Disk config.now was (R.remaining reader.old) (R.remaining reader.new) (W.contents writer.old) (W.contents writer.new) (λ _ _. ⊥) e) }
+{
+    one_state();
+    kept(config);
+    pending::<Tables<FileStore<D>>>(config);
+    match serve_over(alloc, config, conn, options, observer, reader, writer) {
+        Ok((served, conn)) => finish(served, conn),
+        Err(unserved) => Err(not_served(unserved)),
+    }
+}
+
+/// Serves the volume machine over a database file and its log: opens them, adopts their tables, serves calls, and closes the files.
+///
+/// For each State of the files before (`HasState`), what is read and written, how the run ends and what it counts is said by the table of ends of
+/// `csi_server::serve`, and the files have the State after the calls. Files without a table get new ones, and the first State, unless the options refuse them. Where
+/// memory has no room for a copy of the volumes, reads are answered from the file.
+///
+/// All of that is promised while the disks return what was written to them (`AreClean`).
+///
+/// # Errors
+///
+/// `NotOpened`, `Blank`, `NotAdopted` and `NotCopied`: the files keep what they had, and nothing is read or written. `Left`, where the store refused a call, and `NotClosed`, where
+/// the close failed: the run is as said above, and what is left has the State after the calls, or the one that a refused call would have made.
+pub fn serve_files<D: Disk + Drop, O: Observer, R: Read, W: Write>(
+    alloc: Global,
+    config: &Config,
+    files: Files<D>,
+    opening: Options,
+    options: &ServeOptions,
+    observer: &O,
+    reader: &mut R,
+    writer: &mut W,
+) -> Result<Closed<D>, NotServed<D>>
+    requires log { IsTrue (D.Disk.is_usable files.log) }
+    requires db { IsTrue (D.Disk.is_usable files.db) }
+    ensures served { IfOk result (λ r. Serves (volumes config.now) (image_model (image_of D.Disk files) r.served.is_new)
+        (seen config.now (files_model D.Disk r.files r.served.refusals r.served.is_down))
+        (R.remaining reader.old) (R.remaining reader.new) (W.contents writer.old) (W.contents writer.new) r.served.end) }
+    ensures after { IfOk result (λ r. ServesThen config.now (image_of D.Disk files)
+        (R.remaining reader.old) (R.remaining reader.new) (W.contents writer.old) (W.contents writer.new) r.served
+        (AreClean D.Disk r.files.log r.files.db) (LeavesAfter D.Disk config.now r.files)) }
+    ensures usable { IfOk result (λ r. IsTrue (D.Disk.is_usable r.files.log) × IsTrue (D.Disk.is_usable r.files.db)) }
+    ensures uncopied { AllServed D.Disk (λ served. IsTrue options.now.is_low_memory → served.is_copied ≡ false) result }
+    ensures existing { IsAsked D.Disk options.now.is_existing result }
+    ensures not_served { IfErr result (IsNotServed D.Disk config.now (image_of D.Disk files)
+        (R.remaining reader.old) (R.remaining reader.new) (W.contents writer.old) (W.contents writer.new)
+        (λ error left. AreUntouched (R.remaining reader.old) (R.remaining reader.new) (W.contents writer.old) (W.contents writer.new) × IsNotOpened D.Disk files error left)) }
+{
+    match Connection::open_files(alloc, files, opening) {
+        Ok(conn) => serve_open(alloc, config, conn, options, observer, reader, writer),
+        Err((error, left)) => Err(NotServed::NotOpened(error, left)),
+    }
+}

@@ -1,0 +1,105 @@
+//! Calls over two files, of which a database is made first where they hold none.
+
+ghost use Rattle.std.specs.Prelude.{◌≡◌, false, IfErr, IfOk, IsTrue};
+ghost use Rattle.sqlite.specs.Files.{image_of};
+ghost use Rattle.csi_server.specs.Serving.{Serves};
+ghost use Rattle.csi_server.specs.Volumes.{seen, volumes};
+ghost use Rattle.csi_files.specs.Files.{files_model};
+ghost use Rattle.csi_files.specs.Serving.{AllServed, IsAsked};
+ghost use Rattle.csi_files.specs.Making.{IsLaidOut};
+ghost use Rattle.csi_files.specs.Starting.{IsLeftUnmade, IsNotStarted, start_model};
+
+use crate::making::{NotLaidOut, lay_out};
+use crate::over::{Observer, ServeOptions};
+use crate::serving::{Closed, NotServed, serve_open};
+use csi_config::Config;
+use sqlite::{Connection, Error, ErrorCode, FileStore, Files, Leftover, Options};
+use sqlite_disk::Disk;
+use sqlite_pages as pages;
+use sqlite_store::name_fault;
+use sqlite_trees::error::StoreError;
+use std::alloc::Global;
+use std::io::{Read, Write};
+
+// How SQLite names why no database was made, where the disk failed with this fault, if it did.
+fn code_of(why: NotLaidOut, fault: StoreError) -> ErrorCode {
+    match why {
+        NotLaidOut::Emptied => ErrorCode::CannotOpen,
+        NotLaidOut::Failed(pages::Error::Corrupt) => ErrorCode::DatabaseCorrupt,
+        NotLaidOut::Failed(pages::Error::Full) => ErrorCode::DiskFull,
+        NotLaidOut::Failed(pages::Error::OutOfMemory) => ErrorCode::OutOfMemory,
+        NotLaidOut::Failed(pages::Error::Io) => match fault {
+            StoreError::Full => ErrorCode::DiskFull,
+            StoreError::Corrupt => ErrorCode::DatabaseCorrupt,
+            _ => ErrorCode::SystemIoFailure,
+        },
+    }
+}
+
+// Files in which a database is made where they hold none yet. An error has a name of SQLite's.
+fn made<D: Disk + Drop>(
+    alloc: Global,
+    files: Files<D>,
+    seed: u64,
+) -> Result<Files<D>, (Error, Leftover<D>)>
+    requires log { IsTrue (D.Disk.is_usable files.log) }
+    requires db { IsTrue (D.Disk.is_usable files.db) }
+    ensures laid_out { IfOk result (IsLaidOut D.Disk files) }
+    ensures unmade { IfErr result (λ e. IsLeftUnmade files e.1) }
+{
+    let before = files.tally();
+    match lay_out(alloc, files, seed) {
+        Ok(laid) => Ok(laid),
+        Err((why, left)) => {
+            let code = code_of(why, name_fault(before, left.tally()));
+            Err((Error::SqliteFailure(code), Leftover::Files(left)))
+        }
+    }
+}
+
+/// Opens a database file and its log. Where they hold no database yet, an empty one is made first.
+pub(crate) fn open_made<D: Disk + Drop>(
+    alloc: Global,
+    files: Files<D>,
+    opening: Options,
+) -> Result<Connection<FileStore<D>>, (Error, Leftover<D>)>
+    requires log { IsTrue (D.Disk.is_usable files.log) }
+    requires db { IsTrue (D.Disk.is_usable files.db) }
+    ensures { IfOk result (λ conn. conn.in_transaction ≡ false) }
+{
+    match made(alloc, files, opening.seed) {
+        Ok(laid) => Connection::open_files(alloc, laid, opening),
+        Err(error) => Err(error),
+    }
+}
+
+/// Serves the volume machine over a database file and its log, as [`serve_files`](crate::serve_files) does. Where they hold no database yet, an empty one is
+/// made first, so that a first run starts from the first State, also after a stop in the middle of its making.
+pub fn serve_made<D: Disk + Drop, O: Observer, R: Read, W: Write>(
+    alloc: Global,
+    config: &Config,
+    files: Files<D>,
+    opening: Options,
+    options: &ServeOptions,
+    observer: &O,
+    reader: &mut R,
+    writer: &mut W,
+) -> Result<Closed<D>, NotServed<D>>
+    requires log { IsTrue (D.Disk.is_usable files.log) }
+    requires db { IsTrue (D.Disk.is_usable files.db) }
+    ensures served { IfOk result (λ r. Serves (volumes config.now) (start_model (image_of D.Disk files) r.served.is_new) (seen config.now (files_model D.Disk r.files r.served.refusals r.served.is_down))
+        (R.remaining reader.old) (R.remaining reader.new) (W.contents writer.old) (W.contents writer.new) r.served.end) }
+    ensures usable { IfOk result (λ r. IsTrue (D.Disk.is_usable r.files.log) × IsTrue (D.Disk.is_usable r.files.db)) }
+    ensures uncopied { AllServed D.Disk (λ served. IsTrue options.now.is_low_memory → served.is_copied ≡ false) result }
+    ensures existing { IsAsked D.Disk options.now.is_existing result }
+    ensures not_served { IfErr result (IsNotStarted D.Disk config.now files (R.remaining reader.old) (R.remaining reader.new) (W.contents writer.old) (W.contents writer.new)) }
+{
+    let laid = match made(alloc, files, opening.seed) {
+        Ok(laid) => laid,
+        Err((error, left)) => return Err(NotServed::NotOpened(error, left)),
+    };
+    match Connection::open_files(alloc, laid, opening) {
+        Ok(conn) => serve_open(alloc, config, conn, options, observer, reader, writer),
+        Err((error, left)) => Err(NotServed::NotOpened(error, left)),
+    }
+}
