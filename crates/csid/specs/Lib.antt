@@ -1,4 +1,3 @@
-pub mod Making
-pub mod Served
+pub mod Serving
 pub mod Starting
 pub mod Statuses

@@ -7,7 +7,7 @@ use crate::console::Console;
 use crate::content::{Content, read_content};
 use crate::copy::open_copy;
 use crate::failure::Failure;
-use crate::tables::{Blank, check_standing, of_database, take};
+use crate::tables::{check_standing, of_database, take};
 use csi_config::Config;
 use sqlite::{Alter, Connection};
 use std::fmt::{self, Display};
@@ -58,7 +58,7 @@ fn adopted<S: Alter + Drop>(
     requires { conn.in_transaction ≡ false }
 {
     let content = read_content(&mut conn);
-    let _tables = take(console, path, conn, config, Blank::Refuse)?;
+    let _tables = take(console, path, conn, config, true)?;
     match content {
         Ok(content) => Ok(content),
         Err(error) => Err(of_database(console.rt.alloc(), path, &error)),

@@ -8,13 +8,12 @@ use crate::command::{Piped, Serving, Task, asked, odd_number, odd_store, read_ar
 use crate::config::configuration;
 use crate::console::Console;
 use crate::failure::{Failure, Peer, outcome};
-use crate::keeping::{OverKeeper, Place, over_keeper};
+use crate::serving::{Answered, Place, Unheard, serve_place};
 use crate::socket::{listen, serve_all};
-use crate::tables::{Blank, check_log, check_standing, survey};
+use crate::tables::{check_log, check_standing, survey};
 use clap::ArgMatches;
 use command_line::{ArgumentsFault, arguments};
 use csi_config::Config;
-use csi_keeper::Keeper;
 use csi_memory::MemKeeper;
 use csi_server::serve;
 use std::alloc::Global;
@@ -23,60 +22,28 @@ use std::mem::forget;
 /// The number that the first volume gets.
 pub(crate) const FIRST_NUMBER: u64 = 1;
 
-// Answers the calls of standard input over a keeper.
-fn serve_pipe<K: Keeper>(rt: &HostRuntime, config: &Config, keeper: &mut K) -> Result<(), Failure> {
-    let mut reader = rt.stdin();
-    let mut writer = rt.stdout();
-    let end = serve(rt.alloc(), config, keeper, &mut reader, &mut writer);
-    outcome(Peer::Pipe, end)
-}
-
 // Answers the calls of standard input, and keeps the volumes in memory.
 fn pipe_over_memory(rt: &HostRuntime, config: &Config) -> Result<(), Failure> {
     let mut keeper = MemKeeper::new(rt.alloc(), FIRST_NUMBER)?;
-    let served = serve_pipe(rt, config, &mut keeper);
+    let mut reader = rt.stdin();
+    let mut writer = rt.stdout();
+    let end = serve(rt.alloc(), config, &mut keeper, &mut reader, &mut writer);
     // The program ends, and gives its memory back whole: volume by volume 100,000 of them would take a twentieth of a second.
     forget(keeper);
-    served
+    outcome(Peer::Pipe, end)
 }
 
-// What came of calls and of the file behind them: both are said, and the program ends with what became of the file.
-fn ended(
-    console: &Console<'_>,
-    served: Result<(), Failure>,
-    closed: Result<(), Failure>,
-) -> Result<(), Failure> {
-    let Err(closing) = closed else {
-        return served;
+// How the calls of standard input ended, and the file after them: both are said, and the program ends with what became of the file.
+fn ended(console: &Console<'_>, answered: Answered) -> Result<(), Failure> {
+    let Answered { served, unclosed } = answered;
+    let ended = outcome(Peer::Pipe, served.end);
+    let Some(closing) = unclosed else {
+        return ended;
     };
-    if let Err(failure) = &served {
+    if let Err(failure) = &ended {
         console.say(failure);
     }
     Err(closing)
-}
-
-// Answers the calls of standard input.
-#[derive(Drop)]
-struct Piping<'a> {
-    rt: &'a HostRuntime,
-    config: &'a Config,
-    served: Result<(), Failure>,
-}
-
-impl OverKeeper for Piping<'_> {
-    fn serve<K: Keeper>(&mut self, keeper: &mut K) {
-        self.served = serve_pipe(self.rt, self.config, keeper);
-    }
-
-    // The replies have told of each refusal.
-    fn tell(&mut self, _is_down: bool, _refusals: u64, _what: &str) {}
-
-    // It is answered the same.
-    fn note(&mut self, _what: &str) {}
-
-    fn fail(&mut self, failure: Failure) {
-        self.served = Err(failure);
-    }
 }
 
 // Answers the calls of standard input, and keeps the volumes in a file.
@@ -88,16 +55,20 @@ fn pipe_over_tables(
 ) -> Result<(), Failure> {
     let place = Place {
         path,
-        blank: Blank::refused_if(pipe.is_existing, Blank::Make),
+        is_existing: pipe.is_existing,
         is_low_memory: pipe.is_low_memory,
     };
-    let mut piping = Piping {
-        rt: console.rt,
+    let mut reader = console.rt.stdin();
+    let mut writer = console.rt.stdout();
+    let answered = serve_place(
+        console.rt,
         config,
-        served: Ok(()),
-    };
-    let closed = over_keeper(console, config, &place, &mut piping);
-    ended(console, piping.served, closed)
+        &place,
+        &Unheard,
+        &mut reader,
+        &mut writer,
+    )?;
+    ended(console, answered)
 }
 
 // Answers the calls of standard input, and keeps the volumes in a file if there is to be one.
@@ -135,8 +106,7 @@ fn listen_over(
 ) -> Result<(), Failure> {
     let listener = listen(console.rt, serving.socket, serving.group)?;
     if serving.log.is_none() {
-        let blank = Blank::refused_if(serving.is_existing, Blank::MakeAndSay);
-        survey(console, serving.tables, config, blank);
+        survey(console, serving.tables, config, serving.is_existing);
     }
     serve_all(console, config, serving, listener)
 }

@@ -7,21 +7,23 @@ use crate::command::Serving;
 use crate::console::{Console, Ending};
 use crate::failure::{Failure, Peer, outcome};
 use crate::group::group_number;
-use crate::keeping::{IS_BEHIND, OverKeeper, Place, over_keeper};
 use crate::log::{Leading, OpenLog, open_log};
 use crate::peer::{Always, Guarded, Lead, has_gone};
 use crate::pending::{Pending, Start};
 use crate::run::FIRST_NUMBER;
-use crate::tables::Blank;
+use crate::serving::{Answered, Place, serve_place};
+use crate::tables::NEW_TABLES;
 use crate::turn::Turn;
 use crate::waiting::{Waiting, tell_ending};
 use csi_config::Config;
+use csi_files::{Observer, Served};
 use csi_keeper::Keeper;
 use csi_memory::MemKeeper;
 use csi_server::{RunEnd, serve};
 use std::alloc::Global;
+use std::cell::Cell;
 use std::fs::{self, Permissions};
-use std::io::{self, ErrorKind, Read};
+use std::io::{self, ErrorKind, Read, Write};
 use std::os::unix::fs::{PermissionsExt, chown};
 use std::os::unix::net::UnixListener;
 use std::time::Instant;
@@ -118,6 +120,21 @@ struct Service<'a> {
     serving: &'a Serving<'a>,
 }
 
+// The turn of a connection. Where there is none, that is said.
+fn turn_of<'a>(
+    console: &'a Console<'a>,
+    waiting: &'a mut Waiting,
+    peer: &'a Pending,
+) -> Option<Turn<'a>> {
+    match Turn::new(console, &peer.stream, waiting) {
+        Ok(turn) => Some(turn),
+        Err(error) => {
+            console.say_of("a connection's time cannot be limited", &error);
+            None
+        }
+    }
+}
+
 // Answers the calls of one connection over a keeper, until it ends or a log does not lead any more. Whether that is why it ended.
 fn serve_one<K: Keeper, L: Lead + Drop>(
     service: &Service<'_>,
@@ -126,13 +143,8 @@ fn serve_one<K: Keeper, L: Lead + Drop>(
     peer: &Pending,
     lead: L,
 ) -> bool {
-    let turn = match Turn::new(service.console, &peer.stream, waiting) {
-        Ok(turn) => turn,
-        Err(error) => {
-            let what = "a connection's time cannot be limited";
-            service.console.say_of(what, &error);
-            return false;
-        }
+    let Some(turn) = turn_of(service.console, waiting, peer) else {
+        return false;
     };
     let mut reader = peer.sent.as_slice().chain(&turn);
     let mut writer = Guarded::new(lead, &turn);
@@ -157,80 +169,90 @@ fn refuse_peer(service: &Service<'_>, waiting: &mut Waiting, peer: &Pending) {
     }
 }
 
-// Says what a keeper refused: a change, or this.
-fn tell_refusals(console: &Console<'_>, path: &str, is_down: bool, refusals: u64, what: &str) {
-    if is_down {
-        let what =
-            "a change was refused, by the database or for memory; from then on the connection was told that the store is down";
+// What is said of calls that the store refused.
+const IS_DOWN: &str =
+    "a change was refused, by the database or for memory; from then on the connection was told that the store is down";
+
+// Of those that it refused while memory did not have what the file has.
+const IS_BEHIND: &str =
+    "there was no memory for a change that was made; from then on the connection was told that the store refused its calls";
+
+const NO_READ: &str = "the database refused a read";
+
+// What is said where volumes are not copied into memory, though they were to be.
+const NO_COPY: &str =
+    "there was no memory for a copy of the volumes: each read of the connection goes to the file";
+
+// Says how the calls of a connection are served over a file.
+#[derive(Clone, Copy)]
+struct Announcer<'a> {
+    console: &'a Console<'a>,
+    path: &'a str,
+}
+
+impl Observer for Announcer<'_> {
+    fn made(&self) {
+        self.console.say_of(self.path, &NEW_TABLES);
+    }
+
+    fn uncopied(&self) {
+        self.console.say_of(self.path, &NO_COPY);
+    }
+}
+
+// Says of calls over a file what the replies did not.
+fn tell_served(console: &Console<'_>, path: &str, served: &Served) {
+    if served.is_down {
+        console.say_of(path, &IS_DOWN);
+    } else if served.refusals > 0 {
+        let what = if served.is_copied { IS_BEHIND } else { NO_READ };
         console.say_of(path, &what);
-    } else if refusals > 0 {
-        console.say_of(path, &what);
     }
 }
 
-// Answers the calls of a connection.
-struct Answering<'a> {
-    service: &'a Service<'a>,
-    waiting: &'a mut Waiting,
-    peer: &'a Pending,
-}
-
-impl Drop for Answering<'_> {
-    fn drop(self) {
-        let Answering {
-            service: _,
-            waiting: _,
-            peer: _,
-        } = self;
-    }
-}
-
-impl OverKeeper for Answering<'_> {
-    fn serve<K: Keeper>(&mut self, keeper: &mut K) {
-        serve_one(self.service, self.waiting, keeper, self.peer, Always);
-    }
-
-    fn tell(&mut self, is_down: bool, refusals: u64, what: &str) {
-        let path = self.service.serving.tables;
-        tell_refusals(self.service.console, path, is_down, refusals, what);
-    }
-
-    fn note(&mut self, what: &str) {
-        let path = self.service.serving.tables;
-        self.service.console.say_of(path, &what);
-    }
-
-    fn fail(&mut self, failure: Failure) {
-        self.service.console.say(&failure);
-    }
-}
-
-// Opens the tables for a connection, answers its calls over them, and closes them.
-fn answer_over_tables(
+// Opens the tables for a connection, answers its calls over them, and closes them; where they cannot be opened, no call is answered. What went wrong is said.
+fn answer_over_tables<R: Read, W: Write>(
     service: &Service<'_>,
-    waiting: &mut Waiting,
-    peer: &Pending,
-) -> Result<(), Failure> {
-    let serving = service.serving;
+    ending: &Cell<Option<Ending>>,
+    reader: &mut R,
+    writer: &mut W,
+) {
+    let Service {
+        console,
+        config,
+        serving,
+    } = *service;
     let place = Place {
         path: serving.tables,
-        blank: Blank::refused_if(serving.is_existing, Blank::MakeAndSay),
+        is_existing: serving.is_existing,
         is_low_memory: serving.is_low_memory,
     };
-    let mut answering = Answering {
-        service,
-        waiting,
-        peer,
+    let announcer = Announcer {
+        console,
+        path: serving.tables,
     };
-    over_keeper(service.console, service.config, &place, &mut answering)
+    let failure = match serve_place(console.rt, config, &place, &announcer, reader, writer) {
+        Ok(Answered { served, unclosed }) => {
+            tell_end(console, ending.get(), false, served.end);
+            tell_served(console, serving.tables, &served);
+            unclosed
+        }
+        Err(failure) => Some(failure),
+    };
+    if let Some(failure) = failure {
+        console.say(&failure);
+    }
 }
 
-// Answers the calls of one connection over the tables, which are opened for it; where they cannot be,
-// the connection is closed unanswered. What went wrong is said, and the next connection opens them again.
-fn serve_over_tables(service: &Service<'_>, waiting: &mut Waiting, peer: &Pending) {
-    if let Err(failure) = answer_over_tables(service, waiting, peer) {
-        service.console.say(&failure);
-    }
+// Answers the calls of a connection over the tables, which are opened for it. The next connection opens them again.
+fn serve_over_tables<'a>(service: &'a Service<'a>, waiting: &'a mut Waiting, peer: &'a Pending) {
+    let Some(turn) = turn_of(service.console, waiting, peer) else {
+        return;
+    };
+    let ending = &turn.ending;
+    let mut reader = peer.sent.as_slice().chain(&turn);
+    let mut writer = Guarded::new(Always, &turn);
+    answer_over_tables(service, ending, &mut reader, &mut writer);
 }
 
 /// The log, if volumes are in one.

@@ -61,6 +61,19 @@ fn is_empty(rt: &HostRuntime, path: &str) -> io::Result<bool> {
     }
 }
 
+// How many bytes a file and its log have.
+fn bytes_of(rt: &HostRuntime, path: &str) -> io::Result<u64> {
+    let log = log_path(rt, path)?;
+    let of_log = fs::metadata(rt, log.as_str()).map_or(0, |found| found.len());
+    Ok(fs::metadata(rt, path)?.len().saturating_add(of_log))
+}
+
+/// How many bytes of memory an opening of a file takes at most for its rows: a row takes less than twice what it takes in the file.
+pub(crate) fn opening_bytes(rt: &HostRuntime, path: &str) -> usize {
+    let bytes = bytes_of(rt, path).unwrap_or(0);
+    bytes.saturating_mul(2) as usize
+}
+
 /// Why no tables may be made in a file, as far as its length and its log show it. An opening would begin the log again, and the changes in it would be lost.
 pub(crate) fn fault_of_log(rt: &HostRuntime, path: &str) -> Option<Fault> {
     match (is_empty(rt, path), has_frames(rt, path)) {

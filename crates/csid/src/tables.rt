@@ -6,41 +6,21 @@ ghost use Rattle.csid.specs.Statuses.{IsOrNoMemory};
 use crate::console::Console;
 use crate::content::{Content, read_content};
 use crate::failure::Failure;
-use crate::making::prepare_new;
+use crate::making::make_private;
 use crate::standing::{Fault, fault_of_log, fault_of_standing};
 use csi_adoption::{AdoptError, AdoptFault, adopt};
 use csi_config::Config;
+use csi_files::open_path;
 use csi_keeper::StoreFault;
 use csi_tables::Tables;
-use sqlite::{Alter, Connection, Error, ErrorCode, File, FileStore};
+use sqlite::{Alter, Connection, Error, ErrorCode, File, FileStore, Unknown};
 use std::alloc::Global;
 
 /// The store of a file on the disk.
 type Store = FileStore<File>;
 
-/// What is done where a file is missing or has no tables.
-#[derive(Clone, Copy, PartialEq)]
-pub(crate) enum Blank {
-    /// It is refused, and nothing is made.
-    Refuse,
-    /// New tables are made.
-    Make,
-    /// New tables are made, and that is said.
-    MakeAndSay,
-}
-
-impl Blank {
-    /// It is refused where tables have to stand; else this is done.
-    pub(crate) fn refused_if(is_existing: bool, otherwise: Blank) -> Blank
-        ensures standing { IsTrue is_existing → result ≡ Blank.Refuse }
-        ensures otherwise { is_existing ≡ false → result ≡ otherwise }
-    {
-        if is_existing {
-            return Blank::Refuse;
-        }
-        otherwise
-    }
-}
+/// What is said where tables were made.
+pub(crate) const NEW_TABLES: &str = "no tables stood there, and new ones were made";
 
 /// Why a file cannot be opened, read or closed.
 pub(crate) fn of_database(alloc: Global, path: &str, error: &Error) -> Failure
@@ -84,18 +64,23 @@ pub(crate) fn check_log(rt: &HostRuntime, path: &str) -> Result<(), Failure>
     of_standing(rt.alloc(), path, fault_of_log(rt, path))
 }
 
-// What is done of a file before it is opened.
-fn prepare(rt: &HostRuntime, path: &str, blank: Blank) -> Result<(), Failure>
+/// Looks at a file before it is opened, and makes one that is missing and may be made, for its owner alone.
+///
+/// # Errors
+///
+/// Where it has no path, has no tables and must have some, or memory is refused.
+pub(crate) fn prepare(rt: &HostRuntime, path: &str, is_existing: bool) -> Result<(), Failure>
     ensures { IfErr result (λ failure. IsOrNoMemory 4 failure) }
 {
-    match blank {
-        Blank::Refuse => check_standing(rt, path),
-        Blank::Make | Blank::MakeAndSay => {
-            check_log(rt, path)?;
-            prepare_new(rt, path);
-            Ok(())
-        }
+    if path.is_empty() {
+        return Err(Failure::NoTablesPath);
     }
+    if is_existing {
+        return check_standing(rt, path);
+    }
+    check_log(rt, path)?;
+    make_private(rt, path);
+    Ok(())
 }
 
 // A connection to a file, which is made where there is none.
@@ -103,14 +88,14 @@ fn connect(rt: &HostRuntime, path: &str) -> Result<Connection<Store>, Failure>
     ensures idle { IfOk result (λ conn. conn.in_transaction ≡ false) }
     ensures failure { IfErr result (λ failure. IsOrNoMemory 4 failure) }
 {
-    match Connection::open(rt, path) {
+    match open_path(rt, path, Unknown) {
         Ok(conn) => Ok(conn),
         Err(error) => Err(of_database(rt.alloc(), path, &error)),
     }
 }
 
-// Why the tables in a file were not adopted.
-fn of_adoption(alloc: Global, path: &str, fault: &AdoptFault) -> Failure
+/// Why the tables in a file were not adopted.
+pub(crate) fn of_adoption(alloc: Global, path: &str, fault: &AdoptFault) -> Failure
     ensures { IsOrNoMemory 4 result }
 {
     match fault {
@@ -139,7 +124,7 @@ pub(crate) fn keep<S: Alter + Drop>(
     }
 }
 
-/// A keeper over the tables on a connection; what is done where it has none is decided by the caller.
+/// A keeper over the tables on a connection. Where there are none, they are made, and that is said; where there must be some, a connection without is refused.
 ///
 /// # Errors
 ///
@@ -149,18 +134,18 @@ pub(crate) fn take<S: Alter + Drop>(
     path: &str,
     conn: Connection<S>,
     config: &Config,
-    blank: Blank,
+    is_existing: bool,
 ) -> Result<Tables<S>, Failure>
     requires { conn.in_transaction ≡ false }
     ensures { IfErr result (λ failure. IsOrNoMemory 4 failure) }
 {
     let is_new = conn.schema().tables.is_empty();
-    if is_new & (blank == Blank::Refuse) {
+    if is_new & is_existing {
         return Err(Failure::of_tables(console.rt.alloc(), path, &Fault::Blank));
     }
     let kept = keep(console.rt, path, conn, config);
-    if is_new & kept.is_ok() & (blank == Blank::MakeAndSay) {
-        console.say_of(path, &"no tables stood there, and new ones were made");
+    if is_new & kept.is_ok() {
+        console.say_of(path, &NEW_TABLES);
     }
     kept
 }
@@ -185,56 +170,6 @@ pub(crate) fn of_reading(alloc: Global, path: &str, fault: StoreFault) -> Failur
     }
 }
 
-/// What is done over the tables in a file. It does not know how they are stored, and nor does its proof.
-pub(crate) trait OverTables {
-    /// Does it, and gives the connection back.
-    fn run<S: Alter + Drop>(&mut self, tables: Tables<S>) -> Connection<S>;
-}
-
-// Does a task over the tables on a connection, and gives it back.
-fn run_over<S: Alter + Drop, T: OverTables>(
-    console: &Console<'_>,
-    path: &str,
-    conn: Connection<S>,
-    config: &Config,
-    blank: Blank,
-    task: &mut T,
-) -> Result<Connection<S>, Failure>
-    requires { conn.in_transaction ≡ false }
-    ensures { IfErr result (λ failure. IsOrNoMemory 4 failure) }
-{
-    match take(console, path, conn, config, blank) {
-        Ok(tables) => Ok(task.run(tables)),
-        Err(failure) => Err(failure),
-    }
-}
-
-/// Opens and judges the tables in a file, does a task over them, and closes the file: what was committed is copied into the file itself. Where that
-/// fails, nothing is lost: it stays in the log beside the file.
-///
-/// # Errors
-///
-/// Where the tables cannot be had, and then the task is not done; where the file cannot be closed; or where memory is refused.
-pub(crate) fn over_tables<T: OverTables>(
-    console: &Console<'_>,
-    path: &str,
-    config: &Config,
-    blank: Blank,
-    task: &mut T,
-) -> Result<(), Failure>
-    ensures { IfErr result (λ failure. IsOrNoMemory 4 failure) }
-{
-    if path.is_empty() {
-        return Err(Failure::NoTablesPath);
-    }
-    let rt = console.rt;
-    prepare(rt, path, blank)?;
-    match run_over(console, path, connect(rt, path)?, config, blank, task) {
-        Ok(conn) => disconnect(rt.alloc(), path, conn),
-        Err(failure) => Err(failure),
-    }
-}
-
 /// Says what tables have.
 pub(crate) fn tell_content(console: &Console<'_>, path: &str, content: Result<Content, Error>) {
     match content {
@@ -243,27 +178,30 @@ pub(crate) fn tell_content(console: &Console<'_>, path: &str, content: Result<Co
     }
 }
 
-// Looks what the tables have.
-#[derive(Drop)]
-struct Surveying {
-    content: Option<Result<Content, Error>>,
-}
-
-impl OverTables for Surveying {
-    fn run<S: Alter + Drop>(&mut self, tables: Tables<S>) -> Connection<S> {
-        let mut conn = tables.into_connection();
-        self.content = Some(read_content(&mut conn));
-        conn
+// Opens and judges the tables in a file, looks what they have, and closes the file. What they have is said, and why the file could not be closed.
+fn look_over(
+    console: &Console<'_>,
+    path: &str,
+    config: &Config,
+    is_existing: bool,
+) -> Result<(), Failure>
+    ensures { IfErr result (λ failure. IsOrNoMemory 4 failure) }
+{
+    let rt = console.rt;
+    prepare(rt, path, is_existing)?;
+    let tables = take(console, path, connect(rt, path)?, config, is_existing)?;
+    let mut conn = tables.into_connection();
+    let content = read_content(&mut conn);
+    if let Err(failure) = disconnect(rt.alloc(), path, conn) {
+        console.say(&failure);
     }
+    tell_content(console, path, content);
+    Ok(())
 }
 
 /// Opens and judges the tables in a file once, and says what they have, or why they cannot be had. The file is closed by then.
-pub(crate) fn survey(console: &Console<'_>, path: &str, config: &Config, blank: Blank) {
-    let mut surveying = Surveying { content: None };
-    if let Err(failure) = over_tables(console, path, config, blank, &mut surveying) {
+pub(crate) fn survey(console: &Console<'_>, path: &str, config: &Config, is_existing: bool) {
+    if let Err(failure) = look_over(console, path, config, is_existing) {
         console.say(&failure);
-    }
-    if let Some(content) = surveying.content {
-        tell_content(console, path, content);
     }
 }

@@ -1,12 +1,13 @@
 //! The connections that wait to be served. All are looked at, so that one that sends nothing keeps no other one waiting.
 
 use crate::console::{Console, Ending};
-use crate::limits::least;
+use crate::limits::{CALL_SECONDS, least};
 use crate::pending::{Heard, Pending, Start};
 use mio::unix::SourceFd;
 use mio::{Events, Interest, Poll, Token};
 use std::alloc::Global;
 use std::collections::VecDeque;
+use std::fmt::{self, Display};
 use std::io::{self, ErrorKind};
 use std::os::fd::{AsRawFd, RawFd};
 use std::os::unix::net::{UnixListener, UnixStream};
@@ -55,21 +56,31 @@ fn watch(poll: &Poll, source: RawFd) -> io::Result<()> {
         .register(&mut SourceFd(&source), ANY, Interest::READABLE)
 }
 
-// How a connection reads that ended so.
-fn words_of(ending: Ending) -> &'static str {
-    match ending {
-        Ending::Idle => "a connection that sent nothing was closed",
-        Ending::Slow => "a connection that sent no whole call in 10 seconds was closed",
-        Ending::Gone => "a connection whose peer had gone was closed",
-        Ending::Crowded => "a connection that had sent no call was closed, as too many wait",
-        Ending::Malformed => "a connection that sent a malformed frame was closed",
-        Ending::Failed => "a read of a connection failed",
+// The line of a connection that ended so.
+#[derive(Clone, Copy)]
+struct Ended(Ending);
+
+impl Display for Ended {
+    fn fmt<W: fmt::Write>(&self, f: &mut fmt::Formatter<W>) -> fmt::Result {
+        match self.0 {
+            Ending::Idle => f.write_str("a connection that sent nothing was closed"),
+            Ending::Slow => write!(
+                f,
+                "a connection that sent no whole call in {CALL_SECONDS} seconds was closed"
+            ),
+            Ending::Gone => f.write_str("a connection whose peer had gone was closed"),
+            Ending::Crowded => f.write_str(
+                "a connection that had sent no call was closed, as too many wait",
+            ),
+            Ending::Malformed => f.write_str("a connection that sent a malformed frame was closed"),
+            Ending::Failed => f.write_str("a read of a connection failed"),
+        }
     }
 }
 
 /// Says that a connection ended so.
 pub(crate) fn tell_ending(console: &Console<'_>, ending: Ending, now: Instant) {
-    console.tell_end(ending, now, &words_of(ending));
+    console.tell_end(ending, now, &Ended(ending));
 }
 
 impl Waiting {

@@ -1,2 +1,0 @@
-mod MakingLemmas
-mod ServedLemmas

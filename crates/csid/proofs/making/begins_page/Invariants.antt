@@ -1,8 +1,0 @@
-use Rattle.std.proofs.Common.{◌≡◌, ◌<◌, ℕ, length}
-use Rattle.std.specs.List.{slice_index}
-use Rattle.csid.specs.Making.{page_byte}
-use Rattle.csid.proofs.making.begins_page.Given as goal
-
--- those that were looked at are the page's
-abbrev pub invariant-loop-at : goal.invariant-loop-at
-invariant-loop-at l = (i : ℕ) → i < l.at → slice_index l.bytes i ≡ page_byte i
