@@ -1,18 +1,22 @@
 //! A run of calls over a database file and its log, from the bytes of both before the run to their bytes after it.
 //!
-//! [`serve_files`] does what `csid` does of files, over any disks: it opens them, adopts their tables, copies the volumes into memory unless it is not to,
-//! serves calls, and closes the files. [`serve_open`] is the same from an open connection on, and [`serve_path`] is the same over the files at a path.
+//! [`serve_made`] does what `csid` does of files, over any disks: it makes a database where they hold none yet, opens them, adopts their tables, copies the
+//! volumes into memory unless it is not to, serves calls, and closes the files. [`serve_files`] is the same of files that hold a database, [`serve_open`] from an
+//! open connection on, and [`serve_path`] is `serve_made` over the files at a path.
 //!
 //! `specs/Files.antt` says which State the bytes of two files have (`HasState`). It is the premise of a run and what a run leaves, so runs compose: a run
-//! that ends, fails or is stopped leaves files of which the next one is served. `specs/Serving.antt` says what is left where the files are not closed.
-//! A stop at any moment is a disk that freezes: what the clauses say of the outcomes of a crash of such a disk is what a stop there leaves.
+//! that ends, fails or is stopped leaves files of which the next one is served. `specs/Starting.antt` says from which files a first run may start (`MayStart`),
+//! and `specs/Serving.antt` what is left where the files are not closed. A stop at any moment is a disk that freezes: what the clauses say of the outcomes of a
+//! crash of such a disk is what a stop there leaves.
 //!
-//! `over.rt` serves calls over a connection to any store; `reserve.rt` keeps memory for its next opening; `leaving.rt` gives files up as they are; `serving.rt` goes from files to files, and `path.rt` from
-//! a path. The lemmas go the same way: a run is seen through other models of its store (`RunLemmas`), as one over a copy in memory is (`ThroughLemmas`); files
-//! that are given up hold what the connection may have left (`LeaveLemmas`); and the State of files is that of the tables on them (`FilesLemmas`).
+//! `making.rt` makes a database in files that hold none; `over.rt` serves calls over a connection to any store, and `reserve.rt` keeps memory for its next
+//! opening; `leaving.rt` gives files up as they are; `serving.rt` goes from files to files, `starting.rt` from files that may hold no database yet, and `path.rt`
+//! from a path. The lemmas go the same way: a run is seen through other models of its store (`RunLemmas`), as one over a copy in memory is (`ThroughLemmas`);
+//! files that are given up hold what the connection may have left (`LeaveLemmas`); the State of files is that of the tables on them (`FilesLemmas`); and files in
+//! which a database was made have the first State (`StartingLemmas`).
 //!
 //! ```rust
-//! match serve_files(alloc, &config, files, options, is_low_memory, &mut reader, &mut writer) {
+//! match serve_made(alloc, &config, files, opening, &options, &observer, &mut reader, &mut writer) {
 //!     Ok(closed) => say(closed.served.end),
 //!     Err(not_served) => report(not_served), // what is left of the files is in it
 //! }
