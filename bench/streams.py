@@ -1,7 +1,11 @@
-"""Streams of calls for the benches, with the replies that csid has to give (docs/PROTOCOL.md, docs/MACHINE.md), which are worked out here: over one
-pool of 2^62 bytes without segments, with the volumes v1, v2 .. of 1 MiB in the order of their numbers, and the node n1.
+"""Streams of calls for the benches, with the replies that csid has to give (docs/PROTOCOL.md,
+docs/MACHINE.md), which are worked out here: over one
+pool of 2^62 bytes without segments, with the volumes v1, v2 .. of 1 MiB in the order of their numbers, and
+the node n1.
 """
-import contextlib, sqlite3, subprocess
+import contextlib
+import sqlite3
+import subprocess
 
 MIB = 1 << 20
 POOL_BYTES, GREATEST_BYTES = 1 << 62, 8 * MIB
@@ -17,7 +21,10 @@ bytes = %d
 [[node]]
 id = "n1"
 max_volumes = 100000
-""" % (GREATEST_BYTES, POOL_BYTES)
+""" % (
+    GREATEST_BYTES,
+    POOL_BYTES,
+)
 WRITER = bytes.fromhex("0a11 0a08 726561646f6e6c79 1205 66616c7365")
 BLOCK = bytes.fromhex("1a06 0a00 1a020801")
 
@@ -58,7 +65,9 @@ def volume_id(number):
 
 def volume(number):
     """The volume of that number as it is answered: 1 MiB of the pool 'p', without topology."""
-    return part(1, bytes.fromhex("08808040") + part(2, volume_id(number)) + part(3, part(1, b"pool") + part(2, b"p")))
+    return part(
+        1, bytes.fromhex("08808040") + part(2, volume_id(number)) + part(3, part(1, b"pool") + part(2, b"p"))
+    )
 
 
 def create(number):
@@ -66,7 +75,9 @@ def create(number):
 
 
 def publish(number):
-    return call(b"ControllerPublishVolume", part(1, volume_id(number)) + part(2, b"n1") + BLOCK), reply(WRITER)
+    return call(b"ControllerPublishVolume", part(1, volume_id(number)) + part(2, b"n1") + BLOCK), reply(
+        WRITER
+    )
 
 
 def unpublish(number):
@@ -79,15 +90,22 @@ def delete(number):
 
 def capacity(standing):
     """What is free beside so many volumes."""
-    return call(b"GetCapacity", b""), reply(b"\x08" + varint(POOL_BYTES - standing * MIB) + part(2, b"\x08" + varint(GREATEST_BYTES)))
+    return call(b"GetCapacity", b""), reply(
+        b"\x08" + varint(POOL_BYTES - standing * MIB) + part(2, b"\x08" + varint(GREATEST_BYTES))
+    )
 
 
 def page(after, entries, last, published=()):
     """A page of volumes that all stand, behind the volume of that number, of `last` in all."""
     token = part(2, b"%d" % after) if after else b""
     first, end = after + 1, min(after + entries, last)
-    body = b"".join(part(1, volume(number) + part(2, part(1, b"n1") if number in published else b"")) for number in range(first, end + 1))
-    return call(b"ListVolumes", b"\x08" + varint(entries) + token), reply(body + (part(2, b"%d" % end) if end < last else b""))
+    body = b"".join(
+        part(1, volume(number) + part(2, part(1, b"n1") if number in published else b""))
+        for number in range(first, end + 1)
+    )
+    return call(b"ListVolumes", b"\x08" + varint(entries) + token), reply(
+        body + (part(2, b"%d" % end) if end < last else b"")
+    )
 
 
 def probes(count):
@@ -105,14 +123,22 @@ def pages(standing, count):
 
 
 def mix(standing, rounds, with_capacity=True):
-    """Rounds of calls, each for a volume of its own, which is gone at the end of the round. In a round: a create, a publish, a page of ten of which
+    """Rounds of calls, each for a volume of its own, which is gone at the end of the round. In a round: a
+    create, a publish, a page of ten of which
     six stand, what is free (unless it is left out), an unpublish and a delete."""
     for number in range(standing + 1, standing + rounds + 1):
         after = standing - 5
         body = b"".join(part(1, volume(other) + part(2, b"")) for other in range(after + 1, standing + 1))
         body += part(1, volume(number) + part(2, part(1, b"n1")))
         listing = call(b"ListVolumes", b"\x08\x0a" + part(2, b"%d" % after)), reply(body)
-        yield from [create(number), publish(number), listing, *[capacity(standing + 1)] * with_capacity, unpublish(number), delete(number)]
+        yield from [
+            create(number),
+            publish(number),
+            listing,
+            *[capacity(standing + 1)] * with_capacity,
+            unpublish(number),
+            delete(number),
+        ]
 
 
 def asked(calls):
@@ -128,5 +154,8 @@ def fill(csid, config, path, count):
     """Makes a file of tables by csid, and puts so many volumes into it by the C library of SQLite."""
     subprocess.run([csid, "pipe", "--config", config, "--tables", path], stdin=subprocess.DEVNULL, check=True)
     with contextlib.closing(sqlite3.connect(path)) as database, database:
-        database.executemany("INSERT INTO volumes VALUES (?, ?, 1048576, 'p', ?, x'')", ((n, "v%d" % n, BLOCK) for n in range(1, count + 1)))
+        database.executemany(
+            "INSERT INTO volumes VALUES (?, ?, 1048576, 'p', ?, x'')",
+            ((n, "v%d" % n, BLOCK) for n in range(1, count + 1)),
+        )
         database.execute("UPDATE meta SET next_number = ?", (count + 1,))

@@ -1,12 +1,16 @@
-"""The worst messages of about 1 MiB that are known: those of crates/test_bytes/stdin, and creates for the volume machine.
+"""The worst messages of about 1 MiB that are known: those of crates/test_bytes/stdin, and creates for the
+volume machine.
 
 What the notation of a message means is explained at the head of the section codec of crates/test_bytes/stdin.
 """
-import os, re
+import os
+import re
 
 import streams
 
-STDIN = os.path.join(os.path.dirname(os.path.dirname(os.path.abspath(__file__))), "crates", "test_bytes", "stdin")
+STDIN = os.path.join(
+    os.path.dirname(os.path.dirname(os.path.abspath(__file__))), "crates", "test_bytes", "stdin"
+)
 BEGIN = "@ codec\n"
 SECTION = "# Hostile messages"
 
@@ -52,10 +56,10 @@ def expand(text, count=0):
             continue
         if first == '"':
             end = text.index('"', at + 1)
-            part = text[at + 1:end].encode()
+            part = text[at + 1 : end].encode()
         elif first in "([":
             end = closing(text, at + 1)
-            inside = text[at + 1:end]
+            inside = text[at + 1 : end]
             part = expand(inside, count) if first == "(" else None
             part = streams.varint(len(part)) + part if first == "(" else None
         elif first == "#":
@@ -63,7 +67,7 @@ def expand(text, count=0):
             part = bytes(count >> 6 * place & 63 for place in reversed(range(int(text[end]))))
         else:
             end = at + 1
-            part = bytes.fromhex(text[at:at + 2])
+            part = bytes.fromhex(text[at : at + 2])
         at = end + 1
         times = re.match(r"\*(\d+)", text[at:])
         at += times.end() if times else 0
@@ -72,17 +76,22 @@ def expand(text, count=0):
     return bytes(out)
 
 
-# Pools with the segments 'a' to 'g', which are empty, and 'h'. A term that has 'a' to 'g' and not 'h' is looked through whole.
+# Pools with the segments 'a' to 'g', which are empty, and 'h'. A term that has 'a' to 'g' and not 'h' is
+# looked through whole.
 CONFIG = """name = "hostile.example.org"
 vendor_version = "1"
 default_bytes = 1048576
 greatest_bytes = 8388608
-""" + "".join("""
+""" + "".join(
+    """
 [[pool]]
 name = "p%d"
 bytes = 1099511627776
 segments = { a = "", b = "", c = "", d = "", e = "", f = "", g = "", h = "%d" }
-""" % (number, number) for number in range(1, 17))
+"""
+    % (number, number)
+    for number in range(1, 17)
+)
 SEVEN = "".join('0a(0a("%s"))' % key for key in "abcdefg")
 NAMED = '0a("a")'
 BLOCK = "1a(0a() 1a(0801))"
@@ -91,8 +100,12 @@ MOUNTS = "[1a(12(0a(#3)) 1a(0801))]*80600"
 
 
 def shuffled(count):
-    """Keys of a letter and a sign, a digit or a letter, whose order by bytes is another than that of their folded letters."""
-    second = [character for character in map(chr, range(33, 127)) if character != '"' and not character.isupper()]
+    """Keys of a letter and a sign, a digit or a letter, whose order by bytes is another than that of their
+    folded letters.
+    """
+    second = [
+        character for character in map(chr, range(33, 127)) if character != '"' and not character.isupper()
+    ]
     keys = [one + other for other in second for one in "hijklmnopqrstuvwxyzabcdefg"][:count]
     for place, key in enumerate(keys):
         upper = (7 * place + place // 3 + place // 26) % 2 == 0
@@ -102,33 +115,73 @@ def shuffled(count):
 
 FEW = SEVEN + '[0a(0a("z" #1))]*25'
 MARKED = SEVEN + '[0a(0a("z" #1))]*26'
-LARGE = SEVEN + '[0a(0a(#2))]*2035'
+LARGE = SEVEN + "[0a(0a(#2))]*2035"
 
 # What is answered: a volume of the pool p1, or a refusal.
-VOLUME = "0a(08808040 12(\"vol-%d\") 1a(0a(\"pool\") 12(\"p1\")) 2a(" + SEVEN.replace('"))', '") 1200)') + '0a(0a("h") 12("1"))))'
+VOLUME = (
+    '0a(08808040 12("vol-%d") 1a(0a("pool") 12("p1")) 2a('
+    + SEVEN.replace('"))', '") 1200)')
+    + '0a(0a("h") 12("1"))))'
+)
 NO_ROOM = (8, "no room in the topology")
 OTHER = (6, "volume exists and is not compatible")
 
-# Each row: what it shows, creates that come before, the create that is measured, its answer: the number of a volume, or a refusal.
+# Each row: what it shows, creates that come before, the create that is measured, its answer: the number of a
+# volume, or a refusal.
 CREATES = [
     ("116,000 preferred of one key", [], NAMED + BLOCK + "3a([12(0a(0a(#3)))]*116000)", 1),
     ("116,000 requisite of one key", [], NAMED + BLOCK + "3a([0a(0a(0a(#3)))]*116000)", NO_ROOM),
     ("262,000 preferred of an empty key", [], NAMED + BLOCK + "3a([12(0a())]*262000)", 1),
-    ("23,000 preferred with seven keys and one more", [], NAMED + BLOCK + "3a([12(" + SEVEN + '0a(0a("z" #3)))]*23000)', 1),
+    (
+        "23,000 preferred with seven keys and one more",
+        [],
+        NAMED + BLOCK + "3a([12(" + SEVEN + '0a(0a("z" #3)))]*23000)',
+        1,
+    ),
     ("5,400 preferred of 32 keys", [], NAMED + BLOCK + "3a([12(" + FEW + ")]*5400)", 1),
     ("5,200 preferred of 33 keys", [], NAMED + BLOCK + "3a([12(" + MARKED + ")]*5200)", 1),
     ("5,200 requisite of 33 keys", [], NAMED + BLOCK + "3a([0a(" + MARKED + ")]*5200)", NO_ROOM),
     ("84 preferred of 2,042 keys", [], NAMED + BLOCK + "3a([12(" + LARGE + ")]*84)", 1),
     ("84 requisite of 2,042 keys", [], NAMED + BLOCK + "3a([0a(" + LARGE + ")]*84)", NO_ROOM),
-    ("5,200 preferred of 33 keys out of order", [], NAMED + BLOCK + "3a([12(" + SEVEN + shuffled(26) + ")]*5200)", 1),
-    ("700 preferred of 240 keys out of order", [], NAMED + BLOCK + "3a([12(" + SEVEN + shuffled(233) + ")]*700)", 1),
-    ("100 preferred of 1,700 keys out of order", [], NAMED + BLOCK + "3a([12(" + SEVEN + shuffled(1700) + ")]*100)", 1),
+    (
+        "5,200 preferred of 33 keys out of order",
+        [],
+        NAMED + BLOCK + "3a([12(" + SEVEN + shuffled(26) + ")]*5200)",
+        1,
+    ),
+    (
+        "700 preferred of 240 keys out of order",
+        [],
+        NAMED + BLOCK + "3a([12(" + SEVEN + shuffled(233) + ")]*700)",
+        1,
+    ),
+    (
+        "100 preferred of 1,700 keys out of order",
+        [],
+        NAMED + BLOCK + "3a([12(" + SEVEN + shuffled(1700) + ")]*100)",
+        1,
+    ),
     ("80,600 mounts", [], NAMED + MOUNTS, 1),
     ("80,600 mounts, again", [NAMED + MOUNTS], NAMED + MOUNTS, 1),
-    ("7,400 mounts of long types, again", [NAMED + "[%s]*7400" % LONG_TYPE], NAMED + "[%s]*7400" % LONG_TYPE, 1),
+    (
+        "7,400 mounts of long types, again",
+        [NAMED + "[%s]*7400" % LONG_TYPE],
+        NAMED + "[%s]*7400" % LONG_TYPE,
+        1,
+    ),
     ("131,000 times one block, again", [NAMED + MOUNTS], NAMED + "[%s]*131000" % BLOCK, OTHER),
-    ("116,000 requisite of one key, again", [NAMED + BLOCK], NAMED + BLOCK + "3a([0a(0a(0a(#3)))]*116000)", OTHER),
-    ("84 requisite of 2,042 keys, again", [NAMED + BLOCK], NAMED + BLOCK + "3a([0a(" + LARGE + ")]*84)", OTHER),
+    (
+        "116,000 requisite of one key, again",
+        [NAMED + BLOCK],
+        NAMED + BLOCK + "3a([0a(0a(0a(#3)))]*116000)",
+        OTHER,
+    ),
+    (
+        "84 requisite of 2,042 keys, again",
+        [NAMED + BLOCK],
+        NAMED + BLOCK + "3a([0a(" + LARGE + ")]*84)",
+        OTHER,
+    ),
 ]
 
 

@@ -1,6 +1,8 @@
-"""What the programs of a release stand on, as far as it can be told here: the crates of the Rattle kit, and Debian's packages of Go's sources.
+"""What the programs of a release stand on, as far as it can be told here: the crates of the Rattle kit, and
+Debian's packages of Go's sources.
 
-A crate of the kit names in its README.md the Rust crate that it follows, and has the texts of its licences beside it. A Debian package has its
+A crate of the kit names in its README.md the Rust crate that it follows, and has the texts of its licences
+beside it. A Debian package has its
 version in dpkg's records and its licence in its file of copyright. What is not said there is told as unknown.
 """
 import os
@@ -12,9 +14,18 @@ from sources import TOP, read
 
 UNKNOWN = "NOASSERTION"
 # How the texts of licences in the kit are known.
-TEXTS = [("MIT", "Permission is hereby granted, free of charge"), ("Apache-2.0", "Apache License"), ("Unicode-3.0", "UNICODE LICENSE V3")]
+TEXTS = [
+    ("MIT", "Permission is hereby granted, free of charge"),
+    ("Apache-2.0", "Apache License"),
+    ("Unicode-3.0", "UNICODE LICENSE V3"),
+]
 # The short names of Debian's files of copyright that are other ones in SPDX.
-SHORT = {"BSD-3-clause": "BSD-3-Clause", "BSD-3-clause~Google": "BSD-3-Clause", "Go": "BSD-3-Clause", "Expat": "MIT"}
+SHORT = {
+    "BSD-3-clause": "BSD-3-Clause",
+    "BSD-3-clause~Google": "BSD-3-Clause",
+    "Go": "BSD-3-Clause",
+    "Expat": "MIT",
+}
 
 
 class Failure(Exception):
@@ -22,19 +33,31 @@ class Failure(Exception):
 
 
 class Part:
-    """One thing that a program stands on: its version and licence, where it is from, the files with the licence's text, and what it needs."""
+    """One thing that a program stands on: its version and licence, where it is from, the files with the
+    licence's text, and what it needs.
+    """
 
     def __init__(self, name, version, licence, source, files, needs=()):
-        self.name, self.version, self.licence, self.source, self.files, self.needs = name, version, licence, source, files, needs
+        self.name, self.version, self.licence, self.source, self.files, self.needs = (
+            name,
+            version,
+            licence,
+            source,
+            files,
+            needs,
+        )
 
 
 # The Rattle kit.
+
 
 def kit():
     """The folder of the kit, whose rt is on the PATH."""
     found = shutil.which("rt")
     if found is None:
-        raise Failure("'rt' is not on the PATH: the Rattle toolchain is needed (README.md, 'Build, run, test')")
+        raise Failure(
+            "'rt' is not on the PATH: the Rattle toolchain is needed (README.md, 'Build, run, test')"
+        )
     return os.path.dirname(os.path.dirname(os.path.realpath(found)))
 
 
@@ -77,7 +100,9 @@ def licence_files(folder):
 
 
 def licence_of(files):
-    """The licence that texts are known to be: one, or the choice that Rust crates give. Of other sets of texts it cannot be told which holds where."""
+    """The licence that texts are known to be: one, or the choice that Rust crates give. Of other sets of
+    texts it cannot be told which holds where.
+    """
     known = [next((short for short, words in TEXTS if words in read(it)), UNKNOWN) for it in files]
     if [os.path.basename(it) for it in files] == ["LICENSE-APACHE", "LICENSE-MIT"]:
         return " OR ".join(known)
@@ -87,7 +112,11 @@ def licence_of(files):
 def source_of(folder, name):
     """What a crate of the kit says that it follows."""
     path = os.path.join(folder, "README.md")
-    found = re.search(r"Rust crate `%s` (\d[\w.]*\d)" % re.escape(name), read(path)) if os.path.isfile(path) else None
+    found = (
+        re.search(r"Rust crate `%s` (\d[\w.]*\d)" % re.escape(name), read(path))
+        if os.path.isfile(path)
+        else None
+    )
     said = ", which follows the Rust crate %s %s" % (name, found.group(1)) if found else ""
     return "a crate of %s-%s%s" % (*kit_name(), said)
 
@@ -114,37 +143,57 @@ def kit_crates_used(program):
 
 # Go.
 
-def said(*command):
-    done = subprocess.run(command, capture_output=True, text=True)
+
+def said(*command, **how):
+    done = subprocess.run(command, capture_output=True, text=True, **how)
     if done.returncode != 0:
         raise Failure("%s: %s" % (" ".join(command[:2]), done.stderr.strip() or "it failed"))
     return done.stdout
 
 
 # Where the sources of the programs in Go are.
-GO = {"csid-front": "front", "csid-etcd": "etcd"}
+GO = {"csid-front": "go/front", "csid-etcd": "go/etcd"}
 
 
 def go_folders(program):
     """The folders of the packages that a program in Go is made of, its own left out."""
-    listed = said(os.path.join(TOP, GO[program], "go"), "list", "-deps", "-f", "{{.Dir}}", ".")
+    listed = said(
+        os.path.join(TOP, "go", "go"),
+        "list",
+        "-deps",
+        "-f",
+        "{{.Dir}}",
+        ".",
+        cwd=os.path.join(TOP, GO[program]),
+    )
     return sorted({os.path.realpath(it) for it in listed.split("\n") if it and not it.startswith(TOP)})
 
 
 def debian_names(folders):
-    """The Debian packages that files of these folders are from. Each folder has sources, and those are in one package."""
-    sources = [os.path.join(it, next(name for name in sorted(os.listdir(it)) if name.endswith((".go", ".s")))) for it in folders]
-    return sorted({line.split(":")[0] for line in said("dpkg-query", "--search", *sources).split("\n") if line})
+    """The Debian packages that files of these folders are from. Each folder has sources, and those are in one
+    package.
+    """
+    sources = [
+        os.path.join(it, next(name for name in sorted(os.listdir(it)) if name.endswith((".go", ".s"))))
+        for it in folders
+    ]
+    return sorted(
+        {line.split(":")[0] for line in said("dpkg-query", "--search", *sources).split("\n") if line}
+    )
 
 
 def debian_part(name):
     path = "/usr/share/doc/%s/copyright" % name
-    found = re.search(r"^Files: \*\n(?:.+\n)*?License: (\S+)", read(path), re.M) if os.path.isfile(path) else None
+    found = (
+        re.search(r"^Files: \*\n(?:.+\n)*?License: (\S+)", read(path), re.M) if os.path.isfile(path) else None
+    )
     licence = SHORT.get(found.group(1), found.group(1)) if found else UNKNOWN
     version = said("dpkg-query", "--show", "--showformat=${Version}", name)
     return Part(name, version, licence, "a Debian package", [path] if os.path.isfile(path) else [])
 
 
 def go_parts(program):
-    """Debian's packages of the sources that a program in Go is made of: Go's own library, and those that it imports."""
+    """Debian's packages of the sources that a program in Go is made of: Go's own library, and those that it
+    imports.
+    """
     return [debian_part(it) for it in debian_names(go_folders(program))]

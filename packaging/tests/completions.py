@@ -1,4 +1,5 @@
-"""The completions: what bash offers behind some words, and that the options are those that the programs list."""
+"""The completions: what bash offers behind some words, and that the options are those that the programs list.
+"""
 import os
 import re
 import subprocess
@@ -17,7 +18,8 @@ function=$(complete -p "$1" | sed -n 's/^complete -F \\([a-z_]*\\) .*/\\1/p')
 "$function"
 printf '%s\\n' "${COMPREPLY[@]}"
 """
-# Words, and what is offered for the last of them. The folder of the row has the files 'volumes.db' and 'config.toml'.
+# Words, and what is offered for the last of them. The folder of the row has the files 'volumes.db' and
+# 'config.toml'.
 ROWS = [
     ("csid ", "pipe serve --check-config --check-tables --config --help --version"),
     ("csid --check-t", "--check-tables"),
@@ -71,7 +73,9 @@ ROWS = [
 
 def offered(words, folder):
     path = os.path.join(TOP, "packaging", "completions", words[0])
-    done = subprocess.run(["bash", "-c", COMPLETE, "bash", path, *words], capture_output=True, text=True, cwd=folder)
+    done = subprocess.run(
+        ["bash", "-c", COMPLETE, "bash", path, *words], capture_output=True, text=True, cwd=folder
+    )
     return done.stdout.split(), done.stderr
 
 
@@ -87,23 +91,37 @@ def option_rows(programs):
     for name, program in programs.items():
         for command, options in options_of(name, program).items():
             words = [name, *([command] if command else []), "--"]
-            yield "the options of %s %s" % (name, command), sorted(set(offered(words, TOP)[0]) - COMMON), sorted(options)
+            yield "the options of %s %s" % (name, command), sorted(
+                set(offered(words, TOP)[0]) - COMMON
+            ), sorted(options)
 
 
 def value_rows(programs):
-    """Behind an option that has a value the value comes, and no option; behind one of a file or a socket, files do."""
+    """Behind an option that has a value the value comes, and no option; behind one of a file or a socket,
+    files do.
+    """
     with tempfile.TemporaryDirectory() as folder:
         open(os.path.join(folder, "volumes.db"), "x").close()
         for name, program in programs.items():
             for command, values in values_of(name, program).items():
                 words = [name, *([command] if command else [])]
-                found = {option: (offered([*words, option, "--"], folder)[0], "volumes.db" in offered([*words, option, "v"], folder)[0]) for option in values}
-                yield "behind the options of %s %s" % (name, command), found, {option: ([], value in ("FILE", "PATH")) for option, value in values.items()}
+                found = {
+                    option: (
+                        offered([*words, option, "--"], folder)[0],
+                        "volumes.db" in offered([*words, option, "v"], folder)[0],
+                    )
+                    for option in values
+                }
+                yield "behind the options of %s %s" % (name, command), found, {
+                    option: ([], value in ("FILE", "PATH")) for option, value in values.items()
+                }
 
 
 def method_rows():
     lists = re.findall(r"^\| `/csi\.v1\.\w+/M` \| (.*) \|$", read("docs", "PROTOCOL.md"), re.M)
-    yield "the methods", sorted(offered(["csictl", "call", "--method", ""], TOP)[0]), sorted(", ".join(lists).split(", "))
+    yield "the methods", sorted(offered(["csictl", "call", "--method", ""], TOP)[0]), sorted(
+        ", ".join(lists).split(", ")
+    )
 
 
 def parts(programs):

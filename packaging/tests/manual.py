@@ -1,4 +1,6 @@
-"""The pages of manual: their parts and options, what is refused, and that man and groff have no warning where they are installed."""
+"""The pages of manual: their parts and options, what is refused, and that man and groff have no warning where
+they are installed.
+"""
 import os
 import re
 import shutil
@@ -12,38 +14,125 @@ from tests.rows import LeftOut
 MANUAL = os.path.join(TOP, "packaging", "manual")
 # The sections of each page that the others do not have by chance.
 SECTIONS = {
-    "csid.1": ["NAME", "SYNOPSIS", "DESCRIPTION", "OPTIONS", "ARGUMENTS THAT ARE REFUSED", "LIMITS", "A NEWER CSID", "WHAT IS LEFT OUT", "SECRETS", "EXIT STATUS", "DIAGNOSTICS", "FILES", "SEE ALSO"],
-    "csictl.1": ["NAME", "SYNOPSIS", "DESCRIPTION", "OPTIONS", "FOR SCRIPTS", "A CALL THAT IS TRIED AGAIN", "WHAT IS SHOWN", "VECTORS", "EXIT STATUS", "FILES", "EXAMPLES", "SEE ALSO"],
-    "csid-front.1": ["NAME", "SYNOPSIS", "DESCRIPTION", "OPTIONS", "A FRONT THAT STANDS BY", "WHAT A CALL IS ANSWERED", "WATCHING THE FRONT", "ONE CALL AT A TIME", "EXIT STATUS", "FILES", "SEE ALSO"],
-    "csid-etcd.1": ["NAME", "SYNOPSIS", "DESCRIPTION", "OPTIONS", "KEYS AND VALUES", "THE LOCK", "WHAT IS ANSWERED, AND LINES", "WHAT IS BELIEVED OF ETCD",
-                    "RIGHTS, USERS, TLS", "ROOM", "SNAPSHOTS", "FROM A FILE TO ETCD, AND BACK", "EXIT STATUS", "FILES", "SEE ALSO"],
+    "csid.1": [
+        "NAME",
+        "SYNOPSIS",
+        "DESCRIPTION",
+        "OPTIONS",
+        "ARGUMENTS THAT ARE REFUSED",
+        "LIMITS",
+        "A NEWER CSID",
+        "WHAT IS LEFT OUT",
+        "SECRETS",
+        "EXIT STATUS",
+        "DIAGNOSTICS",
+        "FILES",
+        "SEE ALSO",
+    ],
+    "csictl.1": [
+        "NAME",
+        "SYNOPSIS",
+        "DESCRIPTION",
+        "OPTIONS",
+        "FOR SCRIPTS",
+        "A CALL THAT IS TRIED AGAIN",
+        "WHAT IS SHOWN",
+        "VECTORS",
+        "EXIT STATUS",
+        "FILES",
+        "EXAMPLES",
+        "SEE ALSO",
+    ],
+    "csid-front.1": [
+        "NAME",
+        "SYNOPSIS",
+        "DESCRIPTION",
+        "OPTIONS",
+        "A FRONT THAT STANDS BY",
+        "WHAT A CALL IS ANSWERED",
+        "WATCHING THE FRONT",
+        "ONE CALL AT A TIME",
+        "EXIT STATUS",
+        "FILES",
+        "SEE ALSO",
+    ],
+    "csid-etcd.1": [
+        "NAME",
+        "SYNOPSIS",
+        "DESCRIPTION",
+        "OPTIONS",
+        "KEYS AND VALUES",
+        "THE LOCK",
+        "WHAT IS ANSWERED, AND LINES",
+        "WHAT IS BELIEVED OF ETCD",
+        "RIGHTS, USERS, TLS",
+        "ROOM",
+        "SNAPSHOTS",
+        "FROM A FILE TO ETCD, AND BACK",
+        "EXIT STATUS",
+        "FILES",
+        "SEE ALSO",
+    ],
     "csid-config.5": ["NAME", "DESCRIPTION", "A NODE OR A POOL THAT IS TAKEN AWAY", "FILES", "SEE ALSO"],
-    "csid-protocol.7": ["NAME", "DESCRIPTION", "ENVELOPE", "STREAMS", "WIRE", "MESSAGES AS VALUES", "MESSAGES", "PATHS", "STATUS CODES", "ARGUMENT CHECKS", "OTHER REFUSALS", "CALLS ANSWERED", "FILES", "SEE ALSO"],
+    "csid-protocol.7": [
+        "NAME",
+        "DESCRIPTION",
+        "ENVELOPE",
+        "STREAMS",
+        "WIRE",
+        "MESSAGES AS VALUES",
+        "MESSAGES",
+        "PATHS",
+        "STATUS CODES",
+        "ARGUMENT CHECKS",
+        "OTHER REFUSALS",
+        "CALLS ANSWERED",
+        "FILES",
+        "SEE ALSO",
+    ],
 }
 # What stands in a page as roff, worked out by hand from docs/ and deploy/.
 TEXTS = [
-    ("csid.1", ".TH CSID 1 2001-09-09 \"csid VERSION\" \"User Commands\"\n"),
+    ("csid.1", '.TH CSID 1 2001-09-09 "csid VERSION" "User Commands"\n'),
     ("csid.1", ".SH NAME\ncsid \\- storage-plugin controller for the Container Storage Interface\n"),
-    ("csid.1", "\\fBcsid\\fR [pipe [\\-\\-config\\ FILE] [\\-\\-tables FILE [\\-\\-existing] [\\-\\-low\\-memory]]]\n"),
+    (
+        "csid.1",
+        (
+            "\\fBcsid\\fR [pipe [\\-\\-config\\ FILE] [\\-\\-tables FILE [\\-\\-existing]"
+            " [\\-\\-low\\-memory]]]\n"
+        ),
+    ),
     ("csid.1", ".TP\n\\fB\\-\\-socket PATH\\fR\n"),
     ("csid.1", ".TP\n\\fB/var/lib/csid/volumes.db\\fR\n"),
-    ("csid.1", "short entries (docs/OPERATING.md, \"Time and memory\")\n"),
-    ("csid.1", "docs/DEPLOY.md, \"From the Debian package\".\nWithout it, with the paths of docs/OPERATING.md, \"Copies and restores\", and"),
-    ("csid.1", " (\"Arguments that are refused\")\n"),
+    ("csid.1", 'short entries (docs/OPERATING.md, "Time and memory")\n'),
+    (
+        "csid.1",
+        (
+            'docs/DEPLOY.md, "From the Debian package".\nWithout it, with the paths of docs/OPERATING.md,'
+            ' "Copies and restores", and'
+        ),
+    ),
+    ("csid.1", ' ("Arguments that are refused")\n'),
     ("csictl.1", "\\fBcsictl\\fR vectors FILE\n"),
-    ("csictl.1", ".SH \"FOR SCRIPTS\"\n"),
+    ("csictl.1", '.SH "FOR SCRIPTS"\n'),
     ("csid-front.1", "\\fBcsid\\-front\\fR \\-\\-version\n"),
     ("csid-front.1", ".SH DESCRIPTION\n.PP\nFor operators: how \\fBcsid\\fR stands behind an orchestrator"),
-    ("csid-front.1", " (\"Watching the front\")\n"),
-    ("csid-front.1", ".SH \"WATCHING THE FRONT\"\n"),
-    ("csid-front.1", "one serves at a time (docs/DEPLOY.md, \"Two replicas over etcd\").\n"),
+    ("csid-front.1", ' ("Watching the front")\n'),
+    ("csid-front.1", '.SH "WATCHING THE FRONT"\n'),
+    ("csid-front.1", 'one serves at a time (docs/DEPLOY.md, "Two replicas over etcd").\n'),
     ("csid-front.1", ".TP\n\\fB/run/csid\\-front/csi.sock\\fR\n"),
-    ("csid-etcd.1", "\\fBcsid\\-etcd\\fR \\-\\-import \\-\\-name NAME [\\-\\-endpoints\\ HOST:PORT,..] [\\-\\-cacert\\ PATH]"),
+    (
+        "csid-etcd.1",
+        (
+            "\\fBcsid\\-etcd\\fR \\-\\-import \\-\\-name NAME [\\-\\-endpoints\\ HOST:PORT,..]"
+            " [\\-\\-cacert\\ PATH]"
+        ),
+    ),
     ("csid-etcd.1", ".TP\n\\fB\\-\\-listen PATH\\fR\n"),
-    ("csid-etcd.1", ".SS \"From etcd to a file\"\n"),
+    ("csid-etcd.1", '.SS "From etcd to a file"\n'),
     ("csid-etcd.1", ".TP\n\\fB/run/csid\\-etcd/log.sock\\fR\n"),
     ("csid-etcd.1", ".TP\n\\fB/var/lib/csid\\-etcd/revision\\fR\n"),
-    ("csid-config.5", "[[pool]]\nname = \"p1\"\n"),
+    ("csid-config.5", '[[pool]]\nname = "p1"\n'),
     ("csid-protocol.7", ".TP\npath length\nbytes: 2, big-endian\n.br\nvalue: 1 to 128\n"),
     ("csid-protocol.7", ".TP\n0\n\\fBOK\\fR\n"),
 ]
@@ -55,11 +144,14 @@ PIECES = [
     (".so is no request", ".PP\n\\&.so is no request\n"),
     ("One. Two", ".PP\nOne.\nTwo\n"),
     ("`a: ` and `B. C` or d", ".PP\n\\fBa: \\fR and \\fBB. C\\fR or d\n"),
-    ("`%s,%s,c`" % ("a" * 40, "b" * 40), ".PP\n.na\n\\fB%s,\\:%s,\\:c\\fR\n.br\n.ad\n" % ("a" * 40, "b" * 40)),
+    (
+        "`%s,%s,c`" % ("a" * 40, "b" * 40),
+        ".PP\n.na\n\\fB%s,\\:%s,\\:c\\fR\n.br\n.ad\n" % ("a" * 40, "b" * 40),
+    ),
     ("two\nlines", ".PP\ntwo lines\n"),
     ("- a", ".IP \\(bu 4\na\n"),
     ("1. a\n2. b\n   c", ".IP 1. 4\na\n.IP 2. 4\nb c\n"),
-    ("### Head `it`", ".SS \"Head it\"\n"),
+    ("### Head `it`", '.SS "Head it"\n'),
     ("    'a-b'\n    .c", ".PP\n.in +4n\n.nf\n\\(aqa\\-b\\(aq\n\\&.c\n.fi\n.in\n"),
     ("```\na\n\nb\n```", ".PP\n.in +4n\n.nf\na\n\nb\n.fi\n.in\n"),
     ("| a | |\n|---|---|\n| b | c |", ".TP\nb\nc\n"),
@@ -103,27 +195,45 @@ def option_rows(pages, programs):
         part = re.search(r"^\.SH OPTIONS\n(.*?)^\.SH ", pages[name + ".1"], re.M | re.S).group(1)
         tags = "".join(re.findall(r"^\.TP\n(.*)\n", part, re.M)).replace("\\-", "-")
         wanted = set().union(*options_of(name, program).values())
-        yield "the options of " + name, sorted(set(re.findall(r"--[a-z-]+", tags)) - {"--help", "--version"}), sorted(wanted)
+        yield "the options of " + name, sorted(
+            set(re.findall(r"--[a-z-]+", tags)) - {"--help", "--version"}
+        ), sorted(wanted)
 
 
 def piece_rows():
     """Each piece as the page of the protocol has it behind its first heading."""
     for piece, wanted in PIECES:
         with tempfile.TemporaryDirectory() as folder:
-            manual = copied(folder, "PROTOCOL.md", "## Calls answered\n", "## Calls answered\n\n%s\n\n## Behind it\n" % piece)
+            manual = copied(
+                folder,
+                "PROTOCOL.md",
+                "## Calls answered\n",
+                "## Calls answered\n\n%s\n\n## Behind it\n" % piece,
+            )
             done = run(manual, os.path.join(folder, "man"))
             text = read(os.path.join(folder, "man", "csid-protocol.7")) if done == (0, "") else done
-        yield "the piece %r" % piece, re.search(r'\.SH "CALLS ANSWERED"\n(.*?)\.SH FILES', str(text), re.S).group(1), wanted
+        yield "the piece %r" % piece, re.search(
+            r'\.SH "CALLS ANSWERED"\n(.*?)\.SH FILES', str(text), re.S
+        ).group(1), wanted
 
 
 def synopsis_rows():
-    """A form of the command line that goes on in a line that is set in, and the name of the program in a package."""
+    """A form of the command line that goes on in a line that is set in, and the name of the program in a
+    package.
+    """
     with tempfile.TemporaryDirectory() as folder:
-        manual = copied(folder, "DEPLOY.md", "    front --version\n", "    front --version\n          [--a B] c\n    front d\n")
+        manual = copied(
+            folder,
+            "DEPLOY.md",
+            "    front --version\n",
+            "    front --version\n          [--a B] c\n    front d\n",
+        )
         yield "a synopsis", run(manual, os.path.join(folder, "man")), (0, "")
         text = read(os.path.join(folder, "man", "csid-front.1"))
     wanted = "\\fBcsid\\-front\\fR \\-\\-version [\\-\\-a\\ B] c\n.PP\n\\fBcsid\\-front\\fR d\n.ad\n"
-    yield "its forms", re.search(r"(\\fBcsid\\-front\\fR \\-\\-version.*?\.ad\n)", text, re.S).group(1), wanted
+    yield "its forms", re.search(r"(\\fBcsid\\-front\\fR \\-\\-version.*?\.ad\n)", text, re.S).group(
+        1
+    ), wanted
 
 
 def refusal_rows():
@@ -131,11 +241,17 @@ def refusal_rows():
     yield "no folder", run(MANUAL), (2, usage)
     yield "an option", run(MANUAL, "--help"), (2, usage)
     yield "an option alone", run(MANUAL, "--without-etcd"), (2, usage)
-    for old, new, count in [("## Limits\n", "## Limit\n", 0), ("## Secrets\n", "## Limits\n\n## Secrets\n", 2)]:
+    for old, new, count in [
+        ("## Limits\n", "## Limit\n", 0),
+        ("## Secrets\n", "## Limits\n\n## Secrets\n", 2),
+    ]:
         with tempfile.TemporaryDirectory() as folder:
             out = os.path.join(folder, "man")
             came = run(copied(folder, "OPERATING.md", old, new), out), os.path.exists(out)
-        yield "%d headings" % count, came, ((1, "manual: docs/OPERATING.md has %d headings 'Limits'\n" % count), False)
+        yield "%d headings" % count, came, (
+            (1, "manual: docs/OPERATING.md has %d headings 'Limits'\n" % count),
+            False,
+        )
 
 
 def without_rows():
@@ -151,7 +267,12 @@ def warning_rows(folder, *words):
     if not shutil.which(words[0]):
         raise LeftOut("%s is not here" % words[0])
     for name in sorted(os.listdir(folder)):
-        done = subprocess.run([*words, os.path.join(folder, name)], capture_output=True, text=True, env={**os.environ, "LC_ALL": "C.UTF-8", "MANWIDTH": "80"})
+        done = subprocess.run(
+            [*words, os.path.join(folder, name)],
+            capture_output=True,
+            text=True,
+            env={**os.environ, "LC_ALL": "C.UTF-8", "MANWIDTH": "80"},
+        )
         yield "%s finds nothing in %s" % (words[0], name), (done.returncode, done.stderr), (0, "")
 
 
@@ -165,5 +286,15 @@ def made_rows(programs, folder):
 
 def parts(programs, folder):
     """The rows, of which the later ones read the pages that the first ones make in a folder."""
-    warnings = [warning_rows(folder, "groff", "-man", "-ww", "-z"), warning_rows(folder, "man", "--warnings", "-l", "-Tutf8")]
-    return [made_rows(programs, folder), piece_rows(), synopsis_rows(), refusal_rows(), without_rows(), *warnings]
+    warnings = [
+        warning_rows(folder, "groff", "-man", "-ww", "-z"),
+        warning_rows(folder, "man", "--warnings", "-l", "-Tutf8"),
+    ]
+    return [
+        made_rows(programs, folder),
+        piece_rows(),
+        synopsis_rows(),
+        refusal_rows(),
+        without_rows(),
+        *warnings,
+    ]

@@ -1,6 +1,8 @@
-"""The Debian package: what it holds, what lintian says, and that it can be installed, used, upgraded, removed and purged.
+"""The Debian package: what it holds, what lintian says, and that it can be installed, used, upgraded, removed
+and purged.
 
-It is installed into a temporary folder with a system that is no more than the maintainer scripts need; the programs of systemd there write down
+It is installed into a temporary folder with a system that is no more than the maintainer scripts need; the
+programs of systemd there write down
 how they were called.
 """
 import contextlib
@@ -18,7 +20,8 @@ from tests.rows import LeftOut
 
 # How long a program may take to make its socket, or to answer.
 SECONDS = 20
-# What the maintainer scripts call in the system (rm, so that one which removes too much can), and what they call of systemd.
+# What the maintainer scripts call in the system (rm, so that one which removes too much can), and what they
+# call of systemd.
 TOOLS = ["sh", "rm", "rmdir", "systemd-sysusers"]
 CALLED = ["deb-systemd-helper", "deb-systemd-invoke", "systemctl"]
 TABLES = "var/lib/csid/volumes.db"
@@ -26,16 +29,33 @@ CONFIG = "etc/csid/config.toml"
 LICENCES = "./usr/share/doc/csid/licences/"
 CSID_SOCKET = "run/csid/csid.sock"
 FRONT_SOCKET = "run/csid-front/csi.sock"
-UPDATED = ["deb-systemd-helper update-state csid.service", "deb-systemd-helper update-state csid-front.service", "systemctl --system daemon-reload"]
+UPDATED = [
+    "deb-systemd-helper update-state csid.service",
+    "deb-systemd-helper update-state csid-front.service",
+    "systemctl --system daemon-reload",
+]
 RESTARTED = ["deb-systemd-invoke try-restart csid.service csid-front.service"]
 STOPPED = ["deb-systemd-invoke stop csid-front.service csid.service", "systemctl --system daemon-reload"]
-STOPPED_ETCD = ["deb-systemd-invoke stop csid-front.service csid.service", "deb-systemd-invoke stop csid-etcd.service", "systemctl --system daemon-reload"]
-RESTARTED_ETCD = ["deb-systemd-invoke try-restart csid-etcd.service", "deb-systemd-invoke try-restart csid.service csid-front.service"]
+STOPPED_ETCD = [
+    "deb-systemd-invoke stop csid-front.service csid.service",
+    "deb-systemd-invoke stop csid-etcd.service",
+    "systemctl --system daemon-reload",
+]
+RESTARTED_ETCD = [
+    "deb-systemd-invoke try-restart csid-etcd.service",
+    "deb-systemd-invoke try-restart csid.service csid-front.service",
+]
 ETCD_UNIT = "etc/systemd/system/csid-etcd.service"
 # What is in the package with csid-etcd alone.
-OF_ETCD = ["./usr/bin/csid-etcd", "./usr/share/bash-completion/completions/csid-etcd", "./usr/share/man/man1/csid-etcd.1.gz"]
+OF_ETCD = [
+    "./usr/bin/csid-etcd",
+    "./usr/share/bash-completion/completions/csid-etcd",
+    "./usr/share/man/man1/csid-etcd.1.gz",
+]
 PURGED = ["deb-systemd-helper purge csid.service csid-front.service"]
-LEFT = "csid: /var/lib/csid has the record of volumes and is left; remove it by hand once no volume is in use\n"
+LEFT = (
+    "csid: /var/lib/csid has the record of volumes and is left; remove it by hand once no volume is in use\n"
+)
 VOLUME = "volume vol-1 1048576"
 
 
@@ -45,7 +65,9 @@ def checksum(path):
 
 
 def run(*words, **more):
-    done = subprocess.run(words, capture_output=True, text=True, stdin=subprocess.DEVNULL, timeout=10 * SECONDS, **more)
+    done = subprocess.run(
+        words, capture_output=True, text=True, stdin=subprocess.DEVNULL, timeout=10 * SECONDS, **more
+    )
     return done.returncode, done.stdout, done.stderr
 
 
@@ -59,7 +81,17 @@ class System:
 
     def __init__(self, root):
         self.root = root
-        for folder in ["var/lib/dpkg/info", "var/lib/dpkg/updates", "run/systemd/system", "run/csid", "run/csid-front", "etc", "bin", "dev", "tmp"]:
+        for folder in [
+            "var/lib/dpkg/info",
+            "var/lib/dpkg/updates",
+            "run/systemd/system",
+            "run/csid",
+            "run/csid-front",
+            "etc",
+            "bin",
+            "dev",
+            "tmp",
+        ]:
             os.makedirs(self.path(folder))
         for file in ["var/lib/dpkg/status", "etc/passwd", "etc/group", "calls"]:
             open(self.path(file), "x").close()
@@ -90,7 +122,14 @@ class System:
     def dpkg(self, *words):
         """What dpkg ends with and how the scripts called systemd."""
         self.write("calls", "", 0o644)
-        status, _, error = run("dpkg", "--root=" + self.root, "--log=" + self.path("dpkg.log"), "--force-depends", "--force-confold", *words)
+        status, _, error = run(
+            "dpkg",
+            "--root=" + self.root,
+            "--log=" + self.path("dpkg.log"),
+            "--force-depends",
+            "--force-confold",
+            *words
+        )
         said = [line + "\n" for line in error.splitlines() if line.startswith(("csid: ", "dpkg: error"))]
         return status, "".join(said), read(self.path("calls")).splitlines()
 
@@ -100,15 +139,25 @@ class System:
     def command(self, unit):
         """The words that a unit starts."""
         text = re.sub(r"\\\n\s*", "", read(self.path("lib/systemd/system/" + unit)))
-        return shlex.split(re.search(r"^ExecStart=(.*)$", text, re.M).group(1)), dict(re.findall(r"^Environment=(\w+)=(.*)$", text, re.M))
+        return shlex.split(re.search(r"^ExecStart=(.*)$", text, re.M).group(1)), dict(
+            re.findall(r"^Environment=(\w+)=(.*)$", text, re.M)
+        )
 
     @contextlib.contextmanager
     def started(self, unit, socket):
-        """Runs what a unit starts, from when its socket is there. As systemd does, it takes an old socket away."""
+        """Runs what a unit starts, from when its socket is there. As systemd does, it takes an old socket
+        away.
+        """
         if os.path.exists(self.path(socket)):
             os.unlink(self.path(socket))
         words, variables = self.command(unit)
-        process = subprocess.Popen(["chroot", self.root, *words], env={**os.environ, **variables}, stdin=subprocess.DEVNULL, stderr=subprocess.PIPE, text=True)
+        process = subprocess.Popen(
+            ["chroot", self.root, *words],
+            env={**os.environ, **variables},
+            stdin=subprocess.DEVNULL,
+            stderr=subprocess.PIPE,
+            text=True,
+        )
         try:
             end = time.monotonic() + SECONDS
             while not os.path.exists(self.path(socket)) and process.poll() is None and time.monotonic() < end:
@@ -120,7 +169,11 @@ class System:
 
     def tables(self):
         """The record of volumes and the log beside it, by their checksums."""
-        return {name: checksum(self.path(name)) for name in (TABLES, TABLES + "-wal") if os.path.exists(self.path(name))}
+        return {
+            name: checksum(self.path(name))
+            for name in (TABLES, TABLES + "-wal")
+            if os.path.exists(self.path(name))
+        }
 
 
 def ended(process):
@@ -129,34 +182,63 @@ def ended(process):
 
 
 def content_rows(programs, package):
-    """The paths and modes. Whose licences there are depends on what the programs stand on, so of these the modes alone."""
-    held = [re.sub(r" +\d+ \d{4}-\d\d-\d\d \d\d:\d\d ", " ", it) for it in run("dpkg-deb", "--contents", package)[1].splitlines()]
+    """The paths and modes. Whose licences there are depends on what the programs stand on, so of these the
+    modes alone.
+    """
+    held = [
+        re.sub(r" +\d+ \d{4}-\d\d-\d\d \d\d:\d\d ", " ", it)
+        for it in run("dpkg-deb", "--contents", package)[1].splitlines()
+    ]
     listed = [it for it in held if LICENCES not in it]
-    wanted = [it for it in read("packaging", "debian", "contents").splitlines() if "csid-etcd" in programs or it.split()[-1] not in OF_ETCD]
-    yield "the modes of licences", {it.partition(LICENCES)[0] for it in held if LICENCES in it}, {"drwxr-xr-x root/root ", "-rw-r--r-- root/root "}
+    wanted = [
+        it
+        for it in read("packaging", "debian", "contents").splitlines()
+        if "csid-etcd" in programs or it.split()[-1] not in OF_ETCD
+    ]
+    yield "the modes of licences", {it.partition(LICENCES)[0] for it in held if LICENCES in it}, {
+        "drwxr-xr-x root/root ",
+        "-rw-r--r-- root/root ",
+    }
     yield "what is there and is not listed", sorted(set(listed) - set(wanted)), []
     yield "what is listed and is not there", sorted(set(wanted) - set(listed)), []
 
 
 def control_rows(programs, package):
-    """What the package needs: the libraries that the programs are linked to, and what the maintainer scripts call. Its checksums are those of its files."""
-    linked = {os.path.realpath(it) for name in ("csid", "csictl") for it in re.findall(r"(/\S+) \(0x", run("ldd", programs[name])[1])}
+    """What the package needs: the libraries that the programs are linked to, and what the maintainer scripts
+    call. Its checksums are those of its files.
+    """
+    linked = {
+        os.path.realpath(it)
+        for name in ("csid", "csictl")
+        for it in re.findall(r"(/\S+) \(0x", run("ldd", programs[name])[1])
+    }
     # Where /lib is a link to /usr/lib, dpkg knows a library by the one name or the other.
     named = linked | {it.removeprefix("/usr") for it in linked}
     libraries = {line.split(":")[0] for line in run("dpkg-query", "--search", *named)[1].splitlines()}
     needed = run("dpkg-deb", "--field", package, "Depends")[1].strip().split(", ")
-    yield "what the package needs", {" | ".join(re.sub(r" \(.*\)$", "", it) for it in one.split(" | ")) for one in needed}, libraries | {
-        "init-system-helpers", "systemd | systemd-standalone-sysusers | systemd-sysusers"}
+    yield "what the package needs", {
+        " | ".join(re.sub(r" \(.*\)$", "", it) for it in one.split(" | ")) for one in needed
+    }, libraries | {"init-system-helpers", "systemd | systemd-standalone-sysusers | systemd-sysusers"}
     with tempfile.TemporaryDirectory() as tree:
         run("dpkg-deb", "--raw-extract", package, tree)
-        files = [os.path.relpath(os.path.join(at, it), tree) for at, _, names in os.walk(tree) for it in names]
-        yield "its checksums", run("md5sum", "--check", "--quiet", "--strict", "DEBIAN/md5sums", cwd=tree), (0, "", "")
+        files = [
+            os.path.relpath(os.path.join(at, it), tree) for at, _, names in os.walk(tree) for it in names
+        ]
+        yield "its checksums", run("md5sum", "--check", "--quiet", "--strict", "DEBIAN/md5sums", cwd=tree), (
+            0,
+            "",
+            "",
+        )
         listed = [line[34:] for line in read(tree, "DEBIAN", "md5sums").splitlines()]
-        yield "the files that have them", sorted(listed), sorted(it for it in files if not it.startswith("DEBIAN/"))
+        yield "the files that have them", sorted(listed), sorted(
+            it for it in files if not it.startswith("DEBIAN/")
+        )
         # As Debian counts: each file in whole KiB, and one for each folder.
         folders = [at for at, _, _ in os.walk(tree) if not os.path.relpath(at, tree).startswith("DEBIAN")]
         sizes = [-(-os.path.getsize(os.path.join(tree, it)) // 1024) for it in listed]
-        yield "its size", run("dpkg-deb", "--field", package, "Installed-Size")[1].strip(), str(len(folders) + sum(sizes))
+        yield "its size", run("dpkg-deb", "--field", package, "Installed-Size")[1].strip(), str(
+            len(folders) + sum(sizes)
+        )
 
 
 def lintian_rows(package):
@@ -167,7 +249,9 @@ def lintian_rows(package):
 
 def called(system, *words):
     """What csictl shows of a call behind its first line."""
-    status, out, error = system.inside("/usr/bin/csictl", "call", "--socket", "/" + CSID_SOCKET, "--method", *words)
+    status, out, error = system.inside(
+        "/usr/bin/csictl", "call", "--socket", "/" + CSID_SOCKET, "--method", *words
+    )
     return status, out.partition("\n")[2].strip(), error
 
 
@@ -175,16 +259,28 @@ def use_rows(programs, system):
     """The programs, and what the units start with the configuration of the package."""
     for name in programs:
         system.put_libraries(system.path("usr/bin/" + name))
-        yield name + " --version", system.inside("/usr/bin/" + name, "--version"), (0, "%s %s\n" % (name.replace("csid-front", "front"), version()), "")
+        yield name + " --version", system.inside("/usr/bin/" + name, "--version"), (
+            0,
+            "%s %s\n" % (name.replace("csid-front", "front"), version()),
+            "",
+        )
     yield "the configuration", system.inside("/usr/bin/csid", "pipe", "--config", "/" + CONFIG), (0, "", "")
     os.makedirs(system.path("var/lib/csid"))
-    yield "csid-new makes the file of volumes", system.inside(*system.command("csid-new.service")[0]), (0, "", "")
-    with system.started("csid.service", CSID_SOCKET) as csid, system.started("csid-front.service", FRONT_SOCKET) as front:
+    yield "csid-new makes the file of volumes", system.inside(*system.command("csid-new.service")[0]), (
+        0,
+        "",
+        "",
+    )
+    with system.started("csid.service", CSID_SOCKET) as csid, system.started(
+        "csid-front.service", FRONT_SOCKET
+    ) as front:
         yield "csid answers", called(system, "CreateVolume", "--name", "a", "--mode", "1"), (0, VOLUME, "")
         yield "the front is there", os.path.exists(system.path(FRONT_SOCKET)), True
         ended(front)
         yield "it ends when it is asked to", front.returncode, 0
-        yield "what csid said", ended(csid), "csid: /%s: volumes 0, attachments 0, next number 1, format 2\n" % TABLES
+        yield "what csid said", ended(
+            csid
+        ), "csid: /%s: volumes 0, attachments 0, next number 1, format 2\n" % TABLES
 
 
 def later(package, folder):
@@ -214,7 +310,11 @@ def remove_rows(system, package):
     """A remove leaves the tables and the configuration, and a purge the tables."""
     before = system.tables()
     yield "a remove", system.dpkg("--remove", "csid"), (0, "", STOPPED)
-    yield "what it leaves", (system.tables(), os.path.exists(system.path(CONFIG)), os.path.exists(system.path("usr/bin/csid"))), (before, True, False)
+    yield "what it leaves", (
+        system.tables(),
+        os.path.exists(system.path(CONFIG)),
+        os.path.exists(system.path("usr/bin/csid")),
+    ), (before, True, False)
     yield "a purge", system.dpkg("--purge", "csid"), (0, LEFT, PURGED)
     yield "what it leaves", (system.tables(), os.path.exists(system.path("etc/csid"))), (before, False)
     shutil.rmtree(system.path("var/lib/csid"))
@@ -225,12 +325,18 @@ def remove_rows(system, package):
 
 
 def etcd_rows(system, package, folder):
-    """The unit of csid-etcd is the operator's copy of the example: it is stopped and started where it is there, and stays."""
+    """The unit of csid-etcd is the operator's copy of the example: it is stopped and started where it is
+    there, and stays.
+    """
     os.makedirs(os.path.dirname(system.path(ETCD_UNIT)), exist_ok=True)
     example = read(system.path("usr/share/doc/csid/examples/csid-etcd.service"))
     yield "the program of the example", re.findall(r"^ExecStart=(\S+)", example, re.M), ["/usr/bin/csid-etcd"]
     system.write(ETCD_UNIT, example, 0o644)
-    yield "an upgrade over csid-etcd", system.dpkg("--install", later(package, folder)), (0, "", UPDATED + RESTARTED_ETCD)
+    yield "an upgrade over csid-etcd", system.dpkg("--install", later(package, folder)), (
+        0,
+        "",
+        UPDATED + RESTARTED_ETCD,
+    )
     yield "a remove over csid-etcd", system.dpkg("--remove", "csid"), (0, "", STOPPED_ETCD)
     yield "its unit behind it", read(system.path(ETCD_UNIT)), example
     os.unlink(system.path(ETCD_UNIT))
@@ -245,7 +351,9 @@ def install_rows(programs, package):
     with tempfile.TemporaryDirectory() as folder:
         system = System(os.path.join(folder, "root"))
         yield "an install", system.dpkg("--install", package), (0, "", UPDATED)
-        yield "the user", re.findall(r"^(csid):x:\d+:\d+:(.*)$", read(system.path("etc/passwd")), re.M), [("csid", "CSI controller plugin csid:/var/lib/csid:/usr/sbin/nologin")]
+        yield "the user", re.findall(r"^(csid):x:\d+:\d+:(.*)$", read(system.path("etc/passwd")), re.M), [
+            ("csid", "CSI controller plugin csid:/var/lib/csid:/usr/sbin/nologin")
+        ]
         yield "no file of volumes", os.path.exists(system.path("var/lib/csid")), False
         yield from use_rows(programs, system)
         yield from upgrade_rows(system, package, folder)
@@ -255,4 +363,9 @@ def install_rows(programs, package):
 
 
 def parts(programs, package):
-    return [content_rows(programs, package), control_rows(programs, package), lintian_rows(package), install_rows(programs, package)]
+    return [
+        content_rows(programs, package),
+        control_rows(programs, package),
+        lintian_rows(package),
+        install_rows(programs, package),
+    ]

@@ -1,4 +1,6 @@
-"""A release: what stands in its folder, in its tar.gz and in its list of parts, and what ./release refuses to begin with."""
+"""A release: what stands in its folder, in its tar.gz and in its list of parts, and what ./release refuses to
+begin with.
+"""
 import hashlib
 import json
 import os
@@ -12,31 +14,36 @@ import tempfile
 from sources import TOP, version
 
 BUILD = "release: %s is not there, or older than a source: call %s first\n"
-CSID, CSICTL, FRONT, ETCD = "crates/csid/out/csid", "crates/csictl/out/csictl", "front/out/front", "etcd/out/csid-etcd"
+CSID, CSICTL, FRONT, ETCD = (
+    "crates/csid/out/csid",
+    "crates/csictl/out/csictl",
+    "go/front/out/front",
+    "go/etcd/out/csid-etcd",
+)
 USAGE = "release: usage: ./release [--out FOLDER | --check]\n"
 NO_KIT = "%s: 'rt' is not on the PATH: the Rattle toolchain is needed (README.md, 'Build, run, test')\n"
 # Programs that are there, what is newer than they are, and what ./release says.
 REFUSED = [
     ([], None, BUILD % (CSID, "./build")),
     ([CSID, FRONT], None, BUILD % (CSICTL, "./build")),
-    ([CSID, CSICTL], None, BUILD % (FRONT, "front/build")),
+    ([CSID, CSICTL], None, BUILD % (FRONT, "go/front/build")),
     ([CSID, CSICTL, FRONT], "crates/csid/src/main.rt", BUILD % (CSID, "./build")),
     ([CSID, CSICTL, FRONT], "crates.txt", BUILD % (CSID, "./build")),
-    ([CSID, CSICTL, FRONT], "front/main.go", BUILD % (FRONT, "front/build")),
-    ([CSID, CSICTL, FRONT], "go/src/fomaheti/frames/replies.go", BUILD % (FRONT, "front/build")),
-    ([CSID, CSICTL, FRONT], "front/build", BUILD % (FRONT, "front/build")),
-    ([CSID, CSICTL, FRONT], "front/go", BUILD % (FRONT, "front/build")),
-    ([CSID, CSICTL, FRONT], "VERSION", BUILD % (FRONT, "front/build")),
+    ([CSID, CSICTL, FRONT], "go/front/main.go", BUILD % (FRONT, "go/front/build")),
+    ([CSID, CSICTL, FRONT], "go/src/fomaheti/frames/replies.go", BUILD % (FRONT, "go/front/build")),
+    ([CSID, CSICTL, FRONT], "go/front/build", BUILD % (FRONT, "go/front/build")),
+    ([CSID, CSICTL, FRONT], "go/go", BUILD % (FRONT, "go/front/build")),
+    ([CSID, CSICTL, FRONT], "VERSION", BUILD % (FRONT, "go/front/build")),
 ]
-# The same of csid-etcd, where the sources of etcd's client are here. The front was built again behind what is newer.
+# The same of csid-etcd, where the sources of etcd's client are here. The front was built again behind what is
+# newer.
 REFUSED_ETCD = [
-    ([CSID, CSICTL, FRONT], None, BUILD % (ETCD, "etcd/build")),
-    ([CSID, CSICTL, FRONT, ETCD], "etcd/import.go", BUILD % (ETCD, "etcd/build")),
-    ([CSID, CSICTL, FRONT, ETCD], "etcd/build", BUILD % (ETCD, "etcd/build")),
-    ([CSID, CSICTL, FRONT, ETCD], "etcd/go", BUILD % (ETCD, "etcd/build")),
-    ([CSID, CSICTL, FRONT, ETCD], "go/src/fomaheti/frames/requests.go", BUILD % (ETCD, "etcd/build")),
-    ([CSID, CSICTL, FRONT, ETCD], "front/go", BUILD % (ETCD, "etcd/build")),
-    ([CSID, CSICTL, FRONT, ETCD], "VERSION", BUILD % (ETCD, "etcd/build")),
+    ([CSID, CSICTL, FRONT], None, BUILD % (ETCD, "go/etcd/build")),
+    ([CSID, CSICTL, FRONT, ETCD], "go/etcd/import.go", BUILD % (ETCD, "go/etcd/build")),
+    ([CSID, CSICTL, FRONT, ETCD], "go/etcd/build", BUILD % (ETCD, "go/etcd/build")),
+    ([CSID, CSICTL, FRONT, ETCD], "go/go", BUILD % (ETCD, "go/etcd/build")),
+    ([CSID, CSICTL, FRONT, ETCD], "go/src/fomaheti/frames/requests.go", BUILD % (ETCD, "go/etcd/build")),
+    ([CSID, CSICTL, FRONT, ETCD], "VERSION", BUILD % (ETCD, "go/etcd/build")),
 ]
 
 
@@ -55,18 +62,32 @@ def checksum(path):
 
 
 def folder_rows(folder, name, package):
-    yield "the files", sorted(os.listdir(folder)), sorted(["SHA256SUMS", name + ".tar.gz", name + ".spdx.json", package])
-    yield "their checksums", run("sha256sum", "--check", "--quiet", "--strict", "SHA256SUMS", cwd=folder), (0, "", "")
+    yield "the files", sorted(os.listdir(folder)), sorted(
+        ["SHA256SUMS", name + ".tar.gz", name + ".spdx.json", package]
+    )
+    yield "their checksums", run("sha256sum", "--check", "--quiet", "--strict", "SHA256SUMS", cwd=folder), (
+        0,
+        "",
+        "",
+    )
     with open(os.path.join(folder, "SHA256SUMS"), encoding="utf-8") as file:
         listed = [line.split()[1] for line in file]
     yield "whose checksums there are", sorted(listed), sorted(set(os.listdir(folder)) - {"SHA256SUMS"})
 
 
 def files_of(programs):
-    """What a release has beside licences: the programs, their pages of manual and completions, and what is committed of README.md, docs/ and deploy/."""
+    """What a release has beside licences: the programs, their pages of manual and completions, and what is
+    committed of README.md, docs/ and deploy/.
+    """
     committed = output("git", "-C", TOP, "ls-files", "README.md", "VERSION", "docs", "deploy").split("\n")
     pages = [it + ".1" for it in programs] + ["csid-config.5", "csid-protocol.7"]
-    return [it.replace("csid-front", "front") for it in programs] + committed + ["man/" + it for it in pages] + ["completions/" + it for it in programs] + ["csid.spdx.json"]
+    return (
+        [it.replace("csid-front", "front") for it in programs]
+        + committed
+        + ["man/" + it for it in pages]
+        + ["completions/" + it for it in programs]
+        + ["csid.spdx.json"]
+    )
 
 
 def archive_rows(path, name, programs):
@@ -75,52 +96,102 @@ def archive_rows(path, name, programs):
     with tarfile.open(path) as archive:
         members = archive.getmembers()
         names = [it.name for it in members]
-        yield "owners and dates", {(it.uid, it.gid, it.uname, it.gname, it.mtime) for it in members}, {(0, 0, "", "", date)}
+        yield "owners and dates", {(it.uid, it.gid, it.uname, it.gname, it.mtime) for it in members}, {
+            (0, 0, "", "", date)
+        }
         yield "modes", {it.mode for it in members}, {0o644, 0o755}
         yield "the order", names, sorted(names, key=lambda it: it.split("/"))
         for program, built in programs.items():
             held = archive.extractfile("%s/%s" % (name, program.replace("csid-front", "front"))).read()
             yield program, hashlib.sha256(held).hexdigest(), checksum(built)
-        files = {it.name.partition("/")[2] for it in members if it.isfile() and not it.name.startswith(name + "/licences/")}
+        files = {
+            it.name.partition("/")[2]
+            for it in members
+            if it.isfile() and not it.name.startswith(name + "/licences/")
+        }
         yield "the files but for licences", sorted(files), sorted(files_of(programs))
         yield "a licence", "%s/licences/clap/LICENSE-MIT" % name in names, True
-        of_etcd = ["csid-etcd", "man/csid-etcd.1", "completions/csid-etcd", "licences/golang-etcd-server-dev/copyright"]
-        yield "what is there of csid-etcd", [it for it in of_etcd if "%s/%s" % (name, it) in names], of_etcd if "csid-etcd" in programs else []
+        of_etcd = [
+            "csid-etcd",
+            "man/csid-etcd.1",
+            "completions/csid-etcd",
+            "licences/golang-etcd-server-dev/copyright",
+        ]
+        yield "what is there of csid-etcd", [it for it in of_etcd if "%s/%s" % (name, it) in names], (
+            of_etcd if "csid-etcd" in programs else []
+        )
 
 
 def licence_rows(folder, name):
     """Of each part whose licence is known its text is there."""
     with open(os.path.join(folder, name + ".spdx.json"), encoding="utf-8") as file:
-        parts = [it["name"] for it in json.load(file)["packages"] if it["primaryPackagePurpose"] == "LIBRARY" and it["licenseDeclared"] != "NOASSERTION"]
+        parts = [
+            it["name"]
+            for it in json.load(file)["packages"]
+            if it["primaryPackagePurpose"] == "LIBRARY" and it["licenseDeclared"] != "NOASSERTION"
+        ]
     with tarfile.open(os.path.join(folder, name + ".tar.gz")) as archive:
-        held = {it.name.split("/")[2] for it in archive.getmembers() if it.isfile() and it.name.startswith(name + "/licences/")}
+        held = {
+            it.name.split("/")[2]
+            for it in archive.getmembers()
+            if it.isfile() and it.name.startswith(name + "/licences/")
+        }
     yield "parts without the text of their licence", sorted(set(parts) - held), []
 
 
 def list_rows(path, programs):
-    """The list of parts: its programs, some parts whose versions are known otherwise, and that each relation is of what it lists."""
+    """The list of parts: its programs, some parts whose versions are known otherwise, and that each relation
+    is of what it lists.
+    """
     with open(path, encoding="utf-8") as file:
         made = json.load(file)
     packages = {it["name"]: it for it in made["packages"]}
     yield "the form", (made["spdxVersion"], made["name"]), ("SPDX-2.3", "csid-" + version())
     for name, program in programs.items():
         said = packages[name]
-        yield "the program " + name, (said["versionInfo"], said["checksums"][0]["checksumValue"]), (version(), checksum(program))
+        yield "the program " + name, (said["versionInfo"], said["checksums"][0]["checksumValue"]), (
+            version(),
+            checksum(program),
+        )
     kit = output("rt", "version").split()[0]
     for name, licence in [("clap", "Apache-2.0 OR MIT"), ("mio", "MIT"), ("sqlite_disk", "NOASSERTION")]:
         said = packages[name]
-        yield "the crate " + name, ("rattle-kit-" + said["versionInfo"], said["licenseDeclared"]), (kit, licence)
+        yield "the crate " + name, ("rattle-kit-" + said["versionInfo"], said["licenseDeclared"]), (
+            kit,
+            licence,
+        )
     sources = [("golang-google-grpc-dev", "Apache-2.0"), ("golang-golang-x-net-dev", "BSD-3-Clause")]
-    for name, licence in sources + ([("golang-etcd-server-dev", "Apache-2.0"), ("golang-go.uber-zap-dev", "MIT")] if "csid-etcd" in programs else []):
+    for name, licence in sources + (
+        [("golang-etcd-server-dev", "Apache-2.0"), ("golang-go.uber-zap-dev", "MIT")]
+        if "csid-etcd" in programs
+        else []
+    ):
         said = packages[name]
-        yield "the package " + name, (said["versionInfo"], said["licenseDeclared"]), (output("dpkg-query", "-Wf", "${Version}", name), licence)
+        yield "the package " + name, (said["versionInfo"], said["licenseDeclared"]), (
+            output("dpkg-query", "-Wf", "${Version}", name),
+            licence,
+        )
     told = {it["licenseDeclared"] for it in made["packages"]}
-    yield "licences that are no expressions of SPDX", [it for it in told if not re.fullmatch(r"[A-Za-z0-9.-]+( (OR|AND) [A-Za-z0-9.-]+)*", it)], []
+    yield "licences that are no expressions of SPDX", [
+        it for it in told if not re.fullmatch(r"[A-Za-z0-9.-]+( (OR|AND) [A-Za-z0-9.-]+)*", it)
+    ], []
     named = {it[key] for it in made["relationships"] for key in ("spdxElementId", "relatedSpdxElement")}
     yield "what relations name", named, {it["SPDXID"] for it in made["packages"]} | {"SPDXRef-DOCUMENT"}
-    found = {(it["spdxElementId"], it["relatedSpdxElement"]) for it in made["relationships"] if it["relationshipType"] == "DEPENDS_ON"}
-    for one, other, stands in [("csid", "sqlite", True), ("csid", "serde-json", False), ("csictl", "serde-json", True), ("csictl", "sqlite", False), ("clap", "strsim", True),
-                               ("csid-etcd", "golang-etcd-server-dev", "csid-etcd" in programs), ("csid-front", "golang-etcd-server-dev", False), ("csid-front", "golang-google-grpc-dev", True)]:
+    found = {
+        (it["spdxElementId"], it["relatedSpdxElement"])
+        for it in made["relationships"]
+        if it["relationshipType"] == "DEPENDS_ON"
+    }
+    for one, other, stands in [
+        ("csid", "sqlite", True),
+        ("csid", "serde-json", False),
+        ("csictl", "serde-json", True),
+        ("csictl", "sqlite", False),
+        ("clap", "strsim", True),
+        ("csid-etcd", "golang-etcd-server-dev", "csid-etcd" in programs),
+        ("csid-front", "golang-etcd-server-dev", False),
+        ("csid-front", "golang-google-grpc-dev", True),
+    ]:
         yield "%s stands on %s" % (one, other), ("SPDXRef-" + one, "SPDXRef-" + other) in found, stands
 
 
@@ -151,17 +222,35 @@ def refusal_rows(is_etcd):
         for programs, newer, wanted, again in rows:
             for path in (CSID, CSICTL, FRONT, ETCD):
                 shutil.rmtree(os.path.join(top, os.path.dirname(path)), ignore_errors=True)
-            yield "with %s, and %s newer" % (programs, newer), refused(top, programs, newer, again), (1, "", wanted)
+            yield "with %s, and %s newer" % (programs, newer), refused(top, programs, newer, again), (
+                1,
+                "",
+                wanted,
+            )
         with open(os.path.join(top, "README.md"), "a") as file:
             file.write("\n")
-        yield "with a file that was changed", refused(top, all_programs, None, []), (1, "", "release: files differ from the last commit: commit them first\n")
+        yield "with a file that was changed", refused(top, all_programs, None, []), (
+            1,
+            "",
+            "release: files differ from the last commit: commit them first\n",
+        )
     for name in ("licences", "spdx"):
-        words = [sys.executable, os.path.join(TOP, "packaging", name), *["/nowhere"] * (3 if name == "spdx" else 1)]
-        yield name + " without the kit", run(*words, env={"PATH": "/nowhere", "SOURCE_DATE_EPOCH": "0"}), (1, "", NO_KIT % name)
+        words = [
+            sys.executable,
+            os.path.join(TOP, "packaging", name),
+            *["/nowhere"] * (3 if name == "spdx" else 1),
+        ]
+        yield name + " without the kit", run(*words, env={"PATH": "/nowhere", "SOURCE_DATE_EPOCH": "0"}), (
+            1,
+            "",
+            NO_KIT % name,
+        )
 
 
 def refused(top, programs, newer, again):
-    """What ./release ends with where these programs were built, one source was changed behind that, and some programs were built again."""
+    """What ./release ends with where these programs were built, one source was changed behind that, and some
+    programs were built again.
+    """
     for path in programs:
         touch(os.path.join(top, path), (1 << 30) + (2 if path in again else 0))
     if newer:
@@ -173,24 +262,39 @@ def refused(top, programs, newer, again):
 
 
 # Programs in the place of those of packaging/ in a clone: what they do is of no account here.
-PLAYED = {"licences": "mkdir -p ${*: -1}", "deb": 'echo >"$2/csid_$(cat VERSION)_$(dpkg --print-architecture).deb"', "test": ""}
+PLAYED = {
+    "licences": "mkdir -p ${*: -1}",
+    "deb": 'echo >"$2/csid_$(cat VERSION)_$(dpkg --print-architecture).deb"',
+    "test": "",
+}
 
 
 def difference_rows(is_etcd):
-    """A check makes two releases, and says so where they differ by their place, their time zone or their mask, or in anything else."""
+    """A check makes two releases, and says so where they differ by their place, their time zone or their
+    mask, or in anything else.
+    """
     said = "release: two releases of the same programs differ\n"
     with tempfile.TemporaryDirectory() as folder:
         top = os.path.join(folder, "csid")
         clone(top)
         for path in [CSID, CSICTL, FRONT] + ([ETCD] if is_etcd else []):
             touch(os.path.join(top, path), 1 << 30)
-        for what, wanted in [("echo the same", (0, "")), ('echo "$1"', (1, said)), ('echo "${TZ-}"', (1, said)), ("umask", (1, said)), ("mktemp -u", (1, said))]:
+        for what, wanted in [
+            ("echo the same", (0, "")),
+            ('echo "$1"', (1, said)),
+            ('echo "${TZ-}"', (1, said)),
+            ("umask", (1, said)),
+            ("mktemp -u", (1, said)),
+        ]:
             for name, text in {**PLAYED, "spdx": what}.items():
                 with open(os.path.join(top, "packaging", name), "w", encoding="utf-8") as file:
-                    file.write("#!/usr/bin/env bash\nset -eu\ncd \"$(dirname \"$0\")/..\"\n%s\n" % text)
+                    file.write('#!/usr/bin/env bash\nset -eu\ncd "$(dirname "$0")/.."\n%s\n' % text)
             status, _, error = run("./release", "--check", cwd=top)
             # Without the sources of etcd's client there is a line on that.
-            yield "a check of releases that have what %r gives" % what, (status, "".join(it for it in error.splitlines(True) if "NOT in it" not in it)), wanted
+            yield "a check of releases that have what %r gives" % what, (
+                status,
+                "".join(it for it in error.splitlines(True) if "NOT in it" not in it),
+            ), wanted
 
 
 def parts(programs, folder):

@@ -6,7 +6,9 @@ class LeftOut(Exception):
 
 
 def count(parts):
-    """Compares what came with what was wanted in each row of each part, says what differs, and returns the exit status."""
+    """Compares what came with what was wanted in each row of each part, says what differs, and returns the
+    exit status.
+    """
     passed = failed = 0
     for part in parts:
         try:

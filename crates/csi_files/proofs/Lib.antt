@@ -5,6 +5,7 @@ mod LeaveLemmas
 mod LifeLemmas
 mod MakingLemmas
 mod PageLemmas
+mod PathLemmas
 mod ReserveLemmas
 mod ResultLemmas
 mod RunLemmas

@@ -1,34 +1,51 @@
 -- Runs over files, one after the other, are sessions of calls.
-use Rattle.std.proofs.Common.{◌≡◌, List, [], ◌∷◌, ◌++◌, map, refl, subst, subst₂}
+use Rattle.std.proofs.Common.{◌≡◌, List, [], ◌∷◌, ◌++◌, Option, ℕ, map, inl, inr, refl, sym, subst, subst₂}
 use Rattle.std.proofs.Math.Logic.{∥∥₁_elim, ∥∥₁_map, ∥∥₁_prop}
+use Rattle.sqlite_disk.specs.declared.Disk.{Ghosts}
+use Rattle.sqlite_disk.specs.declared.Files.{Files}
+use Rattle.sqlite_wal.specs.Files.{outcomes}
 use Rattle.sqlite_wal.specs.Recovery.{Image}
+use Rattle.sqlite.specs.Closing.{files_left}
+use Rattle.sqlite.specs.Files.{IsCleanLeft, image_of}
+use Rattle.sqlite.specs.declared.file.Leftover.{Leftover}
+use Rattle.sqlite.specs.declared.file.Leftover.TheVariants as leftover
 use Rattle.envelope.specs.Envelope.{ReplyBytes}
 use Rattle.csi_types.specs.declared.requests.Request.{Request}
 use Rattle.csi_config.specs.declared.config.Config.{Config}
 use Rattle.csi_keeper.specs.Invariant.{IsInvariant}
 use Rattle.csi_keeper.specs.State.{State}
 use Rattle.csi_machine.specs.Retry.{AreTriesOf, after_once, all_tries, told_once}
+use Rattle.csi_server.specs.Machine.{Event, state_after}
 use Rattle.csi_server.specs.Requests.{told}
 use Rattle.csi_server.specs.Tries.{Exchange, IsLifeOfCalls, heard_of, tries_of}
 use Rattle.csi_files.specs.Files.{HasState}
-use Rattle.csi_files.specs.Lives.{IsLifeOfFiles, LivesOnce}
+use Rattle.csi_files.specs.Leaving.{files_of}
+use Rattle.csi_files.specs.Lives.{AreAtRest, GoesOn, IsLifeOfFiles, IsRunOver, IsUnread, LivesOnce, RunsGoOn}
+use Rattle.csi_files.specs.Serving.{IsStateAfter}
+use Rattle.csi_files.specs.Starting.{EndsClean, IsLeftUnmade, IsNotStarted, MayStart}
+use Rattle.csi_files.specs.declared.serving.NotServed.{NotServed}
+use Rattle.csi_files.specs.declared.serving.NotServed.TheVariants.{NotOpened, Blank, NotAdopted, NotCopied, Left, NotClosed}
+use Rattle.csi_files.proofs.StartingLemmas.{no_state}
 
--- some replies that a client heard in these sessions, and the State that the files have in the end
-record Lived (config : Config) (s : State) (sessions : List (List Exchange)) (last : Image) : Type 0 where
+-- some replies that a client heard in these sessions, and the State that a run over the files starts as in the end
+record Lived (config : Config) (was : Image) (s : State) (sessions : List (List Exchange)) (last : Image) : Type 0 where
   pub heard : List ReplyBytes
   pub left : State
   pub life : IsLifeOfCalls config s sessions heard left
-  pub has : HasState last left
+  pub goes : GoesOn was last s left
 
-lived : (config : Config) (sessions : List (List Exchange)) (was last : Image) (s : State) → HasState was s → IsInvariant config s → IsLifeOfFiles config was sessions last → ∥ Lived config s sessions last ∥₁
-lived config [] was last s has invariant same = ∣ record { heard = []; left = s; life = (refl, refl); has = subst (λ image. HasState image s) same has } ∣₁
-lived config (session ∷ sessions) was last s has invariant (next, run, more) =
-    ∥∥₁_elim (run s has invariant) ∥∥₁_prop (λ found.
-    ∥∥₁_map (lived config sessions next last found.0 found.1 found.2.invariant more) (λ rest. record {
+same_contents : (was last : Image) (s : State) → was ≡ last → MayStart was s → GoesOn was last s s
+same_contents was last s same may = record { may = subst (λ image. MayStart image s) same may; has = subst (λ image. HasState image s) same }
+
+lived : (config : Config) (sessions : List (List Exchange)) (was last : Image) (s : State) → MayStart was s → IsInvariant config s → IsLifeOfFiles config was sessions last → ∥ Lived config was s sessions last ∥₁
+lived config [] was last s may invariant same = ∣ record { heard = []; left = s; life = (refl, refl); goes = same_contents was last s same may } ∣₁
+lived config (session ∷ sessions) was last s may invariant (next, run, more) =
+    ∥∥₁_elim (run s may invariant) ∥∥₁_prop (λ found.
+    ∥∥₁_map (lived config sessions next last found.0 found.1.may found.2.invariant more) (λ rest. record {
       heard = heard_of config s session ++ rest.heard;
       left = rest.left;
       life = (found.0, rest.heard, found.2.is, refl, rest.life);
-      has = rest.has;
+      goes = record { may = rest.goes.may; has = λ has. rest.goes.has (found.1.has has) };
     }))
 
 -- and what the law of calls says of the sessions is so of the files
@@ -36,7 +53,57 @@ pub lives_once : (config : Config)
     → ((s t : State) (requests : List Request) (sessions : List (List Exchange)) (heard : List ReplyBytes) → IsInvariant config s → AreTriesOf requests (all_tries (map tries_of sessions)) → IsLifeOfCalls config s sessions heard t
     → (heard ≡ map told (told_once config s requests)) × (t ≡ after_once config s requests))
     → LivesOnce config
-lives_once config retry was last s requests sessions has invariant tries life =
-    ∥∥₁_map (lived config sessions was last s has invariant life) (λ it.
+lives_once config retry was last s requests sessions may invariant tries life =
+    ∥∥₁_map (lived config sessions was last s may invariant life) (λ it.
     let once = retry s it.left requests sessions it.heard invariant tries it.life in
-    (subst (HasState last) once.1 it.has, subst₂ (λ heard t. IsLifeOfCalls config s sessions heard t) once.0 once.1 it.life))
+    (subst (GoesOn was last s) once.1 it.goes, subst₂ (λ heard t. IsLifeOfCalls config s sessions heard t) once.0 once.1 it.life))
+
+-- ---- from a run to a run of a life
+
+-- files that have a State after the calls go on as it
+goes_on : (config : Config) (was next : Image) (s : State) (events : List Event) → ∥ ((t : State) × HasState next t × IsStateAfter config s events t) ∥₁
+    → ∥ ((t : State) × GoesOn was next s t × IsStateAfter config s events t) ∥₁
+goes_on config was next s events left = ∥∥₁_map left (λ found. (found.0, record { may = inl found.1; has = λ _. found.1 }, found.2))
+
+-- no call leaves the State
+none_answered : (config : Config) (s : State) → IsInvariant config s → IsStateAfter config s [] s
+unfolding state_after
+none_answered config s invariant = record { is = inl refl; invariant = invariant }
+
+-- so do files that keep the State, where no call was answered
+stays_as : (config : Config) (was next : Image) (s : State) → IsInvariant config s → ∥ HasState next s ∥₁ → ∥ ((t : State) × GoesOn was next s t × IsStateAfter config s [] t) ∥₁
+stays_as config was next s invariant kept = ∥∥₁_map kept (λ has. (s, record { may = inl has; has = λ _. has }, none_answered config s invariant))
+
+module _ {D : Type 0} (g : Ghosts D) (config : Config) (before : Files D) (unread left held holds : Option (List ℕ)) where
+  no_call : (e : NotServed D g) → IsNotStarted g config before unread left held holds e → EndsClean e → IsUnread e → (next : Image) → outcomes g (files_of e).0 (files_of e).1 next
+      → IsRunOver config (image_of g before) [] next
+  no_call (NotOpened error rest) it clean none next out s may invariant = absurd none
+  no_call (Blank now) it clean none next out s may invariant = stays_as config _ next s invariant (it.why.1.state clean s ((it.shows clean).starts s may) next out)
+  no_call (NotAdopted fault now) it clean none next out s may invariant = stays_as config _ next s invariant (it.why.1.state clean s ((it.shows clean).starts s may) next out)
+  no_call (NotCopied fault now) it clean none next out s may invariant = stays_as config _ next s invariant (it.why.1 clean s ((it.shows clean).starts s may) next out)
+  no_call (Left served now) it clean none next out s may invariant = absurd none
+  no_call (NotClosed served error store) it clean none next out s may invariant = absurd none
+
+  not_made : (rest : Leftover D g) → AreAtRest g before → IsLeftUnmade before rest → IsCleanLeft rest → (next : Image) → outcomes g (files_left rest).0 (files_left rest).1 next
+      → IsRunOver config (image_of g before) [] next
+  not_made (leftover.Unopened now) quiet it clean next out s may invariant = absurd it
+  not_made (leftover.Store now) quiet it clean next out s may invariant = absurd it
+  not_made (leftover.Files now) quiet it clean next out s (inl has) invariant =
+      let same = quiet next ((it.0.kept clean (no_state _ s has)).crash next out) in
+      stays_as config _ next s invariant ∣ subst (λ image. HasState image s) (sym same) has ∣₁
+  not_made (leftover.Files now) quiet it clean next out s (inr unmade) invariant =
+      ∥∥₁_map (it.1 clean s (λ image may. ∣ subst (λ image. MayStart image s) (sym (quiet image may)) (inr unmade) ∣₁) next out) (λ start.
+      (s, record { may = start; has = λ has. absurd (no_state _ s has (inl unmade.0)) }, none_answered config s invariant))
+
+pub runs_go_on : {D : Type 0} (g : Ghosts D) (config : Config) → RunsGoOn g config
+runs_go_on g config before unread left held holds = record {
+  closed = λ closed it clean session is next out s may invariant.
+      let run = it.ended clean s (inl may) in
+      goes_on config _ next s _ (subst (λ (events : List Event). ∥ ((t : State) × HasState next t × IsStateAfter config s events t) ∥₁) (sym (is s (inl may))) (run.2 next out));
+  refused = λ served now it clean session is next out s may invariant.
+      let start = inl ((it.shows clean).starts s may) in
+      let run = it.why.1.ended clean s start in
+      goes_on config _ next s _ (subst (λ (events : List Event). ∥ ((t : State) × HasState next t × IsStateAfter config s events t) ∥₁) (sym (is s start)) (run.2 next out));
+  unserved = no_call g config before unread left held holds;
+  unmade = not_made g config before unread left held holds;
+}

@@ -7,14 +7,19 @@ use Rattle.sqlite_wal.specs.Reads.{AreClean, are_clean}
 use Rattle.sqlite_wal.specs.Recovery.{Image}
 use Rattle.sqlite_wal.proofs.LogLemmas.{SeenMayStay}
 use Rattle.sqlite_trees.proofs.Doubt.{clean_of}
-use Rattle.sqlite.specs.Files.{image_of}
+use Rattle.sqlite_trees.specs.Tree.{Trees}
+use Rattle.sqlite.specs.Files.{HoldsDatabase, image_of}
 use Rattle.csi_config.specs.declared.config.Config.{Config}
 use Rattle.csi_keeper.specs.State.{State, first_state}
+use Rattle.csi_schema.specs.Tables.{no_schema}
+use Rattle.csi_server.specs.Machine.{Event}
 use Rattle.csi_server.specs.Serving.{Serves}
 use Rattle.csi_server.specs.Volumes.{seen, volumes}
 use Rattle.csi_files.specs.Files.{HasState, files_model, image_model}
 use Rattle.csi_files.specs.Making.{IsLaidOut, IsMade, IsNotLaidOut, IsToMake}
-use Rattle.csi_files.specs.Starting.{KeepsStart, MayStart, StartsAs, start_model}
+use Rattle.csi_files.specs.Serving.{SaysNew, ServesThen}
+use Rattle.csi_files.specs.Starting.{KeepsStart, MayStart, SaysStart, ShowsLaidOut, StartsAs, StartsThen, start_model}
+use Rattle.csi_files.specs.declared.over.Served.{Served}
 use Rattle.csi_files.specs.declared.serving.Closed.{Closed}
 use Rattle.csi_files.proofs.MakingLemmas.{not_torn}
 use Rattle.csi_files.proofs.PageLemmas.{made_holds, torn_holds_none, unmade_holds_none}
@@ -23,13 +28,26 @@ use Rattle.csi_files.proofs.RunLemmas.{Carries, ends}
 made_state : (image : Image) (s : State) → IsMade image → s ≡ first_state 1 → HasState image s
 made_state image s made is = let it = made_holds image made in subst (HasState image) (sym is) (record { db = it.0; holds = ∣ it.1 ∣₁; state = inr (it.2, refl) })
 
-no_state : (image : Image) (s : State) → HasState image s → ¬ IsToMake image
-no_state image s has wanted = ∥∥₁_elim has.holds (λ x y. absurd x) (λ held. elim wanted [ inl unmade ↦ unmade_holds_none image has.db unmade held | inr torn ↦ torn_holds_none image has.db torn held ])
+no_database : (image : Image) (db : Trees) → ∥ HoldsDatabase image db ∥₁ → ¬ IsToMake image
+no_database image db holds wanted = ∥∥₁_elim holds (λ x y. absurd x) (λ held. elim wanted [ inl unmade ↦ unmade_holds_none image db unmade held | inr torn ↦ torn_holds_none image db torn held ])
+
+pub no_state : (image : Image) (s : State) → HasState image s → ¬ IsToMake image
+no_state image s has = no_database image has.db has.holds
+
+-- a run over the files in which a database was made says whether one was, and whether the one that they had was without tables
+says_start : (before after : Image) (served : Served) → ShowsLaidOut before after → SaysNew after served → SaysStart before served
+says_start before after served shows says = record {
+  had = λ db held sound. says db (subst (λ (i : Image). ∥ HoldsDatabase i db.trees ∥₁) (sym (shows.kept (no_database before db.trees held))) held) sound;
+  made = λ wanted. let it = made_holds after (shows.made wanted) in (says (record { schema = no_schema; trees = it.0 }) ∣ it.1 ∣₁ it.2).1 refl;
+}
 
 module _ {D : Type 0} (g : Ghosts D) (before after : Files D) where
   pub starts_as : IsLaidOut g before after → StartsAs g before after
   starts_as it clean s (inl has) = subst (λ (i : Image). HasState i s) (sym (it.kept clean (no_state _ s has)).seen) has
   starts_as it clean s (inr unmade) = made_state _ s (it.shown clean (inl unmade.0)) unmade.1
+
+  pub shows_laid_out : IsLaidOut g before after → AreClean g after.log after.db → ShowsLaidOut (image_of g before) (image_of g after)
+  shows_laid_out it clean = record { made = it.shown clean; kept = λ none. (it.kept clean none).seen; starts = starts_as it clean }
 
   module _ (stays : SeenMayStay g) where
     pub laid_out_keeps : IsLaidOut g before after → KeepsStart g before after
@@ -71,3 +89,16 @@ module _ {D : Type 0} (g : Ghosts D) (before after : Files D) where
             ] in
             ends (volumes config) (image_model (image_of g after) closed.served.is_new) last _ _ s carries it.0 _ held holds closed.served.end (it.2 z s had),
       )
+
+-- and so is what it leaves
+pub started_then : (config : Config) (before after : Image) (unread left held holds : Option (List ℕ)) (served : Served) (Clean : Type 0) (Leaves : State → List Event → Type 0) → (Clean → ShowsLaidOut before after)
+    → ServesThen config after unread left held holds served Clean Leaves → StartsThen config before unread left held holds served Clean Leaves
+started_then config before after unread left held holds served Clean Leaves shows it = record {
+  read = it.read;
+  consumed = it.consumed;
+  new = λ clean. says_start before after served (shows clean) (it.new clean);
+  ended = λ clean s may. it.ended clean s (elim may as (λ _. HasState after s ⊎ (IsTrue served.is_new × (s ≡ first_state 1))) [
+    | inl start ↦ inl ((shows clean).starts s start)
+    | inr new ↦ inr new
+  ]);
+}

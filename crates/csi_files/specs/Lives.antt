@@ -1,19 +1,41 @@
 -- Runs over two files, one after the other, with a stop after each.
-use Rattle.std.specs.Prelude.{◌≡◌, List, [], ◌∷◌, map}
+use Rattle.std.specs.Prelude.{◌≡◌, false, Option, List, [], ◌∷◌, map, ℕ, ⊤}
+use Rattle.std.specs.Io.KnownBytes.{IsAtEnd}
+use Rattle.sqlite_disk.specs.declared.Disk as disk
+use Rattle.sqlite_disk.specs.declared.Files.{Files}
+use Rattle.sqlite_wal.specs.Files.{outcomes}
+use Rattle.sqlite_wal.specs.Reads.{AreClean}
 use Rattle.sqlite_wal.specs.Recovery.{Image}
+use Rattle.sqlite.specs.Closing.{files_left}
+use Rattle.sqlite.specs.Files.{IsCleanLeft, image_of}
+use Rattle.sqlite.specs.declared.file.Leftover.{Leftover}
 use Rattle.csi_types.specs.declared.requests.Request.{Request}
 use Rattle.csi_config.specs.declared.config.Config.{Config}
 use Rattle.csi_keeper.specs.Invariant.{IsInvariant}
 use Rattle.csi_keeper.specs.State.{State}
 use Rattle.csi_machine.specs.Retry.{AreTriesOf, after_once, all_tries, told_once}
+use Rattle.csi_server.specs.Machine.{Event}
 use Rattle.csi_server.specs.Requests.{told}
 use Rattle.csi_server.specs.Tries.{Exchange, IsLifeOfCalls, events_of, tries_of}
+use Rattle.csi_server.specs.Volumes.{volumes}
 use Rattle.csi_files.specs.Files.{HasState}
-use Rattle.csi_files.specs.Serving.{IsStateAfter}
+use Rattle.csi_files.specs.Leaving.{files_of}
+use Rattle.csi_files.specs.Serving.{IsStateAfter, LeavesAfter, RunsThen, counts_model}
+use Rattle.csi_files.specs.Serving.{events_of as answered}
+use Rattle.csi_files.specs.Starting.{EndsClean, IsLeftUnmade, IsNotStarted, MayStart, StartsThen}
+use Rattle.csi_files.specs.declared.over.Served.{Served}
+use Rattle.csi_files.specs.declared.serving.Closed.{Closed}
+use Rattle.csi_files.specs.declared.serving.NotServed.{NotServed}
+use Rattle.csi_files.specs.declared.serving.NotServed.TheVariants.{NotOpened, Blank, NotAdopted, NotCopied, Left, NotClosed}
 
--- A run answered the calls of this session, from the State of files with these contents, and left files with those. This is what `serve_files` says of each outcome of a crash: `LeavesAfter`.
+-- A run over the second contents may start as the State `t`, where one over the first might have started as `s`. Where the first have a database of `s`, the second have one of `t`.
+pub record GoesOn (was next : Image) (s t : State) : Type 0 where
+  pub may : MayStart next t
+  pub has : HasState was s → HasState next t
+
+-- A run answered the calls of this session, from the State that a run over files with these contents starts as, and left files with those.
 abbrev pub IsRunOver : Config → Image → List Exchange → Image → Type 0
-IsRunOver config was session next = (s : State) → HasState was s → IsInvariant config s → ∥ ((t : State) × HasState next t × IsStateAfter config s (events_of session) t) ∥₁
+IsRunOver config was session next = (s : State) → MayStart was s → IsInvariant config s → ∥ ((t : State) × GoesOn was next s t × IsStateAfter config s (events_of session) t) ∥₁
 
 -- Runs with these sessions, each over what the one before it left, and the contents after the last one.
 abbrev pub IsLifeOfFiles : Config → Image → List (List Exchange) → Image → Type 0
@@ -23,6 +45,49 @@ IsLifeOfFiles config was (session ∷ sessions) last = (next : Image) × IsRunOv
 -- A lone client that repeats each of its calls until it hears the reply: what it hears, and the State of the files in the end, are those of its requests taken once each.
 abbrev pub LivesOnce : Config → Type 0
 LivesOnce config =
-    (was last : Image) (s : State) (requests : List Request) (sessions : List (List Exchange)) → HasState was s → IsInvariant config s → AreTriesOf requests (all_tries (map tries_of sessions))
+    (was last : Image) (s : State) (requests : List Request) (sessions : List (List Exchange)) → MayStart was s → IsInvariant config s → AreTriesOf requests (all_tries (map tries_of sessions))
     → IsLifeOfFiles config was sessions last
-    → ∥ (HasState last (after_once config s requests) × IsLifeOfCalls config s sessions (map told (told_once config s requests)) (after_once config s requests)) ∥₁
+    → ∥ (GoesOn was last s (after_once config s requests) × IsLifeOfCalls config s sessions (map told (told_once config s requests)) (after_once config s requests)) ∥₁
+
+-- ---- what `serve_made` says of a run makes it a run of such a life
+
+module _ {config : Config} {unread left held holds : Option (List ℕ)} {Starts : State → Type 0} {served : Served} {Clean New : Type 0} {Leaves : State → List Event → Type 0} where
+  -- the run answered the calls of this session
+  abbrev pub Answers : RunsThen config unread left held holds Starts served Clean New Leaves → Clean → List Exchange → Type 0
+  Answers it clean session = (s : State) (starts : Starts s)
+      → events_of session ≡ answered (volumes config) (counts_model 0 false) (counts_model served.refusals served.is_down) s it.read (IsAtEnd left) held holds served.end (it.ended clean s starts).0
+
+module _ {D : Type 0} (g : disk.Ghosts D) where
+  -- a crash leaves of these files what they read as
+  abbrev pub AreAtRest : Files D → Type 0
+  AreAtRest files = (image : Image) → outcomes g files.log files.db image → image ≡ image_of g files
+
+module _ {D : Type 0} {g : disk.Ghosts D} where
+  -- the files were opened, and no call was read
+  abbrev pub IsUnread : NotServed D g → Type 0
+  IsUnread (NotOpened error rest) = ⊥
+  IsUnread (Blank now) = ⊤
+  IsUnread (NotAdopted fault now) = ⊤
+  IsUnread (NotCopied fault now) = ⊤
+  IsUnread (Left served now) = ⊥
+  IsUnread (NotClosed served error store) = ⊥
+
+module _ {D : Type 0} (g : disk.Ghosts D) (config : Config) (before : Files D) (unread left held holds : Option (List ℕ)) where
+  -- What the clauses `after` and `not_served` of `serve_made` say, of a disk that told the truth: each outcome of a crash is one that a run leaves. Of files that were not opened it is
+  -- said where no database was made in files that were at rest.
+  pub record AreRuns : Type 0 where
+    pub closed : (closed : Closed D)
+        (it : StartsThen config (image_of g before) unread left held holds closed.served (AreClean g closed.files.log closed.files.db) (LeavesAfter g config closed.files))
+        (clean : AreClean g closed.files.log closed.files.db) (session : List Exchange) → Answers it clean session
+        → (next : Image) → outcomes g closed.files.log closed.files.db next → IsRunOver config (image_of g before) session next
+    pub refused : (served : Served) (now : Files D) (it : IsNotStarted g config before unread left held holds (Left served now)) (clean : AreClean g now.log now.db)
+        (session : List Exchange) → Answers it.why.1 clean session
+        → (next : Image) → outcomes g now.log now.db next → IsRunOver config (image_of g before) session next
+    pub unserved : (e : NotServed D g) → IsNotStarted g config before unread left held holds e → EndsClean e → IsUnread e
+        → (next : Image) → outcomes g (files_of e).0 (files_of e).1 next → IsRunOver config (image_of g before) [] next
+    pub unmade : (rest : Leftover D g) → AreAtRest g before → IsLeftUnmade before rest → IsCleanLeft rest
+        → (next : Image) → outcomes g (files_left rest).0 (files_left rest).1 next → IsRunOver config (image_of g before) [] next
+
+-- for whatever files and streams
+abbrev pub RunsGoOn : {D : Type 0} → disk.Ghosts D → Config → Type 0
+RunsGoOn {D} g config = (before : Files D) (unread left held holds : Option (List ℕ)) → AreRuns g config before unread left held holds

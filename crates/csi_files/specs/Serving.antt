@@ -101,16 +101,20 @@ module _ {D : Type 0} {g : disk.Ghosts D} where
   abbrev pub ReadsAfter : Config → FileStore D g → State → List Event → Type 0
   ReadsAfter config store s events = (db : Trees) → recovers store db → (t : State) × IsRows t db × IsStateAfter config s events t
 
-module _ (config : Config) (was : Image) (unread left held holds : Option (List ℕ)) where
-  -- Calls were served from the State of files with these contents, and this is so of what the calls left.
-  pub record ServesThen (served : Served) (Clean : Type 0) (Leaves : State → List Event → Type 0) : Type 0 where
+module _ (config : Config) (unread left held holds : Option (List ℕ)) where
+  -- Calls were served from each of these States, and this is so of the database before them and of what they left.
+  pub record RunsThen (Starts : State → Type 0) (served : Served) (Clean New : Type 0) (Leaves : State → List Event → Type 0) : Type 0 where
     pub read : List ℕ
     pub consumed : Consumes unread left read
-    pub new : Clean → SaysNew was served
-    pub ended : Clean → (s : State) → (image_model was served.is_new).holds s
+    pub new : Clean → New
+    pub ended : Clean → (s : State) → Starts s
         → (run : Ended (volumes config) (counts_model 0 false) (counts_model served.refusals served.is_down) s read (IsAtEnd left) held holds served.end)
         × IsInvariant config s
         × Leaves s (events_of (volumes config) (counts_model 0 false) (counts_model served.refusals served.is_down) s read (IsAtEnd left) held holds served.end run)
+
+-- calls were served from the State of files with these contents
+abbrev pub ServesThen : Config → Image → Option (List ℕ) → Option (List ℕ) → Option (List ℕ) → Option (List ℕ) → Served → Type 0 → (State → List Event → Type 0) → Type 0
+ServesThen config was unread left held holds served Clean Leaves = RunsThen config unread left held holds (image_model was served.is_new).holds served Clean (SaysNew was served) Leaves
 
 -- nothing was read or written
 abbrev pub AreUntouched : Option (List ℕ) → Option (List ℕ) → Option (List ℕ) → Option (List ℕ) → Type 0

@@ -7,7 +7,10 @@ use Rattle.sqlite_wal.specs.Reads.{AreClean}
 use Rattle.sqlite_wal.specs.Recovery.{Image}
 use Rattle.sqlite_trees.specs.View.{IsClean}
 use Rattle.sqlite_store.specs.FileStore.{view}
-use Rattle.sqlite.specs.Files.{image_of}
+use Rattle.sqlite_store.specs.declared.store.FileStore.{FileStore}
+use Rattle.sqlite.specs.Files.{file_state, image_of}
+use Rattle.sqlite.specs.Held.{Held}
+use Rattle.sqlite.specs.State.{HasCleanDisk}
 use Rattle.sqlite.specs.declared.error.Error.{Error}
 use Rattle.sqlite.specs.declared.file.Leftover.{Leftover}
 use Rattle.sqlite.specs.declared.file.Leftover.TheVariants as left
@@ -15,8 +18,10 @@ use Rattle.csi_config.specs.declared.config.Config.{Config}
 use Rattle.csi_keeper.specs.Model.{Model}
 use Rattle.csi_keeper.specs.State.{State, first_state}
 use Rattle.csi_files.specs.Files.{HasState, image_model}
-use Rattle.csi_files.specs.Making.{IsLaidOut, IsNotLaidOut, IsUnmade}
-use Rattle.csi_files.specs.Serving.{AreUntouched, IsNotOpened, IsNotServed}
+use Rattle.csi_server.specs.Machine.{Event}
+use Rattle.csi_files.specs.Making.{IsLaidOut, IsMade, IsNotLaidOut, IsToMake, IsUnmade}
+use Rattle.csi_files.specs.Serving.{AreUntouched, IsNotOpened, IsNotServed, Opens, RunsThen, SaysNew}
+use Rattle.csi_files.specs.declared.over.Served.{Served}
 use Rattle.csi_files.specs.declared.serving.NotServed.{NotServed}
 use Rattle.csi_files.specs.declared.serving.NotServed.TheVariants.{NotOpened, Blank, NotAdopted, NotCopied, Left, NotClosed}
 
@@ -27,6 +32,21 @@ MayStart image s = HasState image s ⊎ (IsUnmade image × (s ≡ first_state 1)
 -- what contracts see of such files
 abbrev pub start_model : Image → Bool → Model State
 start_model image is_new = record (image_model image is_new) { holds = λ s. MayStart image s ⊎ (IsTrue is_new × (s ≡ first_state 1)) }
+
+-- What files that had the first contents have once a database is made where there was none: a new one, or what they had. They have the State that a run would have started as.
+pub record ShowsLaidOut (before after : Image) : Type 0 where
+  pub made : IsToMake before → IsMade after
+  pub kept : ¬ IsToMake before → after ≡ before
+  pub starts : (s : State) → MayStart before s → HasState after s
+
+-- the run says whether the database that the files had was without tables, and that it was where one was made
+pub record SaysStart (was : Image) (served : Served) : Type 0 where
+  pub had : SaysNew was served
+  pub made : IsToMake was → IsTrue served.is_new
+
+-- calls were served from the State that a run over files with these contents starts as
+abbrev pub StartsThen : Config → Image → Option (List ℕ) → Option (List ℕ) → Option (List ℕ) → Option (List ℕ) → Served → Type 0 → (State → List Event → Type 0) → Type 0
+StartsThen config was unread left held holds served Clean Leaves = RunsThen config unread left held holds (start_model was served.is_new).holds served Clean (SaysStart was served) Leaves
 
 module _ {D : Type 0} (g : disk.Ghosts D) where
   -- a run may start as this State from each outcome of a crash
@@ -62,8 +82,14 @@ module _ {D : Type 0} (g : disk.Ghosts D) where
   abbrev pub IsNotMade : Files D → Error → Leftover D g → Type 0
   IsNotMade before error rest = IsLeftUnmade before rest ⊎ ((laid : Files D) × IsLaidOut g before laid × IsNotOpened g laid error rest)
 
-  -- why files are not closed after a database was made where there was none: what is said of their contents then, which had the State that a run would have started as
+  -- why files are not closed after a database was made where there was none: what is said of their contents then
   pub record IsNotStarted (config : Config) (before : Files D) (unread left held holds : Option (List ℕ)) (e : NotServed D g) : Type 0 where
     pub was : Image
-    pub starts : EndsClean e → (s : State) → MayStart (image_of g before) s → HasState was s
+    pub shows : EndsClean e → ShowsLaidOut (image_of g before) was
     pub why : IsNotServed g config was unread left held holds (λ error rest. AreUntouched unread left held holds × IsNotMade before error rest) e
+
+  -- a connection to files with these contents, which an opening gives after a database was made where there was none
+  pub record OpensMade (before : Image) (conn : Held (FileStore D g)) : Type 0 where
+    pub was : Image
+    pub shows : HasCleanDisk (file_state conn) → ShowsLaidOut before was
+    pub opens : Opens g was conn

@@ -22,8 +22,8 @@ use std::io::{self, ErrorKind};
 // bytes: SQLite's own choice, 4,096, is four times as much to write.
 const PAGE_BYTES: usize = 1024;
 
-// The header of SQLite's log, and after it the least frame: its own header and a page.
-const LOG_WITH_FRAME_BYTES: usize = 32 + 24 + 512;
+/// How many bytes a log has at least that has a change: its header, and the least frame, which is a header of its own and a page of 512 bytes.
+pub const LOG_WITH_FRAME_BYTES: usize = 32 + 24 + 512;
 
 // How the first page began that earlier releases wrote, which a stop could tear: its header, and a leaf of no cells. All else of it is 0.
 const HEAD: [u8; 108] = *b"SQLite format 3\0\

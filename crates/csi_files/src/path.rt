@@ -3,11 +3,13 @@
 ghost use Rattle.std.specs.Prelude.{◌≡◌, false, true, IfErr, IfOk, IsTrue};
 ghost use Rattle.sqlite_std_file.specs.File.{IsFresh, file_is_usable};
 ghost use Rattle.sqlite_wal.specs.Files.{image_at};
+ghost use Rattle.sqlite_wal.specs.Reads.{AreClean};
 ghost use Rattle.csi_server.specs.Serving.{Serves};
 ghost use Rattle.csi_server.specs.Volumes.{seen, volumes};
 ghost use Rattle.csi_files.specs.Files.{files_model};
 ghost use Rattle.csi_files.specs.Path.{IsNoFile, IsNotServedAt, over_calls};
-ghost use Rattle.csi_files.specs.Starting.{start_model};
+ghost use Rattle.csi_files.specs.Serving.{LeavesAfter};
+ghost use Rattle.csi_files.specs.Starting.{OpensMade, StartsThen, start_model};
 
 use crate::over::{Observer, ServeOptions};
 use crate::serving::{Closed, NotServed};
@@ -83,6 +85,9 @@ pub fn serve_path<S: Start, O: Observer, R: Read, W: Write>(
     ensures served { IfOk result (λ r. Serves (volumes config.now) (start_model (image_at S.Start) r.served.is_new)
         (seen config.now (files_model over_calls r.files r.served.refusals r.served.is_down))
         (R.remaining reader.old) (R.remaining reader.new) (W.contents writer.old) (W.contents writer.new) r.served.end) }
+    ensures after { IfOk result (λ r. StartsThen config.now (image_at S.Start)
+        (R.remaining reader.old) (R.remaining reader.new) (W.contents writer.old) (W.contents writer.new) r.served
+        (AreClean over_calls r.files.log r.files.db) (LeavesAfter over_calls config.now r.files)) }
     ensures uncopied { IfOk result (λ r. IsTrue options.now.is_low_memory → r.served.is_copied ≡ false) }
     ensures existing { IfOk result (λ r. IsTrue options.now.is_existing → r.served.is_new ≡ false) }
     ensures not_served { IfErr result (IsNotServedAt S.Start config.now options.now.is_existing
@@ -121,7 +126,8 @@ pub fn open_path<S: Start>(
     path: &str,
     start: S,
 ) -> Result<Connection<FileStore<FileFrom<S>>>, Error>
-    ensures { IfOk result (λ conn. conn.in_transaction ≡ false) }
+    ensures opens { IfOk result (OpensMade over_calls (image_at S.Start)) }
+    ensures idle { IfOk result (λ conn. conn.in_transaction ≡ false) }
 {
     let files = match files_at(rt, path, start) {
         Ok(files) => files,

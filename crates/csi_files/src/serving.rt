@@ -1,7 +1,7 @@
 //! Calls over two files.
 
 ghost use Rattle.std.specs.Prelude.{◌≡◌, ◌↔◌, false, IfErr, IfOk, IsTrue};
-ghost use Rattle.sqlite.specs.Files.{file_state, image_of};
+ghost use Rattle.sqlite.specs.Files.{file_state};
 ghost use Rattle.sqlite.specs.State.{HasCleanDisk};
 ghost use Rattle.sqlite_wal.specs.Reads.{AreClean};
 ghost use Rattle.sqlite_wal.specs.Recovery.{Image};
@@ -11,7 +11,7 @@ ghost use Rattle.csi_server.specs.Volumes.{seen, volumes};
 ghost use Rattle.csi_files.specs.Files.{files_model, image_model};
 ghost use Rattle.csi_files.specs.Leaving.{GivesUp, IsFinished, IsUnfinished, files_of};
 ghost use Rattle.csi_files.specs.Starting.{EndsClean};
-ghost use Rattle.csi_files.specs.Serving.{AllServed, AreUntouched, IsAsked, IsNotOpened, IsNotServed, LeavesAfter, Opens, ServesThen};
+ghost use Rattle.csi_files.specs.Serving.{AllServed, IsAsked, IsNotServed, LeavesAfter, Opens, ServesThen};
 
 use crate::leaving::leave;
 use crate::over::{Observer, ServeOptions, Served, Unserved, serve_over};
@@ -21,7 +21,7 @@ use csi_keeper::StoreFault;
 use csi_server::laws::{kept, pending};
 use csi_tables::Tables;
 use csi_tables::laws::one_state;
-use sqlite::{Connection, Error, FileStore, Files, Leftover, Options};
+use sqlite::{Connection, Error, FileStore, Files, Leftover};
 use sqlite_disk::Disk;
 use std::alloc::Global;
 use std::io::{Read, Write};
@@ -119,7 +119,7 @@ fn finish<D: Disk + Drop>(
 ///
 /// # Errors
 ///
-/// As of [`serve_files`], without `NotOpened`.
+/// As of [`serve_made`](crate::serve_made), without `NotOpened`.
 pub fn serve_open<D: Disk + Drop, O: Observer, R: Read, W: Write>(
     alloc: Global,
     config: &Config,
@@ -151,48 +151,5 @@ pub fn serve_open<D: Disk + Drop, O: Observer, R: Read, W: Write>(
     match serve_over(alloc, config, conn, options, observer, reader, writer) {
         Ok((served, conn)) => finish(served, conn),
         Err(unserved) => Err(not_served(unserved)),
-    }
-}
-
-/// Serves the volume machine over a database file and its log: opens them, adopts their tables, serves calls, and closes the files.
-///
-/// For each State of the files before (`HasState`), what is read and written, how the run ends and what it counts is said by the table of ends of
-/// `csi_server::serve`, and the files have the State after the calls. Files without a table get new ones, and the first State, unless the options refuse them. Where
-/// memory has no room for a copy of the volumes, reads are answered from the file.
-///
-/// All of that is promised while the disks return what was written to them (`AreClean`).
-///
-/// # Errors
-///
-/// `NotOpened`, `Blank`, `NotAdopted` and `NotCopied`: the files keep what they had, and nothing is read or written. `Left`, where the store refused a call, and `NotClosed`, where
-/// the close failed: the run is as said above, and what is left has the State after the calls, or the one that a refused call would have made.
-pub fn serve_files<D: Disk + Drop, O: Observer, R: Read, W: Write>(
-    alloc: Global,
-    config: &Config,
-    files: Files<D>,
-    opening: Options,
-    options: &ServeOptions,
-    observer: &O,
-    reader: &mut R,
-    writer: &mut W,
-) -> Result<Closed<D>, NotServed<D>>
-    requires log { IsTrue (D.Disk.is_usable files.log) }
-    requires db { IsTrue (D.Disk.is_usable files.db) }
-    ensures served { IfOk result (λ r. Serves (volumes config.now) (image_model (image_of D.Disk files) r.served.is_new)
-        (seen config.now (files_model D.Disk r.files r.served.refusals r.served.is_down))
-        (R.remaining reader.old) (R.remaining reader.new) (W.contents writer.old) (W.contents writer.new) r.served.end) }
-    ensures after { IfOk result (λ r. ServesThen config.now (image_of D.Disk files)
-        (R.remaining reader.old) (R.remaining reader.new) (W.contents writer.old) (W.contents writer.new) r.served
-        (AreClean D.Disk r.files.log r.files.db) (LeavesAfter D.Disk config.now r.files)) }
-    ensures usable { IfOk result (λ r. IsTrue (D.Disk.is_usable r.files.log) × IsTrue (D.Disk.is_usable r.files.db)) }
-    ensures uncopied { AllServed D.Disk (λ served. IsTrue options.now.is_low_memory → served.is_copied ≡ false) result }
-    ensures existing { IsAsked D.Disk options.now.is_existing result }
-    ensures not_served { IfErr result (IsNotServed D.Disk config.now (image_of D.Disk files)
-        (R.remaining reader.old) (R.remaining reader.new) (W.contents writer.old) (W.contents writer.new)
-        (λ error left. AreUntouched (R.remaining reader.old) (R.remaining reader.new) (W.contents writer.old) (W.contents writer.new) × IsNotOpened D.Disk files error left)) }
-{
-    match Connection::open_files(alloc, files, opening) {
-        Ok(conn) => serve_open(alloc, config, conn, options, observer, reader, writer),
-        Err((error, left)) => Err(NotServed::NotOpened(error, left)),
     }
 }

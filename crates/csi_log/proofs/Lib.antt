@@ -1,2 +1,9 @@
 pub mod Paths
 pub mod Tokens
+pub mod CellsLemmas
+pub mod CursorLemmas
+pub mod FillingLemmas
+pub mod GivingLemmas
+pub mod ItemsLemmas
+pub mod PagesLemmas
+pub mod WalkingLemmas

@@ -1,2 +1,10 @@
 pub mod Asking
+pub mod Cells
+pub mod Filling
+pub mod Giving
+pub mod Items
+pub mod Pages
 pub mod Remote
+pub mod Sample
+pub mod Taking
+pub mod Walking

@@ -5,6 +5,10 @@
 //! of the other end is one clause, that of [`Peer::exchange`]: it makes the change of a frame as it says in the reply. [`Channel`] is a peer over any reader and
 //! writer. No contract can say that the other end tells the truth: of a channel nothing is promised from its first exchange on (its `doubt`), but what it wrote and read.
 //!
+//! [`read_rows`] makes tables and puts all rows of a peer into them, page by page ([`read_pages`], [`take_page`]). `specs/Pages.antt` says what the body of a
+//! reply spells, `specs/Taking.antt` what its rows make of the tables, `specs/Walking.antt` which exchanges give all pages, and `specs/Giving.antt` which State
+//! has such rows.
+//!
 //! ```rust
 //! let log = RemoteLog::new(Channel::new(reader, writer));
 //! let mut keeper = Through::copied(alloc, &mut tables, log)?;
@@ -13,10 +17,21 @@
 #![tactic(auto)]
 
 mod asking;
+mod cells;
 mod changes;
+mod fault;
+mod filling;
+mod items;
+pub mod laws;
+mod pages;
 mod peer;
+mod reading;
 mod remote;
 
 pub use asking::{lead_frame, make_frame, read_frame};
+pub use fault::RowsFault;
+pub use filling::read_rows;
+pub use pages::{Notes, take_page};
 pub use peer::{Channel, Peer};
+pub use reading::{ReadFault, read_pages};
 pub use remote::RemoteLog;

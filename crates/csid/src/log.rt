@@ -8,17 +8,17 @@ use crate::content::read_content;
 use crate::failure::Failure;
 use crate::memory::{files_of, open};
 use crate::peer::Lead;
-use crate::rows::{RowsFault, Told, take_no_meta, take_page};
-use crate::tables::{keep, of_database, of_reading, tell_content};
+use crate::tables::{keep, of_adoption, of_database, of_reading, tell_content};
+use csi_adoption::{AdoptFault, Foreign};
 use csi_client::{Received, ReceivedReply};
 use csi_config::Config;
-use csi_keeper::StoreFault;
-use csi_log::{Channel, Peer, RemoteLog, lead_frame, make_frame, read_frame};
+use csi_log::{
+    Channel, Notes, Peer, ReadFault, RemoteLog, RowsFault, lead_frame, make_frame, read_rows,
+};
 use csi_memory::MemKeeper;
-use csi_schema::make_tables;
 use csi_tables::Tables;
 use csi_through::Through;
-use sqlite::{Alter, Connection, Transaction};
+use sqlite::{Alter, Connection};
 use std::alloc::Global;
 use std::cell::Cell;
 use std::os::unix::net::UnixStream;
@@ -28,9 +28,6 @@ use std::{io, str};
 
 // How many seconds a log may say nothing while its reply is waited for. Behind that nobody knows whether a change was made.
 const LONGEST: u64 = 30;
-
-// At most so many pages are read: more than 100,000 volumes and their attachments have, also at one row a page.
-const MOST_PAGES: u64 = 1 << 20;
 
 /// A peer, and whether it was asked for something. What it gives is what the peer gave.
 pub(crate) struct Noted<P> {
@@ -151,98 +148,74 @@ fn of_refusal(alloc: Global, path: &str, reply: &ReceivedReply) -> Failure
     }
 }
 
-// Asks for something. The body of a reply that says OK.
-fn asked<P: Peer>(alloc: Global, path: &str, log: &mut P, frame: &[u8]) -> Result<Vec<u8>, Failure>
-    ensures { IfErr result (λ failure. IsOrNoMemory 4 failure) }
+// What came instead of a reply that says OK.
+fn of_received(alloc: Global, path: &str, received: &Received) -> Failure
+    ensures { IsOrNoMemory 4 result }
 {
-    match log.exchange(alloc, frame) {
-        Received::Reply(reply) if reply.status == 0 => Ok(reply.body),
-        Received::Reply(reply) => Err(of_refusal(alloc, path, &reply)),
-        Received::NoMemory => Err(Failure::NoMemory),
-        Received::Nothing => Err(Failure::of_tables(alloc, path, &"closed without a reply")),
-        Received::Malformed(fault) => Err(Failure::of_tables(alloc, path, &fault)),
-        Received::Failed => Err(Failure::of_tables(alloc, path, &"no reply came")),
+    match received {
+        Received::Reply(reply) => of_refusal(alloc, path, reply),
+        Received::NoMemory => Failure::NoMemory,
+        Received::Nothing => Failure::of_tables(alloc, path, &"closed without a reply"),
+        Received::Malformed(fault) => Failure::of_tables(alloc, path, fault),
+        Received::Failed => Failure::of_tables(alloc, path, &"no reply came"),
     }
 }
 
-// A frame that asks for something.
-fn framed(alloc: Global, path: &str, frame: Result<Vec<u8>, StoreFault>) -> Result<Vec<u8>, Failure>
-    ensures { IfErr result (λ failure. IsOrNoMemory 4 failure) }
+// Why the rows of a log were not read.
+fn of_pages(alloc: Global, path: &str, fault: &ReadFault) -> Failure
+    ensures { IsOrNoMemory 4 result }
 {
-    match frame {
-        Ok(frame) => Ok(frame),
-        Err(fault) => Err(of_reading(alloc, path, fault)),
+    match fault {
+        ReadFault::Unasked(fault) => of_reading(alloc, path, *fault),
+        ReadFault::Unanswered(received) => of_received(alloc, path, received),
+        ReadFault::Rows(fault) => of_rows(alloc, path, fault),
+        ReadFault::Endless => Failure::of_tables(alloc, path, &"its pages never end"),
+        ReadFault::Database(error) => of_database(alloc, path, error),
     }
 }
 
-// Puts all rows of a log into the tables of a transaction, page by page.
-fn read_pages<P: Peer, S: Alter>(
+// Has a log without any row make the row of meta, as it is in the new tables here.
+fn make_meta<P: Peer>(alloc: Global, path: &str, log: &mut P) -> Result<(), Failure>
+    ensures { IfErr result (λ failure. IsOrNoMemory 4 failure) }
+{
+    let frame = match make_frame(alloc) {
+        Ok(frame) => frame,
+        Err(fault) => return Err(of_reading(alloc, path, fault)),
+    };
+    match log.exchange(alloc, frame.as_slice()) {
+        Received::Reply(reply) if reply.status == 0 => Ok(()),
+        received => Err(of_received(alloc, path, &received)),
+    }
+}
+
+// Whether the row of meta has the format of a log. Where there is none, rows have none to go with, and a log without any row is given one.
+fn settle_meta<P: Peer>(
     alloc: Global,
     path: &str,
     log: &mut P,
-    tx: &mut Transaction<'_, S>,
-) -> Result<Told, Failure>
-    ensures { IfErr result (λ failure. IsOrNoMemory 4 failure) }
-{
-    let mut told = Told::nothing(alloc);
-    for _ in 0..MOST_PAGES {
-        let frame = framed(alloc, path, read_frame(alloc, told.token.as_slice()))?;
-        let body = asked(alloc, path, log, frame.as_slice())?;
-        if let Err(fault) = take_page(tx, &mut told, body.as_slice()) {
-            return Err(of_rows(alloc, path, &fault));
-        }
-        if told.token.is_empty() {
-            return Ok(told);
-        }
-    }
-    Err(Failure::of_tables(alloc, path, &"its pages never end"))
-}
-
-// Sees to the row of meta: where the log has no row at all, it is made there as it is in the new tables here.
-fn settle_meta<P: Peer, S: Alter>(
-    alloc: Global,
-    path: &str,
-    log: &mut P,
-    tx: &mut Transaction<'_, S>,
-    told: &Told,
+    notes: &Notes,
 ) -> Result<(), Failure>
     ensures { IfErr result (λ failure. IsOrNoMemory 4 failure) }
 {
-    match told.format {
+    match notes.format {
         Some(1) => Err(Failure::of_tables(
             alloc,
             path,
             &"its rows have format 1, and a log has those of format 2",
         )),
-        Some(_) => Ok(()),
-        None if told.has_rows => match take_no_meta(tx) {
-            Ok(()) => Ok(()),
-            Err(fault) => Err(of_rows(alloc, path, &fault)),
-        },
-        None => {
-            let frame = framed(alloc, path, make_frame(alloc))?;
-            asked(alloc, path, log, frame.as_slice())?;
-            Ok(())
-        }
+        Some(2) => Ok(()),
+        None if !notes.has_rows => make_meta(alloc, path, log),
+        format => Err(of_adoption(alloc, path, &format_fault(format))),
     }
 }
 
-// Fills new tables with the rows of a log. It is one transaction, so that each page of the tables is written once, in whatever pages the rows come.
-fn fill<P: Peer, S: Alter>(
-    alloc: Global,
-    path: &str,
-    log: &mut P,
-    conn: &mut Connection<S>,
-) -> Result<(), Failure>
-    requires { conn.old.in_transaction ≡ false }
-    ensures { IfErr result (λ failure. IsOrNoMemory 4 failure) }
-{
-    let mut tx = conn.transaction();
-    let told = read_pages(alloc, path, log, &mut tx)?;
-    settle_meta(alloc, path, log, &mut tx, &told)?;
-    match tx.commit() {
-        Ok(()) => Ok(()),
-        Err(error) => Err(of_database(alloc, path, &error)),
+// Why tables of this format are not taken.
+fn format_fault(format: Option<u64>) -> AdoptFault {
+    match format {
+        Some(format) if format != 0 => AdoptFault::Newer {
+            format: i64::try_from(format).unwrap_or(i64::MAX),
+        },
+        _ => AdoptFault::Foreign(Foreign::Meta),
     }
 }
 
@@ -257,13 +230,11 @@ fn read_tables<P: Peer, S: Alter + Drop>(
     requires { conn.in_transaction ≡ false }
     ensures { IfErr result (λ failure. IsOrNoMemory 4 failure) }
 {
-    if let Err(error) = make_tables(&mut conn) {
-        return Err(of_database(rt.alloc(), path, &error));
-    }
-    fill(rt.alloc(), path, log, &mut conn)?;
-    if !conn.is_autocommit() {
-        return Err(Failure::of_tables(rt.alloc(), path, &"its rows were not taken"));
-    }
+    let notes = match read_rows(rt.alloc(), log, &mut conn) {
+        Ok(notes) => notes,
+        Err(fault) => return Err(of_pages(rt.alloc(), path, &fault)),
+    };
+    settle_meta(rt.alloc(), path, log, &notes)?;
     keep(rt, path, conn, config)
 }
 

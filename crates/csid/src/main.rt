@@ -16,7 +16,6 @@ mod memory;
 mod peer;
 mod pending;
 mod ready;
-mod rows;
 mod run;
 mod serving;
 mod socket;

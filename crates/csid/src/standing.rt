@@ -61,11 +61,25 @@ fn is_empty(rt: &HostRuntime, path: &str) -> io::Result<bool> {
     }
 }
 
-// How many bytes a file and its log have.
+// How many bytes of a file are in its free pages: a page's size is at 16 of the header, where 1 is 65,536, and the number of the free ones at 36.
+fn free_bytes(rt: &HostRuntime, path: &str) -> io::Result<u64> {
+    let mut head = [0; HEADER_BYTES];
+    File::open(rt, path)?.read_exact(&mut head)?;
+    let page = match u16::from_be_bytes([head[16], head[17]]) {
+        1 => 1 << 16,
+        size => u64::from(size),
+    };
+    let free = u32::from_be_bytes([head[36], head[37], head[38], head[39]]);
+    Ok(u64::from(free).saturating_mul(page))
+}
+
+// How many bytes a file and its log have, without the pages that are free in the file. A page that the log takes again is counted with the log.
 fn bytes_of(rt: &HostRuntime, path: &str) -> io::Result<u64> {
     let log = log_path(rt, path)?;
     let of_log = fs::metadata(rt, log.as_str()).map_or(0, |found| found.len());
-    Ok(fs::metadata(rt, path)?.len().saturating_add(of_log))
+    let of_file = fs::metadata(rt, path)?.len();
+    let free = free_bytes(rt, path).unwrap_or(0);
+    Ok(of_file.saturating_sub(free).saturating_add(of_log))
 }
 
 /// How many bytes of memory an opening of a file takes at most for its rows: a row takes less than twice what it takes in the file.

@@ -3,7 +3,7 @@
 ghost use Rattle.std.specs.Prelude.{IfOk, IsTrue};
 ghost use Rattle.sqlite_disk.specs.Memory.{memory_is_usable};
 
-use crate::{Observer, ServeOptions, Served, leave, serve_files};
+use crate::{Observer, ServeOptions, Served, leave, serve_made};
 use csi_config::Config;
 use csi_server::RunEnd;
 use sqlite::{Connection, Files, Options};
@@ -43,7 +43,7 @@ fn probe(
         is_low_memory,
         reserve: 1 << 20,
     };
-    match serve_files(
+    match serve_made(
         rt.alloc(),
         config,
         files,

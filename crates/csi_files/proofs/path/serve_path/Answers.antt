@@ -1,19 +1,22 @@
-use Rattle.std.proofs.Common.{ℕ, Bool, List, cond, ap₂, subst}
-use Rattle.sqlite_disk.specs.Events.{Event, replay}
-use Rattle.sqlite_wal.specs.Recovery.{Image}
+use Rattle.std.proofs.Common.{ap₂, subst}
+use Rattle.sqlite_wal.specs.Reads.{AreClean}
 use Rattle.csi_server.specs.Serving.{Serves}
 use Rattle.csi_server.specs.Volumes.{seen, volumes}
 use Rattle.csi_files.specs.Files.{files_model}
 use Rattle.csi_files.specs.Path.{over_calls}
-use Rattle.csi_files.specs.Starting.{start_model}
+use Rattle.csi_files.specs.Serving.{LeavesAfter}
+use Rattle.csi_files.specs.Starting.{StartsThen, start_model}
+use Rattle.csi_files.proofs.PathLemmas.{image, read_of}
 use Rattle.csi_files.proofs.path.serve_path.Goals as goal
 
-abbrev image : List ℕ → List ℕ → Image
-image log db = record { log = log; db = db }
-
--- what a file reads as that held these contents
-abbrev read_of : List ℕ → List ℕ → Bool → List Event → List ℕ
-read_of log db is_log history = (replay (cond is_log log db) history).seen
+pub returns-in-Ok-serve_made-clause-after : goal.returns-in-Ok-serve_made-clause-after
+returns-in-Ok-serve_made-clause-after g c =
+    let (log, db) = c.in-Ok.ensures.fresh in
+    let closed = c.in-Ok-serve_made.closed in
+    let same = ap₂ image (ap₂ (read_of g.S.Start.log g.S.Start.db) log.0 log.1) (ap₂ (read_of g.S.Start.log g.S.Start.db) db.0 db.1) in
+    subst (λ i. StartsThen c.args.config.now i (g.R.Read.remaining c.args.reader.now) (g.R.Read.remaining c.serve_made.new.reader) (g.W.Write.contents c.args.writer.now) (g.W.Write.contents c.serve_made.new.writer) closed.served
+    (AreClean over_calls closed.files.log closed.files.db) (LeavesAfter over_calls c.args.config.now closed.files))
+    same c.in-Ok-serve_made.ensures.after
 
 pub returns-in-Ok-serve_made-clause-served : goal.returns-in-Ok-serve_made-clause-served
 returns-in-Ok-serve_made-clause-served g c =

@@ -4,12 +4,12 @@ use Rattle.csi_files.specs.Serving.{AreUntouched}
 use Rattle.csi_files.specs.Starting.{IsNotMade}
 use Rattle.csi_files.proofs.FilesLemmas.{not_opened_too}
 use Rattle.csi_files.proofs.ResultLemmas.{IfErr-both, IfOk-both}
-use Rattle.csi_files.proofs.StartingLemmas.{started, starts_as}
+use Rattle.csi_files.proofs.StartingLemmas.{shows_laid_out, started, started_then}
 use Rattle.csi_files.proofs.starting.serve_made.Goals as goal
 
 pub returns-in-Err-clause-not_served : goal.returns-in-Err-clause-not_served
 returns-in-Err-clause-not_served g c =
-    record { was = image_of g.D.Disk c.args.files; starts = λ clean. absurd clean; why = ((refl, refl), inl c.in-Err.ensures.unmade) }
+    record { was = image_of g.D.Disk c.args.files; shows = λ clean. absurd clean; why = ((refl, refl), inl c.in-Err.ensures.unmade) }
 
 pub returns-in-Ok-open_files-clause-served : goal.returns-in-Ok-open_files-clause-served
 returns-in-Ok-open_files-clause-served g c =
@@ -19,13 +19,22 @@ returns-in-Ok-open_files-clause-served g c =
     (it (image_of g.D.Disk c.in-Ok.laid) (λ sure. let find = open_.found sure in (open_.opened sure, record { holds = find.holds; reads = find.reads }))))
     c.serve_open.ensures.served c.serve_open.ensures.clean
 
+pub returns-in-Ok-open_files-clause-after : goal.returns-in-Ok-open_files-clause-after
+returns-in-Ok-open_files-clause-after g c =
+    let open_ = c.in-Ok-open_files.ensures in
+    IfOk-both c.serve_open.result _ _ _
+    (λ r it clean. started_then c.args.config.now (image_of g.D.Disk c.args.files) (image_of g.D.Disk c.in-Ok.laid) _ _ _ _ r.served _ _
+    (λ now. shows_laid_out g.D.Disk c.args.files c.in-Ok.laid c.in-Ok.ensures.laid_out (open_.found (clean now)).honest)
+    (it (image_of g.D.Disk c.in-Ok.laid) (λ sure. let find = open_.found sure in (open_.opened sure, record { holds = find.holds; reads = find.reads }))))
+    c.serve_open.ensures.after c.serve_open.ensures.clean
+
 pub returns-in-Ok-open_files-clause-not_served : goal.returns-in-Ok-open_files-clause-not_served
 returns-in-Ok-open_files-clause-not_served g c =
     let open_ = c.in-Ok-open_files.ensures in
     IfErr-both c.serve_open.result _ _ _
     (λ e it clean. record {
       was = image_of g.D.Disk c.in-Ok.laid;
-      starts = λ ends s may. starts_as g.D.Disk c.args.files c.in-Ok.laid c.in-Ok.ensures.laid_out (open_.found (clean ends)).honest s may;
+      shows = λ ends. shows_laid_out g.D.Disk c.args.files c.in-Ok.laid c.in-Ok.ensures.laid_out (open_.found (clean ends)).honest;
       why = not_opened_too g.D.Disk c.args.config.now (image_of g.D.Disk c.in-Ok.laid) _ _ _ _ (λ error rest. AreUntouched (g.R.Read.remaining c.args.reader.now) (g.R.Read.remaining c.serve_open.new.reader) (g.W.Write.contents c.args.writer.now) (g.W.Write.contents c.serve_open.new.writer) × IsNotMade g.D.Disk c.args.files error rest) e
           (it (image_of g.D.Disk c.in-Ok.laid) (λ sure. let find = open_.found sure in (open_.opened sure, record { holds = find.holds; reads = find.reads })));
     })
@@ -34,4 +43,4 @@ returns-in-Ok-open_files-clause-not_served g c =
 pub returns-in-Err-open_files-clause-not_served : goal.returns-in-Err-open_files-clause-not_served
 returns-in-Err-open_files-clause-not_served g c =
     let failed = c.in-Err-open_files.ensures in
-    record { was = image_of g.D.Disk c.args.files; starts = λ clean. absurd clean; why = ((refl, refl), inr (c.in-Ok.laid, c.in-Ok.ensures.laid_out, λ clean. (failed.cause clean, failed.unharmed clean))) }
+    record { was = image_of g.D.Disk c.args.files; shows = λ clean. absurd clean; why = ((refl, refl), inr (c.in-Ok.laid, c.in-Ok.ensures.laid_out, λ clean. (failed.cause clean, failed.unharmed clean))) }

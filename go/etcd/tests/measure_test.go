@@ -1,0 +1,282 @@
+package tests
+
+import (
+	"context"
+	"fmt"
+	"os"
+	"os/exec"
+	"sort"
+	"strconv"
+	"strings"
+	"testing"
+	"time"
+
+	"go.etcd.io/etcd/clientv3"
+	"google.golang.org/grpc/codes"
+
+	"../../front/tests/processes"
+	"./clusters"
+)
+
+// measured is how many changes go/etcd/bench measures.
+func measured(t *testing.T) int {
+	t.Helper()
+	count, err := strconv.Atoi(os.Getenv("MEASURE"))
+	if err != nil {
+		t.Skip("go/etcd/bench measures")
+	}
+	return count
+}
+
+// times is how long calls took.
+type times []time.Duration
+
+func (all *times) take(call func()) {
+	begin := time.Now()
+	call()
+	*all = append(*all, time.Since(begin))
+}
+
+func (all times) mean() time.Duration {
+	var sum time.Duration
+	for _, one := range all {
+		sum += one
+	}
+	return sum / time.Duration(len(all))
+}
+
+func (all times) at(part float64) time.Duration {
+	sorted := append(times{}, all...)
+	sort.Slice(sorted, func(i, j int) bool { return sorted[i] < sorted[j] })
+	return sorted[int(part*float64(len(sorted)-1))]
+}
+
+func (all times) String() string {
+	return fmt.Sprintf("%v in the middle, %v in the mean, %v for 99 of 100", all.at(0.5).Round(time.Microsecond), all.mean().Round(time.Microsecond), all.at(0.99).Round(time.Microsecond))
+}
+
+// besides measures calls that add volumes, and beside each the bare transaction of a volume. They take turns, so that both meet the same disk.
+func besides(t *testing.T, count int, client *clientv3.Client, add func(number uint64, called string)) (adds, bare times) {
+	t.Helper()
+	const prefix = "example.measured"
+	put(t, client, prefix+"/lock/1", "x")
+	put(t, client, prefix+"/meta", `{"format_no":2,"next_number":1}`)
+	read, err := client.Get(context.Background(), prefix+"/lock/1")
+	if err != nil {
+		t.Fatal(err)
+	}
+	lock := read.Kvs[0].ModRevision
+	for n := uint64(1); n <= uint64(count)+50; n++ {
+		called := fmt.Sprintf("pvc-%d", n)
+		with := func() { add(n, called) }
+		alone := func() { bareAdd(t, client, prefix, lock, n, called) }
+		if n <= 50 {
+			with()
+			alone()
+		} else if n%2 == 0 {
+			adds.take(with)
+			bare.take(alone)
+		} else {
+			bare.take(alone)
+			adds.take(with)
+		}
+	}
+	return adds, bare
+}
+
+// ratios is how many times as long some calls took as others.
+func ratios(these, others times) string {
+	return fmt.Sprintf("%.3f times in the middle, %.3f in the mean", float64(these.at(0.5))/float64(others.at(0.5)), float64(these.mean())/float64(others.mean()))
+}
+
+// A change through csid-etcd, beside the same transaction without it.
+func TestMeasureChanges(t *testing.T) {
+	count := measured(t)
+	for _, members := range []int{1, 3} {
+		cluster := clusters.Start(t, members)
+		p := start(t, cluster.Endpoints()).leads(t)
+		l := p.dial(t)
+		l.wants(t, makePath, "", codes.OK, "")
+		through, without := besides(t, count, cluster.Client(t), func(number uint64, called string) { l.commits(t, addVolume(number, called)) })
+		t.Logf("%d members, %d changes through csid-etcd: %v", members, count, through)
+		t.Logf("%d members, %d bare transactions: %v", members, count, without)
+		t.Logf("%d members: %s", members, ratios(through, without))
+		before := size(t, cluster)
+		for n := uint64(count) + 51; n <= uint64(count)+1050; n++ {
+			l.commits(t, addVolume(n, fmt.Sprintf("pvc-%d", n)))
+		}
+		t.Logf("%d members: a change takes %d bytes of the file", members, (size(t, cluster)-before)/1000)
+	}
+}
+
+// startCsid starts a csid whose log is a csid-etcd, with a pool and nodes that have room for all that is measured.
+func (p program) startCsid(t *testing.T) *processes.Process {
+	t.Helper()
+	folder := processes.Folder(t)
+	config := "name = \"example.fomaheti\"\nvendor_version = \"1.0.0\"\ndefault_bytes = 1048576\ngreatest_bytes = 1048576\n\n[[pool]]\nname = \"ssd\"\nbytes = 1125899906842624\n"
+	for i := 0; i < 7; i++ {
+		config += fmt.Sprintf("\n[[node]]\nid = \"node-%d\"\nmax_volumes = 100000\n", i)
+	}
+	if err := os.WriteFile(folder+"/config.toml", []byte(config), 0o600); err != nil {
+		t.Fatal(err)
+	}
+	socket := folder + "/csid.sock"
+	return processes.Start(t, socket, exec.Command(processes.CsidProgram(t), "serve", "--socket", socket, "--log", p.Socket, "--config", folder+"/config.toml"))
+}
+
+// probed is a connection to a csid, over which a first call was answered: all rows are read before that.
+func probed(t *testing.T, csid *processes.Process) *link {
+	t.Helper()
+	l, err := dial(csid.Answers(t).Socket)
+	if err != nil {
+		t.Fatal(err)
+	}
+	t.Cleanup(func() { l.Close() })
+	l.wants(t, "/csi.v1.Identity/Probe", "", codes.OK, "0a020801")
+	return l
+}
+
+// A CreateVolume of csid over csid-etcd, beside the transaction of it alone.
+func TestMeasureCreates(t *testing.T) {
+	count := measured(t)
+	for _, members := range []int{1, 3} {
+		cluster := clusters.Start(t, members)
+		l := probed(t, start(t, cluster.Endpoints()).leads(t).startCsid(t))
+		created, without := besides(t, count, cluster.Client(t), func(_ uint64, called string) {
+			message := append(text(nil, 1, called), fromHex(t, "1a060a001a020801")...)
+			if reply, err := l.call("/csi.v1.Controller/CreateVolume", message); err != nil || reply.Code != codes.OK {
+				t.Fatalf("%v, %v", reply.Text, err)
+			}
+		})
+		t.Logf("%d members, %d creates of csid: %v", members, count, created)
+		t.Logf("%d members, %d bare transactions: %v", members, count, without)
+		t.Logf("%d members: %s", members, ratios(created, without))
+	}
+}
+
+// How long a csid takes until it answers a first call over 100,000 volumes and 50,000 attachments.
+func TestMeasureTakeOvers(t *testing.T) {
+	measured(t)
+	cluster := clusters.Start(t, 1)
+	fill(t, cluster.Client(t), 100000)
+	p := start(t, cluster.Endpoints()).leads(t)
+	var all times
+	memory := 0
+	for i := 0; i < 5; i++ {
+		all.take(func() {
+			csid := p.startCsid(t)
+			probed(t, csid)
+			memory = csid.ResidentBytes(t)
+		})
+	}
+	t.Logf("csid over 100000 volumes and 50000 attachments: the first answer behind %v in the middle of 5, %d MiB in memory", all.at(0.5).Round(time.Millisecond), memory>>20)
+}
+
+// size is how many bytes of its file a member uses.
+func size(t *testing.T, cluster *clusters.Cluster) int64 {
+	t.Helper()
+	status, err := cluster.Client(t).Status(context.Background(), cluster.Members[0].Address)
+	if err != nil {
+		t.Fatal(err)
+	}
+	return status.DbSizeInUse
+}
+
+func put(t *testing.T, client *clientv3.Client, key, value string) {
+	t.Helper()
+	if _, err := client.Put(context.Background(), key, value); err != nil {
+		t.Fatal(err)
+	}
+}
+
+// bareAdd is the transaction of a volume that is added, without csid-etcd.
+func bareAdd(t *testing.T, client *clientv3.Client, prefix string, lock int64, number uint64, called string) {
+	t.Helper()
+	key := fmt.Sprintf("%s/volumes/%020d", prefix, number)
+	before, behind := fmt.Sprintf(`{"format_no":2,"next_number":%d}`, number), fmt.Sprintf(`{"format_no":2,"next_number":%d}`, number+1)
+	value := fmt.Sprintf(`{"name":"%s","bytes":1048576,"pool":"ssd","caps":"1a060a001a020801","params":""}`, called)
+	done, err := client.Txn(context.Background()).If(
+		clientv3.Compare(clientv3.ModRevision(prefix+"/lock/1"), "=", lock),
+		clientv3.Compare(clientv3.CreateRevision(key), "=", 0),
+		clientv3.Compare(clientv3.Value(prefix+"/meta"), "=", before),
+	).Then(clientv3.OpPut(key, value), clientv3.OpPut(prefix+"/meta", behind)).Commit()
+	if err != nil || !done.Succeeded {
+		t.Fatalf("%v, %v", done, err)
+	}
+}
+
+// drain reads all pages, and looks at nothing but their tokens.
+func (l *link) drain(t *testing.T) (pages int) {
+	t.Helper()
+	for token := []byte(nil); ; {
+		reply, err := l.call(readPath, text(nil, 1, string(token)))
+		if err != nil || reply.Code != codes.OK {
+			t.Fatalf("%v, %v", reply.Text, err)
+		}
+		pages++
+		parts := fields(reply.Body)
+		if token = parts[len(parts)-1].bytes; len(token) == 0 {
+			return pages
+		}
+	}
+}
+
+// How long a reading of all rows takes.
+func TestMeasureReadings(t *testing.T) {
+	measured(t)
+	for _, volumes := range []int{1000, 10000, 100000} {
+		cluster := clusters.Start(t, 1)
+		fill(t, cluster.Client(t), volumes)
+		l := start(t, cluster.Endpoints()).leads(t).dial(t)
+		var all times
+		pages := 0
+		for i := 0; i < 5; i++ {
+			all.take(func() {
+				pages = l.drain(t)
+			})
+		}
+		t.Logf("%d volumes and %d attachments in %d pages: %v in the middle of 5", volumes, volumes/2, pages, all.at(0.5).Round(time.Millisecond))
+		cluster.Ctl(t, "compact", fmt.Sprint(revision(t, cluster.Client(t))))
+		cluster.Ctl(t, "defrag")
+		status, err := cluster.Client(t).Status(context.Background(), cluster.Members[0].Address)
+		if err != nil {
+			t.Fatal(err)
+		}
+		t.Logf("%d volumes: etcd has %d KiB in its file behind a defragmentation, and %d MiB in memory", volumes, status.DbSize>>10, cluster.Members[0].Current.ResidentBytes(t)>>20)
+	}
+}
+
+// How long moves of 100,000 volumes take.
+func TestMeasureMoves(t *testing.T) {
+	measured(t)
+	lines, count := manyLines(100000)
+	cluster := clusters.Start(t, 1)
+	begin := time.Now()
+	moves(t, lines, "--import", cluster.Endpoints()).wants(t, "an import", 0, "volumes 100000, attachments 50000, next number 100001, format 2\n", "")
+	imported := time.Since(begin)
+	begin = time.Now()
+	got := moves(t, "", "--export", cluster.Endpoints())
+	exported := time.Since(begin)
+	if got.status != 0 || strings.Count(got.said, "\nINSERT") != count-1 {
+		t.Errorf("%d %s", got.status, got.fail)
+	}
+	t.Logf("100000 volumes and 50000 attachments: an import takes %v, an export %v", imported.Round(10*time.Millisecond), exported.Round(10*time.Millisecond))
+}
+
+// A question whether csid-etcd leads, which csid asks before it answers a call that only reads, next to the reading of a key.
+func TestMeasureQuestions(t *testing.T) {
+	count := measured(t)
+	for _, members := range []int{1, 3} {
+		cluster := clusters.Start(t, members)
+		client := cluster.Client(t)
+		l := start(t, cluster.Endpoints()).leads(t).dial(t)
+		var through, without times
+		for n := 0; n < count; n++ {
+			through.take(func() { l.wants(t, leadPath, "", codes.OK, "") })
+			without.take(func() { revision(t, client) })
+		}
+		t.Logf("%d members, %d questions whether csid-etcd leads: %v", members, count, through)
+		t.Logf("%d members, %d bare readings of a key: %v", members, count, without)
+		t.Logf("%d members: %s", members, ratios(through, without))
+	}
+}

@@ -1,0 +1,330 @@
+// bench measures calls through the front beside the same calls to csid alone over its socket (bench/front runs it), and how service comes
+// back behind a stop of csid, and under callers who give up (go/front/stalls does).
+//
+// usage: bench calls CSID FRONT [ROUNDS]
+//
+//	bench stop CSID FRONT FILE
+//	bench hasty CSID FRONT
+package main
+
+import (
+	"bytes"
+	"context"
+	"encoding/binary"
+	"errors"
+	"fmt"
+	"io"
+	"log"
+	"net"
+	"os"
+	"os/exec"
+	"path/filepath"
+	"sort"
+	"strconv"
+	"strings"
+	"sync"
+	"time"
+
+	"google.golang.org/grpc"
+)
+
+const config = `name = "pools.example.org"
+vendor_version = "1.0.0"
+default_bytes = 1048576
+greatest_bytes = 8388608
+
+[[pool]]
+name = "p1"
+bytes = 1099511627776
+`
+
+const controller = "/csi.v1.Controller/"
+
+// caller makes calls, and gives their bodies.
+type caller interface {
+	call(path string, message []byte) ([]byte, error)
+}
+
+// work is what is measured: calls number i of a caller, and how many they are.
+type work struct {
+	name  string
+	calls int
+	do    func(c caller, caller, i int) error
+}
+
+var works = []work{
+	{"probe", 1, func(c caller, _, _ int) error { return wants(c, "/csi.v1.Identity/Probe", nil, []byte{0x0a, 2, 8, 1}) }},
+	{"probe of 64 KiB", 1, func(c caller, _, _ int) error {
+		return wants(c, "/csi.v1.Identity/Probe", padded, []byte{0x0a, 2, 8, 1})
+	}},
+	{"create and delete", 2, createAndDelete},
+}
+
+// padded is a message of one unknown field of 65,536 bytes.
+var padded = append([]byte{0x7a, 0xfc, 0xff, 3}, make([]byte, 65532)...)
+
+func wants(c caller, path string, message, want []byte) error {
+	got, err := c.call(path, message)
+	if err == nil && want != nil && !bytes.Equal(got, want) {
+		return fmt.Errorf("%s: the body %x, wanted %x", path, got, want)
+	}
+	return err
+}
+
+func createAndDelete(c caller, caller, i int) error {
+	name := fmt.Sprintf("pvc-%d-%d", caller, i)
+	message := append([]byte{0x0a, byte(len(name))}, name...)
+	body, err := c.call(controller+"CreateVolume", append(message, 0x1a, 6, 0x0a, 0, 0x1a, 2, 8, 1))
+	if err != nil {
+		return err
+	}
+	// A Volume behind its tag and length: 1 MiB in field 1, and the id in field 2.
+	if len(body) < 8 || !bytes.Equal(body[2:7], []byte{8, 0x80, 0x80, 0x40, 0x12}) || int(body[7]) > len(body)-8 {
+		return fmt.Errorf("no volume: %x", body)
+	}
+	id := body[8 : 8+body[7]]
+	return wants(c, controller+"DeleteVolume", append([]byte{0x0a, byte(len(id))}, id...), []byte{})
+}
+
+// direct is one connection to csid, which callers use in turn.
+type direct struct {
+	mutex sync.Mutex
+	net.Conn
+}
+
+func (d *direct) call(path string, message []byte) ([]byte, error) {
+	frame := binary.BigEndian.AppendUint16(nil, uint16(len(path)))
+	frame = append(append(frame, path...), 0)
+	frame = append(binary.BigEndian.AppendUint32(frame, uint32(len(message))), message...)
+	d.mutex.Lock()
+	defer d.mutex.Unlock()
+	if _, err := d.Write(frame); err != nil {
+		return nil, err
+	}
+	head := make([]byte, 8)
+	if _, err := io.ReadFull(d, head); err != nil {
+		return nil, err
+	}
+	if !bytes.Equal(head[:4], make([]byte, 4)) {
+		return nil, fmt.Errorf("refused: %x", head)
+	}
+	body := make([]byte, binary.BigEndian.Uint32(head[4:]))
+	_, err := io.ReadFull(d, body)
+	return body, err
+}
+
+// bytesCodec sends and receives messages as they are.
+type bytesCodec struct{}
+
+func (bytesCodec) Marshal(v interface{}) ([]byte, error)      { return v.([]byte), nil }
+func (bytesCodec) Unmarshal(data []byte, v interface{}) error { *v.(*[]byte) = data; return nil }
+func (bytesCodec) Name() string                               { return "proto" }
+
+// sidecar is a gRPC connection of a caller's own.
+type sidecar struct{ *grpc.ClientConn }
+
+func (s sidecar) call(path string, message []byte) (body []byte, err error) {
+	err = s.Invoke(context.Background(), path, message, &body)
+	return body, err
+}
+
+func newSidecar(socket string) (caller, error) {
+	dial := func(ctx context.Context, _ string) (net.Conn, error) {
+		return (&net.Dialer{}).DialContext(ctx, "unix", socket)
+	}
+	conn, err := grpc.Dial("passthrough:///csi", grpc.WithInsecure(), grpc.WithBlock(), grpc.WithContextDialer(dial),
+		grpc.WithDefaultCallOptions(grpc.ForceCodec(bytesCodec{})))
+	return sidecar{conn}, err
+}
+
+// round is what one round of some work took: calls a second, and the times of calls in order.
+type round struct {
+	rate  float64
+	times []time.Duration
+}
+
+// measure lets the callers do the work in rounds of a second, and shows the best of them.
+func measure(name string, w work, callers []caller, rounds int) error {
+	var best round
+	for i := 0; i < rounds; i++ {
+		next, err := oneRound(w, callers, time.Second)
+		if err != nil {
+			return fmt.Errorf("%s: %w", w.name, err)
+		}
+		if next.rate > best.rate {
+			best = next
+		}
+	}
+	middle, late := best.times[len(best.times)/2], best.times[len(best.times)*99/100]
+	fmt.Printf("%-18s %-14s %d callers: %7.0f calls/s, a call %5d us at the middle, %6d us at 99 of 100\n", w.name, name, len(callers),
+		best.rate, middle.Microseconds(), late.Microseconds())
+	return nil
+}
+
+// oneRound lets the callers do the work for so long.
+func oneRound(w work, callers []caller, length time.Duration) (round, error) {
+	times := make([][]time.Duration, len(callers))
+	failures := make(chan error, len(callers))
+	begin := time.Now()
+	var all sync.WaitGroup
+	for number, each := range callers {
+		all.Add(1)
+		go func(number int, each caller) {
+			defer all.Done()
+			for i := 0; time.Since(begin) < length; i++ {
+				start := time.Now()
+				if err := w.do(each, number, i); err != nil {
+					failures <- err
+					return
+				}
+				times[number] = append(times[number], time.Since(start)/time.Duration(w.calls))
+			}
+		}(number, each)
+	}
+	all.Wait()
+	spent := time.Since(begin)
+	select {
+	case err := <-failures:
+		return round{}, err
+	default:
+	}
+	var sorted []time.Duration
+	for _, some := range times {
+		sorted = append(sorted, some...)
+	}
+	sort.Slice(sorted, func(i, j int) bool { return sorted[i] < sorted[j] })
+	return round{float64(len(sorted)*w.calls) / spent.Seconds(), sorted}, nil
+}
+
+// start runs a program until the bench ends, and waits for its socket.
+func start(socket, program string, words ...string) (*exec.Cmd, error) {
+	command := exec.Command(program, words...)
+	command.Stderr = os.Stderr
+	if err := command.Start(); err != nil {
+		return nil, err
+	}
+	for wait := 0; wait < 1000; wait++ {
+		if conn, err := net.Dial("unix", socket); err == nil {
+			return command, conn.Close()
+		}
+		time.Sleep(5 * time.Millisecond)
+	}
+	command.Process.Kill()
+	return nil, errors.New("nobody answers on " + socket)
+}
+
+func startCsid(program, folder, socket, tables string) (*exec.Cmd, error) {
+	file := filepath.Join(folder, "config.toml")
+	if err := os.WriteFile(file, []byte(config), 0o600); err != nil {
+		return nil, err
+	}
+	help, err := exec.Command(program, "serve", "--help").Output()
+	if err != nil {
+		return nil, err
+	}
+	words := []string{"serve", "--socket", socket, "--config", file}
+	if strings.Contains(string(help), "--tables") {
+		words = append(words, "--tables", tables)
+	}
+	return start(socket, program, words...)
+}
+
+// throughFront measures each work with one caller and with eight, each with a connection of its own.
+func throughFront(program, csid, folder string, rounds int) error {
+	socket := filepath.Join(folder, "csi.sock")
+	front, err := start(socket, program, "--csid", csid, "--listen", socket)
+	if err != nil {
+		return err
+	}
+	defer front.Wait()
+	defer front.Process.Kill()
+	var callers []caller
+	for len(callers) < 8 {
+		each, err := newSidecar(socket)
+		if err != nil {
+			return err
+		}
+		callers = append(callers, each)
+	}
+	return measureAll("front and csid", callers, rounds)
+}
+
+// alone measures each work over one connection to csid, with one caller and with eight who take turns.
+func alone(csid string, rounds int) error {
+	conn, err := net.Dial("unix", csid)
+	if err != nil {
+		return err
+	}
+	defer conn.Close()
+	each := &direct{Conn: conn}
+	return measureAll("csid alone", []caller{each, each, each, each, each, each, each, each}, rounds)
+}
+
+func measureAll(name string, callers []caller, rounds int) error {
+	for _, w := range works {
+		for _, count := range []int{1, len(callers)} {
+			if err := measure(name, w, callers[:count], rounds); err != nil {
+				return err
+			}
+		}
+	}
+	return nil
+}
+
+func run(program, front string, rounds int) error {
+	folder, err := os.MkdirTemp("", "front")
+	if err != nil {
+		return err
+	}
+	defer os.RemoveAll(folder)
+	socket := filepath.Join(folder, "csid.sock")
+	csid, err := startCsid(program, folder, socket, filepath.Join(folder, "volumes.db"))
+	if err != nil {
+		return err
+	}
+	defer csid.Wait()
+	defer csid.Process.Kill()
+	if err := alone(socket, rounds); err != nil {
+		return err
+	}
+	return throughFront(front, socket, folder, rounds)
+}
+
+// rounds is the number of rounds that the words ask for.
+func rounds(words []string) (int, error) {
+	if len(words) == 0 {
+		return 5, nil
+	}
+	count, err := strconv.Atoi(words[0])
+	if err != nil || count < 1 {
+		return 0, errors.New("the rounds are no number above 0")
+	}
+	return count, nil
+}
+
+func main() {
+	log.SetFlags(0)
+	words := os.Args[1:]
+	if len(words) < 3 || (words[0] == "stop" || words[0] == "quiet") != (len(words) == 4) && words[0] != "calls" {
+		log.Fatal("usage: bench calls CSID FRONT [ROUNDS]; bench stop CSID FRONT FILE; bench quiet CSID FRONT FILE; bench hasty CSID FRONT")
+	}
+	var err error
+	switch csid, front := words[1], words[2]; words[0] {
+	case "calls":
+		var count int
+		if count, err = rounds(words[3:]); err == nil {
+			err = run(csid, front, count)
+		}
+	case "stop":
+		err = behindFront(csid, front, words[3], stop)
+	case "quiet":
+		err = behindFront(csid, front, words[3], quiet)
+	case "hasty":
+		err = behindFront(csid, front, "", hasty)
+	default:
+		err = errors.New(words[0] + " is not known")
+	}
+	if err != nil {
+		log.Fatal("bench: ", err)
+	}
+}

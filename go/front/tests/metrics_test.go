@@ -1,0 +1,362 @@
+package tests
+
+import (
+	"fmt"
+	"io"
+	"net"
+	"net/http"
+	"os"
+	"os/exec"
+	"path/filepath"
+	"regexp"
+	"strings"
+	"testing"
+	"time"
+
+	"google.golang.org/grpc/codes"
+
+	"./processes"
+)
+
+const getCapacity = controller + "GetCapacity"
+
+// watched is a front that tells metrics, and where it does.
+func watched(t *testing.T, csid string, words ...string) (*processes.Process, string) {
+	t.Helper()
+	front := processes.StartFront(t, csid, append([]string{"--metrics", "127.0.0.1:0"}, words...)...)
+	return front, monitorOf(t, front)
+}
+
+// monitorOf is where a front tells metrics.
+func monitorOf(t *testing.T, front *processes.Process) string {
+	t.Helper()
+	var told []string
+	processes.Eventually(t, "the address of metrics", func() bool {
+		told = regexp.MustCompile(`(?m)^front: metrics at (127\.0\.0\.1:[1-9][0-9]*)$`).FindStringSubmatch(front.Log.String())
+		return told != nil
+	})
+	return "http://" + told[1]
+}
+
+// get is the status and the text that are answered at a place.
+func get(t *testing.T, url string) (int, string) {
+	t.Helper()
+	client := http.Client{Timeout: processes.Patience}
+	answer, err := client.Get(url)
+	if err != nil {
+		t.Fatal(err)
+	}
+	defer answer.Body.Close()
+	text, err := io.ReadAll(answer.Body)
+	if err != nil {
+		t.Fatal(err)
+	}
+	return answer.StatusCode, string(text)
+}
+
+// series is each series that a front tells of itself, with its value; the parts of histograms only by their counts.
+func series(t *testing.T, monitor string) map[string]string {
+	t.Helper()
+	status, text := get(t, monitor+"/metrics")
+	if status != http.StatusOK {
+		t.Fatalf("status %d: %s", status, text)
+	}
+	all := map[string]string{}
+	for _, line := range regexp.MustCompile(`(?m)^(csid_front_.*) (\S+)$`).FindAllStringSubmatch(text, -1) {
+		all[line[1]] = line[2]
+	}
+	return all
+}
+
+// wantsSeries compares all series whose names begin so.
+func wantsSeries(t *testing.T, got map[string]string, prefix string, want map[string]string) {
+	t.Helper()
+	for name, value := range got {
+		if strings.HasPrefix(name, prefix) && want[name] != value {
+			t.Errorf("%s is %s, wanted %q", name, value, want[name])
+		}
+	}
+	for name, value := range want {
+		if _, is := got[name]; !is {
+			t.Errorf("%s is not there, wanted %s", name, value)
+		}
+	}
+}
+
+// counted is the series that are not 0.
+func counted(all map[string]string) map[string]string {
+	some := map[string]string{}
+	for name, value := range all {
+		if value != "0" {
+			some[name] = value
+		}
+	}
+	return some
+}
+
+// Each series after calls of each kind. GetCapacity's field 3 is a topology, whose field 1 is a segment.
+func TestMetrics(t *testing.T) {
+	t.Parallel()
+	const create, remove = controller + "CreateVolume", controller + "DeleteVolume"
+	csid := startFake(t,
+		step{write: okFrame("01")},
+		step{write: refusalFrame(8, "no room in the topology")},
+		step{write: refusalFrame(8, "no room in the topology")},
+		step{write: refusalFrame(13, "store refused")},
+		step{write: refusalFrame(13, "else")},
+		step{write: refusalFrame(12, "unknown method")},
+		step{write: okFrame(ready)},
+		step{write: okFrame("0880808007 1205 0880808004")},
+		step{write: okFrame("")},
+		step{write: refusalFrame(3, "topology keys are alike")},
+	)
+	process, monitor := watched(t, csid.socket, "--metrics-topology", "zone=a", "--metrics-topology", "zone=b,Zone=b")
+	front := newClient(t, process.Socket)
+	for _, path := range []string{create, create, create, remove, remove, "/a/b", "/a/ b"} {
+		front.call(t, path, "")
+	}
+	got := series(t, monitor)
+	wantsSeries(t, counted(got), "csid_front_calls_total", map[string]string{
+		`csid_front_calls_total{code="OK",method="` + create + `"}`:                "1",
+		`csid_front_calls_total{code="ResourceExhausted",method="` + create + `"}`: "2",
+		`csid_front_calls_total{code="Unavailable",method="` + remove + `"}`:       "1",
+		`csid_front_calls_total{code="Internal",method="` + remove + `"}`:          "1",
+		`csid_front_calls_total{code="Unimplemented",method="other"}`:              "2",
+	})
+	wantsSeries(t, got, "csid_front_call_duration_seconds_count", map[string]string{
+		`csid_front_call_duration_seconds_count{method="` + create + `"}`: "3",
+		`csid_front_call_duration_seconds_count{method="` + remove + `"}`: "2",
+		`csid_front_call_duration_seconds_count{method="other"}`:          "2",
+	})
+	wantsSeries(t, got, "csid_front_internal_refusals_total", map[string]string{
+		`csid_front_internal_refusals_total{reason="out of memory"}`: "0",
+		`csid_front_internal_refusals_total{reason="store refused"}`: "1",
+		`csid_front_internal_refusals_total{reason="store is down"}`: "0",
+	})
+	wantsSeries(t, got, "csid_front_available_capacity_bytes", map[string]string{
+		`csid_front_available_capacity_bytes{topology=""}`:       "1.4680064e+07",
+		`csid_front_available_capacity_bytes{topology="zone=a"}`: "0",
+	})
+	for name, value := range map[string]string{
+		// One more behind each reply with status 13.
+		"csid_front_connections_total":         "3",
+		"csid_front_connection_failures_total": "0",
+		"csid_front_waiting_calls":             "0",
+		"csid_front_csid_up":                   "1",
+	} {
+		wantsSeries(t, got, name, map[string]string{name: value})
+	}
+	csid.sees(t, create+" ", create+" ", create+" ", remove+" ", remove+" ", "/a/b ",
+		probe+" ", getCapacity+" ", getCapacity+" 1a0b0a090a047a6f6e65120161", getCapacity+" 1a160a090a047a6f6e651201620a090a045a6f6e65120162")
+	processes.Eventually(t, "what was refused in the log", func() bool {
+		return strings.Contains(process.Log.String(), "front: "+getCapacity+` 3 "topology keys are alike" `)
+	})
+}
+
+// What can be foreseen begins at 0, so that its first increase is seen.
+func TestMetricsBeforeAnyCall(t *testing.T) {
+	t.Parallel()
+	_, monitor := watched(t, startFake(t).socket)
+	got := series(t, monitor)
+	for _, name := range []string{
+		`csid_front_calls_total{code="ResourceExhausted",method="` + controller + `CreateVolume"}`,
+		`csid_front_calls_total{code="OK",method="` + probe + `"}`,
+		`csid_front_calls_total{code="Unauthenticated",method="` + getCapacity + `"}`,
+		`csid_front_internal_refusals_total{reason="store is down"}`,
+	} {
+		if got[name] != "0" {
+			t.Errorf("%s is %q", name, got[name])
+		}
+	}
+	// Without --standby it is not told: the alerts count the fronts that have it.
+	wantsSeries(t, got, "csid_front_standing_by", nil)
+}
+
+// The version is told, and what Go and the process take.
+func TestMetricsOfTheProcess(t *testing.T) {
+	t.Parallel()
+	number, err := os.ReadFile("../../../VERSION")
+	if err != nil {
+		t.Fatal(err)
+	}
+	_, monitor := watched(t, startFake(t).socket)
+	_, text := get(t, monitor+"/metrics")
+	version := regexp.QuoteMeta(strings.TrimSpace(string(number)))
+	for _, line := range []string{`csid_front_build_info\{goversion="go[0-9.]+",version="` + version + `"\} 1`, `go_goroutines [0-9]+`, `process_open_fds [0-9]+`} {
+		if !regexp.MustCompile(`(?m)^` + line + `$`).MatchString(text) {
+			t.Errorf("no line %s", line)
+		}
+	}
+}
+
+// Methods that are none add no series but one for each code, however many a client calls.
+func TestMetricsOfInventedMethods(t *testing.T) {
+	t.Parallel()
+	process, monitor := watched(t, startFake(t).socket)
+	front := newClient(t, process.Socket)
+	for i := 0; i < 50; i++ {
+		front.wants(t, fmt.Sprintf("/csi.v1.Controller/Invented%d", i), "", ok(ready))
+	}
+	got := series(t, monitor)
+	wantsSeries(t, counted(got), "csid_front_calls_total", map[string]string{`csid_front_calls_total{code="OK",method="other"}`: "50"})
+	for name := range got {
+		if strings.Contains(name, "Invented") {
+			t.Error(name)
+		}
+	}
+}
+
+// While csid stands still, who watches is told so within a short time, and which calls wait; the histogram has how long they took.
+func TestMetricsWhileCsidStandsStill(t *testing.T) {
+	t.Parallel()
+	let := make(chan struct{})
+	csid := startFake(t, step{wait: let, write: okFrame("01")})
+	process, monitor := watched(t, csid.socket)
+	front := newClient(t, process.Socket)
+	came := make(chan answer)
+	for call := 0; call < 3; call++ {
+		go func() { came <- front.send(soon(t, 3*processes.Patience), probe, nil) }()
+	}
+	csid.called(t, 1)
+	begin := time.Now()
+	health := make(chan string)
+	go func() {
+		status, text := get(t, monitor+"/healthz")
+		health <- fmt.Sprint(status, " ", text)
+	}()
+	var got map[string]string
+	processes.Eventually(t, "three calls that wait", func() bool {
+		got = series(t, monitor)
+		return got["csid_front_waiting_calls"] == "3"
+	})
+	if told := <-health; told != "503 context deadline exceeded\n" {
+		t.Errorf("told %q", told)
+	}
+	if spent := time.Since(begin); spent > processes.Patience {
+		t.Errorf("it took %v", spent)
+	}
+	wantsSeries(t, got, "csid_front_csid_up", map[string]string{"csid_front_csid_up": "0"})
+	wantsSeries(t, got, "csid_front_available_capacity_bytes", nil)
+	close(let)
+	for call := 0; call < 3; call++ {
+		<-came
+	}
+	bucket := func(bound string) string {
+		return series(t, monitor)[`csid_front_call_duration_seconds_bucket{method="`+probe+`",le="`+bound+`"}`]
+	}
+	if least, short, long := bucket("0.001"), bucket("2.5"), bucket("60"); least != "0" || short != "0" || long != "3" {
+		t.Errorf("%s calls took a millisecond at most, %s took 2.5 seconds, %s took 60", least, short, long)
+	}
+}
+
+// A capacity that is not told in time is left out, and the scrape is answered all the same.
+func TestMetricsWithoutACapacityInTime(t *testing.T) {
+	t.Parallel()
+	_, monitor := watched(t, startFake(t, step{write: okFrame(ready)}, step{mute: true}).socket)
+	got := series(t, monitor)
+	wantsSeries(t, got, "csid_front_csid_up", map[string]string{"csid_front_csid_up": "1"})
+	wantsSeries(t, got, "csid_front_available_capacity_bytes", nil)
+}
+
+// While csid stands still, scrapes beyond the fourth are turned away.
+func TestScrapesAtOnce(t *testing.T) {
+	t.Parallel()
+	_, monitor := watched(t, startFake(t, step{mute: true}).socket)
+	statuses := make(chan int, 7)
+	processes.Together(cap(statuses), func(int) {
+		status, _ := get(t, monitor+"/metrics")
+		statuses <- status
+	})
+	close(statuses)
+	counts := map[int]int{}
+	for status := range statuses {
+		counts[status]++
+	}
+	if counts[http.StatusOK] != 4 || counts[http.StatusServiceUnavailable] != 3 {
+		t.Errorf("statuses %v", counts)
+	}
+}
+
+// A client that never sends its whole request is closed.
+func TestSilentScrape(t *testing.T) {
+	t.Parallel()
+	_, monitor := watched(t, startFake(t).socket)
+	conn, err := net.Dial("tcp", strings.TrimPrefix(monitor, "http://"))
+	if err != nil {
+		t.Fatal(err)
+	}
+	defer conn.Close()
+	conn.SetDeadline(time.Now().Add(processes.Patience))
+	io.WriteString(conn, "GET /metr")
+	if _, err := io.ReadAll(conn); err != nil {
+		t.Errorf("it was not closed: %v", err)
+	}
+}
+
+// The sample configuration has 10 MiB in zone a and 4 MiB in zone b. 1 MiB is taken there, and 3 MiB here.
+func TestMetricsOfPools(t *testing.T) {
+	t.Parallel()
+	process, monitor := watched(t, processes.StartCsid(t).Socket(), "--metrics-topology", "zone=a", "--metrics-topology", "zone=b", "--metrics-topology", "zone=c")
+	front := newClient(t, process.Socket)
+	front.wants(t, controller+"CreateVolume", createA, ok(volume1))
+	front.wants(t, controller+"CreateVolume", "0a0162"+threeB+block+zoneB, ok(volume2))
+	wantsSeries(t, series(t, monitor), "csid_front_available_capacity_bytes", map[string]string{
+		`csid_front_available_capacity_bytes{topology=""}`:       "1.048576e+07",
+		`csid_front_available_capacity_bytes{topology="zone=a"}`: "9.437184e+06",
+		`csid_front_available_capacity_bytes{topology="zone=b"}`: "1.048576e+06",
+		`csid_front_available_capacity_bytes{topology="zone=c"}`: "0",
+	})
+}
+
+func TestHealthOverHTTP(t *testing.T) {
+	t.Parallel()
+	csid := processes.NewServer(t, "")
+	_, monitor := watched(t, csid.Socket())
+	for round := 0; round < 2; round++ {
+		if status, text := get(t, monitor+"/healthz"); status != 503 || !regexp.MustCompile("^csid: dial unix .*\n$").MatchString(text) {
+			t.Errorf("without csid: %d %q", status, text)
+		}
+		csid.Start(t)
+		processes.Eventually(t, "a healthy front", func() bool {
+			status, text := get(t, monitor+"/healthz")
+			return status == 200 && text == "ok\n"
+		})
+		csid.Kill(t)
+	}
+	if status, _ := get(t, monitor+"/else"); status != 404 {
+		t.Errorf("status %d", status)
+	}
+}
+
+// A front whose metrics cannot be told does not start, and leaves no socket.
+func TestMetricsThatCannotBeTold(t *testing.T) {
+	t.Parallel()
+	csid := startFake(t)
+	_, monitor := watched(t, csid.socket)
+	address := strings.TrimPrefix(monitor, "http://")
+	rows := []struct {
+		metrics, part string
+		status        int
+	}{
+		{address, "front: --metrics: listen tcp " + address + ": bind: address already in use\n", 7},
+		{"9809", "front: --metrics: \"9809\" is no HOST:PORT\n", 2},
+	}
+	for _, row := range rows {
+		socket := filepath.Join(processes.Folder(t), "csi.sock")
+		command := exec.Command(processes.FrontProgram(t), "--csid", csid.socket, "--listen", socket, "--metrics", row.metrics)
+		refuses(t, processes.Start(t, socket, command), row.status, row.part)
+		if _, err := os.Lstat(socket); !os.IsNotExist(err) {
+			t.Errorf("%s: the socket: %v", row.metrics, err)
+		}
+	}
+}
+
+// A call that the front refuses without csid is counted, too.
+func TestMetricsOfGreatMessages(t *testing.T) {
+	t.Parallel()
+	process, monitor := watched(t, startFake(t).socket)
+	if got := newClient(t, process.Socket).send(soon(t, processes.Patience), probe, make([]byte, 1048577)); got.code != codes.ResourceExhausted {
+		t.Errorf("%v", got)
+	}
+	wantsSeries(t, counted(series(t, monitor)), "csid_front_calls_total", map[string]string{`csid_front_calls_total{code="ResourceExhausted",method="` + probe + `"}`: "1"})
+}

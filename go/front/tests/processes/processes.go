@@ -1,0 +1,275 @@
+// Package processes starts the built programs for the tests of this folder and of go/etcd/tests, and ends them.
+package processes
+
+import (
+	"bytes"
+	"fmt"
+	"net"
+	"os"
+	"os/exec"
+	"path/filepath"
+	"runtime"
+	"strings"
+	"sync"
+	"syscall"
+	"testing"
+	"time"
+)
+
+// Patience is how long anything may take before a test gives it up.
+const Patience = 20 * time.Second
+
+// program is the path that a variable of the environment says, else one from the top of the repository on.
+func program(t *testing.T, variable, otherwise string) string {
+	t.Helper()
+	path := os.Getenv(variable)
+	if path == "" {
+		_, here, _, _ := runtime.Caller(0)
+		path = filepath.Join(filepath.Dir(here), "../../../..", otherwise)
+	}
+	if _, err := os.Stat(path); err != nil {
+		t.Fatalf("no program (%s says where it is): %v", variable, err)
+	}
+	return path
+}
+
+// FrontProgram is the path of the built front, CsidProgram that of the built csid, EtcdProgram that of the built csid-etcd.
+func FrontProgram(t *testing.T) string { return program(t, "FRONT", "go/front/out/front") }
+func CsidProgram(t *testing.T) string  { return program(t, "CSID", "crates/csid/out/csid") }
+func EtcdProgram(t *testing.T) string  { return program(t, "CSID_ETCD", "go/etcd/out/csid-etcd") }
+
+// ErrorLog is what a process wrote to standard error so far.
+type ErrorLog struct {
+	mutex sync.Mutex
+	text  bytes.Buffer
+}
+
+func (l *ErrorLog) Write(part []byte) (int, error) {
+	l.mutex.Lock()
+	defer l.mutex.Unlock()
+	return l.text.Write(part)
+}
+
+func (l *ErrorLog) String() string {
+	l.mutex.Lock()
+	defer l.mutex.Unlock()
+	return l.text.String()
+}
+
+// Process is a program that runs; it is killed at the end of the test.
+type Process struct {
+	*exec.Cmd
+	Socket string
+	Log    *ErrorLog
+	Ended  chan struct{}
+}
+
+// Start starts a program that is to answer on a socket. Its log is empty where the command says another standard error.
+func Start(t *testing.T, socket string, command *exec.Cmd) *Process {
+	t.Helper()
+	p := &Process{Cmd: command, Socket: socket, Log: &ErrorLog{}, Ended: make(chan struct{})}
+	if p.Stderr == nil {
+		p.Stderr = p.Log
+	}
+	if err := p.Start(); err != nil {
+		t.Fatal(err)
+	}
+	go func() {
+		p.Wait()
+		close(p.Ended)
+	}()
+	t.Cleanup(p.Kill)
+	return p
+}
+
+// Kill ends a process without a warning, and waits for its end.
+func (p *Process) Kill() {
+	p.Process.Kill()
+	<-p.Ended
+}
+
+// Status is the exit status of a process that ends by itself.
+func (p *Process) Status(t *testing.T) int {
+	t.Helper()
+	select {
+	case <-p.Ended:
+		return p.ProcessState.ExitCode()
+	case <-time.After(Patience):
+		t.Fatalf("%s did not end", p.Path)
+		return 0
+	}
+}
+
+// Answers waits until somebody answers on the socket of the process.
+func (p *Process) Answers(t *testing.T) *Process {
+	t.Helper()
+	Eventually(t, "an answer on "+p.Socket, func() bool {
+		select {
+		case <-p.Ended:
+			t.Fatalf("%s ended: %s", p.Path, p.Log)
+		default:
+		}
+		return IsAnswered(p.Socket)
+	})
+	return p
+}
+
+// IsAnswered tells whether somebody listens on a socket.
+func IsAnswered(socket string) bool {
+	conn, err := net.Dial("unix", socket)
+	if err == nil {
+		conn.Close()
+	}
+	return err == nil
+}
+
+// Eventually waits until that is so.
+func Eventually(t *testing.T, what string, is func() bool) {
+	t.Helper()
+	for end := time.Now().Add(Patience); time.Now().Before(end); time.Sleep(2 * time.Millisecond) {
+		if is() {
+			return
+		}
+	}
+	t.Fatalf("waited in vain for %s", what)
+}
+
+// Together runs so many callers at once, and waits for them.
+func Together(callers int, call func(caller int)) {
+	var all sync.WaitGroup
+	for caller := 0; caller < callers; caller++ {
+		all.Add(1)
+		go func(caller int) {
+			defer all.Done()
+			call(caller)
+		}(caller)
+	}
+	all.Wait()
+}
+
+// Folder is a folder of the test's own. Its path is short, since that of a socket has to be.
+func Folder(t *testing.T) string {
+	t.Helper()
+	path, err := os.MkdirTemp("", "front")
+	if err != nil {
+		t.Fatal(err)
+	}
+	t.Cleanup(func() { os.RemoveAll(path) })
+	return path
+}
+
+// StartFront starts a front before the socket of a csid, with further words of its command line, and waits until it answers.
+func StartFront(t *testing.T, csid string, words ...string) *Process {
+	t.Helper()
+	socket := filepath.Join(Folder(t), "csi.sock")
+	return Start(t, socket, exec.Command(FrontProgram(t), append([]string{"--csid", csid, "--listen", socket}, words...)...)).Answers(t)
+}
+
+// Server is a place for a csid, which may be killed and started again there.
+type Server struct {
+	folder string
+	config string
+	// The file of the volumes; an empty one stands for one in the folder.
+	Tables  string
+	Current *Process
+}
+
+// HasTables tells whether csid keeps volumes in a file.
+func HasTables(t *testing.T) bool {
+	t.Helper()
+	help, err := exec.Command(CsidProgram(t), "serve", "--help").Output()
+	if err != nil {
+		t.Fatal(err)
+	}
+	return strings.Contains(string(help), "--tables")
+}
+
+// NewServer is a place for a csid with a configuration; an empty one stands for the sample.
+func NewServer(t *testing.T, config string) *Server {
+	t.Helper()
+	s := &Server{folder: Folder(t)}
+	if config != "" {
+		s.config = filepath.Join(s.folder, "config.toml")
+		if err := os.WriteFile(s.config, []byte(config), 0o600); err != nil {
+			t.Fatal(err)
+		}
+	}
+	return s
+}
+
+// Socket is where the csid of this place listens.
+func (s *Server) Socket() string { return filepath.Join(s.folder, "csid.sock") }
+
+// Start starts a csid, and waits until it answers.
+func (s *Server) Start(t *testing.T) *Server {
+	t.Helper()
+	words := []string{"serve", "--socket", s.Socket()}
+	if s.config != "" {
+		words = append(words, "--config", s.config)
+	}
+	if HasTables(t) {
+		tables := s.Tables
+		if tables == "" {
+			tables = filepath.Join(s.folder, "volumes.db")
+		}
+		words = append(words, "--tables", tables)
+	}
+	s.Current = Start(t, s.Socket(), exec.Command(CsidProgram(t), words...)).Answers(t)
+	return s
+}
+
+// Kill ends csid without a warning. It leaves its socket, which no csid takes over.
+func (s *Server) Kill(t *testing.T) {
+	t.Helper()
+	s.Current.Kill()
+	if err := os.Remove(s.Socket()); err != nil {
+		t.Fatal(err)
+	}
+}
+
+// StartCsid starts a csid under the sample configuration.
+func StartCsid(t *testing.T) *Server {
+	t.Helper()
+	return NewServer(t, "").Start(t)
+}
+
+// WantsStartAlone wants that csid said what its new tables have, and nothing else.
+func (s *Server) WantsStartAlone(t *testing.T) {
+	t.Helper()
+	tables := filepath.Join(s.folder, "volumes.db")
+	want := fmt.Sprintf("csid: %s: no tables stood there, and new ones were made\ncsid: %s: volumes 0, attachments 0, next number 1, format 2\n", tables, tables)
+	if log := s.Current.Log.String(); log != want {
+		t.Errorf("csid said %q, wanted %q", log, want)
+	}
+}
+
+// Terminate asks a process to end.
+func (p *Process) Terminate(t *testing.T) {
+	t.Helper()
+	if err := p.Process.Signal(syscall.SIGTERM); err != nil {
+		t.Fatal(err)
+	}
+}
+
+// OpenFiles counts the open files of a process, ResidentBytes what it has in memory.
+func (p *Process) OpenFiles(t *testing.T) int {
+	t.Helper()
+	files, err := os.ReadDir(fmt.Sprintf("/proc/%d/fd", p.Process.Pid))
+	if err != nil {
+		t.Fatal(err)
+	}
+	return len(files)
+}
+
+func (p *Process) ResidentBytes(t *testing.T) int {
+	t.Helper()
+	text, err := os.ReadFile(fmt.Sprintf("/proc/%d/statm", p.Process.Pid))
+	if err != nil {
+		t.Fatal(err)
+	}
+	var size, resident int
+	if _, err := fmt.Sscan(string(text), &size, &resident); err != nil {
+		t.Fatal(err)
+	}
+	return resident * os.Getpagesize()
+}

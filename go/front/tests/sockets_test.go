@@ -1,0 +1,263 @@
+package tests
+
+import (
+	"net"
+	"os"
+	"os/exec"
+	"path/filepath"
+	"strings"
+	"syscall"
+	"testing"
+	"time"
+
+	"google.golang.org/grpc/codes"
+
+	"./processes"
+)
+
+// deadSocket makes a socket that nobody answers on, as a program leaves that was killed.
+func deadSocket(t *testing.T) string {
+	t.Helper()
+	path := filepath.Join(processes.Folder(t), "csi.sock")
+	listener, err := net.ListenUnix("unix", &net.UnixAddr{Name: path, Net: "unix"})
+	if err != nil {
+		t.Fatal(err)
+	}
+	listener.SetUnlinkOnClose(false)
+	listener.Close()
+	return path
+}
+
+// frontAt is a front that is to listen there.
+func frontAt(t *testing.T, csid, socket string) *processes.Process {
+	t.Helper()
+	return processes.Start(t, socket, exec.Command(processes.FrontProgram(t), "--csid", csid, "--listen", socket))
+}
+
+// refuses waits until a front ends with the status of a socket that cannot be made, and one line about it.
+func refuses(t *testing.T, p *processes.Process, status int, part string) {
+	t.Helper()
+	if got := p.Status(t); got != status {
+		t.Errorf("status %d, wanted %d", got, status)
+	}
+	if log := p.Log.String(); !strings.HasPrefix(log, "front: ") || strings.Count(log, "\n") != 1 || !strings.Contains(log, part) {
+		t.Errorf("logged %q, wanted a line with %q", log, part)
+	}
+}
+
+func TestDeadSocketGivesWay(t *testing.T) {
+	t.Parallel()
+	csid := startFake(t)
+	front := frontAt(t, csid.socket, deadSocket(t)).Answers(t)
+	newClient(t, front.Socket).wants(t, probe, "", ok(ready))
+}
+
+func TestLiveSocketStays(t *testing.T) {
+	t.Parallel()
+	csid := startFake(t)
+	front := processes.StartFront(t, csid.socket)
+	refuses(t, frontAt(t, csid.socket, front.Socket), 7, "somebody answers")
+	newClient(t, front.Socket).wants(t, probe, "", ok(ready))
+}
+
+func TestOtherFilesStay(t *testing.T) {
+	t.Parallel()
+	place := processes.Folder(t)
+	plain, link := filepath.Join(place, "plain"), filepath.Join(place, "link")
+	if err := os.WriteFile(plain, []byte("text"), 0o600); err != nil {
+		t.Fatal(err)
+	}
+	if err := os.Symlink(deadSocket(t), link); err != nil {
+		t.Fatal(err)
+	}
+	for _, path := range []string{plain, link, place} {
+		refuses(t, frontAt(t, "csid.sock", path), 7, "no socket")
+	}
+	if text, err := os.ReadFile(plain); err != nil || string(text) != "text" {
+		t.Errorf("the plain file: %q, %v", text, err)
+	}
+	if _, err := os.Lstat(link); err != nil {
+		t.Error(err)
+	}
+}
+
+func TestSocketThatCannotBeMade(t *testing.T) {
+	t.Parallel()
+	refuses(t, frontAt(t, "csid.sock", filepath.Join(processes.Folder(t), "absent", "csi.sock")), 7, "absent")
+	refuses(t, frontAt(t, "csid.sock", filepath.Join(processes.Folder(t), strings.Repeat("a", 120))), 7, "aaa")
+}
+
+// Of fronts that start together over a dead socket exactly one gets it, and keeps it.
+func TestFrontsThatStartTogether(t *testing.T) {
+	t.Parallel()
+	csid, socket := startFake(t), deadSocket(t)
+	var fronts []*processes.Process
+	for len(fronts) < 6 {
+		fronts = append(fronts, frontAt(t, csid.socket, socket))
+	}
+	left := func() (living []*processes.Process) {
+		for _, front := range fronts {
+			select {
+			case <-front.Ended:
+			default:
+				living = append(living, front)
+			}
+		}
+		return living
+	}
+	processes.Eventually(t, "one front", func() bool { return len(left()) <= 1 })
+	if len(left()) != 1 {
+		t.Fatal("no front lives")
+	}
+	newClient(t, left()[0].Answers(t).Socket).wants(t, probe, "", ok(ready))
+}
+
+func TestEndpoint(t *testing.T) {
+	t.Parallel()
+	for _, scheme := range []string{"", "unix:", "unix://"} {
+		csid, socket := startFake(t), filepath.Join(processes.Folder(t), "csi.sock")
+		command := exec.Command(processes.FrontProgram(t), "--csid", csid.socket)
+		command.Env = append(os.Environ(), "CSI_ENDPOINT="+scheme+socket)
+		newClient(t, processes.Start(t, socket, command).Answers(t).Socket).wants(t, probe, "", ok(ready))
+	}
+	command := exec.Command(processes.FrontProgram(t), "--csid", "csid.sock")
+	command.Env = append(os.Environ(), "CSI_ENDPOINT=tcp://127.0.0.1:10000")
+	refuses(t, processes.Start(t, "", command), 2, "no Unix socket")
+}
+
+// After SIGTERM the call that runs is answered, no further one is taken, and the socket is gone.
+func TestTermDuringACall(t *testing.T) {
+	t.Parallel()
+	running := runCall(t, "/a/b")
+	process := running.process
+	process.Terminate(t)
+	processes.Eventually(t, "the end of the socket", func() bool { return !processes.IsAnswered(process.Socket) })
+	running.ends(t)
+	if status := process.Status(t); status != 0 || process.Log.String() != "" {
+		t.Errorf("status %d, logged %q", status, process.Log)
+	}
+	if _, err := os.Lstat(process.Socket); !os.IsNotExist(err) {
+		t.Errorf("the socket: %v", err)
+	}
+	running.csid.sees(t, "/a/b ")
+}
+
+// A socket of another front, which stands where that of the first was, outlives the first.
+func TestTermBehindAnotherFront(t *testing.T) {
+	t.Parallel()
+	csid := startFake(t)
+	first := processes.StartFront(t, csid.socket)
+	if err := os.Remove(first.Socket); err != nil {
+		t.Fatal(err)
+	}
+	second := frontAt(t, csid.socket, first.Socket).Answers(t)
+	first.Terminate(t)
+	if status := first.Status(t); status != 0 {
+		t.Errorf("status %d", status)
+	}
+	newClient(t, second.Socket).wants(t, probe, "", ok(ready))
+}
+
+// Either signal ends a front on which no call runs.
+func TestTermWithoutACall(t *testing.T) {
+	t.Parallel()
+	for _, asked := range []os.Signal{syscall.SIGTERM, syscall.SIGINT} {
+		csid := startFake(t)
+		process := processes.StartFront(t, csid.socket)
+		newClient(t, process.Socket).wants(t, probe, "", ok(ready))
+		if err := process.Process.Signal(asked); err != nil {
+			t.Fatal(err)
+		}
+		if status := process.Status(t); status != 0 || process.Log.String() != "" {
+			t.Errorf("%v: status %d, logged %q", asked, status, process.Log)
+		}
+		if _, err := os.Lstat(process.Socket); !os.IsNotExist(err) {
+			t.Errorf("%v: the socket: %v", asked, err)
+		}
+	}
+}
+
+// A client that never says anything has no call, so it cuts none off, and does not use up the grace.
+func TestTermWithAClientThatSaysNothing(t *testing.T) {
+	t.Parallel()
+	process := processes.StartFront(t, startFake(t).socket, "--grace", "1h")
+	silent, err := net.Dial("unix", process.Socket)
+	if err != nil {
+		t.Fatal(err)
+	}
+	defer silent.Close()
+	newClient(t, process.Socket).wants(t, probe, "", ok(ready))
+	process.Terminate(t)
+	if status := process.Status(t); status != 0 || process.Log.String() != "" {
+		t.Errorf("status %d, logged %q", status, process.Log)
+	}
+}
+
+// A call that never ends holds the front up no longer than its grace, or until a second signal.
+func TestTermWithACallThatNeverEnds(t *testing.T) {
+	t.Parallel()
+	for name, grace := range map[string]string{"grace": "300ms", "second signal": "1h"} {
+		grace := grace
+		t.Run(name, func(t *testing.T) {
+			t.Parallel()
+			csid := startFake(t, step{mute: true})
+			process := processes.StartFront(t, csid.socket, "--grace", grace)
+			front := newClient(t, process.Socket)
+			lost := make(chan answer)
+			go func() { lost <- front.send(soon(t, 3*processes.Patience), "/a/b", nil) }()
+			csid.called(t, 1)
+			process.Terminate(t)
+			if grace == "1h" {
+				time.Sleep(100 * time.Millisecond)
+				process.Terminate(t)
+			}
+			if got := <-lost; got.code != codes.Unavailable {
+				t.Errorf("%v, wanted UNAVAILABLE", got)
+			}
+			if status := process.Status(t); status != 1 {
+				t.Errorf("status %d", status)
+			}
+		})
+	}
+}
+
+// A call that was given up holds nothing up at the end, though its reply did not come.
+func TestTermWhileAReplyIsLate(t *testing.T) {
+	t.Parallel()
+	csid := startFake(t, step{mute: true})
+	process := processes.StartFront(t, csid.socket)
+	front := newClient(t, process.Socket)
+	if got := front.send(soon(t, 100*time.Millisecond), "/a/b", nil); got.code != codes.DeadlineExceeded {
+		t.Errorf("%v, wanted DEADLINE_EXCEEDED", got)
+	}
+	processes.Eventually(t, "the call in the log", func() bool { return gaveUp(process, "/a/b") })
+	begin := time.Now()
+	process.Terminate(t)
+	if status := process.Status(t); status != 0 || time.Since(begin) > processes.Patience/4 {
+		t.Errorf("status %d after %v", status, time.Since(begin))
+	}
+}
+
+// The version is the repository's, and so is that of csid.
+func TestVersion(t *testing.T) {
+	t.Parallel()
+	number, err := os.ReadFile("../../../VERSION")
+	if err != nil {
+		t.Fatal(err)
+	}
+	for name, program := range map[string]string{"front": processes.FrontProgram(t), "csid": processes.CsidProgram(t)} {
+		said, err := exec.Command(program, "--version").Output()
+		if err != nil || string(said) != name+" "+string(number) {
+			t.Errorf("%s said %q, %v", name, said, err)
+		}
+	}
+}
+
+// Who asks for help is shown it, and that is no fault.
+func TestHelp(t *testing.T) {
+	t.Parallel()
+	said, err := exec.Command(processes.FrontProgram(t), "--help").Output()
+	if err != nil || !strings.Contains(string(said), "\nusage: front --csid PATH ") {
+		t.Errorf("said %q, %v", said, err)
+	}
+}

@@ -1,0 +1,375 @@
+package main
+
+import (
+	"bytes"
+	"errors"
+	"net"
+	"os"
+	"os/exec"
+	"path/filepath"
+	"reflect"
+	"strings"
+	"syscall"
+	"testing"
+	"time"
+)
+
+// How long anything may take before a test gives it up.
+const patience = 20 * time.Second
+
+// process is a program that runs; it is killed at the end of the test.
+type process struct {
+	*exec.Cmd
+	ended chan struct{}
+}
+
+// start runs a program, which an environment variable names, until it answers on a socket.
+func start(t *testing.T, variable, otherwise, socket string, words ...string) *process {
+	t.Helper()
+	program := os.Getenv(variable)
+	if program == "" {
+		program = otherwise
+	}
+	p := &process{exec.Command(program, words...), make(chan struct{})}
+	var log bytes.Buffer
+	p.Stderr = &log
+	if err := p.Start(); err != nil {
+		t.Fatal(err)
+	}
+	go func() {
+		p.Wait()
+		close(p.ended)
+	}()
+	t.Cleanup(p.kill)
+	for end := time.Now().Add(patience); time.Now().Before(end); time.Sleep(2 * time.Millisecond) {
+		if conn, err := net.Dial("unix", socket); err == nil {
+			conn.Close()
+			return p
+		}
+		select {
+		case <-p.ended:
+			t.Fatalf("%s ended: %s", program, &log)
+		default:
+		}
+	}
+	t.Fatalf("%s does not answer", program)
+	return nil
+}
+
+func (p *process) kill() {
+	p.Process.Kill()
+	<-p.ended
+}
+
+// session is a node plugin before a front and csid, under the sample configuration (docs/OPERATING.md).
+type session struct {
+	folder string
+	words  []string
+	front  *process
+	node   *process
+}
+
+func newSession(t *testing.T, words ...string) *session {
+	t.Helper()
+	s := &session{folder: folder(t)}
+	for _, name := range []string{"p1", "p2", "staging", "targets"} {
+		if err := os.Mkdir(s.at(name), 0o755); err != nil {
+			t.Fatal(err)
+		}
+	}
+	start(t, "CSID", "../../crates/csid/out/csid", s.at("csid.sock"), "serve", "--socket", s.at("csid.sock"), "--tables", s.at("volumes.db"))
+	s.front = start(t, "FRONT", "../front/out/front", s.at("csi.sock"), "--csid", s.at("csid.sock"), "--listen", s.at("csi.sock"))
+	s.words = append([]string{"serve", "--listen", s.at("node.sock"), "--controller", s.at("csi.sock"), "--node", "n1",
+		"--topology", "zone=a", "--max-volumes", "2", "--pool", "p1=" + s.at("p1"), "--pool", "p2=" + s.at("p2")}, words...)
+	s.startNode(t)
+	return s
+}
+
+// startNode starts the node plugin, which takes over the socket of one that was killed.
+func (s *session) startNode(t *testing.T) {
+	t.Helper()
+	s.node = start(t, "NODE_PLUGIN", "out/node-plugin", s.at("node.sock"), s.words...)
+}
+
+func (s *session) at(name string) string { return filepath.Join(s.folder, name) }
+
+// call makes a call, in whose message AT/ stands for the folder, and gives what is shown.
+func (s *session) call(socket, method, message string) string {
+	var shown, log strings.Builder
+	run([]string{"call", "--socket", s.at(socket), method, strings.ReplaceAll(message, "AT/", s.folder+"/")}, &shown, &log)
+	return strings.ReplaceAll(strings.TrimSuffix(shown.String()+log.String(), "\n"), s.folder+"/", "AT/")
+}
+
+// row is a call to the front or to the node plugin, and what is shown of its answer.
+type row struct{ socket, method, message, want string }
+
+func (s *session) run(t *testing.T, rows ...row) {
+	t.Helper()
+	for _, row := range rows {
+		if got := s.call(row.socket, row.method, row.message); got != row.want {
+			t.Errorf("%s %s: %s, wanted %s", row.method, row.message, got, row.want)
+		}
+	}
+}
+
+// Parts of messages.
+const (
+	controllerSocket = "csi.sock"
+	nodeSocket       = "node.sock"
+	asMount          = `{"mount":{"fs_type":"ext4","mount_flags":["noatime"]},"access_mode":{"mode":1}}`
+	asBlock          = `{"block":{},"access_mode":{"mode":1}}`
+	ofMount          = `,"volume_capability":` + asMount
+	ofBlock          = `,"volume_capability":` + asBlock
+	inPool1          = `,"volume_context":{"pool":"p1"}`
+	staging          = `,"staging_target_path":"AT/staging"`
+	target           = `,"target_path":"AT/targets/a"`
+	vol1             = `"volume_id":"vol-1"`
+	notStaged        = "node-plugin: FailedPrecondition: the volume is not staged"
+	noVolume         = "node-plugin: NotFound: volume not found"
+)
+
+// attached is how an orchestrator comes to a volume of 4 MiB at this node.
+func attachedRows(as string) []row {
+	return []row{
+		{controllerSocket, "CreateVolume", `{"name":"a","capacity_range":{"required_bytes":4194304},"volume_capabilities":[` + as + `]}`,
+			`{"volume":{"capacity_bytes":4194304,"volume_id":"vol-1","volume_context":{"pool":"p1"},"accessible_topology":[{"segments":{"zone":"a"}}]}}`},
+		{controllerSocket, "ControllerPublishVolume", `{` + vol1 + `,"node_id":"n1","volume_capability":` + as + `}`, `{"publish_context":{"readonly":"false"}}`},
+	}
+}
+
+func stageRow(of string) row {
+	return row{nodeSocket, "NodeStageVolume", `{` + vol1 + staging + of + inPool1 + `}`, "{}"}
+}
+
+func publishRow(of, more string) row {
+	return row{nodeSocket, "NodePublishVolume", `{` + vol1 + staging + target + of + more + `}`, "{}"}
+}
+
+var (
+	unpublishRow = row{nodeSocket, "NodeUnpublishVolume", `{` + vol1 + target + `}`, "{}"}
+	unstageRow   = row{nodeSocket, "NodeUnstageVolume", `{` + vol1 + staging + `}`, "{}"}
+)
+
+// answers changes what is wanted of a row.
+func (r row) answers(want string) row {
+	r.want = want
+	return r
+}
+
+func (s *session) writes(t *testing.T, name string) {
+	t.Helper()
+	if err := os.WriteFile(s.at(name), []byte("kept"), 0o644); err != nil {
+		t.Error(err)
+	}
+}
+
+func (s *session) finds(t *testing.T, name string) {
+	t.Helper()
+	if got, err := os.ReadFile(s.at(name)); err != nil || string(got) != "kept" {
+		t.Errorf("%s: %q, %v", name, got, err)
+	}
+}
+
+// isEmpty wants that nothing is staged nor published.
+func (s *session) isEmpty(t *testing.T) {
+	t.Helper()
+	for _, name := range []string{"staging", "targets"} {
+		if left := names(t, s.at(name)); left != nil {
+			t.Errorf("%s: %v are left", name, left)
+		}
+	}
+}
+
+// A volume with a file goes through the life that an orchestrator leads it through, each call made twice.
+func testLife(t *testing.T, s *session) {
+	s.run(t, attachedRows(asMount)...)
+	s.run(t, publishRow(ofMount, "").answers(notStaged))
+	s.run(t, stageRow(ofMount), stageRow(ofMount), publishRow(ofMount, ""), publishRow(ofMount, ""))
+	s.writes(t, "targets/a/file")
+	s.run(t, unpublishRow, unpublishRow, unstageRow, unstageRow)
+	s.isEmpty(t)
+	s.run(t, publishRow(ofMount, "").answers(notStaged))
+	s.node.kill()
+	s.startNode(t)
+	s.run(t, stageRow(ofMount), publishRow(ofMount, ""))
+	s.finds(t, "targets/a/file")
+	s.run(t, unpublishRow, unstageRow)
+	s.isEmpty(t)
+	s.run(t,
+		row{controllerSocket, "ControllerUnpublishVolume", `{` + vol1 + `,"node_id":"n1"}`, "{}"},
+		row{controllerSocket, "DeleteVolume", `{` + vol1 + `}`, "{}"})
+}
+
+func TestLifeInFolders(t *testing.T) {
+	t.Parallel()
+	testLife(t, newSession(t, "--without-devices"))
+}
+
+func TestWhatThePluginIs(t *testing.T) {
+	t.Parallel()
+	version, err := os.ReadFile("../../VERSION")
+	if err != nil {
+		t.Fatal(err)
+	}
+	newSession(t, "--without-devices").run(t,
+		row{nodeSocket, "GetPluginInfo", "", `{"name":"pools.example.org","vendor_version":"` + strings.TrimSpace(string(version)) + `"}`},
+		row{nodeSocket, "GetPluginCapabilities", "", `{"capabilities":[{"service":{"type":2}}]}`},
+		row{nodeSocket, "Probe", "", `{"ready":{"value":true}}`},
+		row{nodeSocket, "NodeGetInfo", "", `{"node_id":"n1","max_volumes_per_node":2,"accessible_topology":{"segments":{"zone":"a"}}}`},
+		row{nodeSocket, "NodeGetCapabilities", "", `{"capabilities":[{"rpc":{"type":1}},{"rpc":{"type":2}}]}`},
+		row{nodeSocket, "CreateVolume", "", "node-plugin: Unimplemented: unknown service csi.v1.Controller"})
+}
+
+func TestRefusals(t *testing.T) {
+	t.Parallel()
+	const stage, unstage, publish, unpublish, stats = "NodeStageVolume", "NodeUnstageVolume", "NodePublishVolume", "NodeUnpublishVolume", "NodeGetVolumeStats"
+	invalid := func(text string) string { return "node-plugin: InvalidArgument: " + text }
+	rows := []struct{ method, message, want string }{
+		{stage, ``, invalid("volume_id is missing")},
+		{stage, `"volume_id":"../vol-1"` + staging + ofMount + inPool1, noVolume},
+		{stage, `"volume_id":"vol-1/.."` + staging + ofMount + inPool1, noVolume},
+		{stage, `"volume_id":"vol-1\n"` + staging + ofMount + inPool1, noVolume},
+		{stage, `"volume_id":"vol-01"` + staging + ofMount + inPool1, noVolume},
+		{stage, `"volume_id":"vol-2"` + staging + ofMount + inPool1, noVolume},
+		{stage, vol1 + ofMount + inPool1, invalid("staging_target_path is missing")},
+		{stage, vol1 + `,"staging_target_path":"staging"` + ofMount + inPool1, invalid("staging_target_path is not absolute")},
+		{stage, vol1 + staging + inPool1, invalid("volume_capability is missing")},
+		{stage, vol1 + staging + inPool1 + `,"volume_capability":{"access_mode":{"mode":1}}`, invalid("volume_capability is not one of block and mount")},
+		{stage, vol1 + staging + inPool1 + `,"volume_capability":{"block":{},"mount":{}}`, invalid("volume_capability is not one of block and mount")},
+		{stage, vol1 + staging + inPool1 + ofBlock, invalid("there are no block devices with --without-devices")},
+		{stage, vol1 + staging + inPool1 + ofMount + `,"publish_context":{"readonly":"true"}`, invalid("nothing is read-only with --without-devices")},
+		{stage, vol1 + staging + ofMount, invalid("volume_context: the key pool is missing")},
+		{stage, vol1 + staging + ofMount + `,"volume_context":{"pool":"p9"}`, `node-plugin: FailedPrecondition: the node has no folder for the pool "p9"`},
+		{publish, ``, invalid("volume_id is missing")},
+		{publish, `"volume_id":"../vol-1"` + staging + target + ofMount, noVolume},
+		{publish, `"volume_id":"vol-2"` + staging + target + ofMount, noVolume},
+		{publish, vol1 + staging + ofMount, invalid("target_path is missing")},
+		{publish, vol1 + staging + ofMount + `,"target_path":"a"`, invalid("target_path is not absolute")},
+		{publish, vol1 + target + ofMount, "node-plugin: FailedPrecondition: staging_target_path is missing"},
+		{publish, vol1 + target + ofMount + `,"staging_target_path":"a"`, invalid("staging_target_path is not absolute")},
+		{publish, vol1 + staging + target, invalid("volume_capability is missing")},
+		{publish, vol1 + staging + target + ofBlock, invalid("there are no block devices with --without-devices")},
+		{publish, vol1 + staging + target + ofMount + `,"readonly":true`, invalid("nothing is read-only with --without-devices")},
+		{publish, vol1 + staging + target + ofMount, notStaged},
+		{unstage, ``, invalid("volume_id is missing")},
+		{unstage, `"volume_id":"../vol-1"` + staging, noVolume},
+		{unstage, vol1, invalid("staging_target_path is missing")},
+		{unstage, vol1 + `,"staging_target_path":"a"`, invalid("staging_target_path is not absolute")},
+		{unstage, `"volume_id":"vol-2"` + staging, "{}"},
+		{unpublish, ``, invalid("volume_id is missing")},
+		{unpublish, `"volume_id":"../vol-1"` + target, noVolume},
+		{unpublish, vol1, invalid("target_path is missing")},
+		{unpublish, vol1 + `,"target_path":"a"`, invalid("target_path is not absolute")},
+		{unpublish, `"volume_id":"vol-2"` + target, "{}"},
+		{stats, ``, invalid("volume_id is missing")},
+		{stats, `"volume_id":"../vol-1","volume_path":"AT/staging"`, noVolume},
+		{stats, `"volume_id":"vol-2","volume_path":"AT/staging"`, noVolume},
+		{stats, vol1, invalid("volume_path is missing")},
+		{stats, vol1 + `,"volume_path":"a"`, invalid("volume_path is not absolute")},
+		{stats, vol1 + `,"volume_path":"AT/staging"`, noVolume},
+	}
+	s := newSession(t, "--without-devices")
+	s.run(t, attachedRows(asMount)...)
+	for _, each := range rows {
+		s.run(t, row{nodeSocket, each.method, "{" + each.message + "}", each.want})
+	}
+	if made := names(t, s.at("p1"), s.at("p2"), s.at("staging"), s.at("targets")); made != nil {
+		t.Errorf("%v were made", made)
+	}
+}
+
+// What stands at a path already is left as it is.
+func TestOtherFilesAtPaths(t *testing.T) {
+	t.Parallel()
+	s := newSession(t, "--without-devices")
+	s.run(t, attachedRows(asMount)...)
+	s.run(t, stageRow(ofMount))
+	s.writes(t, "targets/a")
+	s.run(t,
+		publishRow(ofMount, "").answers("node-plugin: AlreadyExists: something else is at AT/targets/a"),
+		unpublishRow,
+		row{nodeSocket, "NodeGetVolumeStats", `{` + vol1 + `,"volume_path":"AT/targets/a"}`, "node-plugin: NotFound: the volume is not at AT/targets/a"})
+	s.finds(t, "targets/a")
+}
+
+// A volume whose data are there needs no controller; for another one it is asked again later.
+func TestControllerThatIsAway(t *testing.T) {
+	t.Parallel()
+	s := newSession(t, "--without-devices")
+	s.run(t, attachedRows(asMount)...)
+	s.run(t, stageRow(ofMount))
+	s.front.kill()
+	s.run(t, stageRow(ofMount), publishRow(ofMount, ""), unpublishRow, unstageRow)
+	other := s.call(nodeSocket, "NodeStageVolume", `{"volume_id":"vol-2"`+staging+ofMount+inPool1+`}`)
+	if !strings.HasPrefix(other, "node-plugin: Unavailable: ") {
+		t.Error(other)
+	}
+}
+
+// The plugin ends by SIGTERM, and takes its socket with it; it takes none from anybody, nor the place of another file.
+func TestSocket(t *testing.T) {
+	t.Parallel()
+	s := newSession(t, "--without-devices")
+	var shown, log strings.Builder
+	if status := run(s.words, &shown, &log); status != failed || log.String() != "node-plugin: "+s.at("node.sock")+": somebody answers on it already\n" {
+		t.Errorf("%d, %q", status, log.String())
+	}
+	if err := s.node.Process.Signal(syscall.SIGTERM); err != nil {
+		t.Fatal(err)
+	}
+	<-s.node.ended
+	if _, err := os.Lstat(s.at("node.sock")); s.node.ProcessState.ExitCode() != done || !errors.Is(err, os.ErrNotExist) {
+		t.Errorf("%v, %v", s.node.ProcessState, err)
+	}
+	s.endsAtOnce(t)
+	s.writes(t, "node.sock")
+	if listener, err := listen(s.at("node.sock")); !errors.Is(err, syscall.EADDRINUSE) {
+		t.Errorf("%v, %v", listener, err)
+	}
+	s.finds(t, "node.sock")
+}
+
+// endsAtOnce wants a plugin to end as ever where it is told to in the moment in which its socket comes.
+func (s *session) endsAtOnce(t *testing.T) {
+	t.Helper()
+	for i := 0; i < 20; i++ {
+		node := exec.Command(s.node.Path, s.words...)
+		if err := node.Start(); err != nil {
+			t.Fatal(err)
+		}
+		for end := time.Now().Add(patience); time.Now().Before(end); {
+			if _, err := os.Lstat(s.at("node.sock")); err == nil {
+				break
+			}
+		}
+		err := node.Process.Signal(syscall.SIGTERM)
+		if ended := node.Wait(); err != nil || ended != nil {
+			t.Errorf("%v, %v", err, ended)
+		}
+		if _, err := os.Lstat(s.at("node.sock")); !errors.Is(err, os.ErrNotExist) {
+			t.Errorf("%v", err)
+			os.Remove(s.at("node.sock"))
+		}
+	}
+}
+
+// The statistics of a folder are those of its file system.
+func TestStatsOfFolders(t *testing.T) {
+	t.Parallel()
+	s := newSession(t, "--without-devices")
+	s.run(t, attachedRows(asMount)...)
+	s.run(t, stageRow(ofMount), publishRow(ofMount, ""))
+	var of syscall.Statfs_t
+	if err := syscall.Statfs(s.at("p1"), &of); err != nil {
+		t.Fatal(err)
+	}
+	for _, path := range []string{s.at("staging"), s.at("targets/a")} {
+		used, err := folders{}.usage(s.at("p1/vol-1.d"), path)
+		if err != nil || used == nil || used.Total != int64(of.Blocks)*of.Frsize || used.Unit != 1 {
+			t.Errorf("%s: %v, %v", path, used, err)
+		}
+	}
+	if listed := names(t, s.at("p1")); !reflect.DeepEqual(listed, []string{"vol-1.d"}) {
+		t.Errorf("%v", listed)
+	}
+}

@@ -1,0 +1,214 @@
+"""Configurations."""
+
+
+# The sample configuration as text (docs/OPERATING.md).
+SAMPLE = b"""name = "pools.example.org"
+vendor_version = "1.0.0"
+default_bytes = 1048576
+greatest_bytes = 8388608
+
+[[pool]]
+name = "p1"
+bytes = 10485760
+segments = { zone = "a" }
+
+[[pool]]
+name = "p2"
+bytes = 4194304
+segments = { zone = "b" }
+
+[[node]]
+id = "n1"
+max_volumes = 2
+
+[[node]]
+id = "n2"
+max_volumes = 2
+"""
+
+
+def sample(*changes):
+    """The sample, with the first occurrence of each text replaced by another."""
+    text = SAMPLE
+    for old, new in changes:
+        if old not in text:
+            raise ValueError("the sample has no " + repr(old))
+        text = text.replace(old, new, 1)
+    return text
+
+
+POOLS = SAMPLE[SAMPLE.index(b"[[pool]]") : SAMPLE.index(b"[[node]]")]
+NODES = SAMPLE[SAMPLE.index(b"[[node]]") :]
+SEGMENTS = b'segments = { zone = "a" }'
+
+
+# Further pools and nodes, behind those of the sample.
+def pools(count):
+    return b"".join(b'[[pool]]\nname = "q%d"\nbytes = 1048576\n' % number for number in range(count))
+
+
+def nodes(count):
+    return b"".join(b'[[node]]\nid = "m%d"\nmax_volumes = 1\n' % number for number in range(count))
+
+
+# Each row: what it shows, a configuration, the line on standard error behind the path. Nothing is answered.
+NO_COUNT = "is no number from 0 to 2^63 - 1"
+NO_NAME = "it is not 1 to 63 ASCII letters, digits, '-' and '.', the first and the last a letter or digit"
+NO_POOL_NAME = "the name is not 1 to 63 ASCII letters, digits, '-', '_' and '.'"
+NO_VERSION = "the plugin's version is not 1 to 128 bytes"
+NO_ID = "the id is not 1 to 256 bytes without control characters"
+REFUSED = [
+    ("an empty configuration", b"", "the key 'name' is missing"),
+    ("the byte ff", b"\xff", "line 1: it is no TOML in UTF-8"),
+    ("a line that is no TOML", b"= 3\n", "line 1: it is no TOML in UTF-8"),
+    ("a third line that is no TOML", b'name = "a"\n\n= 3\n', "line 3: it is no TOML in UTF-8"),
+    ("no version", sample((b'vendor_version = "1.0.0"\n', b"")), "the key 'vendor_version' is missing"),
+    ("no default size", sample((b"default_bytes = 1048576\n", b"")), "the key 'default_bytes' is missing"),
+    ("no greatest size", sample((b"greatest_bytes = 8388608\n", b"")), "the key 'greatest_bytes' is missing"),
+    ("no pools", sample((POOLS, b"")), "the key 'pool' is missing"),
+    (
+        "a second pool without bytes",
+        sample((b"bytes = 4194304\n", b"")),
+        "pool 2: the key 'bytes' is missing",
+    ),
+    ("a first pool without a name", sample((b'name = "p1"\n', b"")), "pool 1: the key 'name' is missing"),
+    ("a second node without an id", sample((b'id = "n2"\n', b"")), "node 2: the key 'id' is missing"),
+    (
+        "a first node without a limit",
+        sample((b"max_volumes = 2\n", b"")),
+        "node 1: the key 'max_volumes' is missing",
+    ),
+    ("a name that is a number", sample((b'"pools.example.org"', b"3")), "the key 'name' is no text"),
+    ("a default size of -1", sample((b"= 1048576", b"= -1")), "the key 'default_bytes' " + NO_COUNT),
+    (
+        "a default size that is a float",
+        sample((b"= 1048576", b"= 1048576.0")),
+        "the key 'default_bytes' " + NO_COUNT,
+    ),
+    (
+        "a default size that is a text",
+        sample((b"= 1048576", b'= "1048576"')),
+        "the key 'default_bytes' " + NO_COUNT,
+    ),
+    ("bytes of -1", sample((b"= 10485760", b"= -1")), "pool 1: the key 'bytes' " + NO_COUNT),
+    (
+        "a limit of -1",
+        sample((b"max_volumes = 2", b"max_volumes = -1")),
+        "node 1: the key 'max_volumes' " + NO_COUNT,
+    ),
+    ("pools that are a number", b"pool = 3\n" + sample((POOLS, b"")), "the key 'pool' is no array of tables"),
+    (
+        "pools that are numbers",
+        b"pool = [1]\n" + sample((POOLS, b"")),
+        "the key 'pool' is no array of tables",
+    ),
+    (
+        "nodes that are numbers",
+        b"node = [1]\n" + sample((NODES, b"")),
+        "the key 'node' is no array of tables",
+    ),
+    (
+        "segments that are a number",
+        sample((SEGMENTS, b"segments = 3")),
+        "pool 1: the key 'segments' is no table of texts",
+    ),
+    (
+        "a segment that is no text",
+        sample((b'zone = "b"', b"zone = 3")),
+        "pool 2: the key 'segments' is no table of texts",
+    ),
+    ("a name with a space", sample((b"pools.example.org", b"a b")), "plugin name a b: " + NO_NAME),
+    ("an empty name", sample((b"pools.example.org", b"")), "plugin name : " + NO_NAME),
+    ("an empty version", sample((b"1.0.0", b"")), NO_VERSION),
+    ("a version of 129 bytes", sample((b"1.0.0", b"1" * 129)), NO_VERSION),
+    (
+        "a default size of 1",
+        sample((b"= 1048576", b"= 1")),
+        "the default size is not a positive multiple of 1048576 bytes",
+    ),
+    (
+        "a greatest size of 1 MiB and 1",
+        sample((b"= 8388608", b"= 1048577")),
+        "the greatest size is not a positive multiple of 1048576 bytes",
+    ),
+    (
+        "a default size above the greatest",
+        sample((b"= 1048576", b"= 9437184")),
+        "the default size is above the greatest",
+    ),
+    (
+        "a greatest size above 2^62",
+        sample((b"= 8388608", b"= %d" % ((1 << 62) + (1 << 20)))),
+        "the greatest size is above 2^62 bytes",
+    ),
+    ("an empty array of pools", b"pool = []\n" + sample((POOLS, b"")), "there is no pool"),
+    ("17 pools", SAMPLE + pools(15), "there are more than 16 pools"),
+    ("a pool with a space", sample((b'"p2"', b'"p 2"')), "pool p 2: " + NO_POOL_NAME),
+    (
+        "a pool of 64 bytes",
+        sample((b'"p2"', b'"%s"' % (b"p" * 64))),
+        "pool %s: %s" % ("p" * 64, NO_POOL_NAME),
+    ),
+    ("two pools p1", sample((b'"p2"', b'"p1"')), "pool p1: an earlier pool has the name"),
+    (
+        "a pool of 0 bytes",
+        sample((b"= 4194304", b"= 0")),
+        "pool p2: the bytes are not a positive multiple of 1048576",
+    ),
+    (
+        "a pool of 1 MiB and 1",
+        sample((b"= 4194304", b"= 1048577")),
+        "pool p2: the bytes are not a positive multiple of 1048576",
+    ),
+    (
+        "pools of 2^62 and 1 MiB",
+        sample((b"= 10485760", b"= %d" % (1 << 62)), (b"= 4194304", b"= 1048576")),
+        "the bytes of all pools together are above 2^62",
+    ),
+    (
+        "9 segments",
+        sample((b'zone = "b"', b", ".join(b'k%d = "b"' % number for number in range(9)))),
+        "pool p2: there are more than 8 segments",
+    ),
+    ("an empty key", sample((b'zone = "b"', b'"" = "b"')), "pool p2: a segment's key is empty"),
+    (
+        "a key of 129 bytes",
+        sample((b'zone = "b"', b'%s = "b"' % (b"k" * 129))),
+        "pool p2: a segment's key is longer than 128 bytes",
+    ),
+    (
+        "a value of 129 bytes",
+        sample((b'zone = "b"', b'zone = "%s"' % (b"b" * 129))),
+        "pool p2: a segment's value is longer than 128 bytes",
+    ),
+    (
+        "keys that are alike",
+        sample((b'zone = "b"', b'zone = "b", ZONE = "c"')),
+        "pool p2: two segments have keys that are equal but for the case of letters",
+    ),
+    ("65 nodes", SAMPLE + nodes(63), "there are more than 64 nodes"),
+    ("an empty id", sample((b'"n2"', b'""')), "node : " + NO_ID),
+    ("an id of 257 bytes", sample((b'"n2"', b'"%s"' % (b"n" * 257))), "node %s: %s" % ("n" * 257, NO_ID)),
+    ("two nodes n1", sample((b'"n2"', b'"n1"')), "node n1: an earlier node has the id"),
+    (
+        "a limit of 0",
+        sample((b"max_volumes = 2", b"max_volumes = 0")),
+        "node n1: the greatest number of volumes is not 1 to 100000",
+    ),
+    (
+        "a limit of 100,001",
+        sample((b"max_volumes = 2", b"max_volumes = 100001")),
+        "node n1: the greatest number of volumes is not 1 to 100000",
+    ),
+]
+
+LARGE_POOL = b"""\
+name = "pools.example.org"
+vendor_version = "1.0.0"
+default_bytes = 1048576
+greatest_bytes = 8388608
+[[pool]]
+name = "p1"
+bytes = 2147483648
+segments = { zone = "a" }
+"""

@@ -1,0 +1,162 @@
+"""What the tests of csictl share: frames in hexadecimal, and csid on a socket of its own."""
+
+import os
+import re
+import resource
+import socket
+import subprocess
+import tempfile
+import time
+
+from tests.support.processes import SECONDS, TOP
+
+
+VERSION = open(os.path.join(TOP, "VERSION")).read().strip()
+
+
+class Line:
+    """A text of one line that begins so, and has each of these parts behind that."""
+
+    def __init__(self, begin, *parts):
+        self.begin, self.parts = begin, parts
+
+    def __eq__(self, text):
+        rest = text[len(self.begin) :]
+        return (
+            text.startswith(self.begin)
+            and text.index("\n") == len(text) - 1 > len(self.begin)
+            and all(part in rest for part in self.parts)
+        )
+
+    def __repr__(self):
+        return "a line %r.. with %s" % (self.begin, ", ".join(map(repr, self.parts)) or "something behind it")
+
+
+class Shown:
+    """A text that ends a line, and has each of these parts."""
+
+    def __init__(self, *parts):
+        self.parts = parts
+
+    def __eq__(self, text):
+        return text.endswith("\n") and all(part in text for part in self.parts)
+
+    def __repr__(self):
+        return "lines with " + ", ".join(map(repr, self.parts))
+
+
+def ok(body):
+    """The frame of a reply with status 0."""
+    body = bytes.fromhex(body)
+    return bytes.fromhex("00 0000 00") + len(body).to_bytes(4, "big") + body
+
+
+def refusal(code, text):
+    return bytes([code]) + len(text).to_bytes(2, "big") + text.encode() + bytes.fromhex("00 00000000")
+
+
+def call(path, message):
+    path, message = path.encode(), bytes.fromhex(message)
+    return len(path).to_bytes(2, "big") + path + b"\0" + len(message).to_bytes(4, "big") + message
+
+
+IDENTITY, CONTROLLER = "/csi.v1.Identity/", "/csi.v1.Controller/"
+READY = ok("0a020801")
+VOL_1 = "0a24088080401205766f6c2d311a0a0a04706f6f6c120270312a0b0a090a047a6f6e65120161"
+
+EXISTS = "volume exists and is not compatible"
+
+CREATE = "CreateVolume"
+
+
+def run(words, stdout=subprocess.PIPE, **how):
+    done = subprocess.run(words, stdout=stdout, stderr=subprocess.PIPE, timeout=SECONDS, **how)
+    return done.stdout, done.stderr.decode(), done.returncode
+
+
+def text(came):
+    """The same with standard output as a text."""
+    return came[0].decode(), came[1], came[2]
+
+
+def small_memory():
+    resource.setrlimit(resource.RLIMIT_DATA, (700_000, 700_000))
+
+
+class Server:
+    """csid on a socket of its own, over a file beside it."""
+
+    def __init__(self, csid, path, *words, tables=None, shell=None, **how):
+        self.path, self.tables = path, path + ".db" if tables is None else tables
+        command = [csid, "serve", "--socket", path, "--tables", self.tables] + list(words)
+        if shell:
+            command = ["sh", "-c", 'exec "$0" "$@" ' + shell] + command
+        self.said = tempfile.TemporaryFile()
+        self.process = subprocess.Popen(command, stdin=subprocess.DEVNULL, stderr=self.said, **how)
+        # Its first lines are of what the file has, or why that cannot be had (tests/csid has their rows).
+        begun = re.compile(
+            "(?m)^csid: (%s: volumes .*|out of memory|.*%s)\n" % (re.escape(self.tables), NO_FILE)
+        )
+        begin = time.monotonic()
+        while (
+            not (os.path.exists(path) if shell else begun.search(self.lines()))
+            and self.process.poll() is None
+            and time.monotonic() - begin < SECONDS
+        ):
+            time.sleep(0.01)
+
+    def lines(self):
+        return os.pread(self.said.fileno(), 1 << 20, 0).decode()
+
+    def connect(self):
+        peer = socket.socket(socket.AF_UNIX)
+        peer.settimeout(SECONDS)
+        # Its file is there a moment before it listens.
+        for _ in range(100):
+            try:
+                peer.connect(self.path)
+                break
+            except ConnectionRefusedError:
+                time.sleep(0.02)
+        return peer
+
+    def ask(self, given):
+        """What comes back for these bytes, to the end of the connection. Where csid closes it with calls
+        unread, the end is a reset.
+        """
+        with self.connect() as peer:
+            replies = b""
+            try:
+                peer.sendall(given)
+                peer.shutdown(socket.SHUT_WR)
+                while piece := peer.recv(4096):
+                    replies += piece
+            except (BrokenPipeError, ConnectionResetError):
+                pass
+            return replies
+
+    def kill(self):
+        """What it said until it was killed, and its status."""
+        self.process.kill()
+        return self.end()
+
+    def end(self):
+        """What it said, but for what the file had at the start, and its status."""
+        self.process.wait(timeout=SECONDS)
+        os.unlink(self.path)
+        held = "(?m)^csid: %s: (no tables stood there, and new ones were made|volumes .*)\n" % re.escape(
+            self.tables
+        )
+        return re.sub(held, "", self.lines()), self.process.returncode
+
+
+NOT_THERE = "No such file or directory (os error 2)"
+
+# Why a file of tables cannot be opened (docs/TABLES.md).
+NO_FILE = "unable to open database file"
+NO_DATABASE = "file is not a database that obeys its schema"
+
+
+# An entry of 'vol-N' of 1 MiB, which is published nowhere; and what JSON says of it.
+def entry(number):
+    return "0a28" + VOL_1.replace("766f6c2d31", "766f6c2d3%d" % number) + "1200"

@@ -1,0 +1,293 @@
+"""The files of deploy/, read: units, the Nomad job and manifests. The job is read by patterns, since nothing
+here parses HCL.
+"""
+
+import os
+import re
+import shlex
+import shutil
+import signal
+import subprocess
+import time
+import unittest
+
+from tests.support.processes import TOP
+
+
+DEPLOY = os.path.join(TOP, "deploy")
+UNITS = ["csid.service", "csid-front.service"]
+# Started by hand, once.
+FIRST = "csid-new.service"
+# Two replicas over etcd: the unit beside these, what differs in them, and the manifest.
+ETCD_UNIT = "csid-etcd.service"
+DIFFERENCES = {"csid.service": "etcd.d/csid.conf", "csid-front.service": "etcd.d/csid-front.conf"}
+MANIFEST, ETCD_MANIFEST = "kubernetes.yaml", "kubernetes-etcd.yaml"
+# The pod that holds the claim of the first, on the way from the one to the other.
+TABLES_POD = "kubernetes-tables.yaml"
+PROGRAMS, ETCD_PROGRAMS = ["csid", "front"], ["csid-etcd", "csid", "front"]
+TLS = ["--cacert", "--cert", "--key"]
+# The greatest exposure by systemd-analyze security, in tenths.
+EXPOSURE = 30
+# Runs a program as the first process of a namespace, with a network of its own in which each port is free.
+UNSHARE = ["unshare", "--pid", "--net", "--fork"]
+# How long a program may take to end after SIGTERM.
+SECONDS = 5
+
+
+def read(name):
+    with open(os.path.join(DEPLOY, name)) as file:
+        return file.read()
+
+
+def need(program):
+    if not shutil.which(program):
+        raise unittest.SkipTest("%s is not here" % program)
+    return program
+
+
+def toml(text):
+    try:
+        import tomllib
+    except ImportError:
+        raise unittest.SkipTest("python's tomllib is not here")
+    return tomllib.loads(text)
+
+
+class Unit:
+    """A unit of systemd, maybe with a file of what differs: the values of its keys. An empty value takes
+    those before it away.
+    """
+
+    def __init__(self, name, *differences):
+        text = "\n".join(re.sub(r"\\\n\s*", "", read(it)) for it in [name, *differences])
+        self.pairs = [
+            line.split("=", 1) for line in text.split("\n") if "=" in line and not line.startswith("#")
+        ]
+
+    def all(self, key):
+        found = []
+        for name, value in self.pairs:
+            if name == key:
+                found = found + [value] if value else []
+        return found
+
+    def words(self):
+        return shlex.split(self.all("ExecStart")[0])
+
+
+class Nomad:
+    """The Nomad job, as far as patterns find it."""
+
+    def __init__(self):
+        self.text = read("nomad.hcl")
+
+    def one(self, pattern):
+        found = re.findall(pattern, self.text, re.S)
+        assert len(found) == 1, (pattern, found)
+        return found[0]
+
+    def tasks(self):
+        return {
+            name: text for name, text in re.findall(r'\n    task "(\w+)" \{\n(.*?)\n    \}', self.text, re.S)
+        }
+
+    def command(self, task):
+        text = self.tasks()[task]
+        listed = [re.search(r"%s\s*= \[(.*?)\]\n" % key, text).group(1) for key in ("entrypoint", "args")]
+        before, after = [re.findall(r'"((?:[^"\\]|\\.)*)"', words) for words in listed]
+        return before + [re.search(r'command\s*= "(.*?)"', text).group(1)] + after
+
+    def config(self):
+        return self.one(r"<<TOML\n(.*?)\nTOML")
+
+
+def over_etcd(name):
+    """A unit as it is over etcd."""
+    return Unit(name, DIFFERENCES[name])
+
+
+class Kubernetes:
+    """The objects of a manifest, by kind."""
+
+    def __init__(self, name=MANIFEST):
+        try:
+            import yaml
+        except ImportError:
+            raise unittest.SkipTest("python's yaml is not here")
+        documents = list(yaml.safe_load_all(read(name)))
+        self.objects = {document["kind"]: document for document in documents}
+        assert len(self.objects) == len(documents), "two objects of one kind"
+        self.kind = "StatefulSet" if "StatefulSet" in self.objects else "Deployment"
+        self.set = self.objects[self.kind]["spec"]
+        self.pod = self.set["template"]["spec"]
+        self.containers = {container["name"]: container for container in self.pod["containers"]}
+        self.first = {container["name"]: container for container in self.pod.get("initContainers", [])}
+
+    def config(self):
+        return self.objects["ConfigMap"]["data"]["config.toml"]
+
+
+def plain(command):
+    """The words of a program that is started by tini, and maybe a shell behind that."""
+    words = command[command.index("--") + 1 :] if command[0] == "tini" else command
+    if words[:2] == ["sh", "-c"]:
+        words = shlex.split(words[2].rsplit("exec ", 1)[1])
+    return words
+
+
+def value(words, option):
+    return words[words.index(option) + 1]
+
+
+def seconds(text):
+    return int(str(text).rstrip("s"))
+
+
+def commands():
+    """The words of csid and of the front in each place that starts them."""
+    units = [Unit(name).words() for name in UNITS]
+    nomad = Nomad()
+    yield "the units", units[0], units[1]
+    yield "the Nomad job", plain(nomad.command("csid")), plain(nomad.command("front"))
+    try:
+        containers = Kubernetes().containers
+    except unittest.SkipTest:
+        return
+    yield "the manifest", plain(containers["csid"]["command"]), plain(containers["front"]["command"])
+
+
+def shell(command):
+    """The words that a shell is given behind tini."""
+    return command[command.index("sh") + 2]
+
+
+def etcd_commands():
+    """The words of csid-etcd, csid and the front in each place that starts them over etcd, and those of csid
+    and the front over a file there.
+    """
+    plainly = [Unit(name).words() for name in UNITS]
+    yield "the units over etcd", Unit(ETCD_UNIT).words(), *[
+        over_etcd(name).words() for name in UNITS
+    ], plainly
+    try:
+        containers, others = Kubernetes(ETCD_MANIFEST).containers, Kubernetes().containers
+    except unittest.SkipTest:
+        return
+    yield "the manifest over etcd", *[plain(containers[name]["command"]) for name in ETCD_PROGRAMS], [
+        plain(others[name]["command"]) for name in PROGRAMS
+    ]
+
+
+def without(words, option, count=2):
+    """The words without an option and what belongs to it."""
+    at = words.index(option)
+    return words[:at] + words[at + count :]
+
+
+def first_steps():
+    """Where the file of volumes is made: the script or command that does it, and the path of csid serve."""
+    unit, nomad = Unit(FIRST), Nomad()
+    yield "the units", " ".join(unit.words()).replace("/usr/local/bin/", ""), value(
+        Unit(UNITS[0]).words(), "--tables"
+    )
+    yield "the Nomad job", shell(nomad.command("csid")).split("; ")[0], value(
+        plain(nomad.command("csid")), "--tables"
+    )
+    try:
+        manifest = Kubernetes()
+    except unittest.SkipTest:
+        return
+    yield "the manifest", shell(manifest.first["new"]["command"]), value(
+        plain(manifest.containers["csid"]["command"]), "--tables"
+    )
+
+
+def help_of(program, *words):
+    if not os.access(program, os.X_OK):
+        raise unittest.SkipTest("%s is not built" % program)
+    return subprocess.run([program, *words, "--help"], capture_output=True, text=True, timeout=SECONDS).stdout
+
+
+def over_log(csid):
+    """The help of a csid whose rows another program keeps."""
+    text = help_of(csid, "serve")
+    if "--log" not in text:
+        raise unittest.SkipTest("%s has no --log" % csid)
+    return text
+
+
+def need_namespaces():
+    for tool in ["unshare", "tini"]:
+        need(tool)
+    if subprocess.run(UNSHARE + ["true"], capture_output=True).returncode != 0:
+        raise unittest.SkipTest("no namespace of processes can be made")
+
+
+class Pod:
+    """The containers of a manifest, each as the first process of a namespace of its own, with their folders
+    below another one.
+    """
+
+    FOLDERS = r"(?<![\w/])/(?=(run/csid|var/lib/csid|etc/csid|csi)\b)"
+
+    def __init__(self, folder, manifest, programs):
+        self.folder, self.manifest, self.processes = folder, manifest, {}
+        for name, path in programs.items():
+            if not os.access(path, os.X_OK):
+                raise unittest.SkipTest("%s is not built" % path)
+            os.symlink(path, os.path.join(folder, name))
+        for container in manifest.containers.values():
+            for mount in container["volumeMounts"]:
+                os.makedirs(folder + mount["mountPath"], exist_ok=True)
+        with open(folder + "/etc/csid/config.toml", "w") as file:
+            file.write(manifest.config())
+
+    def __enter__(self):
+        return self
+
+    def __exit__(self, *_):
+        for process in self.processes.values():
+            process.kill()
+            process.wait()
+
+    def below(self, text):
+        return re.sub(self.FOLDERS, lambda _: self.folder + "/", text)
+
+    def variables(self, **more):
+        return {**os.environ, **more, "PATH": self.folder + ":" + os.environ["PATH"]}
+
+    def first_step(self):
+        step = self.below(shell(self.manifest.first["new"]["command"]))
+        subprocess.run(
+            ["sh", "-c", step], env=self.variables(NEW="yes"), stdin=subprocess.DEVNULL, timeout=SECONDS
+        )
+
+    def start(self, name, others={}):
+        """Starts the command of a container, some of whose words are others here."""
+        container = self.manifest.containers[name]
+        words = [others.get(word) or self.below(word) for word in container["command"]]
+        given = {
+            e["name"]: e["value"].replace("unix:///", "unix://" + self.folder + "/")
+            for e in container.get("env", [])
+            if "value" in e
+        }
+        self.processes[name] = subprocess.Popen(
+            UNSHARE + ["--kill-child"] + words, env=self.variables(**given), stderr=subprocess.DEVNULL
+        )
+
+    def ends(self, name):
+        """Whether SIGTERM to the first process ends a container."""
+        process = self.processes[name]
+        with open("/proc/%d/task/%d/children" % (process.pid, process.pid)) as children:
+            first = int(children.read().split()[0])
+        os.kill(first, signal.SIGTERM)
+        return wait(lambda: process.poll() is not None)
+
+
+def wait(happens):
+    end = time.monotonic() + SECONDS
+    while time.monotonic() < end:
+        if happens():
+            return True
+        time.sleep(0.02)
+    return False

@@ -1,0 +1,203 @@
+"""Programs as processes, and what they are given."""
+
+import contextlib
+import os
+import resource
+import shutil
+import subprocess
+import time
+import unittest
+
+
+TOP = os.path.dirname(os.path.dirname(os.path.dirname(os.path.abspath(__file__))))
+
+SECONDS = 30
+
+
+# Where the built programs are. An environment variable of the same name in capitals, "_" for "-", names
+# another one.
+PROGRAMS = {
+    "csid": "crates/csid/out/csid",
+    "csictl": "crates/csictl/out/csictl",
+    "csid-etcd": "go/etcd/out/csid-etcd",
+    "front": "go/front/out/front",
+}
+
+
+def place(name):
+    """Where a built program is, or would be."""
+    path = os.environ.get(name.upper().replace("-", "_")) or os.path.join(TOP, PROGRAMS[name])
+    return os.path.abspath(path)
+
+
+def program(name):
+    """The path of a built program."""
+    path = place(name)
+    if not os.access(path, os.X_OK):
+        raise FileNotFoundError("no program at %s: ./build makes it" % path)
+    return path
+
+
+class Shown:
+    """What goes to standard output where it is asked for: it ends a line, and has each of these parts."""
+
+    def __init__(self, *parts):
+        self.parts = parts
+
+    def __eq__(self, out):
+        return out.endswith(b"\n") and all(part in out for part in self.parts)
+
+    def __repr__(self):
+        return "lines with " + ", ".join(map(repr, self.parts))
+
+
+NOT_THERE = "No such file or directory (os error 2)"
+DENIED = "Permission denied (os error 13)"
+
+
+def run(command, **streams):
+    done = subprocess.run(
+        command,
+        stdout=streams.pop("stdout", subprocess.PIPE),
+        stderr=subprocess.PIPE,
+        timeout=SECONDS,
+        **streams,
+    )
+    return done.stdout or b"", done.stderr.decode(errors="replace"), done.returncode
+
+
+def closed_pipe():
+    read, write = os.pipe()
+    os.close(read)
+    return write
+
+
+def small_memory():
+    resource.setrlimit(resource.RLIMIT_DATA, (700_000, 700_000))
+
+
+def little_memory():
+    resource.setrlimit(resource.RLIMIT_DATA, (16 << 20, 16 << 20))
+
+
+def with_shell(csid, redirection, given):
+    return run(["sh", "-c", 'exec "$0" ' + redirection, csid], input=given)
+
+
+# More than csid takes over the file below where it keeps none of it: 1,000 volumes with parameters of 4,096
+# bytes in 1,024 entries.
+def some_memory():
+    resource.setrlimit(resource.RLIMIT_DATA, (48 << 20, 48 << 20))
+
+
+def memory_of_24_mib():
+    resource.setrlimit(resource.RLIMIT_DATA, (24 << 20, 24 << 20))
+
+
+def statuses(peer, count):
+    """The statuses of so many replies of a connection; of fewer where it ends."""
+    held, came = b"", []
+    while len(came) < count:
+        piece = peer.recv(1 << 16)
+        if not piece:
+            break
+        held += piece
+        while len(held) >= 3:
+            text = int.from_bytes(held[1:3], "big")
+            if len(held) < 8 + text:
+                break
+            size = 8 + text + int.from_bytes(held[4 + text : 8 + text], "big")
+            if len(held) < size:
+                break
+            came.append(held[0])
+            held = held[size:]
+    return came
+
+
+def as_nobody():
+    os.setgroups([])
+    os.setgid(65534)
+    os.setuid(65534)
+
+
+def fill(folder):
+    """Leaves no byte on the disk of a folder; what stands there is taken away to make room."""
+    path = os.path.join(folder, "filler")
+    try:
+        with open(path, "wb", buffering=0) as file:
+            while file.write(bytes(4096)):
+                pass
+    except OSError:
+        pass
+    return path
+
+
+def no_room():
+    resource.setrlimit(resource.RLIMIT_FSIZE, (100_000, 100_000))
+
+
+def no_byte():
+    resource.setrlimit(resource.RLIMIT_FSIZE, (0, 0))
+
+
+def little_room():
+    """Room for the log and not for the file."""
+    resource.setrlimit(resource.RLIMIT_FSIZE, (400_000, 400_000))
+
+
+def wait(happens):
+    end = time.monotonic() + SECONDS
+    while not happens():
+        if time.monotonic() > end:
+            return False
+        time.sleep(0.01)
+    return True
+
+
+def has_ended(peer, within):
+    """Whether a connection is closed by csid, and in this time."""
+    begin = time.monotonic()
+    try:
+        last = peer.recv(1)
+    except ConnectionResetError:
+        last = b""
+    return last == b"" and within[0] <= time.monotonic() - begin <= within[1]
+
+
+def write(path, text):
+    with open(path, "wb") as file:
+        file.write(text)
+
+
+@contextlib.contextmanager
+def small_disk(folder):
+    """A file system of 1 MiB in memory, in a new folder. Where none can be mounted, the test is skipped."""
+    disk = os.path.join(folder, "disk")
+    os.mkdir(disk)
+    try:
+        _, error, status = run(["mount", "-t", "tmpfs", "-o", "size=1m", "none", disk])
+    except OSError as failure:
+        error, status = str(failure), 1
+    if status != 0:
+        raise unittest.SkipTest("no disk can be mounted here: " + error.strip())
+    try:
+        yield disk
+    finally:
+        run(["umount", disk])
+
+
+def copy_for_nobody(csid, folder):
+    """A copy of csid that the user nobody can run, and how to run it: root may all, so it becomes nobody.
+    Where that cannot be, the test is skipped.
+    """
+    os.chmod(folder, 0o777)
+    copy = shutil.copy(csid, os.path.join(folder, "csid"))
+    os.chmod(copy, 0o755)
+    how = {"preexec_fn": as_nobody} if os.geteuid() == 0 else {}
+    try:
+        status = run([copy, "--version"], **how)[2]
+    except (OSError, subprocess.SubprocessError) as error:
+        status = error
+    if status != 0:
+        raise unittest.SkipTest("csid cannot be run as nobody: %s" % status)
+    return copy, how

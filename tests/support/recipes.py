@@ -1,0 +1,530 @@
+#!/usr/bin/env python3
+"""The folder in which recipes are run, and what stands there for systemctl, kubectl and the front."""
+
+import contextlib
+import functools
+import glob
+import json
+import os
+import re
+import shutil
+import signal
+import socket
+import sqlite3
+import subprocess
+import sys
+import tempfile
+import textwrap
+import time
+
+sys.dont_write_bytecode = True
+sys.path.insert(0, os.path.dirname(os.path.dirname(os.path.dirname(os.path.realpath(__file__)))))
+
+from tests.support.processes import TOP, place, program
+from tests.support.rows import RowTest
+
+# Under the names of other programs this script is run instead of them.
+ME = os.path.realpath(__file__)
+
+FOLDERS = ["/var/lib/csid", "/etc/csid", "/run/csid", "/run/csid-etcd", "/root", "/usr/local/bin"]
+POOLS, NODES = {"p1": (10, "a"), "p2": (4, "b")}, {"n1": 2, "n2": 2}
+SECONDS = 20
+MIB = 1 << 20
+LOCKED = "Error: database is locked\n"
+# The folder of the file is another user's than who runs a recipe, where that is root.
+OWNER = (4711, 4712) if os.geteuid() == 0 else (os.geteuid(), os.getegid())
+
+
+@functools.lru_cache()
+def page(name="OPERATING.md"):
+    with open(os.path.join(TOP, "docs", name)) as file:
+        return file.read()
+
+
+def blocks(heading, name="OPERATING.md"):
+    """The blocks of commands under a heading of a page, to the next one."""
+    under = page(name).split("\n" + heading + "\n")[1].split("\n#")[0]
+    return [textwrap.dedent(block) for block in re.findall(r"(?<=\n\n)(?: {4}.*\n)+", "\n%s\n" % under)]
+
+
+def stands(text):
+    """A text, which has to stand in the page word for word."""
+    assert text in page(), "it does not stand in the page: " + text
+    return text
+
+
+def config(pools, nodes):
+    """A configuration of pools, each with its MiB and its zone, and of nodes, each with its number of
+    volumes.
+    """
+    text = (
+        'name = "pools.example.org"\nvendor_version = "1.0.0"\ndefault_bytes = %d\ngreatest_bytes = %d\n'
+        % (MIB, 8 * MIB)
+    )
+    for name, (size, zone) in pools.items():
+        text += '\n[[pool]]\nname = "%s"\nbytes = %d\nsegments = { zone = "%s" }\n' % (name, size * MIB, zone)
+    for name, most in nodes.items():
+        text += '\n[[node]]\nid = "%s"\nmax_volumes = %d\n' % (name, most)
+    return text
+
+
+class Control:
+    """The systemctl of the recipes, over the folder that the variable PLACE names."""
+
+    def __init__(self, top):
+        self.top = top
+        self.socket, self.tables, self.log = (
+            top + "/run/csid/csid.sock",
+            top + "/var/lib/csid/volumes.db",
+            top + "/run/csid-etcd/log.sock",
+        )
+        # Where it stands, csid has the option of deploy/etcd.d/csid.conf.
+        self.over_etcd = top + "/over-etcd"
+
+    def pid_file(self, unit):
+        return os.path.join(self.top, unit + ".pid")
+
+    def command(self, unit):
+        if unit == "csid":
+            kept = (
+                ["--log", self.log]
+                if os.path.exists(self.over_etcd)
+                else ["--tables", self.tables, "--existing"]
+            )
+            return [
+                "csid",
+                "serve",
+                "--socket",
+                self.socket,
+                *kept,
+                "--config",
+                self.top + "/etc/csid/config.toml",
+            ]
+        if unit == "csid-etcd":
+            return [
+                "csid-etcd",
+                "--name",
+                PLUGIN,
+                "--listen",
+                self.log,
+                "--endpoints",
+                os.environ["ENDPOINTS"],
+                "--existing",
+            ]
+        return [
+            self.top + "/usr/local/bin/front",
+            self.socket,
+            os.path.join(self.top, "frames"),
+            os.path.join(self.top, "answered"),
+        ]
+
+    def runs(self, unit):
+        try:
+            with open(self.pid_file(unit)) as file:
+                pid = int(file.read())
+            with open("/proc/%d/stat" % pid) as file:
+                return pid if file.read().rsplit(") ", 1)[1][0] != "Z" else None
+        except FileNotFoundError:
+            return None
+
+    def start(self, unit):
+        ready = {
+            "csid": self.socket,
+            "csid-etcd": self.log,
+            "csid-front": os.path.join(self.top, "answered"),
+        }[unit]
+        with contextlib.suppress(FileNotFoundError):
+            os.unlink(ready)
+        with open(self.lines(unit), "wb") as errors:
+            process = subprocess.Popen(
+                self.command(unit),
+                stdin=subprocess.DEVNULL,
+                stdout=subprocess.DEVNULL,
+                stderr=errors,
+                start_new_session=True,
+            )
+        with open(self.pid_file(unit), "w") as file:
+            file.write(str(process.pid))
+        wait(lambda: os.path.exists(ready) or process.poll() is not None)
+        if unit == "csid-etcd":
+            wait(lambda: "csid-etcd: leads, " in read(self.lines(unit)) or process.poll() is not None)
+
+    def lines(self, unit):
+        """What a unit says, which is in the journal elsewhere."""
+        return os.path.join(self.top, unit + ".errors")
+
+    def stop(self, unit):
+        pid = self.runs(unit)
+        if pid:
+            os.kill(pid, signal.SIGTERM)
+            wait(lambda: not self.runs(unit))
+
+    def obey(self, words):
+        acts = {
+            "start": [self.start],
+            "stop": [self.stop],
+            "restart": [self.stop, self.start],
+            "enable": [self.start],
+            "disable": [self.stop],
+            "daemon-reload": [],
+        }[words[0]]
+        for unit in words[1:]:
+            if unit != "--now":
+                for act in acts:
+                    act(unit)
+
+
+class Cluster(Control):
+    """The kubectl of the recipes, for one pod of a StatefulSet or Deployment: of the two of a Deployment it
+    is the one that leads. The claim is
+    /var/lib/csid, and any pod may have it next to another, as one of ReadWriteOnce on one machine: what
+    keeps them apart is the recipe."""
+
+    def __init__(self, top):
+        super().__init__(top)
+        self.objects, self.pods, self.last_calls = top + "/objects/", top + "/pods/", top + "/last-frames"
+        for folder in [self.objects, self.pods]:
+            os.makedirs(folder, exist_ok=True)
+
+    def obey(self, words):
+        if words[0] != "apply":
+            namespace, words = words[:2], words[2:]
+            assert namespace == ["--namespace", "csid"], namespace
+        getattr(self, words[0])(*words[1:])
+
+    def apply(self, _, path):
+        import yaml
+
+        with open(path) as file:
+            documents = list(yaml.safe_load_all(file))
+        for it in documents:
+            with open(self.objects + it["kind"].lower(), "w") as file:
+                json.dump(it, file)
+        (kind,) = {it["kind"] for it in documents} & {"StatefulSet", "Deployment", "Pod"}
+        getattr(self, "begin_" + kind.lower())()
+
+    def object(self, kind):
+        return json.loads(read(self.objects + kind))
+
+    def begin_pod(self):
+        open(self.pods + "csid-tables", "x").close()
+
+    def begin_statefulset(self):
+        """The file is made where the ConfigMap and the first step say so."""
+        self.configure()
+        (first,) = self.object("statefulset")["spec"]["template"]["spec"]["initContainers"]
+        step = re.sub("/var/lib/csid|/etc/csid", lambda it: self.top + it.group(), first["command"][-1])
+        subprocess.run(
+            ["sh", "-c", step],
+            env={**os.environ, "NEW": self.object("configmap")["data"].get("new", "")},
+            check=True,
+        )
+        self.begin_units("csid", "csid-front")
+
+    def begin_deployment(self):
+        """Rows are imported, so no first one is made."""
+        assert "new" not in self.object("configmap")["data"]
+        self.configure()
+        open(self.over_etcd, "x").close()
+        self.begin_units("csid-etcd", "csid", "csid-front")
+
+    def configure(self):
+        with open(self.top + "/etc/csid/config.toml", "w") as file:
+            file.write(self.object("configmap")["data"]["config.toml"])
+
+    def begin_units(self, *units):
+        """No two may serve at once, and none beside the pod that holds the claim."""
+        assert not os.listdir(self.pods), "a pod is there: %s" % os.listdir(self.pods)
+        open(self.pods + "csid-0", "x").close()
+        for unit in units:
+            self.start(unit)
+
+    def scale(self, *words):
+        """The pod ends behind this call, and answers further calls meanwhile."""
+        assert words[1:] == ("csid", "--replicas", "0") and os.path.exists(self.objects + words[0]), words
+        subprocess.Popen(
+            [sys.argv[0], "--namespace", "csid", "end_units"],
+            stdin=subprocess.DEVNULL,
+            stdout=subprocess.DEVNULL,
+            stderr=subprocess.DEVNULL,
+            start_new_session=True,
+        )
+
+    def end_units(self):
+        """csid is ended within a connection, so what was changed last stands in the log of its file alone."""
+        time.sleep(0.5)
+        self.stop("csid-front")
+        frames = os.path.join(self.top, "frames")
+        kept = read(frames)
+        os.rename(self.last_calls, frames)
+        self.start("csid-front")
+        for unit in ["csid", "csid-front", "csid-etcd"]:
+            self.stop(unit)
+        with open(frames, "w") as file:
+            file.write(kept)
+        with contextlib.suppress(FileNotFoundError):
+            os.unlink(self.over_etcd)
+        os.unlink(self.pods + "csid-0")
+
+    def wait(self, condition, pod, *_):
+        """Until the pod of csid is gone, or that of the claim is there."""
+        name, is_there = {
+            ("--for=delete", "pod"): ("csid-0", False),
+            ("--for=condition=Ready", "pod/csid-tables"): ("csid-tables", True),
+        }[condition, pod]
+        wait(lambda: os.path.exists(self.pods + name) == is_there)
+
+    def exec(self, *words):
+        """A command beside the claim; it has an input where it is asked for one."""
+        *options, pod = words[: words.index("--")]
+        assert os.path.exists(self.pods + pod), pod
+        sys.exit(
+            subprocess.run(
+                words[words.index("--") + 1 :], stdin=None if "--stdin" in options else subprocess.DEVNULL
+            ).returncode
+        )
+
+    def get(self, *words):
+        assert words == ("configmap", "csid", "--output", r"jsonpath={.data.config\.toml}"), words
+        sys.stdout.write(self.object("configmap")["data"]["config.toml"])
+
+    def delete(self, kind, name):
+        os.unlink(self.pods + name if kind == "pod" else self.objects + kind)
+
+    def rollout(self, *_):
+        wait(lambda: " volumes " in read(self.lines("csid")) or not self.runs("csid"))
+
+    def logs(self, *_):
+        sys.stdout.write(read(self.lines("csid")).replace(self.top, ""))
+
+
+def be_front(path, frames, answered):
+    """A client that keeps its connection: it sends the calls of a file, reads their replies, and stays."""
+    with socket.socket(socket.AF_UNIX) as connection:
+        connection.connect(path)
+        for frame in open(frames):
+            connection.sendall(bytes.fromhex(frame))
+            connection.recv(65536)
+        open(answered, "w").close()
+        while connection.recv(65536):
+            pass
+
+
+def read(path):
+    with open(path) as file:
+        return file.read()
+
+
+def wait(happens):
+    end = time.monotonic() + SECONDS
+    while not happens():
+        if time.monotonic() > end:
+            raise TimeoutError("it did not happen in %d s" % SECONDS)
+        time.sleep(0.01)
+
+
+class Place:
+    """A folder in which recipes are run, with a csid that was started over a file without volumes."""
+
+    def __init__(self, csictl, csid, is_new=True, **more):
+        self.top = tempfile.mkdtemp()
+        self.control, self.folder = Control(self.top), self.top + "/var/lib/csid/"
+        for folder in FOLDERS:
+            os.makedirs(self.top + folder)
+        os.chown(self.folder, *OWNER)
+        for name, target in [
+            ("csictl", csictl),
+            ("csid", csid),
+            ("systemctl", ME),
+            ("front", ME),
+            *more.items(),
+        ]:
+            os.symlink(os.path.realpath(target), self.top + "/usr/local/bin/" + name)
+        self.variables = {
+            **os.environ,
+            "PLACE": self.top,
+            "PATH": self.top + "/usr/local/bin:" + os.environ["PATH"],
+        }
+        self.configure(POOLS, NODES, "")
+        self.front_calls(["Probe"])
+        if is_new:
+            self.make()
+
+    def make(self):
+        self.must(
+            "csid pipe --tables /var/lib/csid/volumes.db --config /etc/csid/config.toml < /dev/null;"
+            " systemctl start csid"
+        )
+
+    def __enter__(self):
+        return self
+
+    def __exit__(self, *_):
+        self.shell("systemctl stop csid-front csid csid-etcd")
+        shutil.rmtree(self.top)
+
+    def configure(self, pools, nodes, ending=".new"):
+        with open(self.top + "/etc/csid/config.toml" + ending, "w") as file:
+            file.write(config(pools, nodes))
+
+    def front_calls(self, *calls, name="frames"):
+        """What csid-front calls once it is started."""
+        with open(os.path.join(self.top, name), "w") as file:
+            for words in calls:
+                file.write(self.frame(*words).hex() + "\n")
+
+    def frame(self, *words):
+        return subprocess.run(
+            [self.top + "/usr/local/bin/csictl", "frame", "--method", *words], capture_output=True, check=True
+        ).stdout
+
+    def shell(self, text, **variables):
+        """What bash says to commands, below the folder of this place, and its status."""
+        text = re.sub(
+            r"(?<![\w/.$])(%s)(?=[/\s;\"']|-)" % "|".join(FOLDERS),
+            lambda found: self.top + found.group(1),
+            text,
+        )
+        done = subprocess.run(
+            ["bash", "-euo", "pipefail", "-c", text],
+            env={**self.variables, **variables},
+            cwd=self.top,
+            stdin=subprocess.DEVNULL,
+            capture_output=True,
+            text=True,
+            timeout=3 * SECONDS,
+        )
+        return done.stdout, done.stderr.replace(self.top, ""), done.returncode
+
+    def must(self, text):
+        said = self.shell(text)
+        assert said[2] == 0, (text, said)
+
+    def recipe(self, heading, number=0, **variables):
+        """What a block of a recipe says, run in the folder of the file."""
+        return self.shell(blocks("## Copies and restores")[0] + blocks(heading)[number], **variables)
+
+    def in_folder(self, command):
+        """What a command says that stands in the page, in the folder of the file."""
+        return self.shell(blocks("## Copies and restores")[0] + stands(command))
+
+    def check(self):
+        """What a check says of the file."""
+        return self.in_folder("csid --check-tables volumes.db --config $config")
+
+    def call(self, *words):
+        """What csictl shows of a call, but for the bytes."""
+        out = self.shell("csictl call --socket /run/csid/csid.sock --method " + " ".join(words))[0]
+        return re.sub(r"^0 OK \S+", "0 OK", out)
+
+    def copies(self):
+        """The one folder below /root."""
+        (name,) = os.listdir(self.top + "/root")
+        return os.path.join(self.top, "root", name)
+
+    def owners(self):
+        """Who has the files of volumes."""
+        return {(os.stat(it).st_uid, os.stat(it).st_gid) for it in glob.glob(self.folder + "volumes.db*")}
+
+    def modes(self):
+        return {oct(os.stat(it).st_mode & 0o777) for it in glob.glob(self.folder + "volumes.db*")}
+
+    def rows(self, path="volumes.db"):
+        """The numbers and names of the volumes of a file, and its next number."""
+        with contextlib.closing(sqlite3.connect(os.path.join(self.folder, path), timeout=SECONDS)) as file:
+            return (
+                dict(file.execute("SELECT number, name FROM volumes")),
+                file.execute("SELECT next_number FROM meta").fetchone()[0],
+            )
+
+
+def create(name, zone="a", key="zone"):
+    return ["CreateVolume", "--name", name, "--mode", "1", "--topology", "%s=%s" % (key, zone)]
+
+
+def publish(volume, node):
+    return ["ControllerPublishVolume", "--volume", volume, "--node", node, "--mode", "1"]
+
+
+def has(volumes, attachments, number, format=2):
+    """What a check says of a file."""
+    return "volumes %d, attachments %d, next number %d, format %d\n" % (volumes, attachments, number, format)
+
+
+class Etcd:
+    """An etcd of one member on loopback, in a folder of its own."""
+
+    def __init__(self):
+        self.folder = tempfile.mkdtemp()
+        self.endpoint, peer = ["127.0.0.1:%d" % port for port in free_ports(2)]
+        words = [
+            "--data-dir",
+            "data",
+            "--log-level",
+            "error",
+            "--listen-client-urls",
+            "http://" + self.endpoint,
+            "--advertise-client-urls",
+            "http://" + self.endpoint,
+            "--listen-peer-urls",
+            "http://" + peer,
+            "--initial-advertise-peer-urls",
+            "http://" + peer,
+            "--initial-cluster",
+            "default=http://" + peer,
+        ]
+        self.process = subprocess.Popen(
+            ["etcd", *words], cwd=self.folder, stdout=subprocess.DEVNULL, stderr=subprocess.DEVNULL
+        )
+        wait(lambda: self.ctl("endpoint", "health").returncode == 0)
+
+    def ctl(self, *words):
+        return subprocess.run(
+            ["etcdctl", "--endpoints", self.endpoint, *words],
+            env={**os.environ, "ETCDCTL_API": "3"},
+            capture_output=True,
+            text=True,
+        )
+
+    def __enter__(self):
+        return self
+
+    def __exit__(self, *_):
+        self.process.kill()
+        self.process.wait()
+        shutil.rmtree(self.folder)
+
+
+def free_ports(count):
+    with contextlib.ExitStack() as stack:
+        sockets = [stack.enter_context(socket.socket()) for _ in range(count)]
+        for it in sockets:
+            it.bind(("127.0.0.1", 0))
+        return [it.getsockname()[1] for it in sockets]
+
+
+PLUGIN, NODE = "pools.example.org", "n'2/é \U0001d11e"
+
+
+class RecipeTest(RowTest):
+    """A test of recipes, which need sqlite3."""
+
+    def setUp(self):
+        super().setUp()
+        if shutil.which("sqlite3") is None:
+            self.skipTest("sqlite3 is not installed")
+        self.csictl, self.csid, self.csid_etcd = program("csictl"), program("csid"), place("csid-etcd")
+
+    def need_etcd(self):
+        if not (os.access(self.csid_etcd, os.X_OK) and shutil.which("etcd") and shutil.which("etcdctl")):
+            self.skipTest("csid-etcd is not built, or etcd or etcdctl is not installed")
+
+
+def main(name, words):
+    if name == "front":
+        return be_front(*words)
+    return {"systemctl": Control, "kubectl": Cluster}[name](os.environ["PLACE"]).obey(words)
+
+
+if __name__ == "__main__":
+    sys.exit(main(os.path.basename(sys.argv[0]), sys.argv[1:]))

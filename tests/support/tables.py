@@ -1,0 +1,157 @@
+"""Files of tables, made and looked at with python's own sqlite3, and the lines of docs/TABLES.md."""
+
+import os
+import sqlite3
+
+from tests.support.frames import READY
+from tests.support.processes import run
+
+
+# Rows of volumes and attachments, as docs/TABLES.md spells them: a block device with mode 1, one with mode 5,
+# and no parameters.
+BLOCK_CAPS = "x'1a060a001a020801'"
+SHARED_CAPS = "x'1a060a001a020805'"
+MIB = 1 << 20
+
+
+def volume(number, name="'a'", size=MIB, pool="'p1'", caps=BLOCK_CAPS, params="x''"):
+    return "INSERT INTO volumes VALUES (%d, %s, %s, %s, %s, %s);" % (number, name, size, pool, caps, params)
+
+
+def attachment(number, node="'n1'", cap=BLOCK_CAPS, readonly=0):
+    return "INSERT INTO attachments VALUES (%d, %s, %s, %s);" % (number, node, cap, readonly)
+
+
+# Makes tables ones of an older csid.
+FIRST_FORMAT = "UPDATE meta SET format_no = 1;"
+
+
+def next_is(number):
+    return "UPDATE meta SET next_number = %d;" % number
+
+
+NEXT_9 = next_is(9)
+A = volume(1) + NEXT_9
+# A mebibyte of capabilities, and many attachments that have the first of them at nodes that no configuration
+# has.
+LARGE_CAPS = (
+    "x'%s'" % b"".join(b"\x1a\x0d\x12\x07\x0a\x05%05d\x1a\x02\x08\x01" % n for n in range(MIB // 15)).hex()
+)
+PLACES = (
+    "WITH RECURSIVE n (i) AS (VALUES (1) UNION ALL SELECT i + 1 FROM n WHERE i < %d) "
+    "INSERT INTO attachments SELECT 1, 'm' || i, x'1a0d12070a0530303030301a020801', 0 FROM n;"
+)
+MANY = (
+    "WITH RECURSIVE n (i) AS (VALUES (1) UNION ALL SELECT i + 1 FROM n WHERE i < %d) "
+    "INSERT INTO volumes SELECT i, 'v' || i, 1048576, 'p1', %s, x'' FROM n;"
+)
+NO_META = "meta has no row with the number of a format"
+OTHER_TABLES = "the tables are not those of csid"
+NO_DATABASE = "file is not a database that obeys its schema"
+DAMAGED = "database disk image is malformed"
+NO_FILE = "unable to open database file"
+LOCKED = "database is locked"
+FULL = "database or disk is full"
+IO_FAILED = "disk I/O error"
+
+
+def volume_fault(number, why):
+    return "volume %d: %s" % (number, why)
+
+
+def attachment_fault(number, node, why):
+    return "volume %d at node %s: %s" % (number, node, why)
+
+
+KIND = "a value is not of the kind of its column"
+NUMBER = "its number is not from 1 to below the next number"
+NAME = "its name is not one that a volume can be made with"
+POOL = "its pool is not one of the configuration"
+BYTES = "its bytes are not a positive multiple of 1048576"
+CAPS = "its caps are not the bytes of supported capabilities in order"
+PARAMS = "its params are not the bytes of parameters of at most 4096 bytes"
+CAP = "its cap is not the bytes of one supported capability"
+READONLY = "its readonly is not 0 or 1"
+OWNER = "no volume of its number has its capability"
+NODE = "its node is not one of the configuration"
+BESIDE = "the volume is attached at another node too, and the two cannot have it together"
+
+
+def block(mode):
+    """The capability of a block device with a mode below 128, as a cell has it."""
+    return "1a060a001a0208%02x" % mode
+
+
+def pairs(field, key, size):
+    """A field of parameters of one entry, of a key of one byte and a value of 4,093 to 16,000 bytes, as a
+    cell has it.
+    """
+
+    def long(tag, length):
+        return bytes([tag, length & 127 | 128, length >> 7])
+
+    entry = b"\x0a\x01" + key + long(0x12, size) + b"v" * size
+    return (long(field << 3 | 2, len(entry)) + entry).hex()
+
+
+def cell(digits):
+    return "x'%s'" % digits
+
+
+class Tables:
+    """A file of tables that csid is run over."""
+
+    def __init__(self, csid, folder, name="volumes.db"):
+        self.csid, self.path = csid, os.path.join(folder, name)
+        self.command = [csid, "pipe", "--tables", self.path]
+
+    def clear(self):
+        for name in os.listdir(os.path.dirname(self.path)):
+            if name.startswith(os.path.basename(self.path)):
+                os.unlink(os.path.join(os.path.dirname(self.path), name))
+        return self
+
+    def run(self, given=b"", config=None, **how):
+        return run(self.command + (["--config", config] if config else []), input=given, **how)
+
+    def new(self):
+        """New tables, of csid's own making."""
+        if self.clear().run() != (b"", "", 0):
+            raise ValueError("no tables could be made")
+        return self
+
+    def script(self, text):
+        connection = sqlite3.connect(self.path, isolation_level=None)
+        connection.executescript(text)
+        connection.close()
+        return self
+
+    def ask(self, text):
+        connection = sqlite3.connect(self.path)
+        rows = connection.execute(text).fetchall()
+        connection.close()
+        return rows
+
+    def check(self, config=None, **how):
+        return run([self.csid, "--check-tables", self.path] + (["--config", config] if config else []), **how)
+
+    def files(self):
+        """The bytes of the file, and of all that stands beside it."""
+        found = {}
+        for name in sorted(os.listdir(os.path.dirname(self.path))):
+            if name.startswith(os.path.basename(self.path)):
+                with open(os.path.join(os.path.dirname(self.path), name), "rb") as file:
+                    found[name] = file.read()
+        return found
+
+    def rows(self):
+        """All that the database has, as statements that would make it; a text that is not UTF-8 too."""
+        connection = sqlite3.connect(self.path)
+        connection.text_factory = lambda text: text.decode(errors="surrogateescape")
+        rows = list(connection.iterdump())
+        connection.close()
+        return rows
+
+    def says(self, line):
+        """What comes where the tables cannot be had; without a line they can, and a call is answered."""
+        return (READY, "", 0) if line is None else (b"", "csid: %s: %s\n" % (self.path, line), 4)

@@ -1,0 +1,126 @@
+"""csid where memory is short."""
+
+import os
+import threading
+
+from tests.support.configs import LARGE_POOL
+from tests.support.frames import ANSWERED, ASKED, BLOCK, NO_MEMORY, PROBE, VOL_1, controller, frame, reply
+from tests.support.processes import (
+    SECONDS,
+    little_memory,
+    memory_of_24_mib,
+    run,
+    some_memory,
+    statuses,
+    write,
+)
+from tests.support.rows import CsidTest
+from tests.support.server import NO_COPY, Server
+from tests.support.tables import BLOCK_CAPS, LARGE_CAPS, MANY, MIB, NEXT_9, Tables, next_is, volume
+
+
+SHORT_ENTRIES = "x'1a060a001a020801" + "%s'"
+
+
+class MemoryTest(CsidTest):
+    """csid where memory is short."""
+
+    def test_low_memory(self):
+        """With --low-memory the replies and rows are the same, and volumes take no memory."""
+        tables = Tables(self.csid, self.folder)
+        low = tables.command + ["--low-memory"]
+        self.row("calls", run(low, input=ASKED), (ANSWERED, "", 0))
+        self.row(
+            "what they leave",
+            tables.ask("SELECT number, name, bytes, pool FROM volumes"),
+            [(2, "b", 3 * MIB, "p2")],
+        )
+        self.row("the next number", tables.ask("SELECT * FROM meta"), [(1, 2, 3)])
+        server = Server(self.csid, self.folder, "--low-memory", "--connections", "1")
+        listing = controller("ListVolumes")
+        self.row("served", server.ask(listing), run(tables.command, input=listing)[0])
+        server.process.wait(SECONDS)
+        self.row("nothing is said of it", server.end()[:2], (server.has(1, 0, 3), 0))
+        # The first 1,024 keys of two letters, in their order, each its own value too.
+        letters = sorted(b"0123456789ABCDEFGHIJKLMNOPQRSTUVWXYZabcdefghijklmnopqrstuvwxyz")
+        keys = [bytes([first, second]) for first in letters for second in letters][:1024]
+        entries = b"".join(bytes.fromhex("22080a02") + key + bytes.fromhex("1202") + key for key in keys)
+        config = os.path.join(self.folder, "config.toml")
+        write(config, LARGE_POOL)
+        tables.new().script(
+            MANY % (1000, BLOCK_CAPS) + "UPDATE volumes SET params = x'%s';" % entries.hex() + next_is(1001)
+        )
+        probe = controller("GetCapacity")
+        # 1,048 MiB, and 8 MiB for one volume.
+        room = reply(bytes.fromhex("08 8080808c04 1205 0880808004"))
+        # There is memory for the opening, and none for a copy: reads go to the file, and volumes can be
+        # deleted.
+        self.row("no memory for a copy", tables.run(probe, config, preexec_fn=some_memory), (room, "", 0))
+        server = Server(self.csid, self.folder, "--config", config, preexec_fn=some_memory)
+        begun = server.has(1000, 0, 1001)
+        self.row(
+            "serve without memory for a copy",
+            (server.ask(probe), server.ask(controller("DeleteVolume", VOL_1))),
+            (room, reply(b"")),
+        )
+        self.row("that is said", server.end()[0], begun + server.line(NO_COPY) * 2)
+        self.row("one was deleted", tables.ask("SELECT count(*) FROM volumes"), [(999,)])
+        tables.new().script(
+            MANY % (1000, BLOCK_CAPS) + "UPDATE volumes SET params = x'%s';" % entries.hex() + next_is(1001)
+        )
+        self.row(
+            "none of it", run(low + ["--config", config], input=probe, preexec_fn=some_memory), (room, "", 0)
+        )
+        self.row("in more memory", tables.run(probe, config), (room, "", 0))
+        # It can be opened, and its one row cannot be judged.
+        tables.new().script(volume(1, caps=LARGE_CAPS) + NEXT_9)
+        self.row(
+            "no memory to judge a row",
+            tables.run(frame(PROBE), preexec_fn=little_memory),
+            (b"", NO_MEMORY, 6),
+        )
+
+    def test_reserve(self):
+        """Volumes do not outgrow the memory of the next opening: creates are refused first, and deletes are
+        not.
+        """
+        config = os.path.join(self.folder, "config.toml")
+        write(config, LARGE_POOL.replace(b"2147483648", b"%d" % (20_000 * MIB)))
+        # A volume of 4,095 bytes of parameters, by a name of six bytes.
+        parameters = bytes.fromhex("22 8420 0a01 6b 12fe1f") + b"v" * 4094
+        most = 6000
+
+        def create(number):
+            return controller("CreateVolume", b"\x0a\x06" + b"%06d" % number + BLOCK + parameters)
+
+        def delete(number):
+            name = b"vol-%d" % number
+            return controller("DeleteVolume", b"\x0a" + bytes([len(name)]) + name)
+
+        def answers(server, *calls):
+            """The statuses of calls, which are sent while replies are read."""
+            with server.connect() as peer:
+                threading.Thread(target=lambda: [peer.sendall(it) for it in calls], daemon=True).start()
+                return statuses(peer, len(calls))
+
+        creates = [create(number) for number in range(1, most + 1)]
+        listing = controller("ListVolumes", bytes.fromhex("0801"))
+        for name, words in ("of the file", ["--low-memory"]), ("of memory", []):
+            Tables(self.csid, self.folder).clear()
+            server = Server(self.csid, self.folder, "--config", config, *words, preexec_fn=memory_of_24_mib)
+            came = answers(server, *creates)
+            made = came.index(13) if 13 in came else most
+            self.row(
+                "some creates are made, then they are refused, by reads %s" % name,
+                (1000 < made < most, set(came[:made]), set(came[made:])),
+                (True, {0}, {13}),
+            )
+            self.row("the next connection is served, by reads %s" % name, server.ask(listing)[:1], b"\0")
+            came = answers(server, *[delete(number) for number in range(1, 501)])
+            self.row("deletes are made, by reads %s" % name, came, [0] * 500)
+            # The pages that deletes leave are free: the next connection has room for creates.
+            came = answers(server, *[delete(number) for number in range(501, made - 99)])
+            self.row("and more of them, by reads %s" % name, set(came), {0})
+            came = answers(server, *[create(number) for number in range(most + 1, most + 101)])
+            self.row("then there is room, by reads %s" % name, came, [0] * 100)
+            server.end()

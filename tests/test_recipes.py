@@ -1,0 +1,300 @@
+"""The commands of the recipes of docs/OPERATING.md, run as they stand there."""
+
+import glob
+import os
+import shutil
+
+from tests.support.processes import TOP
+from tests.support.recipes import NODES, OWNER, POOLS, Place, RecipeTest, create, has, publish, stands
+
+
+class RecipesTest(RecipeTest):
+    """The commands of the recipes of docs/OPERATING.md, run as they stand there."""
+
+    def test_ways_of_a_copy(self):
+        """The ways of a copy."""
+        backup, vacuum = 'sqlite3 volumes.db ".backup COPY"', "sqlite3 volumes.db \"VACUUM INTO 'COPY'\""
+        with Place(self.csictl, self.csid) as place:
+            place.call(*create("a"))
+            for command in [backup, vacuum]:
+                place.rows()
+                self.row(command, place.in_folder(command), ("", "", 0))
+                self.row("its copy", place.rows("COPY"), ({1: "a"}, 2))
+                os.unlink(place.folder + "COPY")
+            place.front_calls(create("b"))
+            place.must("systemctl start csid-front")
+            for command, status, line in [
+                (backup, 1, "database is locked"),
+                (vacuum, 5, "stepping, database is locked (5)"),
+            ]:
+                self.row(
+                    command + " while a connection is served",
+                    place.in_folder(command),
+                    ("", "Error: %s\n" % line, status),
+                )
+                self.row("its copy is empty", os.path.getsize(place.folder + "COPY"), 0)
+            place.in_folder("cp volumes.db COPY")
+            self.row(
+                "a copy of the file alone while a connection is served", place.rows("COPY"), ({1: "a"}, 2)
+            )
+
+    def test_copy_while_served(self):
+        with Place(self.csictl, self.csid) as place:
+            for words in [create("a"), create("b"), publish("vol-1", "n1")]:
+                place.call(*words)
+            place.front_calls(create("c"))
+            place.must("systemctl start csid-front")
+            self.row(
+                "a copy of a file that is served",
+                place.recipe("### A copy of a file that is served"),
+                (has(3, 1, 4), "", 0),
+            )
+            self.row("it has no log", os.listdir(place.copies()), ["volumes.db"])
+            self.row("what it has", place.rows(place.copies() + "/volumes.db"), ({1: "a", 2: "b", 3: "c"}, 4))
+            self.row("the front is back", place.control.runs("csid-front") is not None, True)
+
+    def test_copy_while_stopped(self):
+        """The last change stands in the log alone."""
+        with Place(self.csictl, self.csid) as place:
+            place.front_calls(create("a"))
+            place.must("systemctl start csid-front")
+            self.row(
+                "a copy while csid is stopped",
+                place.recipe("### A copy of a file while `csid` is stopped"),
+                (has(1, 0, 2), "", 0),
+            )
+            self.row("file and log", sorted(os.listdir(place.copies())), ["volumes.db", "volumes.db-wal"])
+            self.row("what both have", place.rows(place.copies() + "/volumes.db"), ({1: "a"}, 2))
+
+    def test_restore(self):
+        """Of three volumes of the orchestrator the copy has one, and it has one that was deleted since."""
+        restore, low = "### A restore", "volume 40: its number is not from 1 to below the next number"
+        with Place(self.csictl, self.csid) as place:
+            for name in ["a", "b"]:
+                place.call(*create(name))
+            place.recipe("### A copy of a file that is served")
+            place.must("systemctl stop csid-front")
+            copies = place.copies()
+            place.call("DeleteVolume", "--volume", "vol-1")
+            place.front_calls(create("c"))
+            place.must("systemctl start csid-front")
+            self.row("a restore", place.recipe(restore, 0, copies=copies), (has(2, 0, 3), "", 0))
+            self.row("who may read it", (place.owners(), place.modes()), ({OWNER}, {"0o600"}))
+            self.row("what is restored", place.rows(), ({1: "a", 2: "b"}, 3))
+            self.row("what stood there", place.rows(copies + "/old/volumes.db"), ({2: "b", 3: "c"}, 4))
+            with open(place.folder + "orchestrator", "w") as file:
+                file.write("vol-40\nvol-2\nvol-3\n")
+            self.row(
+                "what is missing and what is left",
+                place.recipe(restore, 1, copies=copies),
+                ("vol-3\nvol-40\nvol-1\n", "", 0),
+            )
+            out, errors, status = place.recipe("### A volume that the copy does not have")
+            self.row(
+                "it is made again",
+                [line for line in out.split("\n") if line and not line.startswith("0 OK")],
+                ["volume vol-40 1048576", "context readonly=false"],
+            )
+            self.row("without a fault", (errors, status), ("", 0))
+            place.must("sqlite3 /var/lib/csid/volumes.db 'UPDATE meta SET next_number = 40'")
+            self.row(
+                "a number that is too low", place.check(), ("", "csid: volumes.db: " + stands(low) + "\n", 4)
+            )
+            self.row("a further next number", place.recipe(restore, 2), ("41\n" + has(3, 1, 41), "", 0))
+            place.front_calls(["Probe"])
+            self.row("a start", place.recipe(restore, 3), ("", "", 0))
+            place.must("systemctl stop csid-front")
+            self.row("the next volume", place.call(*create("d")), "0 OK\nvolume vol-41 1048576\n")
+
+    def test_lines(self):
+        """A log that stays beside a restored file brings back what the restore was to leave behind."""
+        with Place(self.csictl, self.csid) as place:
+            place.call(*create("a"))
+            place.recipe("### A copy of a file that is served")
+            place.must("systemctl stop csid-front")
+            place.front_calls(create("b"))
+            place.must(
+                "systemctl start csid-front; systemctl stop csid csid-front; cp %s/volumes.db"
+                " /var/lib/csid/volumes.db"
+                % place.copies()
+            )
+            self.row("a log that stays beside a restored file", place.check(), (has(2, 0, 3), "", 0))
+
+    def test_lost_changes(self):
+        """What is refused of a changed configuration. vol-1 and vol-2 are in p1 and attached at n1, vol-3 is
+        in p2.
+        """
+        pool, node = (
+            "volume 1: its pool is not one of the configuration",
+            "volume 1 at node n1: its node is not one of the configuration",
+        )
+        changes = [
+            ("a further pool", {**POOLS, "p3": (1, "c")}, NODES, None),
+            ("a further node", POOLS, {**NODES, "n3": 1}, None),
+            ("a larger pool", {**POOLS, "p1": (20, "a")}, NODES, None),
+            ("a node with more volumes", POOLS, {**NODES, "n1": 3}, None),
+            ("a pool of just its volumes", {**POOLS, "p1": (2, "a")}, NODES, None),
+            (
+                "a pool of less",
+                {**POOLS, "p1": (1, "a")},
+                NODES,
+                "pool p1: its volumes have more bytes than it has",
+            ),
+            (
+                "a node with fewer volumes",
+                POOLS,
+                {**NODES, "n1": 1},
+                "node n1: more volumes are attached there than it can have",
+            ),
+            ("a pool that is gone", {"p2": (4, "b")}, NODES, pool),
+            ("a pool that is renamed", {"fast": (10, "a"), "p2": (4, "b")}, NODES, pool),
+            ("a node that is gone", POOLS, {"n2": 2}, node),
+            ("a node that is renamed", POOLS, {"n7": 2, "n2": 2}, node),
+            ("a node without volumes that is gone", POOLS, {"n1": 2}, None),
+            ("other segments", {**POOLS, "p1": (10, "x")}, NODES, None),
+        ]
+        with Place(self.csictl, self.csid) as place:
+            for words in [
+                create("a"),
+                create("b"),
+                create("c", "b"),
+                publish("vol-1", "n1"),
+                publish("vol-2", "n1"),
+            ]:
+                place.call(*words)
+            for name, pools, nodes, line in changes:
+                place.configure(pools, nodes)
+                want = (
+                    (has(3, 2, 4), "", 0)
+                    if line is None
+                    else ("", "csid: volumes.db: %s\n" % stands(line), 4)
+                )
+                self.row(name, place.in_folder("csid --check-tables volumes.db --config $config.new"), want)
+            place.rows()
+            counts = [
+                ("pool, count(*), sum(bytes)", "volumes", "pool", "p1|2|2097152\np2|1|1048576\n"),
+                ("node, count(*)", "attachments", "node", "n1|2\n"),
+            ]
+            for columns, table, key, want in counts:
+                self.row(
+                    "count of " + table,
+                    place.in_folder(
+                        'sqlite3 volumes.db "SELECT %s FROM %s GROUP BY %s"' % (columns, table, key)
+                    ),
+                    (want, "", 0),
+                )
+            self.row(
+                "a pool that is emptied",
+                place.recipe("### A pool that is emptied"),
+                ("vol-3|c|1048576\n", "", 0),
+            )
+
+    def test_change(self):
+        change, already = (
+            "### A change of the configuration",
+            "6 ALREADY_EXISTS volume exists and is not compatible\n",
+        )
+        with Place(self.csictl, self.csid) as place:
+            place.call(*create("a"))
+            place.configure({**POOLS, "p3": (1, "c")}, NODES)
+            self.row(
+                "a further pool",
+                place.recipe(change),
+                ("name pools.example.org, pools 3, nodes 2\n" + has(1, 0, 2), "", 0),
+            )
+            self.row("a volume in it", place.call(*create("b", "c")), "0 OK\nvolume vol-2 1048576\n")
+            place.configure({"p1": (10, "x"), "p3": (1, "c")}, NODES)
+            place.recipe(change)
+            self.row("a create under other segments", place.call(*create("a")), already)
+            place.configure({"fast": (10, "x"), "p3": (1, "c")}, NODES)
+            self.row(
+                "a pool that is renamed", place.recipe("### A pool that is renamed"), (has(2, 0, 3), "", 0)
+            )
+            place.must("systemctl stop csid-front")
+            self.row("its volume", place.call(*create("a", "x")), "0 OK\nvolume vol-1 1048576\n")
+            place.configure({"p3": (1, "c")}, {})
+            said = place.recipe(change)
+            self.row(
+                "a pool that is taken away",
+                said[1:],
+                ("csid: volumes.db: volume 1: its pool is not one of the configuration\n", 4),
+            )
+            self.row("the configuration stays", place.call(*create("a", "x")), "0 OK\nvolume vol-1 1048576\n")
+
+    def test_move(self):
+        move = "### A move to another machine"
+        with Place(self.csictl, self.csid) as old, Place(self.csictl, self.csid, is_new=False) as new:
+            old.front_calls(create("a"))
+            old.must("systemctl start csid-front")
+            self.row("what is moved", old.recipe(move, 0), ("", "", 0))
+            self.row(
+                "nothing runs there",
+                [old.control.runs(unit) for unit in ("csid", "csid-front")],
+                [None, None],
+            )
+            shutil.copytree(old.copies(), new.top + "/root/csid-move")
+            # On the way they may have lost their modes.
+            for path in glob.glob(new.top + "/root/csid-move/*"):
+                os.chmod(path, 0o644)
+            self.row("the file on the new machine", new.recipe(move, 1), (has(1, 0, 2), "", 0))
+            self.row("who may read it", (new.owners(), new.modes()), ({OWNER}, {"0o600"}))
+            new.must("systemctl stop csid-front")
+            self.row("the next volume there", new.call(*create("b")), "0 OK\nvolume vol-2 1048576\n")
+
+    def test_upgrade(self):
+        """The programs are the same before and after; the file is of format 1 before."""
+        with Place(self.csictl, self.csid) as place:
+            place.must("systemctl stop csid; rm /var/lib/csid/*")
+            shutil.copy(os.path.join(TOP, "tests", "stored", "format-1-1.db"), place.folder + "volumes.db")
+            release = os.path.join(place.top, "release")
+            shutil.copytree(place.top + "/usr/local/bin", release)
+            want = "name pools.example.org, pools 2, nodes 2\n" + has(1, 0, 2, format=1)
+            self.row("an upgrade", place.recipe("### An upgrade", release=release), (want, "", 0))
+            self.row("the file is taken over", place.check(), (has(1, 0, 2), "", 0))
+            self.row(
+                "the programs before",
+                sorted(os.listdir(place.copies())),
+                ["csictl", "csid", "front", "volumes.db"],
+            )
+            self.row("a way back", place.recipe("### A way back", copies=place.copies()), ("", "", 0))
+            self.row(
+                "the file before",
+                place.recipe("### A restore", 0, copies=place.copies()),
+                (has(1, 0, 2, format=1), "", 0),
+            )
+
+    def test_pages(self):
+        """A file that an earlier release made, taken over, and with pages of its size."""
+        with Place(self.csictl, self.csid) as place:
+            size = "PRAGMA page_size"
+            self.row(
+                "the pages of a file that is made",
+                place.in_folder('sqlite3 volumes.db "%s"' % size),
+                ("1024\n", "", 0),
+            )
+            place.must("systemctl stop csid; rm /var/lib/csid/*")
+            shutil.copy(os.path.join(TOP, "tests", "stored", "format-1-1.db"), place.folder + "volumes.db")
+            place.must(
+                "csid pipe --tables /var/lib/csid/volumes.db --config /etc/csid/config.toml < /dev/null;"
+                " chmod 600 /var/lib/csid/*"
+            )
+            for path in glob.glob(place.folder + "volumes.db*"):
+                os.chown(path, *OWNER)
+            before = place.rows()
+            self.row(
+                "the pages of a file that stood",
+                place.in_folder('sqlite3 volumes.db "%s"' % size),
+                ("4096\n", "", 0),
+            )
+            self.row(
+                "smaller pages", place.recipe("### Smaller pages"), ("delete\nwal\n" + has(1, 0, 2), "", 0)
+            )
+            place.must("systemctl stop csid-front csid")
+            self.row("who may read it", (place.owners(), place.modes()), ({OWNER}, {"0o600"}))
+            self.row("its pages then", place.in_folder('sqlite3 volumes.db "%s"' % size), ("1024\n", "", 0))
+            self.row("its rows then", place.rows(), before)
+            self.row(
+                "the pages of the copy",
+                place.shell('sqlite3 %s/volumes.db "%s"' % (place.copies(), size)),
+                ("4096\n", "", 0),
+            )

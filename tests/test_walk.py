@@ -1,0 +1,328 @@
+"""Requests at random to csid, each reply of which must be a model's.
+
+Requests are put to csid over volumes in memory, over a file of tables and over a log, and to a model: each
+reply must be the model's, byte for byte, and so must what is listed after each request.
+
+The requests are over few names, sizes and nodes, so that they meet. Over a file csid is started again and
+again: after its input ended, where the rows must be the model's, and after SIGKILL, or with the file made
+one of format 1. Over a log, which keeps its rows in this process, changes fail: they are refused, or nobody
+knows of them; the call is then put again on a new connection, and has the model's reply. Between the pages
+of a listing there are further requests. What happens must happen often.
+"""
+
+import collections
+import os
+import socket
+import sqlite3
+import subprocess
+import tempfile
+import time
+
+from tests import vectors as v
+from tests.support import logs
+from tests.support.model import Model, Requests, capabilities, entries
+from tests.support.processes import program
+from tests.support.rows import RowTest
+
+
+SEEDS, STEPS, WALKS, OFTEN, SECONDS = range(1, 5), 2000, 100, 30, 300
+
+# What has to happen often: what is done, and each refusal.
+EXPECTED = [
+    "created",
+    "created again",
+    "deleted",
+    "nothing to delete",
+    "published",
+    "published with a part of its mode",
+    "published again",
+    "unpublished",
+    "nothing to unpublish",
+    "confirmed",
+    "not confirmed",
+    "page",
+    "last page",
+    "capacity",
+    "no capacity",
+    "volume exists and is not compatible",
+    "capacity is out of range",
+    "no room in the topology",
+    "volume is in use",
+    "volume not found",
+    "node not found",
+    "volume is published otherwise",
+    "volume does not have this capability",
+    "volume is published elsewhere",
+    "node is full",
+    "bad starting token",
+    "modified",
+    "modified again",
+    "mutable parameters are missing",
+    "mutable parameters are too large",
+    "a file of format 1 taken over",
+    "a change that the log refused",
+    "a change that the log did not make",
+    "a change that the log made, but did not answer",
+    "a connection that the log ended",
+]
+# What a log does of a change, by what is told of it.
+FAULTS = {
+    logs.KeptLog.REFUSES: "a change that the log refused",
+    logs.KeptLog.ENDS: "a change that the log did not make",
+    logs.KeptLog.LOSES: "a change that the log made, but did not answer",
+}
+
+
+class Server:
+    """csid as a process that is asked and answers, over a file of tables where there is one."""
+
+    def __init__(self, csid, tables):
+        self.command, self.tables = [csid, "pipe"] + (["--tables", tables] if tables else []), tables
+        self.start()
+
+    def start(self):
+        self.process = subprocess.Popen(self.command, stdin=subprocess.PIPE, stdout=subprocess.PIPE)
+
+    def ask(self, call):
+        """The reply to a call (docs/PROTOCOL.md, 'Envelope')."""
+        self.process.stdin.write(call)
+        self.process.stdin.flush()
+        read = self.process.stdout.read
+        head = read(3)
+        text = read(int.from_bytes(head[1:], "big") + 5)
+        return head + text + read(int.from_bytes(text[-4:], "big"))
+
+    def end(self):
+        """What it wrote that nobody asked for, and its status."""
+        return self.process.communicate()[0], self.process.returncode
+
+    def kill(self):
+        self.process.kill()
+        return self.end()
+
+
+class LogServer:
+    """csid as a process over a log, asked over one connection after another."""
+
+    tables = None
+
+    def __init__(self, csid, folder):
+        self.log = logs.KeptLog(os.path.join(folder, "log"))
+        self.path, self.csid = os.path.join(folder, "csid"), csid
+        self.refused = 0
+        self.start()
+
+    def start(self):
+        self.process = subprocess.Popen(
+            [self.csid, "serve", "--socket", self.path, "--log", self.log.path],
+            stdin=subprocess.DEVNULL,
+            stderr=subprocess.DEVNULL,
+        )
+        while not os.path.exists(self.path):
+            time.sleep(0.001)
+        self.connect()
+
+    def connect(self):
+        self.peer = socket.socket(socket.AF_UNIX)
+        while self.peer.connect_ex(self.path):
+            time.sleep(0.001)
+        self.stream = self.peer.makefile("rb")
+
+    def exchange(self, call):
+        """The reply to a call, as far as one comes."""
+        try:
+            self.peer.sendall(call)
+            read = self.stream.read
+            head = read(3)
+            text = read(int.from_bytes(head[1:], "big") + 5)
+            return head + text + read(int.from_bytes(text[-4:], "big"))
+        except (BrokenPipeError, ConnectionResetError):
+            return b""
+
+    def ask(self, call):
+        """The reply to a call, which is put again, once, where the store refused it or no reply came."""
+        reply = self.exchange(call)
+        if reply in (b"", v.refusal(13, "store refused")):
+            self.refused += 1
+            self.peer.close()
+            self.connect()
+            reply = self.exchange(call)
+        return reply
+
+    def kill(self):
+        if self.process.poll() is None:
+            self.process.kill()
+            self.process.wait()
+            self.peer.close()
+            os.unlink(self.path)
+
+    def end(self):
+        self.kill()
+        self.log.end()
+        return b"", 0
+
+
+def rows(model):
+    """The rows of the model (docs/TABLES.md)."""
+    volumes = [
+        (
+            it.number,
+            it.name,
+            it.bytes,
+            it.pool.name,
+            capabilities(it.keys),
+            entries(v.param, it.parameters) + entries(v.mutable, it.mutable),
+        )
+        for it in model.volumes
+    ]
+    attachments = sorted(
+        (*place, capabilities([key]), int(readonly)) for place, (key, readonly) in model.attachments.items()
+    )
+    return volumes, attachments, [(1, 2, model.next)]
+
+
+def rows_in(path):
+    connection = sqlite3.connect(path)
+    found = [
+        connection.execute("SELECT * FROM %s ORDER BY 1, 2" % name).fetchall()
+        for name in ("volumes", "attachments", "meta")
+    ]
+    connection.close()
+    return tuple(found)
+
+
+class Walk:
+    """One walk, and what was found."""
+
+    def __init__(self, csid, seed, server):
+        self.model, self.server = Model(), server
+        self.requests = Requests(seed, self.model)
+        self.seen, self.faults = collections.Counter(), []
+
+    def asks(self, call, reply, what):
+        self.seen[what] += 1
+        came = self.server.ask(call)
+        if came != reply:
+            self.faults.append(
+                "request %d, %s: %s, and not %s" % (sum(self.seen.values()), what, came.hex(), reply.hex())
+            )
+        return came == reply
+
+    def step(self):
+        """A request, and what is listed behind it."""
+        listed = self.asks(*self.requests.next()) and self.asks(v.listing(), *self.model.listing(0, "")[:2])
+        rule = self.model.breaks()
+        if rule:
+            self.faults.append("request %d: %s" % (sum(self.seen.values()), rule))
+        return listed and not rule
+
+    def pages(self):
+        """Page after page, with requests between: nothing is listed twice, what is listed stands, and what
+        stood all the while is listed.
+        """
+        throughout, listed, token = {it.number for it in self.model.volumes}, [], None
+        while token != "":
+            most = self.requests.one_of(1, 2, 3)
+            reply, what, numbers, then = self.model.listing(most, token or "")
+            if not self.asks(v.listing(v.most(most), v.start(token) if token else b""), reply, what):
+                return False
+            standing = {it.number for it in self.model.volumes}
+            if what == "bad starting token" or not set(numbers) <= standing or set(numbers) & set(listed):
+                self.faults.append("a page behind %r lists %r" % (token, numbers))
+            listed, token = listed + numbers, then
+            for _ in range(self.requests.random.randrange(4) if token else 0):
+                if not self.step():
+                    return False
+                throughout &= {it.number for it in self.model.volumes}
+        if not throughout <= set(listed):
+            self.faults.append("a walk over pages left out %r" % (throughout - set(listed)))
+        return True
+
+    def makes_older(self):
+        """Makes the file one of format 1, which has no mutable parameters."""
+        connection = sqlite3.connect(self.server.tables)
+        with connection:
+            for it in self.model.volumes:
+                connection.execute(
+                    "UPDATE volumes SET params = ? WHERE number = ?",
+                    (entries(v.param, it.parameters), it.number),
+                )
+            connection.execute("UPDATE meta SET format_no = 1")
+        connection.close()
+        self.model.volumes = [it._replace(mutable={}) for it in self.model.volumes]
+        self.seen["a file of format 1 taken over"] += 1
+
+    def upsets_log(self):
+        """The next change of the log fails, the log ends its connection, or csid is killed and started again.
+        What rows it has by then is looked at.
+        """
+        if (
+            self.server.log.fault is None
+            and self.server.log.rows() != rows(self.model)
+            and self.model.next > 1
+        ):
+            self.faults.append("the rows of the log are not the model's")
+        how = self.requests.one_of("is killed", "hangs up", *FAULTS)
+        if how == "is killed":
+            self.server.kill()
+            self.server.start()
+        elif how == "hangs up":
+            self.server.log.hang_up()
+            self.seen["a connection that the log ended"] += 1
+        elif self.server.log.fault is None:
+            self.server.log.fault = how
+            self.seen[FAULTS[how]] += 1
+
+    def starts_anew(self):
+        """Another start of csid over its file."""
+        how = self.requests.one_of("ends", "is killed", "is older", "is older")
+        if how != "ends":
+            self.server.kill()
+            if how == "is older":
+                self.makes_older()
+        elif self.server.end() != (b"", 0) or rows_in(self.server.tables) != rows(self.model):
+            self.faults.append("the rows at an end are not the model's")
+        self.server.start()
+
+    def run(self):
+        # What is told of pools that have no volumes.
+        if not all(self.asks(*self.requests.capacity()) for _ in range(8)):
+            return self
+        for at in range(STEPS):
+            if not self.step():
+                return self
+            if self.server.tables and at % 100 == 99:
+                self.starts_anew()
+            if isinstance(self.server, LogServer) and at % 20 == 19:
+                self.upsets_log()
+        for _ in range(WALKS):
+            if not self.pages():
+                return self
+        if self.server.end() != (b"", 0):
+            self.faults.append("it did not end well")
+        return self
+
+
+class WalkTest(RowTest):
+    longest = SECONDS
+
+    def walk(self, seed, place, folder):
+        os.mkdir(folder)
+        if place == "a log":
+            server = LogServer(program("csid"), folder)
+        else:
+            server = Server(program("csid"), os.path.join(folder, "db") if place == "tables" else None)
+        walk = Walk(program("csid"), seed, server).run()
+        walk.server.kill()
+        return walk
+
+    def test_walks(self):
+        seen = collections.Counter()
+        # A file in memory takes no waiting for a disk.
+        with tempfile.TemporaryDirectory(dir="/dev/shm" if os.path.isdir("/dev/shm") else None) as folder:
+            for seed in SEEDS:
+                for place in "memory", "tables", "a log":
+                    walk = self.walk(seed, place, os.path.join(folder, "%d %s" % (seed, place)))
+                    self.row("seed %d over %s" % (seed, place), walk.faults[:3], [])
+                    seen += walk.seen
+        self.row("what happens, happens often", [what for what in EXPECTED if seen[what] < OFTEN], [])
