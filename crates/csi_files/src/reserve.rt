@@ -33,32 +33,12 @@ pub(crate) fn held(alloc: Global, bytes: usize) -> Result<Vec<u8>, AllocError> {
     Vec::with_capacity(alloc, bytes)
 }
 
-// Rows of a volume, as an opening reads them.
-#[derive(Clone, Copy)]
-struct Rows {
-    // The number of the volume.
-    number: u64,
-    count: usize,
-    // How many bytes are in them.
-    bytes: usize,
-}
-
-impl Rows {
-    const NONE: Rows = Rows {
-        number: 0,
-        count: 0,
-        bytes: 0,
-    };
-}
-
 // Memory that is kept.
 struct Reserve {
     alloc: Global,
     blocks: Vec<Vec<u8>>,
     // How many bytes are to be kept.
     wanted: usize,
-    // How many rows were added since the opening, less those that were taken away.
-    rows: usize,
 }
 
 impl Drop for Reserve {
@@ -67,7 +47,6 @@ impl Drop for Reserve {
             alloc: _,
             blocks: _blocks,
             wanted: _,
-            rows: _,
         } = self;
     }
 }
@@ -79,7 +58,6 @@ impl Reserve {
             alloc,
             blocks: Vec::new(alloc),
             wanted,
-            rows: 0,
         };
         let _ = reserve.fill();
         reserve
@@ -104,15 +82,6 @@ impl Reserve {
         }
         grown
     }
-
-    // Keeps no more what was kept for rows. What the opening took for a row that was there before is not known: only the bytes that are in it are let go.
-    fn let_go(&mut self, rows: Rows) {
-        let added = rows.count.min(self.rows);
-        self.rows -= added;
-        let bytes = rows.bytes.saturating_add(added.saturating_mul(ROW_BYTES));
-        self.wanted = self.wanted.saturating_sub(bytes);
-        self.blocks.truncate(self.wanted.div_ceil(BLOCK_BYTES));
-    }
 }
 
 fn cap_bytes(cap: &CapKey) -> usize {
@@ -122,9 +91,10 @@ fn cap_bytes(cap: &CapKey) -> usize {
     }
 }
 
-// How many bytes are in the row of a volume.
 fn volume_bytes(volume: &Volume) -> usize {
-    let mut bytes = volume.name.len().saturating_add(volume.pool.len());
+    let mut bytes = ROW_BYTES
+        .saturating_add(volume.name.len())
+        .saturating_add(volume.pool.len());
     for cap in volume.caps.iter() {
         bytes = bytes.saturating_add(cap_bytes(cap));
     }
@@ -133,48 +103,26 @@ fn volume_bytes(volume: &Volume) -> usize {
         .saturating_add(map_bytes(&volume.mutable))
 }
 
-// How many bytes are in the row of an attachment.
-fn attachment_bytes(attachment: &Attachment) -> usize {
-    attachment
-        .node
-        .len()
-        .saturating_add(cap_bytes(&attachment.cap))
-}
-
-// The rows of the attachments of a volume.
-fn rows_of(number: u64, attachments: &[Attachment]) -> Rows {
-    let mut bytes = 0usize;
-    for attachment in attachments {
-        bytes = bytes.saturating_add(attachment_bytes(attachment));
-    }
-    Rows {
-        number,
-        count: attachments.len(),
-        bytes,
-    }
-}
-
 // How many bytes more an opening takes after a change.
 fn bytes_of(change: &Change) -> usize {
     match change {
-        Change::AddVolume(volume) => volume_bytes(volume).saturating_add(ROW_BYTES),
-        Change::Attach(_, attachment) => attachment_bytes(attachment).saturating_add(ROW_BYTES),
+        Change::AddVolume(volume) => volume_bytes(volume),
+        Change::Attach(_, attachment) => {
+            ROW_BYTES
+                .saturating_add(attachment.node.len())
+                .saturating_add(cap_bytes(&attachment.cap))
+        }
         Change::SetMutable(_, mutable) => map_bytes(mutable),
         Change::RemoveVolume(_) | Change::Detach(..) | Change::DetachAll(_) => 0,
     }
 }
 
 /// Tables, and memory for their next opening. A change that adds to them keeps memory for what it adds first, and is answered `NoMemory` where there is none, and
-/// not made; the tables are not down then. One that takes away keeps no memory, and lets go what was kept for what it takes away.
+/// not made; the tables are not down then. One that takes away keeps no memory.
 #[derive(Drop)]
 pub(crate) struct Reserved<S: Alter> {
     tables: Tables<S>,
     reserve: Reserve,
-    // The row of the volume that was read last, and how many bytes of it are its mutable parameters.
-    volume: Rows,
-    mutable_bytes: usize,
-    // The rows of the attachments that were read last.
-    attachments: Rows,
 }
 
 impl<S: Alter> Reserved<S> {
@@ -185,9 +133,6 @@ impl<S: Alter> Reserved<S> {
         Reserved {
             tables,
             reserve: Reserve::new(alloc, wanted),
-            volume: Rows::NONE,
-            mutable_bytes: 0,
-            attachments: Rows::NONE,
         }
     }
 
@@ -219,55 +164,6 @@ impl<S: Alter> Reserved<S> {
             Err(_) => Err(StoreFault::NoMemory),
         }
     }
-
-    // What a change takes away, as far as it was read before.
-    fn taken_by(&self, change: &Change) -> Rows {
-        match change {
-            Change::RemoveVolume(number) if *number == self.volume.number => self.volume,
-            Change::DetachAll(number) if *number == self.attachments.number => self.attachments,
-            Change::Detach(number, node) => Rows {
-                number: *number,
-                count: 1,
-                bytes: node.len().saturating_add(CAP_BYTES),
-            },
-            Change::SetMutable(number, _) if *number == self.volume.number => Rows {
-                number: *number,
-                count: 0,
-                bytes: self.mutable_bytes,
-            },
-            _ => Rows::NONE,
-        }
-    }
-
-    // Counts what a change added if it was made, or lets go what was kept for what it took away.
-    fn note_made(&mut self, change: &Change, is_made: bool)
-        ensures same { self.new.tables ≡ self.old.tables }
-    {
-        if !is_made {
-            return;
-        }
-        match change {
-            Change::AddVolume(_) | Change::Attach(..) => {
-                self.reserve.rows = self.reserve.rows.saturating_add(1);
-            }
-            _ => {
-                let taken = self.taken_by(change);
-                self.reserve.let_go(taken);
-            }
-        }
-    }
-
-    // Remembers the row of a volume that was read.
-    fn note_volume(&mut self, number: u64, volume: &Volume)
-        ensures same { self.new.tables ≡ self.old.tables }
-    {
-        self.volume = Rows {
-            number,
-            count: 1,
-            bytes: volume_bytes(volume),
-        };
-        self.mutable_bytes = map_bytes(&volume.mutable);
-    }
 }
 
 impl<S: Alter> Keeper for Reserved<S> {
@@ -288,11 +184,7 @@ impl<S: Alter> Keeper for Reserved<S> {
     }
 
     fn by_number(&mut self, alloc: Global, number: u64) -> Result<Option<Volume>, StoreFault> {
-        let found = self.tables.by_number(alloc, number);
-        if let Ok(Some(volume)) = &found {
-            self.note_volume(number, volume);
-        }
-        found
+        self.tables.by_number(alloc, number)
     }
 
     fn caps_of(&mut self, alloc: Global, number: u64) -> Result<Option<Items<CapKey>>, StoreFault> {
@@ -300,11 +192,7 @@ impl<S: Alter> Keeper for Reserved<S> {
     }
 
     fn attachments(&mut self, alloc: Global, number: u64) -> Result<Items<Attachment>, StoreFault> {
-        let found = self.tables.attachments(alloc, number);
-        if let Ok(attachments) = &found {
-            self.attachments = rows_of(number, attachments.as_slice());
-        }
-        found
+        self.tables.attachments(alloc, number)
     }
 
     fn attached_at(&mut self, alloc: Global, node: &str) -> Result<Items<u64>, StoreFault> {
@@ -343,11 +231,7 @@ impl<S: Alter> Keeper for Reserved<S> {
 
     fn apply(&mut self, alloc: Global, change: &Change) -> Result<(), StoreFault> {
         match self.keep_for(change) {
-            Ok(()) => {
-                let made = self.tables.apply(alloc, change);
-                self.note_made(change, made.is_ok());
-                made
-            }
+            Ok(()) => self.tables.apply(alloc, change),
             Err(fault) => Err(fault),
         }
     }

@@ -5,9 +5,7 @@ use Rattle.csi_files.proofs.ReserveLemmas.{unmade}
 use Rattle.csi_files.proofs.reserve.ReservedKeeper.apply.Goals as goal
 
 pub returns-in-Ok : goal.returns-in-Ok
-returns-in-Ok g c =
-    subst₂ (λ old new. Applies (tables_model g.S.Store old) (tables_model g.S.Store new) c.args.change.now c.apply-made.result)
-    c.keep_for.ensures.same (sym c.note_made.ensures.same) c.apply-made.ensures.applies
+returns-in-Ok g c = subst (λ t. Applies (tables_model g.S.Store t) (tables_model g.S.Store c.apply.new.self) c.args.change.now c.apply.result) c.keep_for.ensures.same c.apply.ensures.applies
 
 pub returns-in-Err : goal.returns-in-Err
 returns-in-Err g c =
