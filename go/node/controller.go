@@ -8,12 +8,23 @@ import (
 	"time"
 
 	"google.golang.org/grpc"
+	"google.golang.org/grpc/backoff"
 	"google.golang.org/grpc/codes"
 	"google.golang.org/grpc/status"
 )
 
-// How long the controller may take for an answer.
-const controllerTime = 10 * time.Second
+const (
+	// How long the controller may take for an answer.
+	controllerTime = 10 * time.Second
+	// How long a call waits for a controller that is not there, since it may just start.
+	startTime = 2 * time.Second
+)
+
+// A controller that was not there is dialled again at least once a second.
+var redial = grpc.ConnectParams{
+	Backoff:           backoff.Config{BaseDelay: 100 * time.Millisecond, Multiplier: 1.6, Jitter: 0.2, MaxDelay: time.Second},
+	MinConnectTimeout: controllerTime,
+}
 
 var (
 	volumeID    = regexp.MustCompile(`^vol-([1-9][0-9]*)$`)
@@ -27,7 +38,7 @@ func dial(socket string) (controller, error) {
 	toSocket := func(ctx context.Context, _ string) (net.Conn, error) {
 		return (&net.Dialer{}).DialContext(ctx, "unix", socket)
 	}
-	conn, err := grpc.Dial("passthrough:///csi", grpc.WithInsecure(), grpc.WithContextDialer(toSocket))
+	conn, err := grpc.Dial("passthrough:///csi", grpc.WithInsecure(), grpc.WithContextDialer(toSocket), grpc.WithConnectParams(redial))
 	return controller{conn}, err
 }
 
@@ -80,8 +91,15 @@ func (c controller) volumes(ctx context.Context) (map[string]bool, error) {
 func (c controller) page(ctx context.Context, entries int32, token string) (*listResponse, error) {
 	ctx, cancel := context.WithTimeout(ctx, controllerTime)
 	defer cancel()
-	page := new(listResponse)
-	if err := c.Invoke(ctx, "/"+controllerName+"/ListVolumes", &listRequest{MaxEntries: entries, StartingToken: token}, page); err != nil {
+	page, err := c.list(ctx, &listRequest{MaxEntries: entries, StartingToken: token})
+	if status.Code(err) == codes.Unavailable {
+		starting, cancel := context.WithTimeout(ctx, startTime)
+		defer cancel()
+		if later, again := c.list(starting, &listRequest{MaxEntries: entries, StartingToken: token}, grpc.WaitForReady(true)); status.Code(again) != codes.DeadlineExceeded {
+			page, err = later, again
+		}
+	}
+	if err != nil {
 		return nil, err
 	}
 	for _, entry := range page.Entries {
@@ -90,4 +108,9 @@ func (c controller) page(ctx context.Context, entries int32, token string) (*lis
 		}
 	}
 	return page, nil
+}
+
+func (c controller) list(ctx context.Context, request *listRequest, options ...grpc.CallOption) (*listResponse, error) {
+	page := new(listResponse)
+	return page, c.Invoke(ctx, "/"+controllerName+"/ListVolumes", request, page, options...)
 }

@@ -8,6 +8,7 @@ import (
 	"reflect"
 	"strconv"
 	"testing"
+	"time"
 
 	"google.golang.org/grpc"
 	"google.golang.org/grpc/codes"
@@ -134,6 +135,23 @@ func TestAllVolumes(t *testing.T) {
 		if got, err := c.volumes(context.Background()); err != nil || !reflect.DeepEqual(got, row.want) {
 			t.Errorf("%v: %v, %v", row.numbers, got, err)
 		}
+	}
+}
+
+// A call waits for a controller that is about to start, also after one that found none.
+func TestControllerThatStartsLater(t *testing.T) {
+	started := startController(t, listing{[]int{1}, 1, 100}.list)
+	socket := filepath.Join(filepath.Dir(started), "later.sock")
+	c := newController(t, socket)
+	if _, err := c.size(context.Background(), "vol-1"); status.Code(err) != codes.Unavailable {
+		t.Errorf("no controller: %v", err)
+	}
+	go func() {
+		time.Sleep(300 * time.Millisecond)
+		os.Symlink(started, socket)
+	}()
+	if size, err := c.size(context.Background(), "vol-1"); size != volumeBytes(1) || err != nil {
+		t.Errorf("a controller that starts: %d, %v", size, err)
 	}
 }
 

@@ -79,10 +79,17 @@ func runSession(t *testing.T, temporary string, steps []step) {
 	bash := exec.Command("bash", "-c", script.String())
 	bash.Dir = "../.."
 	bash.Env = append(os.Environ(), "TMPDIR="+temporary, "PATH="+programFolders()+":"+os.Getenv("PATH"))
+	var said strings.Builder
+	bash.Stderr = &said
 	shown, err := bash.Output()
 	if err != nil {
 		t.Error(err)
 	}
+	t.Cleanup(func() {
+		if t.Failed() {
+			t.Logf("standard error: %s", said.String())
+		}
+	})
 	parts := strings.Split(string(shown), mark)
 	if len(steps) < 18 || len(parts) != len(steps)+1 {
 		t.Fatalf("%d commands, %d answers", len(steps), len(parts)-1)

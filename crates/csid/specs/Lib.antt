@@ -1,3 +1,4 @@
 pub mod Serving
 pub mod Starting
 pub mod Statuses
+pub mod Taking

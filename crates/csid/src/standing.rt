@@ -1,5 +1,6 @@
 //! A file of tables and its log before they are opened: whether there are tables, and whether new ones may be made.
 
+use csi_files::LOG_WITH_FRAME_BYTES;
 use std::fs::{self, File};
 use std::io::{self, ErrorKind, Read};
 use thiserror::Error;
@@ -12,9 +13,6 @@ const KIND_AT: usize = 100;
 const CELLS_AT: usize = 103;
 
 const LEAF: u8 = 13;
-
-// The header of SQLite's log, and the least frame behind it: its own header and a page.
-const LOG_WITH_FRAME_BYTES: u64 = 32 + 24 + 512;
 
 /// Why a file is not taken for tables, and none are made in it.
 #[derive(Clone, Copy, Debug, Error)]
@@ -49,7 +47,7 @@ fn log_path(rt: &HostRuntime, path: &str) -> io::Result<String> {
 // Whether a file's log has a change.
 fn has_frames(rt: &HostRuntime, path: &str) -> io::Result<bool> {
     let log = log_path(rt, path)?;
-    Ok(fs::metadata(rt, log.as_str()).is_ok_and(|found| found.len() >= LOG_WITH_FRAME_BYTES))
+    Ok(fs::metadata(rt, log.as_str()).is_ok_and(|found| found.len() >= LOG_WITH_FRAME_BYTES as u64))
 }
 
 // Whether a file has no byte, or is missing.

@@ -1,7 +1,12 @@
 //! The tables in a file.
 
 ghost use Rattle.std.specs.Prelude.{◌≡◌, false, IfErr, IfOk, IsTrue};
+ghost use Rattle.sqlite_wal.specs.Files.{image_at};
+ghost use Rattle.csi_adoption.specs.Adopting.{IsAdopted};
+ghost use Rattle.csi_files.specs.Path.{over_calls};
+ghost use Rattle.csi_files.specs.Starting.{OpensMade};
 ghost use Rattle.csid.specs.Statuses.{IsOrNoMemory};
+ghost use Rattle.csid.specs.Taking.{IsTakenFrom};
 
 use crate::console::Console;
 use crate::content::{Content, read_content};
@@ -10,14 +15,13 @@ use crate::making::make_private;
 use crate::standing::{Fault, fault_of_log, fault_of_standing};
 use csi_adoption::{AdoptError, AdoptFault, adopt};
 use csi_config::Config;
+use csi_files::laws::found_again;
 use csi_files::open_path;
 use csi_keeper::StoreFault;
 use csi_tables::Tables;
-use sqlite::{Alter, Connection, Error, ErrorCode, File, FileStore, Unknown};
+use sqlite::{Alter, Connection, Error, ErrorCode, FileFrom, FileStore, Start, Unknown};
+use sqlite_disk::Disk;
 use std::alloc::Global;
-
-/// The store of a file on the disk.
-type Store = FileStore<File>;
 
 /// What is said where tables were made.
 pub(crate) const NEW_TABLES: &str = "no tables stood there, and new ones were made";
@@ -83,12 +87,17 @@ pub(crate) fn prepare(rt: &HostRuntime, path: &str, is_existing: bool) -> Result
     Ok(())
 }
 
-// A connection to a file, which is made where there is none.
-fn connect(rt: &HostRuntime, path: &str) -> Result<Connection<Store>, Failure>
+// A connection to a file, which is made where there is none. `start` stands for what it and its log held.
+fn connect<S: Start>(
+    rt: &HostRuntime,
+    path: &str,
+    start: S,
+) -> Result<Connection<FileStore<FileFrom<S>>>, Failure>
+    ensures opens { IfOk result (OpensMade over_calls (image_at S.Start)) }
     ensures idle { IfOk result (λ conn. conn.in_transaction ≡ false) }
     ensures failure { IfErr result (λ failure. IsOrNoMemory 4 failure) }
 {
-    match open_path(rt, path, Unknown) {
+    match open_path(rt, path, start) {
         Ok(conn) => Ok(conn),
         Err(error) => Err(of_database(rt.alloc(), path, &error)),
     }
@@ -116,7 +125,8 @@ pub(crate) fn keep<S: Alter + Drop>(
     config: &Config,
 ) -> Result<Tables<S>, Failure>
     requires { conn.in_transaction ≡ false }
-    ensures { IfErr result (λ failure. IsOrNoMemory 4 failure) }
+    ensures adopted { IfOk result (λ tables. IsAdopted S.Store config.now conn tables) }
+    ensures failure { IfErr result (λ failure. IsOrNoMemory 4 failure) }
 {
     match adopt(rt.alloc(), conn, config) {
         Ok(tables) => Ok(tables),
@@ -137,7 +147,8 @@ pub(crate) fn take<S: Alter + Drop>(
     is_existing: bool,
 ) -> Result<Tables<S>, Failure>
     requires { conn.in_transaction ≡ false }
-    ensures { IfErr result (λ failure. IsOrNoMemory 4 failure) }
+    ensures adopted { IfOk result (λ tables. IsAdopted S.Store config.now conn tables) }
+    ensures failure { IfErr result (λ failure. IsOrNoMemory 4 failure) }
 {
     let is_new = conn.schema().tables.is_empty();
     if is_new & is_existing {
@@ -151,7 +162,11 @@ pub(crate) fn take<S: Alter + Drop>(
 }
 
 // Copies what was committed into the file itself, and closes it. Where that fails, nothing is lost: it stays in the log beside the file.
-fn disconnect(alloc: Global, path: &str, conn: Connection<Store>) -> Result<(), Failure>
+fn disconnect<D: Disk + Drop>(
+    alloc: Global,
+    path: &str,
+    conn: Connection<FileStore<D>>,
+) -> Result<(), Failure>
     ensures { IfErr result (λ failure. IsOrNoMemory 4 failure) }
 {
     match conn.close() {
@@ -178,6 +193,23 @@ pub(crate) fn tell_content(console: &Console<'_>, path: &str, content: Result<Co
     }
 }
 
+// Opens and judges the tables in a file, of which `start` stands for what it and its log held.
+fn take_from<S: Start>(
+    console: &Console<'_>,
+    path: &str,
+    config: &Config,
+    is_existing: bool,
+    start: S,
+) -> Result<Tables<FileStore<FileFrom<S>>>, Failure>
+    ensures state { IfOk result (IsTakenFrom S.Start config.now) }
+    ensures failure { IfErr result (λ failure. IsOrNoMemory 4 failure) }
+{
+    found_again::<FileFrom<S>>(config);
+    prepare(console.rt, path, is_existing)?;
+    let conn = connect(console.rt, path, start)?;
+    take(console, path, conn, config, is_existing)
+}
+
 // Opens and judges the tables in a file, looks what they have, and closes the file. What they have is said, and why the file could not be closed.
 fn look_over(
     console: &Console<'_>,
@@ -188,8 +220,7 @@ fn look_over(
     ensures { IfErr result (λ failure. IsOrNoMemory 4 failure) }
 {
     let rt = console.rt;
-    prepare(rt, path, is_existing)?;
-    let tables = take(console, path, connect(rt, path)?, config, is_existing)?;
+    let tables = take_from(console, path, config, is_existing, Unknown)?;
     let mut conn = tables.into_connection();
     let content = read_content(&mut conn);
     if let Err(failure) = disconnect(rt.alloc(), path, conn) {

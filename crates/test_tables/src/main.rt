@@ -1,12 +1,13 @@
 //! Answers rows about tables: statements and scans over them, the constraints of what is stored in them, the volume machine over them, tables
-//! that are adopted or not, and the tables in files of which the disk stopped in a call. What the rows of a section look like stands at its head in the file
-//! `stdin` of this crate.
+//! that are adopted or not, the tables in files of which the disk stopped in a call, and runs from files to files. What the rows of a section look
+//! like stands at its head in the file `stdin` of this crate.
 #![tactic(auto)]
 
 mod adoption;
 mod cells;
 mod constraints;
 mod database;
+mod files;
 mod numbers;
 mod scans;
 mod state;
@@ -53,6 +54,7 @@ impl AnswerSection for Sections {
             "tables" => answer(rt, rows, tables::Bench::new(rt.alloc())),
             "adoption" => answer(rt, rows, Ok(Plain::Adoption)),
             "stops" => answer(rt, rows, stops::Bench::new(rt.alloc())),
+            "files" => answer(rt, rows, files::Bench::new(rt.alloc())),
             _ => Err(RowFault::NotRow),
         }
     }

@@ -5,7 +5,10 @@ mod disks;
 mod runs;
 mod serving;
 mod trials;
+mod troubled;
 
+use crate::files::disks::Lie;
+use crate::files::running::served_by;
 use csi_config::Config;
 use disks::{NEVER, copies, left_of, new_disks, new_files};
 use runs::Wanted;
@@ -14,6 +17,7 @@ use sqlite_disk::{Files, Memory};
 use std::alloc::Global;
 use test_kit::{Answer, AnswerRow, RowFault, bytes_of, number_at};
 use trials::{Trials, Way};
+use troubled::{Trouble, left_of_troubled, lying};
 
 /// How a database is left.
 #[derive(Clone, Copy)]
@@ -42,7 +46,43 @@ impl Bench {
         })
     }
 
-    fn answer(&mut self, alloc: Global, row: &str) -> Result<String, RowFault> {
+    /// Serves calls by `csi_files` over the files, of which the database file may lie, and says what that came to.
+    pub(crate) fn serve(
+        &mut self,
+        alloc: Global,
+        calls: &[u8],
+        is_low_memory: bool,
+        lie: Option<Lie>,
+        replies: &mut Vec<u8>,
+    ) -> Result<String, RowFault> {
+        let disks = lying(alloc, &self.files, lie)?;
+        let (outcome, mut disks) = served_by(
+            alloc,
+            &self.config,
+            disks,
+            is_low_memory,
+            calls,
+            replies,
+        );
+        if lie.is_none() {
+            self.files = left_of_troubled(alloc, &mut disks, false)?;
+        }
+        Ok(outcome?)
+    }
+
+    /// The first place of a text in the database file.
+    pub(crate) fn place_of(&self, text: &[u8]) -> Result<usize, RowFault> {
+        let bytes = self.files.db.bytes();
+        for at in 0..bytes.len() {
+            if bytes[at..].starts_with(text) {
+                return Ok(at);
+            }
+        }
+        Err(RowFault::NotRow)
+    }
+
+    /// The answer of a row.
+    pub(crate) fn answer(&mut self, alloc: Global, row: &str) -> Result<String, RowFault> {
         let (word, rest) = row.split_once(' ').ok_or(RowFault::NotRow)?;
         match word {
             "begin" => self.begin(alloc, rest, Ending::Closed),
@@ -51,6 +91,12 @@ impl Bench {
             "stops" => self.stop(alloc, rest, Way::Once),
             "twice" => self.stop(alloc, rest, Way::Twice),
             "closes" => self.stop(alloc, rest, Way::Closing),
+            "files" => {
+                self.files = new_files(alloc);
+                Ok(String::from_str(alloc, "no bytes")?)
+            }
+            "freezes" => self.stop(alloc, rest, Way::Running(Trouble::Freezes)),
+            "fills" => self.stop(alloc, rest, Way::Running(Trouble::Fills)),
             "new" => {
                 self.files = new_files(alloc);
                 self.stop(alloc, rest, Way::Once)

@@ -2,6 +2,7 @@
 
 ghost use Rattle.std.specs.Prelude.{◌≡◌, false, IfOk};
 
+use super::troubled::Trouble;
 use crate::database::run;
 use sqlite::{Alter, Connection, Error as SqlError, ErrorCode, FileStore, Options};
 use sqlite_disk::{Crash, Disk, Files, Fuse, Memory};
@@ -40,6 +41,8 @@ pub(crate) struct Stop {
     pub(crate) closes: bool,
     /// What was not synchronised is lost.
     pub(crate) loses: bool,
+    /// The run is one of `csi_files`, over files of which this becomes. Otherwise tables are adopted on a connection to files that stop.
+    pub(crate) trouble: Option<Trouble>,
 }
 
 impl Stop {
@@ -105,7 +108,12 @@ fn copied(alloc: Global, file: &Memory) -> Result<Memory, RowFault> {
     Ok(copy)
 }
 
-fn copied_files(alloc: Global, log: &Memory, db: &Memory) -> Result<Files<Memory>, RowFault> {
+/// Files with the same bytes, all synchronised.
+pub(crate) fn copied_files(
+    alloc: Global,
+    log: &Memory,
+    db: &Memory,
+) -> Result<Files<Memory>, RowFault> {
     let log = copied(alloc, log)?;
     Ok(Files {
         log,

@@ -2,6 +2,8 @@
 
 use super::disks::{Stop, copies, has_stopped, left_of};
 use super::serving::{Outcome, outcome_of, serve_files, unlike};
+use super::troubled::{Trouble, have_failed, left_of_troubled, lying, troubled};
+use crate::files::running::served_by;
 use csi_config::Config;
 use sqlite_disk::{Files, Memory};
 use std::alloc::{AllocError, Global};
@@ -52,6 +54,59 @@ pub(crate) struct Came {
 impl Wanted<'_> {
     /// A run over files in which the disk stops.
     pub(crate) fn run(&self, files: &Files<Memory>, stop: Stop) -> Result<Left, RowFault> {
+        match stop.trouble {
+            Some(trouble) => self.run_troubled(files, stop, trouble),
+            None => self.run_stopping(files, stop),
+        }
+    }
+
+    // A run of `csi_files` over files with a trouble.
+    fn run_troubled(
+        &self,
+        files: &Files<Memory>,
+        stop: Stop,
+        trouble: Trouble,
+    ) -> Result<Left, RowFault> {
+        let disks = troubled(self.alloc, files, stop, trouble)?;
+        let mut reply = Vec::new(self.alloc);
+        let (_, mut disks) = served_by(
+            self.alloc,
+            self.config,
+            disks,
+            false,
+            self.call,
+            &mut reply,
+        );
+        Ok(Left {
+            is_stopped: have_failed(&mut disks),
+            reply,
+            files: left_of_troubled(self.alloc, &mut disks, stop.loses)?,
+        })
+    }
+
+    // The next run of `csi_files` over files that are left answers the call as it is answered where nothing stops.
+    fn runs_again(&self, stop: Stop, files: &Files<Memory>) -> Result<(), RowFault> {
+        let mut reply = Vec::new(self.alloc);
+        let (outcome, _) = self.serve(files, self.call, &mut reply)?;
+        if outcome.starts_with("closed, done") && reply == self.whole.replies {
+            return Ok(());
+        }
+        Err(unlike(self.alloc, &stop, &outcome))
+    }
+
+    // A run of `csi_files` over copies of files, and the files after it.
+    fn serve(
+        &self,
+        files: &Files<Memory>,
+        calls: &[u8],
+        replies: &mut Vec<u8>,
+    ) -> Result<(String, Files<Memory>), RowFault> {
+        let disks = lying(self.alloc, files, None)?;
+        let (outcome, mut disks) = served_by(self.alloc, self.config, disks, true, calls, replies);
+        Ok((outcome?, left_of_troubled(self.alloc, &mut disks, false)?))
+    }
+
+    fn run_stopping(&self, files: &Files<Memory>, stop: Stop) -> Result<Left, RowFault> {
         let disks = copies(self.alloc, files, stop.calls_of_each())?;
         let mut reply = Vec::new(self.alloc);
         let mut disks = serve_files(
@@ -71,7 +126,16 @@ impl Wanted<'_> {
 
     /// What the next start finds.
     pub(crate) fn find(&self, stop: Stop, files: Files<Memory>) -> Result<Found, RowFault> {
-        match outcome_of(self.alloc, self.config, &files, self.call) {
+        let outcome = match stop.trouble {
+            Some(_) => {
+                self.runs_again(stop, &files)?;
+                // A first page may be torn, which a run makes whole.
+                let (_, opened) = self.serve(&files, b"", &mut Vec::new(self.alloc))?;
+                outcome_of(self.alloc, self.config, &opened, self.call)
+            }
+            None => outcome_of(self.alloc, self.config, &files, self.call),
+        };
+        match outcome {
             Ok(outcome) => Ok(Found { files, outcome }),
             Err(fault) => Err(unlike(self.alloc, &stop, &fault)),
         }

@@ -2,6 +2,7 @@
 
 use super::disks::{Stop, Which, are_same};
 use super::runs::{Came, Found, Left, Wanted};
+use super::troubled::Trouble;
 use sqlite_disk::{Files, Memory};
 use std::fmt;
 use test_kit::RowFault;
@@ -50,6 +51,17 @@ pub(crate) enum Way {
     Twice,
     /// In the call, or as the connection is closed behind it.
     Closing,
+    /// Anywhere in a run of `csi_files`, from the opening to the close.
+    Running(Trouble),
+}
+
+impl Way {
+    fn trouble(self) -> Option<Trouble> {
+        match self {
+            Way::Once | Way::Twice | Way::Closing => None,
+            Way::Running(trouble) => Some(trouble),
+        }
+    }
 }
 
 /// The runs of a call.
@@ -104,6 +116,7 @@ impl<'a> Trials<'a> {
                 calls,
                 closes,
                 loses,
+                trouble: self.way.trouble(),
             };
             if !self.stop(stop)? {
                 return Ok(());
@@ -117,7 +130,7 @@ impl<'a> Trials<'a> {
     fn left_again(&self, files: Files<Memory>, stop: Stop) -> Result<Files<Memory>, RowFault> {
         match self.way {
             Way::Twice => Ok(self.wanted.run(&files, stop)?.files),
-            Way::Once | Way::Closing => Ok(files),
+            Way::Once | Way::Closing | Way::Running(_) => Ok(files),
         }
     }
 

@@ -1,0 +1,101 @@
+//! Runs of `csi_files` over files in memory: what is made of files that hold no database, and runs over disks that stop, are full, or lie.
+
+pub(crate) mod disks;
+mod laying;
+pub(crate) mod running;
+
+use crate::stops;
+use disks::Lie;
+use laying::{Laid, lay, lay_each, lay_odd};
+use std::alloc::Global;
+use test_kit::{Answer, AnswerRow, RowFault, bytes_of, bytes_text, number_at, word_at, words_of};
+
+/// The files of the rows before, and the bytes of a database file that is made.
+#[derive(Drop)]
+pub(crate) struct Bench {
+    stops: stops::Bench,
+    page: Vec<u8>,
+}
+
+impl Bench {
+    /// New files.
+    pub(crate) fn new(alloc: Global) -> Result<Bench, RowFault> {
+        Ok(Bench {
+            stops: stops::Bench::new(alloc)?,
+            page: Vec::new(alloc),
+        })
+    }
+
+    // The bytes that a database file has once it is made.
+    fn set_page(&mut self, alloc: Global, bytes: &str) -> Result<String, RowFault> {
+        self.page = bytes_of(alloc, bytes)?;
+        Ok(format!(in alloc; "{} bytes", self.page.len())?)
+    }
+
+    // What becomes of a log and a database file with these bytes.
+    fn lay(&self, alloc: Global, words: &str) -> Result<String, RowFault> {
+        let (log, db) = words.split_once(" / ").ok_or(RowFault::NotRow)?;
+        let log = bytes_of(alloc, log)?;
+        let db = bytes_of(alloc, db)?;
+        let mut laid = Laid::none();
+        lay(alloc, &self.page, &log, &db, &mut laid)?;
+        Ok(format!(in alloc; "{laid}")?)
+    }
+
+    // Calls over the files, and the replies to them.
+    fn serve(
+        &mut self,
+        alloc: Global,
+        words: &str,
+        is_low_memory: bool,
+        lie: Option<Lie>,
+    ) -> Result<String, RowFault> {
+        let calls = bytes_of(alloc, words)?;
+        let mut replies = Vec::new(alloc);
+        let outcome = self
+            .stops
+            .serve(alloc, &calls, is_low_memory, lie, &mut replies)?;
+        Ok(format!(in alloc; "{outcome}: {}", bytes_text(alloc, &replies)?)?)
+    }
+
+    // The same of a database file of which a byte is read with bits turned: the one so many bytes after the first place where a text is. The files stay as they are.
+    fn lie(&mut self, alloc: Global, row: &str) -> Result<String, RowFault> {
+        let (lie, calls) = row.split_once(" / ").ok_or(RowFault::NotRow)?;
+        let words = words_of(alloc, lie)?;
+        let text = bytes_of(alloc, word_at(&words, 0)?)?;
+        let lie = Lie {
+            at: self
+                .stops
+                .place_of(&text)?
+                .saturating_add(number_at(&words, 1)?),
+            bits: number_at(&words, 2)?,
+        };
+        self.serve(alloc, calls, true, Some(lie))
+    }
+
+    fn answer(&mut self, alloc: Global, row: &str) -> Result<String, RowFault> {
+        let (word, rest) = row.split_once(' ').ok_or(RowFault::NotRow)?;
+        match word {
+            "page" => self.set_page(alloc, rest),
+            "lay" => self.lay(alloc, rest),
+            "each" => Ok(format!(in alloc;
+                "{}",
+                lay_each(alloc, &self.page, &bytes_of(alloc, rest)?)?
+            )?),
+            "odd" => Ok(format!(in alloc;
+                "{}",
+                lay_odd(alloc, &self.page, &bytes_of(alloc, rest)?)?
+            )?),
+            "serve" => self.serve(alloc, rest, false, None),
+            "low" => self.serve(alloc, rest, true, None),
+            "lies" => self.lie(alloc, rest),
+            _ => self.stops.answer(alloc, row),
+        }
+    }
+}
+
+impl AnswerRow for Bench {
+    fn answer_row(&mut self, rt: &HostRuntime, row: &str) -> Result<Answer, RowFault> {
+        Ok(Answer::Text(self.answer(rt.alloc(), row)?))
+    }
+}
