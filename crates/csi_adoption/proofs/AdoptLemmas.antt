@@ -10,19 +10,18 @@ use Rattle.csi_config.specs.declared.config.Config.{Config}
 use Rattle.csi_keeper.specs.Invariant.{IsInvariant}
 use Rattle.csi_keeper.specs.State.{State, first_state}
 use Rattle.csi_keeper.specs.declared.totals.Totals.{Totals}
-use Rattle.csi_schema.specs.Making.{MakesTables}
-use Rattle.csi_schema.specs.Tables.{no_schema, schema}
-use Rattle.csi_schema.specs.Transactions.{LeavesFrom}
-use Rattle.csi_statements.specs.Rows.{IsUndone}
+use Rattle.csi_sql.specs.Making.{MakesTables}
+use Rattle.csi_sql.specs.Tables.{no_schema, schema}
+use Rattle.csi_sql.specs.Transactions.{LeavesFrom, IsUndone}
 use Rattle.csi_tables.specs.Holding.{IsEitherRows, IsFirstRows, IsRows, Shows, conn_doubt, store_doubt, store_holds, store_survivors, store_tied}
 use Rattle.csi_tables.specs.Keeping.{is_down, refusals, store_of, IsNewOver}
 use Rattle.csi_tables.specs.Laws.{OneState}
 use Rattle.csi_tables.specs.declared.tables.Tables.{Tables}
-use Rattle.csi_judging.specs.Faults.{is_failure}
+use Rattle.csi_adoption.specs.Faults.{is_failure}
 use Rattle.csi_adoption.specs.Failing.{AdoptionFails, IsOfShut}
-use Rattle.csi_judging.specs.declared.fault.AdoptFault.{AdoptFault}
-use Rattle.csi_judging.specs.declared.fault.AdoptFault.TheVariants.{Foreign}
-use Rattle.csi_judging.specs.declared.fault.Foreign.TheVariants as foreign
+use Rattle.csi_adoption.specs.declared.fault.AdoptFault.{AdoptFault}
+use Rattle.csi_adoption.specs.declared.fault.AdoptFault.TheVariants.{Foreign}
+use Rattle.csi_adoption.specs.declared.fault.Foreign.TheVariants as foreign
 use Rattle.csi_adoption.specs.Adopting.{committed, IsAdopted, IsNotRefused, IsStateOf, IsTaken, IsUnadopted, LeavesLatest}
 use Rattle.csi_adoption.specs.Judging.{IsFaultOf}
 

@@ -7,7 +7,7 @@ use Rattle.sqlite.specs.Store.{Ghosts}
 use Rattle.csi_config.specs.declared.config.Config.{Config}
 use Rattle.csi_keeper.specs.Invariant.{IsInvariant}
 use Rattle.csi_keeper.specs.State.{State}
-use Rattle.csi_schema.specs.Tables.{no_schema, schema}
+use Rattle.csi_sql.specs.Tables.{no_schema, schema}
 use Rattle.csi_tables.specs.Holding.{IsEitherRows, IsRows, store_holds}
 use Rattle.csi_tables.specs.Keeping.{connection_of, store_of}
 use Rattle.csi_tables.specs.Laws.{OneState}

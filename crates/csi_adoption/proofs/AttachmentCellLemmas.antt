@@ -18,9 +18,9 @@ use Rattle.sqlite_value.specs.declared.keys.Collation.TheVariants.{Binary}
 use Rattle.sqlite_value.proofs.OrderLemmas.{value_cmp-Int, value_cmp-Text}
 use Rattle.csi_keeper.specs.declared.capability.CapKey.{CapKey}
 use Rattle.csi_keeper.specs.facts.Finite.{tied}
-use Rattle.csi_statements.specs.Cells.{as_blob, as_flag}
-use Rattle.csi_statements.specs.Deletes.{is_same}
-use Rattle.csi_statements.specs.Rows.{bool_value, number_value}
+use Rattle.csi_sql.specs.Cells.{as_blob, as_flag}
+use Rattle.csi_sql.specs.Deletes.{is_same}
+use Rattle.csi_sql.specs.Rows.{bool_value, number_value}
 use Rattle.csi_tables.specs.Encoding.{caps_bytes}
 use Rattle.csi_constraints.specs.Coding.{key_in, message_in, each_key, only}
 use Rattle.csi_constraints.specs.Kinds.{is_integer, is_text}

@@ -30,11 +30,11 @@ use Rattle.csi_keeper.specs.declared.volume.Attachment.{Attachment}
 use Rattle.csi_keeper.specs.declared.volume.Volume.{Volume}
 use Rattle.csi_keeper.specs.facts.Coexistence.{coexist_turned}
 use Rattle.csi_keeper.specs.facts.Orders.{place_exact, place_total}
-use Rattle.csi_schema.specs.Tables.{schema}
-use Rattle.csi_statements.specs.Cells.{as_flag, as_number, as_text}
-use Rattle.csi_statements.specs.Rows.{number_value, seen_attachment, seen_volume}
-use Rattle.csi_scans.specs.Scans.{IsInOrder, keyed_attachment, owners}
-use Rattle.csi_scans.specs.facts.Keyed.{keyed_attachments}
+use Rattle.csi_sql.specs.Tables.{schema}
+use Rattle.csi_sql.specs.Cells.{as_flag, as_number, as_text}
+use Rattle.csi_sql.specs.Rows.{number_value, seen_attachment, seen_volume}
+use Rattle.csi_constraints.specs.Scans.{IsInOrder, keyed_attachment, owners}
+use Rattle.csi_constraints.specs.facts.Keyed.{keyed_attachments}
 use Rattle.csi_tables.specs.Encoding.{FitCaps}
 use Rattle.csi_tables.specs.Holding.{attachment_entry, volume_entry, IsPlaced, IsStored}
 use Rattle.csi_constraints.specs.Agreement.{AttachmentAgrees, OwnerAgrees, PairAgrees}

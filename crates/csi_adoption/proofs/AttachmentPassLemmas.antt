@@ -24,12 +24,12 @@ use Rattle.csi_keeper.specs.declared.volume.Volume.{Volume}
 use Rattle.csi_keeper.specs.facts.Capability.{had_supported}
 use Rattle.csi_keeper.specs.facts.Finite.{same_some}
 use Rattle.csi_keeper.specs.facts.Orders.{place_exact, place_total}
-use Rattle.csi_statements.specs.Deletes.{is_same}
-use Rattle.csi_statements.specs.Rows.{seen_attachment, seen_volume}
-use Rattle.csi_scans.specs.Folds.{added_by}
-use Rattle.csi_scans.specs.Scans.{IsInOrder, keyed_attachment, owners, owns, with_owner}
-use Rattle.csi_scans.specs.declared.sums.Weight.TheVariants.{One}
-use Rattle.csi_scans.specs.facts.Joins.{some_unowned}
+use Rattle.csi_sql.specs.Deletes.{is_same}
+use Rattle.csi_sql.specs.Rows.{seen_attachment, seen_volume}
+use Rattle.csi_constraints.specs.Folds.{added_by}
+use Rattle.csi_constraints.specs.Scans.{IsInOrder, keyed_attachment, owners, owns, with_owner}
+use Rattle.csi_constraints.specs.declared.sums.Weight.TheVariants.{One}
+use Rattle.csi_constraints.specs.facts.Joins.{some_unowned}
 use Rattle.csi_tables.specs.Holding.{attachment_entry, volume_entry, IsPlaced, IsRowsOf, IsStored}
 use Rattle.csi_constraints.specs.Agreement.{keyed_entry, AttachmentAgrees, OwnerAgrees, PairAgrees}
 use Rattle.csi_constraints.specs.Apart.{are_apart, NoneApart}

@@ -32,14 +32,14 @@ use Rattle.csi_keeper.specs.declared.capability.CapKey.{CapKey}
 use Rattle.csi_keeper.specs.declared.capability.Kind.TheVariants.{Block}
 use Rattle.csi_keeper.specs.declared.volume.Attachment.{Attachment}
 use Rattle.csi_keeper.specs.declared.volume.Volume.{Volume}
-use Rattle.csi_schema.specs.Tables.{attachments, schema}
-use Rattle.csi_statements.specs.Cells.{as_blob}
-use Rattle.csi_statements.specs.Deletes.{is_same}
-use Rattle.csi_statements.specs.Rows.{number_value, seen_attachment, seen_volume}
-use Rattle.csi_scans.specs.Folds.{added_by}
-use Rattle.csi_scans.specs.Scans.{keyed_attachment, owners, with_owner}
-use Rattle.csi_scans.specs.declared.sums.Weight.TheVariants.{One}
-use Rattle.csi_scans.specs.facts.Joins.{each_owned}
+use Rattle.csi_sql.specs.Tables.{attachments, schema}
+use Rattle.csi_sql.specs.Cells.{as_blob}
+use Rattle.csi_sql.specs.Deletes.{is_same}
+use Rattle.csi_sql.specs.Rows.{number_value, seen_attachment, seen_volume}
+use Rattle.csi_constraints.specs.Folds.{added_by}
+use Rattle.csi_constraints.specs.Scans.{keyed_attachment, owners, with_owner}
+use Rattle.csi_constraints.specs.declared.sums.Weight.TheVariants.{One}
+use Rattle.csi_constraints.specs.facts.Joins.{each_owned}
 use Rattle.csi_tables.specs.Encoding.{caps_bytes, FitCaps}
 use Rattle.csi_tables.specs.Holding.{attachment_entry, volume_entry, IsStored}
 use Rattle.csi_constraints.specs.Agreement.{owned_entry, OwnerAgrees}

@@ -12,22 +12,22 @@ use Rattle.sqlite.specs.Tree.{Trees}
 use Rattle.sqlite.specs.declared.error.Error.{Error}
 use Rattle.sqlite.specs.declared.error.Error.TheVariants.{SqliteFailure}
 use Rattle.sqlite.specs.declared.error.ErrorCode.TheVariants.{DatabaseCorrupt, OutOfMemory}
-use Rattle.csi_schema.specs.Failing as fails
-use Rattle.csi_schema.specs.Failing.{SqlRefuses}
-use Rattle.csi_schema.specs.Making.{RefusesTables}
-use Rattle.csi_schema.specs.Tables.{first_text, no_schema, schema}
-use Rattle.csi_statements.specs.Failing.{RefusesFormat}
-use Rattle.csi_statements.specs.Rows.{IsUndone}
-use Rattle.csi_schema.specs.Rows.{seen_volume}
-use Rattle.csi_scans.specs.Failing.{HasTooMany}
-use Rattle.csi_scans.specs.Folds.{IsRising, Rises}
-use Rattle.csi_scans.specs.Scans.{keyed_attachment}
-use Rattle.csi_judging.specs.Faults.{failure_of, is_failure, is_store, wants_memory}
-use Rattle.csi_judging.specs.declared.fault.AdoptFault.{AdoptFault}
-use Rattle.csi_judging.specs.declared.fault.AdoptFault.TheVariants.{Foreign, Newer, Broken, Store, NoMemory}
-use Rattle.csi_judging.specs.declared.fault.Foreign.TheVariants as foreign
+use Rattle.csi_sql.specs.Failing as fails
+use Rattle.csi_sql.specs.Failing.{SqlRefuses}
+use Rattle.csi_sql.specs.Making.{RefusesTables}
+use Rattle.csi_sql.specs.Tables.{first_text, no_schema, schema}
+use Rattle.csi_sql.specs.Refusing.{RefusesFormat}
+use Rattle.csi_sql.specs.Transactions.{IsUndone}
+use Rattle.csi_sql.specs.Rows.{seen_volume}
+use Rattle.csi_constraints.specs.ScanFailing.{HasTooMany}
+use Rattle.csi_constraints.specs.Folds.{IsRising, Rises}
+use Rattle.csi_constraints.specs.Scans.{keyed_attachment}
+use Rattle.csi_adoption.specs.Faults.{failure_of, is_failure, is_store, wants_memory}
+use Rattle.csi_adoption.specs.declared.fault.AdoptFault.{AdoptFault}
+use Rattle.csi_adoption.specs.declared.fault.AdoptFault.TheVariants.{Foreign, Newer, Broken, Store, NoMemory}
+use Rattle.csi_adoption.specs.declared.fault.Foreign.TheVariants as foreign
 use Rattle.std.specs.Ordering.{int_eq}
-use Rattle.csi_schema.specs.declared.formats.TheConstants.{FIRST_FORMAT, LATEST_FORMAT}
+use Rattle.csi_sql.specs.declared.formats.TheConstants.{FIRST_FORMAT, LATEST_FORMAT}
 use Rattle.csi_adoption.specs.Failing.{AdoptionFails, DoNotRise, FailsCommitted, HasCause, HasUnrisen, JudgingFails, OfStore, Refuses, ScanFails, too_many, unrisen, format, tables, by_disk, as_shut, as_refused, WasShut}
 use Rattle.csi_adoption.specs.Judging.{integers_judged, meta_judged, row_judged, valid_format, valid_next}
 use Rattle.csi_adoption.specs.Scanning.{Scans}

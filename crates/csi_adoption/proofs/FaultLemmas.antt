@@ -1,9 +1,9 @@
 -- Checks one after the other, each of which ends them by its fault.
 use Rattle.std.proofs.Common.{◌≡◌, refl, Bool, true, false, List, ◌∷◌, Option, Some, None, Result, Ok, Err, IsErrAnd, ap, cond}
 use Rattle.sqlite.specs.declared.error.Error.{Error}
-use Rattle.csi_judging.specs.Faults.{failure_of, first_fault, is_failure, is_no_memory, wants_memory}
-use Rattle.csi_judging.specs.declared.fault.AdoptFault.{AdoptFault}
-use Rattle.csi_judging.specs.declared.fault.AdoptFault.TheVariants.{Foreign, Newer, Broken, Store, NoMemory}
+use Rattle.csi_adoption.specs.Faults.{failure_of, first_fault, is_failure, is_no_memory, wants_memory}
+use Rattle.csi_adoption.specs.declared.fault.AdoptFault.{AdoptFault}
+use Rattle.csi_adoption.specs.declared.fault.AdoptFault.TheVariants.{Foreign, Newer, Broken, Store, NoMemory}
 
 pub fault_here : (f : Option AdoptFault) (rest : List (Option AdoptFault)) (e : AdoptFault) → f ≡ Some e → first_fault (f ∷ rest) ≡ Some e
 fault_here None rest e is = absurd (cc)

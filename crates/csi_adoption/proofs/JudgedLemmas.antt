@@ -4,15 +4,15 @@ use Rattle.sqlite.specs.Order.{Row}
 use Rattle.sqlite.specs.Tree.{Trees}
 use Rattle.sqlite.specs.declared.error.Error.{Error}
 use Rattle.csi_config.specs.declared.config.Config.{Config}
-use Rattle.csi_schema.specs.Rows.{seen_attachment, seen_meta}
-use Rattle.csi_scans.specs.Scans.{IsInOrder, owners}
+use Rattle.csi_sql.specs.Rows.{seen_attachment, seen_meta}
+use Rattle.csi_constraints.specs.Scans.{IsInOrder, owners}
 use Rattle.csi_constraints.specs.Apart.{apart_named}
 use Rattle.csi_constraints.specs.Joins.{is_owned}
 use Rattle.csi_constraints.specs.declared.named.RowName.{RowName}
-use Rattle.csi_judging.specs.Faults.{owner_fault as unowned_fault, all_faults, count_faults, failure_of, is_failure, table_faults}
-use Rattle.csi_judging.specs.Seen.{told_attachments, told_volumes, AttachmentsFound, VolumesFound}
-use Rattle.csi_judging.specs.declared.fault.AdoptFault.{AdoptFault}
-use Rattle.csi_judging.specs.declared.seen.VolumesSeen.{VolumesSeen}
+use Rattle.csi_adoption.specs.Faults.{owner_fault as unowned_fault, all_faults, count_faults, failure_of, is_failure, table_faults}
+use Rattle.csi_adoption.specs.Seen.{told_attachments, told_volumes, AttachmentsFound, VolumesFound}
+use Rattle.csi_adoption.specs.declared.fault.AdoptFault.{AdoptFault}
+use Rattle.csi_adoption.specs.declared.seen.VolumesSeen.{VolumesSeen}
 use Rattle.csi_adoption.specs.Judging.{first_named, meta_judged, volumes_unless, with_rows, AreJudged, ArePassed, JudgesRows, TablesAreSeen}
 use Rattle.csi_adoption.specs.declared.adopting.TablesSeen.{TablesSeen}
 use Rattle.csi_adoption.specs.declared.meta.Meta.{Meta}

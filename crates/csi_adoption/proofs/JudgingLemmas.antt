@@ -7,9 +7,9 @@ use Rattle.sqlite.specs.Order.{Row}
 use Rattle.csi_types.specs.declared.limits.TheConstants.{MAX_NUMBER, MAX_VOLUMES}
 use Rattle.csi_constraints.specs.Named.{first_out, name_of}
 use Rattle.csi_constraints.specs.declared.broken.BrokenConstraint.TheVariants as broken
-use Rattle.csi_judging.specs.Faults.{count_fault, first_fault, first_full, next_fault}
-use Rattle.csi_judging.specs.declared.fault.AdoptFault.{AdoptFault}
-use Rattle.csi_judging.specs.declared.fault.AdoptFault.TheVariants.{Broken}
+use Rattle.csi_adoption.specs.Faults.{count_fault, first_fault, first_full, next_fault}
+use Rattle.csi_adoption.specs.declared.fault.AdoptFault.{AdoptFault}
+use Rattle.csi_adoption.specs.declared.fault.AdoptFault.TheVariants.{Broken}
 use Rattle.csi_adoption.specs.Judging.{first_named, valid_next}
 
 -- ---- no fault of a list

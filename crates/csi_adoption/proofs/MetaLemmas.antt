@@ -8,7 +8,7 @@ use Rattle.sqlite_trees.proofs.ListLemmas.{all-permutation}
 use Rattle.csi_config.specs.declared.config.Config.{Config}
 use Rattle.csi_keeper.specs.Invariant.{IsInvariant}
 use Rattle.csi_keeper.specs.State.{State}
-use Rattle.csi_schema.specs.Rows.{meta_row, seen_meta}
+use Rattle.csi_sql.specs.Rows.{meta_row, seen_meta}
 use Rattle.csi_tables.specs.Holding.{IsRowsOf}
 
 -- a list of one element has no other order

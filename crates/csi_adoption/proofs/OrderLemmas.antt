@@ -11,7 +11,7 @@ use Rattle.sqlite_keyed.specs.Lists.{insert_sorted, sort_by}
 use Rattle.sqlite_keyed.proofs.ListLemmas.{all_weaker}
 use Rattle.sqlite_keyed.proofs.SortLemmas.{IsPermutation-sort_by}
 use Rattle.sqlite_value.proofs.OrderLemmas.{value_cmp_total}
-use Rattle.csi_scans.specs.Scans.{IsInOrder, first_cmp}
+use Rattle.csi_constraints.specs.Scans.{IsInOrder, first_cmp}
 
 turned : (o : Ordering) → is_gt o ≡ true → is_gt (ordering_reverse o) ≡ false
 turned Less is = absurd (true≢false (sym is))

@@ -6,14 +6,14 @@ use Rattle.sqlite.specs.Order.{Row}
 use Rattle.csi_config.specs.declared.config.Config.{Config}
 use Rattle.csi_config.specs.declared.nodes.Node.{Node}
 use Rattle.csi_config.specs.declared.pools.Pool.{Pool}
-use Rattle.csi_scans.specs.Folds.{added_by, sum_after}
-use Rattle.csi_scans.specs.declared.sums.Weight.TheVariants.{Number, One}
+use Rattle.csi_constraints.specs.Folds.{added_by, sum_after}
+use Rattle.csi_constraints.specs.declared.sums.Weight.TheVariants.{Number, One}
 use Rattle.csi_constraints.specs.Apart.{apart_named, NoneApart}
 use Rattle.csi_constraints.specs.Joins.{is_owned}
 use Rattle.csi_constraints.specs.declared.named.RowName.{RowName}
 use Rattle.csi_constraints.specs.facts.Aparts.{none_unnamed, unnamed_none}
-use Rattle.csi_judging.specs.Faults.{all_faults, code_faults, count_faults, kinds_faults, next_fault, number_faults, owner_fault, size_faults, table_faults}
-use Rattle.csi_judging.specs.Seen.{AttachmentsFound, VolumesFound}
+use Rattle.csi_adoption.specs.Faults.{all_faults, code_faults, count_faults, kinds_faults, next_fault, number_faults, owner_fault, size_faults, table_faults}
+use Rattle.csi_adoption.specs.Seen.{AttachmentsFound, VolumesFound}
 use Rattle.csi_adoption.specs.Judging.{first_named, in_attachments, in_volumes}
 use Rattle.csi_adoption.specs.Passing.{AttachmentsPass, VolumesPass}
 use Rattle.csi_adoption.specs.declared.meta.Meta.{Meta}

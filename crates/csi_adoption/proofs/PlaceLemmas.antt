@@ -14,8 +14,8 @@ use Rattle.sqlite_rules.specs.Lists.{Has}
 use Rattle.sqlite_rules.proofs.ListLemmas.{all_from, all_has}
 use Rattle.sqlite_value.proofs.OrderLemmas.{value_cmp_total, value_cmp-Int}
 use Rattle.csi_keeper.specs.facts.Coexistence.{coexist_turned}
-use Rattle.csi_scans.specs.Folds.{as_integer}
-use Rattle.csi_scans.specs.Scans.{first_cmp}
+use Rattle.csi_constraints.specs.Folds.{as_integer}
+use Rattle.csi_constraints.specs.Scans.{first_cmp}
 use Rattle.csi_constraints.specs.Apart.{are_apart, falls, DoNotFall, NoneApart}
 use Rattle.csi_constraints.specs.Joins.{attached_at}
 use Rattle.csi_constraints.specs.Values.{are_some_and}

@@ -3,10 +3,10 @@ use Rattle.std.proofs.Common.{◌≡◌, ◌∙◌, refl, ap, subst, arith, ℕ,
 use Rattle.std.specs.List.{AllByRecursion, AllZip}
 use Rattle.sqlite.specs.Order.{Row}
 use Rattle.csi_config.specs.declared.config.Config.{Config}
-use Rattle.csi_scans.specs.Folds.{IsRising, Rises, sum_after}
-use Rattle.csi_scans.specs.declared.sums.TextSum.{TextSum}
-use Rattle.csi_scans.specs.declared.sums.Weight.{Weight}
-use Rattle.csi_scans.specs.declared.sums.Weight.TheVariants.{Number, One}
+use Rattle.csi_constraints.specs.Folds.{IsRising, Rises, sum_after}
+use Rattle.csi_constraints.specs.declared.sums.TextSum.{TextSum}
+use Rattle.csi_constraints.specs.declared.sums.Weight.{Weight}
+use Rattle.csi_constraints.specs.declared.sums.Weight.TheVariants.{Number, One}
 use Rattle.csi_tables.specs.Encoding.{FitCaps, FitParams}
 use Rattle.csi_constraints.specs.Attachments.{has_flag, is_at_node}
 use Rattle.csi_constraints.specs.Coded.{has_cap, has_caps, has_params, key_at, keys_at, params_at}
@@ -14,9 +14,9 @@ use Rattle.csi_constraints.specs.Kinds.{has_attachment_kinds, has_volume_kinds}
 use Rattle.csi_constraints.specs.Named.{named_out}
 use Rattle.csi_constraints.specs.Volumes.{is_in_pools, is_named, is_numbered, is_sized}
 use Rattle.csi_constraints.specs.declared.named.RowName.{RowName}
-use Rattle.csi_judging.specs.Seen.{AttachmentsFound, VolumesFound, sums_of, told_attachments, told_volumes}
-use Rattle.csi_judging.specs.declared.seen.AttachmentsSeen.{AttachmentsSeen}
-use Rattle.csi_judging.specs.declared.seen.VolumesSeen.{VolumesSeen}
+use Rattle.csi_adoption.specs.Seen.{AttachmentsFound, VolumesFound, sums_of, told_attachments, told_volumes}
+use Rattle.csi_adoption.specs.declared.seen.AttachmentsSeen.{AttachmentsSeen}
+use Rattle.csi_adoption.specs.declared.seen.VolumesSeen.{VolumesSeen}
 use Rattle.csi_adoption.specs.Judging.{SeesAttachments, SeesVolumes, first_named, in_attachments, in_volumes}
 use Rattle.csi_adoption.specs.Scanning.{IsBegun}
 use Rattle.csi_adoption.specs.declared.meta.Meta.{Meta}

@@ -21,21 +21,21 @@ use Rattle.csi_config.specs.declared.pools.Pool.{Pool}
 use Rattle.csi_keeper.specs.Invariant.{IsInvariant}
 use Rattle.csi_keeper.specs.State.{State}
 use Rattle.csi_keeper.specs.Totals.{the_total}
-use Rattle.csi_schema.specs.Rows.{meta_row, seen_meta, seen_volume}
-use Rattle.csi_schema.specs.Tables.{schema}
-use Rattle.csi_schema.specs.declared.formats.TheConstants.{FIRST_FORMAT, LATEST_FORMAT}
-use Rattle.csi_scans.specs.Folds.{as_integer}
-use Rattle.csi_scans.specs.Scans.{IsInOrder}
+use Rattle.csi_sql.specs.Rows.{meta_row, seen_meta, seen_volume}
+use Rattle.csi_sql.specs.Tables.{schema}
+use Rattle.csi_sql.specs.declared.formats.TheConstants.{FIRST_FORMAT, LATEST_FORMAT}
+use Rattle.csi_constraints.specs.Folds.{as_integer}
+use Rattle.csi_constraints.specs.Scans.{IsInOrder}
 use Rattle.csi_constraints.specs.Coded.{has_cap, has_caps, has_params}
 use Rattle.csi_constraints.specs.Apart.{apart_named}
 use Rattle.csi_constraints.specs.Joins.{is_owned}
 use Rattle.csi_tables.specs.Holding.{IsEitherRows, IsFormat, IsRowsIn, IsRowsOf}
-use Rattle.csi_judging.specs.Faults.{all_faults}
-use Rattle.csi_judging.specs.Seen.{AttachmentsFound, VolumesFound}
-use Rattle.csi_judging.specs.declared.fault.AdoptFault.{AdoptFault}
-use Rattle.csi_judging.specs.declared.fault.AdoptFault.TheVariants.{Foreign, Newer}
-use Rattle.csi_judging.specs.declared.fault.Foreign.TheVariants as foreign
-use Rattle.csi_judging.specs.declared.seen.VolumesSeen.{VolumesSeen}
+use Rattle.csi_adoption.specs.Faults.{all_faults}
+use Rattle.csi_adoption.specs.Seen.{AttachmentsFound, VolumesFound}
+use Rattle.csi_adoption.specs.declared.fault.AdoptFault.{AdoptFault}
+use Rattle.csi_adoption.specs.declared.fault.AdoptFault.TheVariants.{Foreign, Newer}
+use Rattle.csi_adoption.specs.declared.fault.Foreign.TheVariants as foreign
+use Rattle.csi_adoption.specs.declared.seen.VolumesSeen.{VolumesSeen}
 use Rattle.csi_adoption.specs.Adopting.{FoundState}
 use Rattle.csi_adoption.specs.Found.{sizes_of, FoundVolumes}
 use Rattle.csi_adoption.specs.FoundAttachments.{AttachmentsAreFound, AttachmentsDoPass, OwnersDoPass, PlacesDoPass}

@@ -2,9 +2,9 @@
 use Rattle.std.proofs.Common.{◌≡◌, ℕ, ◌-◌, ◌^◌, ◌≤◌, ◌<◌, Bool, true, false, cond, List, [], ◌∷◌, length, sum_by, arith}
 use Rattle.std.proofs.lemmas.List.Sums.{sum_by-cons}
 use Rattle.sqlite.specs.Order.{Row, column}
-use Rattle.csi_scans.specs.Folds.{added_by, is_text, sum_after}
-use Rattle.csi_scans.specs.declared.sums.Weight.{Weight}
-use Rattle.csi_scans.specs.declared.sums.Weight.TheVariants.{One}
+use Rattle.csi_constraints.specs.Folds.{added_by, is_text, sum_after}
+use Rattle.csi_constraints.specs.declared.sums.Weight.{Weight}
+use Rattle.csi_constraints.specs.declared.sums.Weight.TheVariants.{One}
 
 one_most : (b : Bool) → cond b 1 0 ≤ 1
 one_most true = omega arith

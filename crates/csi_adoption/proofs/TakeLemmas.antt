@@ -12,9 +12,9 @@ use Rattle.csi_keeper.specs.Invariant.{IsInvariant}
 use Rattle.csi_keeper.specs.State.{State}
 use Rattle.csi_keeper.specs.Totals.{AreTotals}
 use Rattle.csi_keeper.specs.declared.totals.Totals.{Totals}
-use Rattle.csi_schema.specs.Tables.{schema}
-use Rattle.csi_schema.specs.declared.formats.TheConstants.{FIRST_FORMAT}
-use Rattle.csi_statements.specs.Rows.{Changes, Leaves, SetsFormat}
+use Rattle.csi_sql.specs.Tables.{schema}
+use Rattle.csi_sql.specs.declared.formats.TheConstants.{FIRST_FORMAT}
+use Rattle.csi_sql.specs.Effects.{Changes, Leaves, SetsFormat}
 use Rattle.csi_tables.specs.Holding.{IsEitherRows, IsFirstRows, IsRows, IsRowsIn, IsRowsOf}
 use Rattle.csi_adoption.specs.Adopting.{IsFound, IsTaken, LeavesLatest}
 

@@ -19,12 +19,12 @@ use Rattle.csi_types.specs.declared.limits.TheConstants.{MAX_NUMBER}
 use Rattle.csi_config.specs.declared.config.Config.{Config}
 use Rattle.csi_keeper.specs.Invariant.{IsVolume}
 use Rattle.csi_keeper.specs.declared.volume.Volume.{Volume}
-use Rattle.csi_schema.specs.Rows.{number_value, seen_volume}
-use Rattle.csi_schema.specs.Tables.{schema}
-use Rattle.csi_schema.specs.declared.formats.TheConstants.{FIRST_FORMAT}
-use Rattle.csi_scans.specs.Folds.{IsRising, added_by}
-use Rattle.csi_scans.specs.Scans.{IsInOrder}
-use Rattle.csi_scans.specs.declared.sums.Weight.TheVariants.{Number, One}
+use Rattle.csi_sql.specs.Rows.{number_value, seen_volume}
+use Rattle.csi_sql.specs.Tables.{schema}
+use Rattle.csi_sql.specs.declared.formats.TheConstants.{FIRST_FORMAT}
+use Rattle.csi_constraints.specs.Folds.{IsRising, added_by}
+use Rattle.csi_constraints.specs.Scans.{IsInOrder}
+use Rattle.csi_constraints.specs.declared.sums.Weight.TheVariants.{Number, One}
 use Rattle.csi_tables.specs.Holding.{IsStored, volume_entry}
 use Rattle.csi_constraints.specs.Agreement.{VolumeAgrees}
 use Rattle.csi_adoption.specs.Found.{FoundVolumes, sizes_of}

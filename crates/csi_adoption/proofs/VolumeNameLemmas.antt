@@ -16,7 +16,7 @@ use Rattle.sqlite_schema.specs.Rules.{agree, clashes, differ, equal}
 use Rattle.sqlite_value.proofs.OrderLemmas.{value_cmp-Int, value_cmp_total}
 use Rattle.sqlite_value.specs.Keys.{first_key, plain}
 use Rattle.sqlite.specs.Collation.TheVariants.{Binary}
-use Rattle.csi_schema.specs.Tables.{schema}
+use Rattle.csi_sql.specs.Tables.{schema}
 
 truth_test : (b : Bool) → is_true (from_truth (Some b)) ≡ b
 truth_test true = refl

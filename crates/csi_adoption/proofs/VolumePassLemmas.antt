@@ -15,11 +15,11 @@ use Rattle.csi_keeper.specs.Invariant.{IsInvariant, IsVolume}
 use Rattle.csi_keeper.specs.State.{State}
 use Rattle.csi_keeper.specs.declared.volume.Volume.{Volume}
 use Rattle.csi_keeper.specs.facts.Finite.{all_entries}
-use Rattle.csi_schema.specs.Rows.{seen_volume}
-use Rattle.csi_schema.specs.declared.formats.TheConstants.{FIRST_FORMAT}
-use Rattle.csi_scans.specs.Folds.{added_by}
-use Rattle.csi_scans.specs.Scans.{IsInOrder}
-use Rattle.csi_scans.specs.declared.sums.Weight.TheVariants.{Number}
+use Rattle.csi_sql.specs.Rows.{seen_volume}
+use Rattle.csi_sql.specs.declared.formats.TheConstants.{FIRST_FORMAT}
+use Rattle.csi_constraints.specs.Folds.{added_by}
+use Rattle.csi_constraints.specs.Scans.{IsInOrder}
+use Rattle.csi_constraints.specs.declared.sums.Weight.TheVariants.{Number}
 use Rattle.csi_tables.specs.Holding.{IsRowsIn, IsStored, volume_entry}
 use Rattle.csi_constraints.specs.Agreement.{VolumeAgrees}
 use Rattle.csi_constraints.specs.Coded.{has_caps, has_params}

@@ -16,8 +16,8 @@ use Rattle.csi_keeper.specs.declared.totals.Total.{Total}
 use Rattle.csi_keeper.specs.declared.volume.Volume.{Volume}
 use Rattle.csi_keeper.specs.facts.Finite.{all_entries}
 use Rattle.csi_keeper.specs.facts.Sums.{in_order}
-use Rattle.csi_scans.specs.Folds.{sum_after}
-use Rattle.csi_scans.specs.declared.sums.Weight.TheVariants.{Number, One}
+use Rattle.csi_constraints.specs.Folds.{sum_after}
+use Rattle.csi_constraints.specs.declared.sums.Weight.TheVariants.{Number, One}
 use Rattle.csi_adoption.specs.Found.{FoundVolumes, sizes_of}
 use Rattle.csi_adoption.specs.Judging.{in_volumes, total_in}
 use Rattle.csi_adoption.specs.Passing.{VolumesPass}

@@ -14,8 +14,8 @@ use Rattle.csi_types.specs.declared.limits.TheConstants.{MAX_NUMBER}
 use Rattle.csi_config.specs.Faults.{is_whole}
 use Rattle.csi_keeper.specs.declared.capability.CapKey.{CapKey}
 use Rattle.csi_keeper.specs.declared.volume.Volume.{Volume}
-use Rattle.csi_schema.specs.Rows.{number_value, seen_volume}
-use Rattle.csi_statements.specs.Cells.{as_blob, as_number}
+use Rattle.csi_sql.specs.Rows.{number_value, seen_volume}
+use Rattle.csi_sql.specs.Cells.{as_blob, as_number}
 use Rattle.csi_tables.specs.Encoding.{caps_bytes, params_bytes, FitCaps, FitParams}
 use Rattle.csi_tables.specs.Holding.{IsStored, volume_entry}
 use Rattle.csi_constraints.specs.Coded.{has_caps, has_params, keys_at, params_at}

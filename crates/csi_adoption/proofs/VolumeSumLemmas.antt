@@ -12,8 +12,8 @@ use Rattle.csi_config.specs.declared.config.Config.{Config}
 use Rattle.csi_config.specs.declared.pools.Pool.{Pool}
 use Rattle.csi_keeper.specs.declared.volume.Volume.{Volume}
 use Rattle.csi_keeper.specs.facts.Sums.{count_cons, in_order, total_cons}
-use Rattle.csi_scans.specs.Folds.{added_by, sum_after}
-use Rattle.csi_scans.specs.declared.sums.Weight.TheVariants.{Number, One}
+use Rattle.csi_constraints.specs.Folds.{added_by, sum_after}
+use Rattle.csi_constraints.specs.declared.sums.Weight.TheVariants.{Number, One}
 use Rattle.csi_tables.specs.Holding.{volume_entry}
 use Rattle.csi_adoption.specs.Passing.{VolumesPass}
 use Rattle.csi_adoption.specs.declared.meta.Meta.{Meta}

@@ -12,17 +12,17 @@ use Rattle.csi_keeper.specs.Invariant.{IsInvariant}
 use Rattle.csi_keeper.specs.State.{State, sizes, first_state}
 use Rattle.csi_keeper.specs.Totals.{the_total, AreTotals}
 use Rattle.csi_keeper.specs.declared.totals.Totals.{Totals}
-use Rattle.csi_schema.specs.Making.{MakesTables}
-use Rattle.csi_schema.specs.Tables.{no_schema, schema}
+use Rattle.csi_sql.specs.Making.{MakesTables}
+use Rattle.csi_sql.specs.Tables.{no_schema, schema}
 use Rattle.csi_tables.specs.Holding.{IsEitherRows, IsFirstRows, IsFormat, IsRows, IsRowsIn, conn_doubt}
 use Rattle.csi_tables.specs.Keeping.{connection_of, is_down, refusals, tables_model}
 use Rattle.csi_tables.specs.declared.tables.Tables.{Tables}
-use Rattle.csi_judging.specs.Faults.{is_failure}
-use Rattle.csi_judging.specs.Seen.{sums_of}
-use Rattle.csi_judging.specs.declared.fault.AdoptFault.{AdoptFault}
-use Rattle.csi_judging.specs.declared.fault.AdoptFault.TheVariants.{Foreign}
-use Rattle.csi_judging.specs.declared.fault.Foreign.TheVariants as foreign
-use Rattle.csi_judging.specs.declared.seen.VolumesSeen.{VolumesSeen}
+use Rattle.csi_adoption.specs.Faults.{is_failure}
+use Rattle.csi_adoption.specs.Seen.{sums_of}
+use Rattle.csi_adoption.specs.declared.fault.AdoptFault.{AdoptFault}
+use Rattle.csi_adoption.specs.declared.fault.AdoptFault.TheVariants.{Foreign}
+use Rattle.csi_adoption.specs.declared.fault.Foreign.TheVariants as foreign
+use Rattle.csi_adoption.specs.declared.seen.VolumesSeen.{VolumesSeen}
 use Rattle.csi_adoption.specs.Failing.{AdoptionFails, IsOfShut}
 use Rattle.csi_adoption.specs.Judging.{total_in, IsFaultOf}
 

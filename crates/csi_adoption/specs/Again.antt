@@ -7,12 +7,12 @@ use Rattle.sqlite.specs.Tree.{Trees}
 use Rattle.csi_config.specs.declared.config.Config.{Config}
 use Rattle.csi_keeper.specs.Invariant.{IsInvariant}
 use Rattle.csi_keeper.specs.State.{State}
-use Rattle.csi_schema.specs.Tables.{schema}
+use Rattle.csi_sql.specs.Tables.{schema}
 use Rattle.csi_tables.specs.Holding.{IsEitherRows}
 use Rattle.csi_tables.specs.Keeping.{connection_of, tables_model}
 use Rattle.csi_tables.specs.declared.tables.Tables.{Tables}
-use Rattle.csi_judging.specs.Faults.{is_failure}
-use Rattle.csi_judging.specs.declared.fault.AdoptFault.{AdoptFault}
+use Rattle.csi_adoption.specs.Faults.{is_failure}
+use Rattle.csi_adoption.specs.declared.fault.AdoptFault.{AdoptFault}
 use Rattle.csi_adoption.specs.Adopting.{committed, IsAdopted, IsUnadopted}
 
 module _ {S : Type 0} (g : Ghosts S) (config : Config) where

@@ -10,18 +10,18 @@ use Rattle.sqlite.specs.declared.error.Error.{Error}
 use Rattle.sqlite.specs.declared.error.Error.TheVariants.{SqliteFailure}
 use Rattle.sqlite.specs.declared.error.ErrorCode.TheVariants.{Closed, DatabaseCorrupt}
 use Rattle.sqlite_disk.specs.Disk.{MoreFaults}
-use Rattle.csi_schema.specs.Failing.{FailsFor}
-use Rattle.csi_schema.specs.Making.{RefusesTables}
-use Rattle.csi_schema.specs.Rows.{seen_volume}
-use Rattle.csi_schema.specs.Tables.{no_schema, schema}
-use Rattle.csi_statements.specs.Failing.{RefusesFormat}
-use Rattle.csi_scans.specs.Failing.{HasTooMany}
-use Rattle.csi_scans.specs.Folds.{IsRising}
-use Rattle.csi_scans.specs.Scans.{IsInOrder, keyed_attachment}
-use Rattle.csi_judging.specs.Faults.{is_failure, wants_memory}
-use Rattle.csi_judging.specs.declared.fault.AdoptFault.{AdoptFault}
-use Rattle.csi_judging.specs.declared.fault.AdoptFault.TheVariants.{Foreign, Store}
-use Rattle.csi_judging.specs.declared.fault.Foreign.TheVariants as foreign
+use Rattle.csi_sql.specs.Failing.{FailsFor}
+use Rattle.csi_sql.specs.Making.{RefusesTables}
+use Rattle.csi_sql.specs.Rows.{seen_volume}
+use Rattle.csi_sql.specs.Tables.{no_schema, schema}
+use Rattle.csi_sql.specs.Refusing.{RefusesFormat}
+use Rattle.csi_constraints.specs.ScanFailing.{HasTooMany}
+use Rattle.csi_constraints.specs.Folds.{IsRising}
+use Rattle.csi_constraints.specs.Scans.{IsInOrder, keyed_attachment}
+use Rattle.csi_adoption.specs.Faults.{is_failure, wants_memory}
+use Rattle.csi_adoption.specs.declared.fault.AdoptFault.{AdoptFault}
+use Rattle.csi_adoption.specs.declared.fault.AdoptFault.TheVariants.{Foreign, Store}
+use Rattle.csi_adoption.specs.declared.fault.Foreign.TheVariants as foreign
 
 -- rows in the order of their first integers, which do not rise
 abbrev pub DoNotRise : List Row → Type 0

@@ -10,9 +10,9 @@ use Rattle.csi_config.specs.declared.config.Config.{Config}
 use Rattle.csi_config.specs.declared.pools.Pool.{Pool}
 use Rattle.csi_keeper.specs.Invariant.{IsVolume}
 use Rattle.csi_keeper.specs.declared.volume.Volume.{Volume}
-use Rattle.csi_schema.specs.declared.formats.TheConstants.{FIRST_FORMAT}
-use Rattle.csi_scans.specs.Folds.{added_by}
-use Rattle.csi_scans.specs.declared.sums.Weight.TheVariants.{Number, One}
+use Rattle.csi_sql.specs.declared.formats.TheConstants.{FIRST_FORMAT}
+use Rattle.csi_constraints.specs.Folds.{added_by}
+use Rattle.csi_constraints.specs.declared.sums.Weight.TheVariants.{Number, One}
 use Rattle.csi_tables.specs.Holding.{IsStored, volume_entry}
 use Rattle.csi_adoption.specs.declared.meta.Meta.{Meta}
 

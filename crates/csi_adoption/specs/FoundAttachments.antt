@@ -17,12 +17,12 @@ use Rattle.csi_keeper.specs.State.{State, place_cmp}
 use Rattle.csi_keeper.specs.Texts.{Text}
 use Rattle.csi_keeper.specs.declared.volume.Attachment.{Attachment}
 use Rattle.csi_keeper.specs.declared.volume.Volume.{Volume}
-use Rattle.csi_schema.specs.Rows.{seen_attachment, seen_volume}
-use Rattle.csi_schema.specs.Tables.{schema}
-use Rattle.csi_scans.specs.Scans.{IsInOrder, keyed_attachment, owners}
+use Rattle.csi_sql.specs.Rows.{seen_attachment, seen_volume}
+use Rattle.csi_sql.specs.Tables.{schema}
+use Rattle.csi_constraints.specs.Scans.{IsInOrder, keyed_attachment, owners}
 use Rattle.csi_constraints.specs.Apart.{NoneApart}
 use Rattle.csi_constraints.specs.Joins.{is_owned}
-use Rattle.csi_statements.specs.Rows.{AreKeyed}
+use Rattle.csi_sql.specs.Effects.{AreKeyed}
 use Rattle.csi_tables.specs.Holding.{attachment_entry, volume_entry, IsPlaced, IsRowsOf, IsStored}
 use Rattle.csi_adoption.specs.Passing.{AttachmentsAreKnown, AttachmentsPass}
 

@@ -11,12 +11,12 @@ use Rattle.csi_config.specs.declared.pools.Pool.{Pool}
 use Rattle.csi_types.specs.Maps.{same_text}
 use Rattle.csi_keeper.specs.Totals.{the_total, zero_total}
 use Rattle.csi_keeper.specs.declared.totals.Total.{Total}
-use Rattle.csi_schema.specs.Rows.{seen_meta, seen_volume}
-use Rattle.csi_schema.specs.Tables.{schema}
-use Rattle.csi_schema.specs.declared.formats.TheConstants.{FIRST_FORMAT, LATEST_FORMAT}
-use Rattle.csi_scans.specs.Folds.{IsRising, as_integer, sum_after}
-use Rattle.csi_scans.specs.Scans.{IsInOrder, keyed_attachment}
-use Rattle.csi_scans.specs.declared.sums.Weight.TheVariants.{Number, One}
+use Rattle.csi_sql.specs.Rows.{seen_meta, seen_volume}
+use Rattle.csi_sql.specs.Tables.{schema}
+use Rattle.csi_sql.specs.declared.formats.TheConstants.{FIRST_FORMAT, LATEST_FORMAT}
+use Rattle.csi_constraints.specs.Folds.{IsRising, as_integer, sum_after}
+use Rattle.csi_constraints.specs.Scans.{IsInOrder, keyed_attachment}
+use Rattle.csi_constraints.specs.declared.sums.Weight.TheVariants.{Number, One}
 use Rattle.csi_tables.specs.Encoding.{FitCaps, FitParams}
 use Rattle.csi_constraints.specs.Apart.{apart_named}
 use Rattle.csi_constraints.specs.Attachments.{has_flag, is_at_node}
@@ -26,13 +26,13 @@ use Rattle.csi_constraints.specs.Kinds.{has_attachment_kinds, has_volume_kinds}
 use Rattle.csi_constraints.specs.Named.{named_out}
 use Rattle.csi_constraints.specs.Volumes.{is_in_pools, is_named, is_numbered, is_sized}
 use Rattle.csi_constraints.specs.declared.named.RowName.{RowName}
-use Rattle.csi_judging.specs.Faults.{all_faults, is_failure, table_faults}
-use Rattle.csi_judging.specs.Seen.{AttachmentsFound, VolumesFound, told_attachments, told_volumes}
-use Rattle.csi_judging.specs.declared.fault.AdoptFault.{AdoptFault}
-use Rattle.csi_judging.specs.declared.fault.AdoptFault.TheVariants.{Foreign, Newer}
-use Rattle.csi_judging.specs.declared.fault.Foreign.TheVariants as foreign
-use Rattle.csi_judging.specs.declared.seen.AttachmentsSeen.{AttachmentsSeen}
-use Rattle.csi_judging.specs.declared.seen.VolumesSeen.{VolumesSeen}
+use Rattle.csi_adoption.specs.Faults.{all_faults, is_failure, table_faults}
+use Rattle.csi_adoption.specs.Seen.{AttachmentsFound, VolumesFound, told_attachments, told_volumes}
+use Rattle.csi_adoption.specs.declared.fault.AdoptFault.{AdoptFault}
+use Rattle.csi_adoption.specs.declared.fault.AdoptFault.TheVariants.{Foreign, Newer}
+use Rattle.csi_adoption.specs.declared.fault.Foreign.TheVariants as foreign
+use Rattle.csi_adoption.specs.declared.seen.AttachmentsSeen.{AttachmentsSeen}
+use Rattle.csi_adoption.specs.declared.seen.VolumesSeen.{VolumesSeen}
 use Rattle.csi_adoption.specs.Passing.{Seen}
 use Rattle.csi_adoption.specs.declared.adopting.TablesSeen.{TablesSeen}
 use Rattle.csi_adoption.specs.declared.meta.Meta.{Meta}

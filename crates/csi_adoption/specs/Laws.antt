@@ -11,12 +11,12 @@ use Rattle.csi_keeper.specs.Invariant.{IsInvariant}
 use Rattle.csi_keeper.specs.Lookup.{pool_named}
 use Rattle.csi_keeper.specs.State.{State}
 use Rattle.csi_keeper.specs.Totals.{the_total}
-use Rattle.csi_schema.specs.Rows.{meta_row, seen_meta, seen_volume}
-use Rattle.csi_schema.specs.Tables.{schema}
-use Rattle.csi_scans.specs.Folds.{added_by, sum_after}
-use Rattle.csi_scans.specs.Scans.{IsInOrder}
-use Rattle.csi_scans.specs.declared.sums.Weight.{Weight}
-use Rattle.csi_scans.specs.declared.sums.Weight.TheVariants.{Number, One}
+use Rattle.csi_sql.specs.Rows.{meta_row, seen_meta, seen_volume}
+use Rattle.csi_sql.specs.Tables.{schema}
+use Rattle.csi_constraints.specs.Folds.{added_by, sum_after}
+use Rattle.csi_constraints.specs.Scans.{IsInOrder}
+use Rattle.csi_constraints.specs.declared.sums.Weight.{Weight}
+use Rattle.csi_constraints.specs.declared.sums.Weight.TheVariants.{Number, One}
 use Rattle.csi_tables.specs.Holding.{IsRowsIn, IsRowsOf}
 use Rattle.csi_adoption.specs.Found.{FoundVolumes, sizes_of}
 use Rattle.csi_adoption.specs.Judging.{in_volumes, total_in}

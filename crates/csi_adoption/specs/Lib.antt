@@ -1,9 +1,11 @@
 pub mod Adopting
 pub mod Again
-pub mod Found
 pub mod Failing
+pub mod Faults
+pub mod Found
 pub mod FoundAttachments
 pub mod Judging
 pub mod Laws
-pub mod Scanning
 pub mod Passing
+pub mod Scanning
+pub mod Seen

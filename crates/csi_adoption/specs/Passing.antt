@@ -5,10 +5,10 @@ use Rattle.sqlite.specs.Order.{Row}
 use Rattle.sqlite.specs.Tree.{Trees}
 use Rattle.csi_types.specs.declared.limits.TheConstants.{MAX_NUMBER, MAX_VOLUMES}
 use Rattle.csi_config.specs.declared.config.Config.{Config}
-use Rattle.csi_schema.specs.Rows.{meta_row, seen_attachment, seen_meta, seen_volume}
-use Rattle.csi_scans.specs.Folds.{IsRising, added_by}
-use Rattle.csi_scans.specs.Scans.{IsInOrder, keyed_attachment, owners}
-use Rattle.csi_scans.specs.declared.sums.Weight.TheVariants.{Number, One}
+use Rattle.csi_sql.specs.Rows.{meta_row, seen_attachment, seen_meta, seen_volume}
+use Rattle.csi_constraints.specs.Folds.{IsRising, added_by}
+use Rattle.csi_constraints.specs.Scans.{IsInOrder, keyed_attachment, owners}
+use Rattle.csi_constraints.specs.declared.sums.Weight.TheVariants.{Number, One}
 use Rattle.csi_tables.specs.Encoding.{FitCaps, FitParams}
 use Rattle.csi_constraints.specs.Apart.{NoneApart}
 use Rattle.csi_constraints.specs.Attachments.{has_flag, is_at_node}

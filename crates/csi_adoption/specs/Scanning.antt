@@ -5,8 +5,8 @@ use Rattle.sqlite.specs.Order.{Row}
 use Rattle.sqlite.specs.State.{HasCleanDisk, IsUnchanged, KeepsCommit, Survives}
 use Rattle.sqlite.specs.Store.{Ghosts}
 use Rattle.sqlite.specs.Tree.{Trees}
-use Rattle.csi_scans.specs.declared.sums.TextSum.{TextSum}
-use Rattle.csi_scans.specs.declared.sums.Weight.{Weight}
+use Rattle.csi_constraints.specs.declared.sums.TextSum.{TextSum}
+use Rattle.csi_constraints.specs.declared.sums.Weight.{Weight}
 
 module _ {S : Type 0} (g : Ghosts S) (old new : Held S) where
   -- nothing is changed or committed, and a stop leaves what it could leave before

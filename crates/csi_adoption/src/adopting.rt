@@ -3,40 +3,42 @@
 ghost use Rattle.std.specs.Prelude.{◌≡◌, ◌≢◌, false, true, Some, IfErr, IfOk, IsTrue, OnErr, OnOk};
 ghost use Rattle.sqlite.specs.Held.{state};
 ghost use Rattle.sqlite.specs.State.{HasCleanDisk, KeepsCommit, Survives};
-ghost use Rattle.csi_schema.specs.Tables.{no_schema, schema as our_schema};
-ghost use Rattle.csi_schema.specs.declared.formats.TheConstants.{FIRST_FORMAT};
-ghost use Rattle.csi_schema.specs.Failing.{FailsOver};
-ghost use Rattle.csi_statements.specs.Failing.{RefusesFormat};
-ghost use Rattle.csi_statements.specs.Rows.{Changes, IsUndone, Leaves, SetsFormat};
+ghost use Rattle.csi_sql.specs.Tables.{no_schema, schema as our_schema};
+ghost use Rattle.csi_sql.specs.declared.formats.TheConstants.{FIRST_FORMAT};
+ghost use Rattle.csi_sql.specs.Failing.{FailsOver};
+ghost use Rattle.csi_sql.specs.Refusing.{RefusesFormat};
+ghost use Rattle.csi_sql.specs.Effects.{Changes, Leaves, SetsFormat};
+ghost use Rattle.csi_sql.specs.Transactions.{IsUndone};
 ghost use Rattle.sqlite.specs.Tree.{Trees};
 ghost use Rattle.sqlite_catalog.specs.Listing.{IsSound};
 ghost use Rattle.csi_keeper.specs.Invariant.{IsInvariant};
 ghost use Rattle.csi_keeper.specs.State.{State, first_state};
 ghost use Rattle.csi_tables.specs.Holding.{IsEitherRows};
-ghost use Rattle.csi_judging.specs.Faults.{is_failure};
+ghost use Rattle.csi_adoption.specs.Faults.{is_failure};
 ghost use Rattle.csi_adoption.specs.Adopting.{FoundState, IsAdopted, IsFound, IsNotRefused, IsTaken, IsUnadopted, LeavesLatest};
 ghost use Rattle.csi_adoption.specs.Failing.{JudgingFails, ScanFails, TellsOpen, TellsShut};
 ghost use Rattle.csi_adoption.specs.Scanning.{Scans};
 ghost use Rattle.csi_adoption.specs.declared.meta.Meta.{Meta as Row};
 ghost use Rattle.csi_adoption.specs.Judging.{AreJudged, ArePassed, IsFaultOf, IsMetaFault, JudgesBehind, JudgesJoined, JudgesRows, JudgesSeen, SeesRow, TablesAreSeen};
 
+use crate::attachment_faults::check_attachment;
 use crate::attachment_laws::{attachments_found, attachments_pass, owners_pass, places_pass};
 use crate::attachments::{see_apart, see_attachments, see_owners};
+use crate::fault::{AdoptFault, Foreign};
 use crate::laws::{meta_pass, totals_found, volumes_found, volumes_pass};
 use crate::meta::{Meta, judge_meta, see_meta};
+use crate::seen::{AttachmentsSeen, VolumesSeen};
+use crate::table_faults::{check_counts, check_tables};
 use crate::volumes::{see_volumes, totals_of};
 use csi_config::Config;
 use csi_config::laws::{node_volumes_few, pool_bytes_whole};
 use csi_constraints::AttachmentConstraint;
-use csi_judging::{
-    AdoptFault, AttachmentsSeen, Foreign, VolumesSeen, check_attachment, check_counts, check_tables,
-};
 use csi_keeper::Totals;
 use csi_keeper::laws::first;
-use csi_schema::{FIRST_FORMAT, is_our_schema};
+use csi_sql::changes::set_format;
+use csi_sql::{FIRST_FORMAT, is_our_schema};
 use csi_tables::laws::{latest, one_state};
 use csi_tables::{MakeFault, Tables};
-use csi_transactions::changes::set_format;
 use sqlite::{Alter, Connection, Error};
 use sqlite_schema::schema::Schema;
 use std::alloc::Global;
@@ -261,7 +263,7 @@ fn upgrade<S: Alter>(conn: &mut Connection<S>, format: u32) -> Result<(), Error>
     requires idle { conn.old.in_transaction ≡ false }
     ensures idle { conn.new.in_transaction ≡ false }
     ensures stays { format ≢ FIRST_FORMAT → conn.new ≡ conn.old }
-    ensures sure { format ≢ FIRST_FORMAT → OnErr result ⊥ }
+    ensures error_only_if { format ≢ FIRST_FORMAT → OnErr result ⊥ }
     ensures ok { HasCleanDisk (state S.Store conn.new)
         → OnOk result (format ≡ FIRST_FORMAT → Changes SetsFormat (state S.Store conn.old) (state S.Store conn.new)) }
     ensures err { HasCleanDisk (state S.Store conn.new) → OnErr result (IsUndone (state S.Store conn.old) (state S.Store conn.new)) }

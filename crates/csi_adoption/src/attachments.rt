@@ -4,25 +4,24 @@ ghost use Rattle.std.specs.Prelude.{◌≡◌, None, IfOk, true, false, map};
 ghost use Rattle.std.specs.List.{AllZip};
 ghost use Rattle.sqlite.specs.Held.{state};
 ghost use Rattle.sqlite.specs.State.{HasCleanDisk};
-ghost use Rattle.csi_schema.specs.Tables.{schema as our_schema};
-ghost use Rattle.csi_schema.specs.Rows.{seen_attachment};
-ghost use Rattle.csi_scans.specs.Scans.{IsInOrder, keyed_attachment, owners};
-ghost use Rattle.csi_scans.specs.declared.sums.Weight.TheVariants.{One as Ones};
+ghost use Rattle.csi_sql.specs.Tables.{schema as our_schema};
+ghost use Rattle.csi_sql.specs.Rows.{seen_attachment};
+ghost use Rattle.csi_constraints.specs.Scans.{IsInOrder, keyed_attachment, owners};
+ghost use Rattle.csi_constraints.specs.declared.sums.Weight.TheVariants.{One as Ones};
 ghost use Rattle.csi_constraints.specs.Apart.{apart_named};
 ghost use Rattle.csi_constraints.specs.Joins.{is_owned};
 ghost use Rattle.csi_adoption.specs.Failing.{ScanFails};
 ghost use Rattle.csi_adoption.specs.Judging.{SeesAttachments, first_named};
 ghost use Rattle.csi_adoption.specs.Scanning.{IsBegun, Scans, SeenBy};
 
+use crate::seen::AttachmentsSeen;
 use crate::starts::unbroken;
 use crate::sums::node_sums;
 use csi_config::Config;
 use csi_constraints::{
-    FirstApart, FirstBroken, FirstUnowned, HasAttachmentKinds, HasCap, HasFlag, IsAtNode, RowName,
-    Sure,
+    Both, Each, FirstApart, FirstBroken, FirstUnowned, HasAttachmentKinds, HasCap, HasFlag,
+    IsAtNode, Rising, RowName, Sure, TextSum, scan_attachments, scan_owners, scan_places,
 };
-use csi_judging::AttachmentsSeen;
-use csi_scans::{Both, Each, Rising, TextSum, scan_attachments, scan_owners, scan_places};
 use sqlite::{Alter, Connection, Error, ErrorCode};
 use std::alloc::{AllocError, Global};
 

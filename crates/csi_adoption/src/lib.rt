@@ -4,12 +4,16 @@
 //! configuration, and then tells exactly that State. Else it names the first constraint that is broken, and the row that breaks it, and gives the
 //! connection back with the rows as they were. It scans row after row and keeps none, so its memory does not grow with the tables.
 //!
-//! `specs/Judging.antt` says which fault rows have, by the format and the next number that the row of `meta` tells (`Meta`): what the scans find in rows
-//! (`in_volumes`, `in_attachments`) has the faults of the crate below, `csi_judging`, in their order. `meta.rt`, `volumes.rt` and `attachments.rt` scan the tables,
-//! with a fold a constraint, all in one scan a table; `starts.rt` begins the constraints, and `sums.rt` the sums of pools and nodes. `adopting.rt` scans and has what was seen judged there, by
-//! `check_tables`, `check_attachment` and `check_counts`. Before the first scan a transaction is begun and undone, so that what is seen is what was committed. Attachments are scanned with their volumes, and beside one another, only once
-//! each is known to be at a node of the configuration, so that those of a volume are few. That tables of an earlier format are made ones of the latest is
-//! the last step that can fail.
+//! `specs/Seen.antt` says what scans have seen, `specs/Faults.antt` which fault each constraint has and their order, and what is answered: the fault if there is one
+//! (`Tells`), or that memory was refused for its name, which is copied, and nowhere else (`Says`). `specs/Judging.antt` says which fault rows have, by the format and
+//! the next number in the row of `meta` (`Meta`): what the scans find in rows (`in_volumes`, `in_attachments`) has those faults, in their order.
+//!
+//! `meta.rt`, `volumes.rt` and `attachments.rt` scan the tables, with a fold a constraint, all in one scan a table, and fill what `seen.rt` has: the first row that breaks
+//! each constraint, and the sums of pools and nodes; `starts.rt` begins the constraints, and `sums.rt` the sums. `volume_faults.rt` and `attachment_faults.rt` find the
+//! fault of a constraint, `table_faults.rt` puts them in order: each `check_` answers the first fault of its constraints, so that a `?` after each makes the first of all.
+//! `adopting.rt` calls them one after the other. Before the first scan a transaction is begun and undone, so that what is seen is what was committed. Attachments are
+//! scanned with their volumes, and next to one another, only once each is known to be at a node of the configuration, so that those of a volume are few. That tables of an
+//! earlier format are made ones of the latest is the last step that can fail.
 //!
 //! `specs/Passing.antt` says what rows that pass all constraints are. The lemmas go from rows to a State and back: a row that passes is that of a volume or an
 //! attachment (`VolumeRowLemmas`, `AttachmentRowLemmas`), rows whose numbers rise and that SQL's UNIQUE holds apart are those of a map (`VolumeMapLemmas`,
@@ -26,13 +30,18 @@
 #![tactic(auto)]
 
 mod adopting;
+mod attachment_faults;
 pub mod attachment_laws;
 mod attachments;
+mod fault;
 pub mod laws;
 mod meta;
+mod seen;
 mod starts;
 mod sums;
+mod table_faults;
+mod volume_faults;
 mod volumes;
 
 pub use adopting::{AdoptError, adopt};
-pub use csi_judging::{AdoptFault, Foreign};
+pub use fault::{AdoptFault, Foreign};

@@ -3,16 +3,16 @@
 ghost use Rattle.std.specs.Prelude.{◌≡◌, false, refl, IsPermutation, map};
 ghost use Rattle.sqlite.specs.Held.{state};
 ghost use Rattle.sqlite.specs.State.{HasCleanDisk};
-ghost use Rattle.csi_schema.specs.Rows.{seen_meta};
-ghost use Rattle.csi_schema.specs.Tables.{schema as our_schema};
+ghost use Rattle.csi_sql.specs.Rows.{seen_meta};
+ghost use Rattle.csi_sql.specs.Tables.{schema as our_schema};
 ghost use Rattle.csi_adoption.specs.Failing.{ScanFails};
 ghost use Rattle.csi_adoption.specs.Judging.{integers_judged, meta_judged, valid_format, valid_next, with_row, with_rows};
 ghost use Rattle.csi_adoption.specs.Scanning.{Scans, SeenBy};
 ghost use Rattle.csi_adoption.specs.declared.meta.MetaRows.TheVariants as meta;
 
-use csi_judging::{AdoptFault, Foreign};
-use csi_scans::{Fold, integer_at, scan_meta};
-use csi_schema::{FIRST_FORMAT, LATEST_FORMAT};
+use crate::fault::{AdoptFault, Foreign};
+use csi_constraints::{Fold, integer_at, scan_meta};
+use csi_sql::{FIRST_FORMAT, LATEST_FORMAT};
 use csi_types::MAX_NUMBER;
 use sqlite::{Alter, Connection, Error, Row};
 

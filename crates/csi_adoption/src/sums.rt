@@ -2,11 +2,11 @@
 
 ghost use Rattle.std.specs.Prelude.{IfOk};
 ghost use Rattle.std.specs.List.{AllZip};
-ghost use Rattle.csi_scans.specs.declared.sums.Weight.TheVariants.{One as Ones};
+ghost use Rattle.csi_constraints.specs.declared.sums.Weight.TheVariants.{One as Ones};
 ghost use Rattle.csi_adoption.specs.Scanning.{IsBegun};
 
 use csi_config::{Node, Pool};
-use csi_scans::{Each, TextSum, Weight};
+use csi_constraints::{Each, TextSum, Weight};
 use std::alloc::{AllocError, Global};
 
 // A sum over no row yet.

@@ -3,27 +3,27 @@
 ghost use Rattle.std.specs.Prelude.{◌≡◌, ℕ, List, None, IfOk, true, false, map};
 ghost use Rattle.sqlite.specs.Held.{state};
 ghost use Rattle.sqlite.specs.State.{HasCleanDisk};
-ghost use Rattle.csi_schema.specs.Rows.{seen_volume};
-ghost use Rattle.csi_schema.specs.Tables.{schema as our_schema};
+ghost use Rattle.csi_sql.specs.Rows.{seen_volume};
+ghost use Rattle.csi_sql.specs.Tables.{schema as our_schema};
 ghost use Rattle.std.specs.List.{AllZip};
-ghost use Rattle.csi_scans.specs.Scans.{IsInOrder};
-ghost use Rattle.csi_scans.specs.declared.sums.Weight.TheVariants as weight;
+ghost use Rattle.csi_constraints.specs.Scans.{IsInOrder};
+ghost use Rattle.csi_constraints.specs.declared.sums.Weight.TheVariants as weight;
 ghost use Rattle.csi_keeper.specs.Totals.{total_of};
-ghost use Rattle.csi_judging.specs.Seen.{sums_of};
+ghost use Rattle.csi_adoption.specs.Seen.{sums_of};
 ghost use Rattle.csi_adoption.specs.Failing.{ScanFails};
 ghost use Rattle.csi_adoption.specs.Judging.{SeesVolumes, total_in};
 ghost use Rattle.csi_adoption.specs.Scanning.{IsBegun, Scans, SeenBy};
 
 use crate::meta::Meta;
+use crate::seen::VolumesSeen;
 use crate::starts::unbroken;
 use crate::sums::pool_sums;
 use csi_config::{Config, Pool};
 use csi_constraints::{
-    FirstBroken, HasCaps, HasParams, HasVolumeKinds, IsInPools, IsNamed, IsNumbered, IsSized, Sure,
+    Both, Each, FirstBroken, HasCaps, HasParams, HasVolumeKinds, IsInPools, IsNamed, IsNumbered,
+    IsSized, Rising, RowCount, Sure, TextSum, Weight, scan_volumes,
 };
-use csi_judging::VolumesSeen;
 use csi_keeper::{Total, Totals};
-use csi_scans::{Both, Each, Rising, RowCount, TextSum, Weight, scan_volumes};
 use csi_types::copy_text;
 use sqlite::{Alter, Connection, Error, ErrorCode};
 use std::alloc::{AllocError, Global};

@@ -16,9 +16,9 @@ use Rattle.csi_keeper.specs.State.{Place}
 use Rattle.csi_keeper.specs.declared.capability.CapKey.{CapKey}
 use Rattle.csi_keeper.specs.declared.volume.Attachment.{Attachment}
 use Rattle.csi_keeper.specs.declared.volume.Volume.{Volume}
-use Rattle.csi_statements.specs.Cells.{as_flag}
-use Rattle.csi_statements.specs.Rows.{bool_value}
-use Rattle.csi_scans.specs.Scans.{with_owner}
+use Rattle.csi_sql.specs.Cells.{as_flag}
+use Rattle.csi_sql.specs.Rows.{bool_value}
+use Rattle.csi_constraints.specs.Scans.{with_owner}
 use Rattle.csi_tables.specs.Encoding.{caps_bytes, FitCaps, ReadsBack}
 use Rattle.csi_tables.specs.Holding.{attachment_entry}
 use Rattle.csi_constraints.specs.Agreement.{AttachmentAgrees, OwnerAgrees, PairAgrees, VolumeAgrees}

@@ -13,8 +13,8 @@ use Rattle.sqlite_rules.proofs.ListLemmas.{all_from, all_has, has_left, has_righ
 use Rattle.sqlite_trees.proofs.ListLemmas.{all-append, all_weaker}
 use Rattle.csi_keeper.specs.Coexistence.{coexist, is_shared}
 use Rattle.csi_keeper.specs.declared.volume.Attachment.{Attachment}
-use Rattle.csi_scans.specs.Folds.{as_integer}
-use Rattle.csi_scans.specs.facts.Fronts.{ascending_front}
+use Rattle.csi_constraints.specs.Folds.{as_integer}
+use Rattle.csi_constraints.specs.facts.Fronts.{ascending_front}
 use Rattle.csi_constraints.specs.Apart.{admits, apart_named, are_apart, are_beside, falls, first_apart, is_written, led_at, stays, AreLed, DoNotFall, IsLed, Leads}
 use Rattle.csi_constraints.specs.Joins.{attached_at}
 use Rattle.csi_constraints.specs.Named.{name_of}

@@ -1,6 +1,11 @@
 mod AgreementLemmas
 mod ApartLemmas
 mod CodingLemmas
+mod EachLemmas
+mod JoinLemmas
 mod NamedLemmas
 mod OrderLemmas
+mod RisingLemmas
+mod StreamLemmas
+mod TableLemmas
 mod TextLemmas

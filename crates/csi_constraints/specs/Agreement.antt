@@ -18,8 +18,8 @@ use Rattle.csi_keeper.specs.State.{Place}
 use Rattle.csi_keeper.specs.declared.capability.CapKey.{CapKey}
 use Rattle.csi_keeper.specs.declared.volume.Attachment.{Attachment}
 use Rattle.csi_keeper.specs.declared.volume.Volume.{Volume}
-use Rattle.csi_schema.specs.declared.formats.TheConstants.{FIRST_FORMAT}
-use Rattle.csi_scans.specs.Scans.{with_owner}
+use Rattle.csi_sql.specs.declared.formats.TheConstants.{FIRST_FORMAT}
+use Rattle.csi_constraints.specs.Scans.{with_owner}
 use Rattle.csi_tables.specs.Encoding.{caps_bytes, FitCaps, FitParams}
 use Rattle.csi_tables.specs.Holding.{attachment_entry, volume_entry}
 use Rattle.csi_constraints.specs.Apart.{are_apart}

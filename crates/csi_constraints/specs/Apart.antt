@@ -8,7 +8,7 @@ use Rattle.sqlite.specs.Tree.{IsAscending}
 use Rattle.sqlite_rules.specs.Lists.{Has}
 use Rattle.csi_keeper.specs.Coexistence.{coexist}
 use Rattle.csi_keeper.specs.declared.volume.Attachment.{Attachment}
-use Rattle.csi_scans.specs.Folds.{as_integer}
+use Rattle.csi_constraints.specs.Folds.{as_integer}
 use Rattle.csi_constraints.specs.Joins.{attached_at}
 use Rattle.csi_constraints.specs.Named.{name_of}
 use Rattle.csi_constraints.specs.Values.{are_some_and, is_some_and}

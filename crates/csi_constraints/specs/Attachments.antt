@@ -5,7 +5,7 @@ use Rattle.std.specs.Option.{is_some}
 use Rattle.sqlite.specs.Order.{Row, column}
 use Rattle.csi_types.specs.Maps.{same_text}
 use Rattle.csi_config.specs.declared.nodes.Node.{Node}
-use Rattle.csi_statements.specs.Cells.{as_flag, as_text}
+use Rattle.csi_sql.specs.Cells.{as_flag, as_text}
 use Rattle.csi_constraints.specs.Values.{is_some_and}
 
 -- readonly is 0 or 1

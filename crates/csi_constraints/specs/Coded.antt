@@ -5,7 +5,7 @@ use Rattle.sqlite.specs.Order.{Row, column}
 use Rattle.csi_types.specs.Maps.{TextMap}
 use Rattle.csi_keeper.specs.Capability.{is_supported_key}
 use Rattle.csi_keeper.specs.declared.capability.CapKey.{CapKey}
-use Rattle.csi_statements.specs.Cells.{as_blob}
+use Rattle.csi_sql.specs.Cells.{as_blob}
 use Rattle.csi_constraints.specs.Coding.{MeansMessage, are_keys, are_params, key_in, keys_in, params_in}
 use Rattle.csi_constraints.specs.Values.{is_some_and}
 

@@ -4,7 +4,7 @@ use Rattle.sqlite.specs.Order.{Row, column}
 use Rattle.csi_keeper.specs.Capability.{has_key}
 use Rattle.csi_keeper.specs.declared.capability.CapKey.{CapKey}
 use Rattle.csi_keeper.specs.declared.volume.Attachment.{Attachment}
-use Rattle.csi_statements.specs.Cells.{as_flag}
+use Rattle.csi_sql.specs.Cells.{as_flag}
 use Rattle.csi_constraints.specs.Coded.{key_at, keys_at}
 use Rattle.csi_constraints.specs.Values.{are_some_and}
 

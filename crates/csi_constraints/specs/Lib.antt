@@ -3,10 +3,14 @@ pub mod Apart
 pub mod Attachments
 pub mod Coded
 pub mod Coding
+pub mod Folds
 pub mod Joins
-pub mod Known
 pub mod Kinds
+pub mod Known
 pub mod Named
+pub mod ScanFailing
+pub mod Scans
+pub mod Texts
 pub mod Values
 pub mod Volumes
 pub mod facts

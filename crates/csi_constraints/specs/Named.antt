@@ -3,8 +3,8 @@ use Rattle.std.specs.Prelude.{ℕ, not, Bool, List, Option, Some, None, find, if
 use Rattle.std.specs.Option.{option_map, option_or}
 use Rattle.std.specs.Str.{is_utf8}
 use Rattle.sqlite.specs.Order.{Row, column}
-use Rattle.csi_scans.specs.Folds.{as_integer}
-use Rattle.csi_statements.specs.Cells.{as_text}
+use Rattle.csi_constraints.specs.Folds.{as_integer}
+use Rattle.csi_sql.specs.Cells.{as_text}
 use Rattle.csi_constraints.specs.Values.{if_passes}
 use Rattle.csi_constraints.specs.declared.named.RowName.{RowName}
 

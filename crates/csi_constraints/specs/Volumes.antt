@@ -8,7 +8,7 @@ use Rattle.csi_types.specs.Maps.{same_text}
 use Rattle.csi_types.specs.Names.{refused_name}
 use Rattle.csi_config.specs.Faults.{is_whole}
 use Rattle.csi_config.specs.declared.pools.Pool.{Pool}
-use Rattle.csi_statements.specs.Cells.{as_number, as_text}
+use Rattle.csi_sql.specs.Cells.{as_number, as_text}
 use Rattle.csi_constraints.specs.Values.{is_some_and}
 
 -- the number is at least 1, and below the next number

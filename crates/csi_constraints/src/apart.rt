@@ -2,15 +2,16 @@
 
 ghost use Rattle.std.specs.Prelude.{◌≡◌, None, IfOk, IsSome, OnErr};
 ghost use Rattle.sqlite.specs.Order.{column};
-ghost use Rattle.csi_scans.specs.Folds.{as_integer};
-ghost use Rattle.csi_scans.specs.Failing.{FailsForMemory};
+ghost use Rattle.csi_constraints.specs.Folds.{as_integer};
+ghost use Rattle.csi_constraints.specs.ScanFailing.{FailsForMemory};
 ghost use Rattle.csi_constraints.specs.Apart.{AreLed, DoNotFall, admits, apart_named, are_beside, is_written, led_at, stays};
 ghost use Rattle.csi_constraints.specs.facts.Starts.{none_led};
 
+use crate::cells::integer_at;
+use crate::fold::Fold;
 use crate::joins::attached_at;
 use crate::named::{RowName, name_at};
 use csi_keeper::{Attachment, coexist};
-use csi_scans::{Fold, integer_at};
 use sqlite::{Error, Row};
 use std::alloc::Global;
 
@@ -28,7 +29,7 @@ pub struct Led {
 fn led_at(alloc: Global, row: &Row) -> Result<Option<Led>, Error>
     ensures value { IfOk result (λ led. led ≡ led_at row.now) }
     ensures memory { FailsForMemory result }
-    ensures sure { OnErr result (IsSome (as_integer (column row.now 0))) }
+    ensures error_only_if { OnErr result (IsSome (as_integer (column row.now 0))) }
 {
     let Some(number) = integer_at(row, 0) else {
         return Ok(None);

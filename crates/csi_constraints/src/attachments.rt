@@ -3,9 +3,9 @@
 ghost use Rattle.std.specs.Prelude.{◌≡◌};
 ghost use Rattle.csi_constraints.specs.Attachments.{has_flag, is_at_node, is_node};
 
+use crate::folds::RowTest;
 use csi_config::{Config, Node};
-use csi_scans::RowTest;
-use csi_statements::values::{flag_at, text_at};
+use csi_sql::values::{flag_at, text_at};
 use sqlite::Row;
 
 /// `readonly` of an attachment is 0 or 1.

@@ -3,13 +3,24 @@
 ghost use Rattle.std.specs.Prelude.{◌≡◌, Some, option_copied};
 ghost use Rattle.std.specs.Str.{is_utf8};
 ghost use Rattle.sqlite.specs.Order.{column};
+ghost use Rattle.csi_constraints.specs.Folds.{as_integer};
 ghost use Rattle.csi_constraints.specs.Kinds.{is_blob, is_integer, is_text};
 ghost use Rattle.csi_constraints.specs.Values.{if_passes};
 
-use csi_statements::values::text_at;
+use csi_sql::values::text_at;
 use sqlite::Row;
 use sqlite::types::ValueRef;
 use std::str;
+
+/// The integer in a cell, counted from 0; `None` where there is another value.
+pub fn integer_at(row: &Row, at: usize) -> Option<i64>
+    ensures { result ≡ as_integer (column row.now at) }
+{
+    match row.get_ref(at) {
+        Ok(ValueRef::Int(integer)) => Some(integer),
+        _ => None,
+    }
+}
 
 /// Whether a cell, counted from 0, has an integer.
 pub(crate) fn has_integer(row: &Row, at: usize) -> bool

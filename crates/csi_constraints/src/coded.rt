@@ -2,13 +2,13 @@
 
 ghost use Rattle.std.specs.Prelude.{◌≡◌, IfOk, IfSome, OnErr, ◌∷◌, []};
 ghost use Rattle.csi_tables.specs.Encoding.{FitCaps, FitParams};
-ghost use Rattle.csi_scans.specs.Failing.{FailsForMemory};
+ghost use Rattle.csi_constraints.specs.ScanFailing.{FailsForMemory};
 ghost use Rattle.csi_constraints.specs.Coded.{SaysMessage, has_cap, has_caps, has_params, key_at, keys_at, params_at};
 
 use crate::coding::{are_keys, are_params, key_in, keys_in, params_in};
 use crate::trial::RowTrial;
 use csi_keeper::{CapKey, supported};
-use csi_statements::values::blob_at;
+use csi_sql::values::blob_at;
 use csi_types::{Items, Map};
 use sqlite::{Error, Row};
 use std::alloc::Global;
@@ -18,7 +18,7 @@ pub(crate) fn keys_at(alloc: Global, row: &Row, at: usize) -> Result<Option<Item
     ensures value { IfOk result (λ keys. keys ≡ keys_at at row.now) }
     ensures fits { IfOk result (λ keys. IfSome keys FitCaps) }
     ensures memory { FailsForMemory result }
-    ensures sure { OnErr result (SaysMessage at row.now) }
+    ensures error_only_if { OnErr result (SaysMessage at row.now) }
 {
     match blob_at(row, at) {
         Some(bytes) => keys_in(alloc, bytes),
@@ -31,7 +31,7 @@ pub(crate) fn key_at(alloc: Global, row: &Row, at: usize) -> Result<Option<CapKe
     ensures value { IfOk result (λ key. key ≡ key_at at row.now) }
     ensures fits { IfOk result (λ key. IfSome key (λ k. FitCaps (k ∷ []))) }
     ensures memory { FailsForMemory result }
-    ensures sure { OnErr result (SaysMessage at row.now) }
+    ensures error_only_if { OnErr result (SaysMessage at row.now) }
 {
     match blob_at(row, at) {
         Some(bytes) => key_in(alloc, bytes),
@@ -43,7 +43,7 @@ fn params_at(alloc: Global, row: &Row, at: usize) -> Result<Option<(Map, Map)>, 
     ensures value { IfOk result (λ params. params ≡ params_at at row.now) }
     ensures fits { IfOk result (λ params. IfSome params (λ ms. FitParams ms.0 ms.1)) }
     ensures memory { FailsForMemory result }
-    ensures sure { OnErr result (SaysMessage at row.now) }
+    ensures error_only_if { OnErr result (SaysMessage at row.now) }
 {
     match blob_at(row, at) {
         Some(bytes) => params_in(alloc, bytes),

@@ -7,13 +7,13 @@ ghost use Rattle.csi_types.specs.declared.method.Method.TheVariants.{CreateVolum
 ghost use Rattle.csi_codec.specs.Reading.{read_request};
 ghost use Rattle.csi_keeper.specs.Capability.{is_supported_key};
 ghost use Rattle.csi_tables.specs.Encoding.{caps_bytes, params_bytes, FitCaps, FitParams};
-ghost use Rattle.csi_scans.specs.Failing.{FailsForMemory};
+ghost use Rattle.csi_constraints.specs.ScanFailing.{FailsForMemory};
 ghost use Rattle.csi_constraints.specs.Values.{if_passes};
 ghost use Rattle.csi_constraints.specs.Coding.{MeansMessage, are_keys, are_params, is_small, each_key, is_before, key_in, keys_in, message_in, only, params_in, rise};
 
 use csi_codec::decode_create;
 use csi_keeper::{CapKey, cap_key, supported};
-use csi_schema::FIRST_FORMAT;
+use csi_sql::FIRST_FORMAT;
 use csi_tables::{write_caps, write_params};
 use csi_types::{Capability, CreateVolume, Items, MAX_MAP_BYTES, Map, map_bytes};
 use pbmessage::DecodeFault;
@@ -26,7 +26,7 @@ use std::cmp::Ordering;
 fn message_in(alloc: Global, bytes: &[u8]) -> Result<Option<CreateVolume>, Error>
     ensures value { IfOk result (λ message. message ≡ message_in bytes.now) }
     ensures memory { FailsForMemory result }
-    ensures sure { OnErr result (MeansMessage bytes.now) }
+    ensures error_only_if { OnErr result (MeansMessage bytes.now) }
 {
     match decode_create(alloc, bytes) {
         Ok(message) => Ok(Some(message)),
@@ -77,7 +77,7 @@ pub(crate) fn keys_in(alloc: Global, bytes: &[u8]) -> Result<Option<Items<CapKey
     ensures value { IfOk result (λ keys. keys ≡ keys_in bytes.now) }
     ensures fits { IfOk result (λ keys. IfSome keys FitCaps) }
     ensures memory { FailsForMemory result }
-    ensures sure { OnErr result (MeansMessage bytes.now) }
+    ensures error_only_if { OnErr result (MeansMessage bytes.now) }
 {
     match message_in(alloc, bytes)? {
         Some(message) => keys_of(alloc, message.capabilities.as_slice(), bytes),
@@ -118,7 +118,7 @@ pub(crate) fn key_in(alloc: Global, bytes: &[u8]) -> Result<Option<CapKey>, Erro
     ensures value { IfOk result (λ key. key ≡ key_in bytes.now) }
     ensures fits { IfOk result (λ key. IfSome key (λ k. FitCaps (k ∷ []))) }
     ensures memory { FailsForMemory result }
-    ensures sure { OnErr result (MeansMessage bytes.now) }
+    ensures error_only_if { OnErr result (MeansMessage bytes.now) }
 {
     match keys_in(alloc, bytes)? {
         Some(keys) => Ok(only(keys)),
@@ -131,7 +131,7 @@ pub(crate) fn params_in(alloc: Global, bytes: &[u8]) -> Result<Option<(Map, Map)
     ensures value { IfOk result (λ params. params ≡ params_in bytes.now) }
     ensures fits { IfOk result (λ params. IfSome params (λ ms. FitParams ms.0 ms.1)) }
     ensures memory { FailsForMemory result }
-    ensures sure { OnErr result (MeansMessage bytes.now) }
+    ensures error_only_if { OnErr result (MeansMessage bytes.now) }
 {
     let Some(message) = message_in(alloc, bytes)? else {
         return Ok(None);

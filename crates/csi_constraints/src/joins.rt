@@ -1,12 +1,12 @@
 //! The attachment that a row says.
 
 ghost use Rattle.std.specs.Prelude.{◌≡◌, IfOk};
-ghost use Rattle.csi_scans.specs.Failing.{FailsForMemory};
+ghost use Rattle.csi_constraints.specs.ScanFailing.{FailsForMemory};
 ghost use Rattle.csi_constraints.specs.Joins.{attached_at};
 
 use crate::coded::key_at;
 use csi_keeper::Attachment;
-use csi_statements::values::flag_at;
+use csi_sql::values::flag_at;
 use csi_types::Text;
 use sqlite::{Error, Row};
 use std::alloc::Global;

@@ -4,16 +4,17 @@ ghost use Rattle.std.specs.Prelude.{◌≡◌, ◌⊎◌, false, refl, None, IfO
 ghost use Rattle.std.specs.List.{AllByRecursion};
 ghost use Rattle.std.specs.Str.{is_utf8};
 ghost use Rattle.sqlite.specs.Order.{column};
-ghost use Rattle.csi_statements.specs.Cells.{as_text};
-ghost use Rattle.csi_scans.specs.Failing.{FailsForMemory};
+ghost use Rattle.csi_sql.specs.Cells.{as_text};
+ghost use Rattle.csi_constraints.specs.ScanFailing.{FailsForMemory};
 ghost use Rattle.csi_constraints.specs.Named.{name_of};
 ghost use Rattle.csi_constraints.specs.Values.{if_passes};
 ghost use Rattle.csi_constraints.specs.facts.Starts.{still_found};
 
-use crate::cells::as_utf8;
+use crate::cells::{as_utf8, integer_at};
+use crate::fold::Fold;
+use crate::folds::RowTest;
 use crate::trial::RowTrial;
-use csi_scans::{Fold, RowTest, integer_at};
-use csi_statements::values::text_at;
+use csi_sql::values::text_at;
 use csi_types::Text;
 use sqlite::{Error, Row};
 use std::alloc::{AllocError, Global};
@@ -77,7 +78,7 @@ impl<T: RowTrial> FirstBroken<T> {
         ensures value { IfOk result (λ name. name ≡ name_if self.now.number self.now.text (T.accepts self.now.test) row.now) }
         ensures known { IfOk result (λ name. name ≡ None → T.knows self.now.test row.now) }
         ensures memory { FailsForMemory result }
-        ensures sure { OnErr result (T.takes_memory self.now.test row.now ⊎ (T.accepts self.now.test row.now ≡ false)) }
+        ensures error_only_if { OnErr result (T.takes_memory self.now.test row.now ⊎ (T.accepts self.now.test row.now ≡ false)) }
     {
         if self.test.try_test(row)? {
             return Ok(None);

@@ -2,7 +2,7 @@
 
 ghost use Rattle.std.specs.Prelude.{◌≡◌, None, Some, IfOk, OnOk};
 ghost use Rattle.csi_keeper.specs.Capability.{has_key};
-ghost use Rattle.csi_scans.specs.Failing.{FailsForMemory};
+ghost use Rattle.csi_constraints.specs.ScanFailing.{FailsForMemory};
 ghost use Rattle.csi_constraints.specs.Coding.{keys_in};
 ghost use Rattle.csi_constraints.specs.Joins.{is_owned};
 ghost use Rattle.csi_constraints.specs.Known.{AreCached, are_last, last_keys};
@@ -12,10 +12,10 @@ ghost use Rattle.csi_constraints.specs.facts.Starts.{still_found};
 
 use crate::coded::key_at;
 use crate::coding::keys_in;
+use crate::fold::Fold;
 use crate::named::{RowName, name_at};
 use csi_keeper::{CapKey, has_key};
-use csi_scans::Fold;
-use csi_statements::values::blob_at;
+use csi_sql::values::blob_at;
 use csi_types::Items;
 use sqlite::{Error, Row};
 use std::alloc::Global;

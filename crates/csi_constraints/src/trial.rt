@@ -2,7 +2,7 @@
 
 ghost use Rattle.std.specs.Prelude.{◌≡◌, Bool, IfOk, IsTrue, OnErr};
 ghost use Rattle.sqlite.specs.Order.{Row as Values};
-ghost use Rattle.csi_scans.specs.Failing.{FailsForMemory};
+ghost use Rattle.csi_constraints.specs.ScanFailing.{FailsForMemory};
 
 use sqlite::{Error, Row};
 
@@ -26,5 +26,5 @@ pub trait RowTrial {
         ensures exact { IfOk result (λ passed. passed ≡ accepts self.now row.now) }
         ensures known { IfOk result (λ passed. IsTrue passed → knows self.now row.now) }
         ensures memory { FailsForMemory result }
-        ensures sure { OnErr result (takes_memory self.now row.now) };
+        ensures error_only_if { OnErr result (takes_memory self.now row.now) };
 }

@@ -32,13 +32,13 @@ use Rattle.csi_keeper.specs.Invariant.{IsInvariant}
 use Rattle.csi_keeper.specs.Model.{Model}
 use Rattle.csi_keeper.specs.State.{State, first_state}
 use Rattle.csi_keeper.specs.declared.change.StoreFault.TheVariants.{Refused}
-use Rattle.csi_schema.specs.Tables.{no_schema, schema}
+use Rattle.csi_sql.specs.Tables.{no_schema, schema}
 use Rattle.csi_tables.specs.Holding.{Holds, IsEitherRows, IsRows}
 use Rattle.csi_tables.specs.Keeping.{connection_of, tables_model}
 use Rattle.csi_tables.specs.Laws.{OneState}
 use Rattle.csi_tables.specs.declared.tables.Tables.{Tables}
-use Rattle.csi_judging.specs.declared.fault.AdoptFault.{AdoptFault}
-use Rattle.csi_judging.specs.Faults.{is_failure}
+use Rattle.csi_adoption.specs.declared.fault.AdoptFault.{AdoptFault}
+use Rattle.csi_adoption.specs.Faults.{is_failure}
 use Rattle.csi_adoption.specs.Judging.{IsFaultOf}
 use Rattle.csi_adoption.specs.Adopting.{IsAdopted, IsStateOf, IsUnadopted}
 use Rattle.csi_server.specs.Machine.{Event, Runs, state_after}

@@ -23,7 +23,7 @@ use Rattle.sqlite_trees.specs.Sound.{is_sound_list}
 use Rattle.sqlite_value.specs.Order.{Row}
 use Rattle.sqlite_catalog.specs.Listing.{IsSound, Lists}
 use Rattle.sqlite.specs.Files.{HoldsDatabase}
-use Rattle.csi_schema.specs.Tables.{no_schema}
+use Rattle.csi_sql.specs.Tables.{no_schema}
 use Rattle.csi_files.specs.Making.{IsMade, IsTorn, IsUnmade}
 
 -- no rows list no table

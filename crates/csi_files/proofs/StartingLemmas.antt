@@ -11,7 +11,7 @@ use Rattle.sqlite_trees.specs.Tree.{Trees}
 use Rattle.sqlite.specs.Files.{HoldsDatabase, image_of}
 use Rattle.csi_config.specs.declared.config.Config.{Config}
 use Rattle.csi_keeper.specs.State.{State, first_state}
-use Rattle.csi_schema.specs.Tables.{no_schema}
+use Rattle.csi_sql.specs.Tables.{no_schema}
 use Rattle.csi_server.specs.Machine.{Event}
 use Rattle.csi_server.specs.Serving.{Serves}
 use Rattle.csi_server.specs.Volumes.{seen, volumes}

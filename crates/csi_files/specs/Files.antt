@@ -14,7 +14,7 @@ use Rattle.sqlite.specs.Held.{Held}
 use Rattle.sqlite.specs.Start.{FindsIn}
 use Rattle.csi_keeper.specs.Model.{Model}
 use Rattle.csi_keeper.specs.State.{State, first_state}
-use Rattle.csi_schema.specs.Tables.{no_schema}
+use Rattle.csi_sql.specs.Tables.{no_schema}
 use Rattle.csi_tables.specs.Holding.{IsEitherRows}
 use Rattle.csi_adoption.specs.Adopting.{IsStateOf}
 

@@ -7,7 +7,7 @@ use Rattle.csi_keeper.specs.Keeper.{IsQuiet}
 use Rattle.csi_keeper.specs.Model.{Model}
 use Rattle.csi_keeper.specs.State.{State}
 use Rattle.csi_keeper.specs.declared.change.StoreFault.TheVariants.{Refused}
-use Rattle.csi_schema.specs.Tables.{no_schema}
+use Rattle.csi_sql.specs.Tables.{no_schema}
 use Rattle.csi_tables.specs.Keeping.{connection_of, tables_model}
 use Rattle.csi_tables.specs.declared.tables.Tables.{Tables}
 use Rattle.csi_adoption.specs.Adopting.{IsAdopted, IsUnadopted}

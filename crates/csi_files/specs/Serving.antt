@@ -23,12 +23,12 @@ use Rattle.csi_keeper.specs.Invariant.{IsInvariant}
 use Rattle.csi_keeper.specs.Model.{Model}
 use Rattle.csi_keeper.specs.State.{State, first_state}
 use Rattle.csi_keeper.specs.declared.change.StoreFault.TheVariants.{Refused}
-use Rattle.csi_schema.specs.Tables.{no_schema}
+use Rattle.csi_sql.specs.Tables.{no_schema}
 use Rattle.csi_tables.specs.Holding.{IsRows}
-use Rattle.csi_judging.specs.Faults.{is_failure}
-use Rattle.csi_judging.specs.declared.fault.AdoptFault.{AdoptFault}
-use Rattle.csi_judging.specs.declared.fault.AdoptFault.TheVariants.{Foreign}
-use Rattle.csi_judging.specs.declared.fault.Foreign.TheVariants as foreign
+use Rattle.csi_adoption.specs.Faults.{is_failure}
+use Rattle.csi_adoption.specs.declared.fault.AdoptFault.{AdoptFault}
+use Rattle.csi_adoption.specs.declared.fault.AdoptFault.TheVariants.{Foreign}
+use Rattle.csi_adoption.specs.declared.fault.Foreign.TheVariants as foreign
 use Rattle.csi_adoption.specs.Judging.{IsFaultOf}
 use Rattle.csi_server.specs.Machine.{Event, Machine, state_after}
 use Rattle.csi_server.specs.Serving.{Ended}

@@ -31,8 +31,6 @@ mod path;
 mod reserve;
 mod serving;
 mod starting;
-#[cfg(test)]
-mod tests;
 
 pub use leaving::leave;
 pub use making::{LOG_WITH_FRAME_BYTES, NotLaidOut, lay_out};

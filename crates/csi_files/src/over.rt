@@ -2,7 +2,7 @@
 
 ghost use Rattle.std.specs.Prelude.{◌≡◌, ◌≤◌, ◌↔◌, false, IfErr, IfOk, IsTrue, OnErr};
 ghost use Rattle.csi_keeper.specs.Keeper.{IsQuiet};
-ghost use Rattle.csi_schema.specs.Tables.{no_schema};
+ghost use Rattle.csi_sql.specs.Tables.{no_schema};
 ghost use Rattle.csi_tables.specs.Keeping.{is_down, refusals, tables_model};
 ghost use Rattle.csi_memory.specs.Holding.{mem_model};
 ghost use Rattle.csi_through.specs.Copying.{IsWhy};

@@ -7,11 +7,10 @@ use Rattle.sqlite.specs.Effect.{Database}
 use Rattle.sqlite.specs.State.{State}
 use Rattle.sqlite.specs.declared.error.Error.{Error}
 use Rattle.csi_client.specs.declared.receiving.Received.{Received}
-use Rattle.csi_schema.specs.Making.{MakesTables, RefusesTables}
-use Rattle.csi_schema.specs.Tables.{no_schema}
-use Rattle.csi_schema.specs.Transactions.{ChangesFrom, CommitsOver, RunsOver}
-use Rattle.csi_schema.specs.facts.Failing.{Committed, commits}
-use Rattle.csi_statements.specs.Tables.{schema}
+use Rattle.csi_sql.specs.Making.{MakesTables, RefusesTables}
+use Rattle.csi_sql.specs.Tables.{no_schema, schema}
+use Rattle.csi_sql.specs.Transactions.{ChangesFrom, CommitsOver, RunsOver}
+use Rattle.csi_sql.specs.facts.Failing.{Committed, commits}
 use Rattle.csi_log.specs.Filling.{AreRead, Fills, HasRows, ReadsRows}
 use Rattle.csi_log.specs.Pages.{Notes}
 use Rattle.csi_log.specs.Taking.{CommitsNothing, ExtendsFrom, PutsAll}

@@ -4,10 +4,11 @@ use Rattle.std.proofs.lemmas.List.Sorted.{IsPermutation-append_right, IsPermutat
 use Rattle.sqlite.specs.Effect.{Database, IsDatabase}
 use Rattle.sqlite.specs.Order.{Row}
 use Rattle.csi_keeper.specs.State.{State}
-use Rattle.csi_schema.specs.Making.{MakesTables}
-use Rattle.csi_schema.specs.declared.formats.TheConstants.{LATEST_FORMAT}
-use Rattle.csi_statements.specs.Rows.{AreKeyed, meta_row, seen_attachment, seen_meta, seen_volume}
-use Rattle.csi_statements.specs.Tables.{schema}
+use Rattle.csi_sql.specs.Making.{MakesTables}
+use Rattle.csi_sql.specs.declared.formats.TheConstants.{LATEST_FORMAT}
+use Rattle.csi_sql.specs.Effects.{AreKeyed}
+use Rattle.csi_sql.specs.Rows.{meta_row, seen_attachment, seen_meta, seen_volume}
+use Rattle.csi_sql.specs.Tables.{schema}
 use Rattle.csi_log.specs.Giving.{Gives, GivesRows, attachments_in, next_in, shown_volume, volumes_in}
 use Rattle.csi_log.specs.Pages.{PageItem, Meta, Volume, Attachment, Token, Skipped}
 use Rattle.csi_log.specs.Taking.{PutsAll, kept_attachment}

@@ -11,11 +11,11 @@ use Rattle.sqlite.specs.declared.error.Error.{Error}
 use Rattle.sqlite.specs.declared.error.Error.TheVariants.{SqliteFailure}
 use Rattle.sqlite.proofs.InsideLemmas.{keeps_then}
 use Rattle.sqlite.proofs.StateLemmas.{survives_then}
-use Rattle.csi_schema.specs.Failing.{FailsFor, for_memory, by_disk, as_shut, at_limit, as_refused}
-use Rattle.csi_schema.specs.Transactions.{RunsOver}
-use Rattle.csi_schema.specs.facts.Failing.{fails_weaker}
-use Rattle.csi_statements.specs.Failing.{RefusesAttachment, RefusesNext, RefusesVolume}
-use Rattle.csi_statements.specs.Tables.{schema}
+use Rattle.csi_sql.specs.Failing.{FailsFor, for_memory, by_disk, as_shut, at_limit, as_refused}
+use Rattle.csi_sql.specs.Transactions.{RunsOver}
+use Rattle.csi_sql.specs.facts.Failing.{fails_weaker}
+use Rattle.csi_sql.specs.Refusing.{RefusesAttachment, RefusesNext, RefusesVolume}
+use Rattle.csi_sql.specs.Tables.{schema}
 use Rattle.csi_log.specs.Pages.{PageItem, Meta, Volume, Attachment, Token, Skipped, AreTyped, BeginsWith, HasFlag, HasTexts, IsItem, IsPage, IsTyped, Notes, noted, volume_number, with_item}
 use Rattle.csi_log.specs.Taking.{CommitsNothing, Extends, ExtendsFrom, FailsWith, IsFaultIn, IsFaultOf, IsItemFault, IsPageFault, IsRefusal, IsRefusedAs, Puts, PutsAll, PutsItem, RefusesItem, RefusesRow, TakesPage, kept_attachment, kept_volume}
 use Rattle.csi_log.specs.declared.fault.RowsFault.{RowsFault}

@@ -8,7 +8,7 @@ use Rattle.sqlite.specs.Store as store
 use Rattle.csi_client.specs.declared.receiving.Received.{Received}
 use Rattle.csi_log.specs.Pages.{PageItem, AreTyped, IsPage, Notes}
 use Rattle.csi_log.specs.Taking.{CommitsNothing, ExtendsFrom, PutsAll, TakesPage}
-use Rattle.csi_log.specs.Walking.{GivesPage, GoesOn, IsFaultAfter, IsPageless, IsReadFault, ReadsAll, ReadsPage, Walks, all_items, no_notes, noted_page}
+use Rattle.csi_log.specs.Walking.{GivesPage, HasNextPage, IsFaultAfter, IsPageless, IsReadFault, ReadsAll, ReadsPage, Walks, all_items, no_notes, noted_page}
 use Rattle.csi_log.specs.declared.fault.RowsFault.{RowsFault}
 use Rattle.csi_log.specs.declared.pages.Notes as noted
 use Rattle.csi_log.specs.declared.reading.ReadFault.{ReadFault}
@@ -48,7 +48,7 @@ not_nil [] x h = cc
 not_nil (y ∷ xs) x h = cc
 
 module _ {P : Type 0} (exchanged : P → P → List ℕ → Received → Type 0) where
-  goes_push : (pages : List (List PageItem)) (items : List PageItem) (first notes : Notes) (old new : P) → Walks exchanged pages first old new notes → GoesOn pages first → notes.token ≢ [] → GoesOn (pages ++ items ∷ []) first
+  goes_push : (pages : List (List PageItem)) (items : List PageItem) (first notes : Notes) (old new : P) → Walks exchanged pages first old new notes → HasNextPage pages first → notes.token ≢ [] → HasNextPage (pages ++ items ∷ []) first
   goes_push [] items first notes old new walks goes some = λ none. some (ap (λ (n : Notes). n.token) walks.1 ∙ none)
   goes_push (page ∷ pages) items first notes old new walks goes some = goes
 

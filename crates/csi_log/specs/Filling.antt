@@ -5,10 +5,9 @@ use Rattle.sqlite.specs.Held.{Held, state}
 use Rattle.sqlite.specs.State.{HasCleanDisk}
 use Rattle.sqlite.specs.Store.{Ghosts}
 use Rattle.csi_client.specs.declared.receiving.Received.{Received}
-use Rattle.csi_schema.specs.Making.{MakesTables}
-use Rattle.csi_schema.specs.Tables.{no_schema}
-use Rattle.csi_schema.specs.Transactions.{ChangesFrom}
-use Rattle.csi_statements.specs.Tables.{schema}
+use Rattle.csi_sql.specs.Making.{MakesTables}
+use Rattle.csi_sql.specs.Tables.{no_schema, schema}
+use Rattle.csi_sql.specs.Transactions.{ChangesFrom}
 use Rattle.csi_log.specs.Pages.{PageItem, AreTyped, Notes}
 use Rattle.csi_log.specs.Taking.{PutsAll}
 use Rattle.csi_log.specs.Walking.{Walks, all_items, no_notes}

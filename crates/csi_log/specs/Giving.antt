@@ -4,8 +4,8 @@ use Rattle.std.specs.FinMap.{entries}
 use Rattle.sqlite.specs.Effect.{Database}
 use Rattle.sqlite.specs.Order.{Row}
 use Rattle.csi_keeper.specs.State.{State}
-use Rattle.csi_schema.specs.Making.{MakesTables}
-use Rattle.csi_statements.specs.Rows.{seen_volume}
+use Rattle.csi_sql.specs.Making.{MakesTables}
+use Rattle.csi_sql.specs.Rows.{seen_volume}
 use Rattle.csi_tables.specs.Holding.{IsRows, IsStorable, attachment_entry, volume_entry}
 use Rattle.csi_log.specs.Pages.{PageItem, Meta, Volume, Attachment, Token, Skipped, VolumeColumns, AttachmentColumns}
 use Rattle.csi_log.specs.Taking.{PutsAll, kept_attachment, kept_volume}

@@ -5,7 +5,7 @@ use Rattle.csi_log.specs.declared.items.AttachmentRow.{AttachmentRow}
 use Rattle.csi_log.specs.declared.items.Item.{Item}
 use Rattle.csi_log.specs.declared.items.Item.TheVariants as item
 use Rattle.csi_log.specs.declared.pages.Notes as noted
-use Rattle.csi_statements.specs.declared.statements.volumes.VolumeRow.{VolumeRow}
+use Rattle.csi_sql.specs.declared.statements.volumes.VolumeRow.{VolumeRow}
 
 abbrev pub volume_columns : VolumeRow → VolumeColumns
 volume_columns row = record { number = row.number; name = row.name.now; bytes = row.bytes; pool = row.pool.now; caps = row.caps.now; params = row.params.now }

@@ -9,11 +9,12 @@ use Rattle.sqlite.specs.Store.{Ghosts}
 use Rattle.sqlite.specs.declared.error.Error.{Error}
 use Rattle.sqlite.specs.declared.error.Error.TheVariants.{SqliteFailure}
 use Rattle.sqlite.specs.declared.error.ErrorCode.TheVariants.{OutOfMemory}
-use Rattle.csi_schema.specs.Failing.{FailsFor}
-use Rattle.csi_schema.specs.Transactions.{KeepsCommitted, LeavesNothingNew}
-use Rattle.csi_statements.specs.Failing.{RefusesAttachment, RefusesNext, RefusesVolume}
-use Rattle.csi_statements.specs.Rows.{AddsAttachment, AddsVolume, SetsNext, attachment_row, volume_row}
-use Rattle.csi_statements.specs.Tables.{schema}
+use Rattle.csi_sql.specs.Failing.{FailsFor}
+use Rattle.csi_sql.specs.Transactions.{KeepsCommitted, LeavesNothingNew}
+use Rattle.csi_sql.specs.Refusing.{RefusesAttachment, RefusesNext, RefusesVolume}
+use Rattle.csi_sql.specs.Effects.{AddsAttachment, AddsVolume, SetsNext}
+use Rattle.csi_sql.specs.Rows.{attachment_row, volume_row}
+use Rattle.csi_sql.specs.Tables.{schema}
 use Rattle.csi_log.specs.declared.fault.RowsFault.{RowsFault}
 use Rattle.csi_log.specs.declared.fault.RowsFault.TheVariants.{Malformed, Untyped, Flag, Refused, Row as RowRefused, NoMemory}
 use Rattle.csi_log.specs.Pages.{PageItem, Meta, Volume, Attachment, Token, Skipped, VolumeColumns, AttachmentColumns, AreTyped, BeginsWith, HasFlag, HasTexts, IsPage, Notes, node_of, noted, volume_number}

@@ -60,16 +60,16 @@ module _ {P : Type 0} (exchanged : P → P → List ℕ → Received → Type 0)
 -- ---- all pages
 
 -- a further page has a token
-abbrev pub GoesOn : List (List PageItem) → Notes → Type 0
-GoesOn [] notes = Unit {0}
-GoesOn (items ∷ pages) notes = notes.token ≢ []
+abbrev pub HasNextPage : List (List PageItem) → Notes → Type 0
+HasNextPage [] notes = Unit {0}
+HasNextPage (items ∷ pages) notes = notes.token ≢ []
 
 -- the exchanges that give these pages, one after the other
 abbrev pub Walks : {P : Type 0} → (P → P → List ℕ → Received → Type 0) → List (List PageItem) → Notes → P → P → Notes → Type 0
 Walks {P = P} exchanged [] notes old new after = (new ≡ old) × (after ≡ notes)
 Walks {P = P} exchanged (items ∷ pages) notes old new after =
     (body : List ℕ) × (mid : P) × GivesPage exchanged old mid notes.token body × IsPage body items
-    × GoesOn pages (noted_page items notes) × Walks exchanged pages (noted_page items notes) mid new after
+    × HasNextPage pages (noted_page items notes) × Walks exchanged pages (noted_page items notes) mid new after
 
 abbrev pub all_items : List (List PageItem) → List PageItem
 all_items [] = []

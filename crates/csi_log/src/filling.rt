@@ -7,7 +7,7 @@ ghost use Rattle.csi_log.specs.Items.{seen_notes};
 use crate::pages::Notes;
 use crate::peer::Peer;
 use crate::reading::{ReadFault, read_pages};
-use csi_schema::make_tables;
+use csi_sql::make_tables;
 use sqlite::{Alter, Connection};
 use std::alloc::Global;
 

@@ -11,7 +11,7 @@ ghost use Rattle.csi_log.specs.declared.fault.RowsFault.TheVariants.{Malformed, 
 
 use crate::cells::{Cells, Kind, read_cells};
 use crate::fault::RowsFault;
-use csi_statements::statements::volumes::VolumeRow;
+use csi_sql::statements::volumes::VolumeRow;
 use pbwire::{Field, Value};
 use std::alloc::Global;
 use std::str;

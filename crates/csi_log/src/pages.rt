@@ -8,9 +8,9 @@ ghost use Rattle.csi_log.specs.declared.fault.RowsFault.TheVariants.{NoMemory};
 
 use crate::fault::{RowsFault, fault_of};
 use crate::items::{AttachmentRow, Item, item_of};
-use csi_statements::statements::attachments::insert_attachment;
-use csi_statements::statements::meta::set_next;
-use csi_statements::statements::volumes::{VolumeRow, insert_volume};
+use csi_sql::statements::attachments::insert_attachment;
+use csi_sql::statements::meta::set_next;
+use csi_sql::statements::volumes::{VolumeRow, insert_volume};
 use pbwire::Fields;
 use pbwire::laws::spelled;
 use sqlite::{Alter, Transaction};

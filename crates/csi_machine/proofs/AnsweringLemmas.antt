@@ -14,34 +14,34 @@ use Rattle.csi_types.specs.declared.requests.Request.TheVariants as request
 use Rattle.csi_types.specs.declared.requests.Validate.{Validate}
 use Rattle.csi_config.specs.declared.config.Config.{Config}
 use Rattle.envelope.specs.declared.limits.TheConstants.{MAX_BODY_BYTES}
-use Rattle.csi_plans.specs.declared.body.Verdict.{Verdict}
-use Rattle.csi_plans.specs.declared.body.Verdict.TheVariants as verdict
+use Rattle.csi_machine.specs.declared.body.Verdict.{Verdict}
+use Rattle.csi_machine.specs.declared.body.Verdict.TheVariants as verdict
 use Rattle.csi_keeper.specs.declared.change.Change.{Change}
 use Rattle.csi_keeper.specs.declared.change.StoreFault.{StoreFault}
 use Rattle.csi_keeper.specs.declared.change.StoreFault.TheVariants.{NoMemory, Refused, Down}
-use Rattle.csi_plans.specs.declared.plan.Plan.{Plan}
+use Rattle.csi_machine.specs.declared.plan.Plan.{Plan}
 use Rattle.csi_keeper.specs.declared.volume.Volume.{Volume}
 use Rattle.csi_machine.specs.Answering.{Answered, Carries, IsOfAll, Performs, state_after, Leaves, Promises, body_of}
 use Rattle.csi_keeper.specs.Capability.{have_keys}
-use Rattle.csi_machine.specs.Choice.{Room, rooms, free}
+use Rattle.csi_rules.specs.Choice.{Room, rooms, free}
 use Rattle.csi_machine.specs.Configured.{IsConfigured}
-use Rattle.csi_plans.specs.Down.{TellsDown}
-use Rattle.csi_plans.specs.Ids.{number_of_id}
+use Rattle.csi_rules.specs.Down.{TellsDown}
+use Rattle.csi_rules.specs.Ids.{number_of_id}
 use Rattle.csi_keeper.specs.Invariant.{IsInvariant}
 use Rattle.csi_keeper.specs.Keeper.{IsQuiet, Tells, count_after}
 use Rattle.csi_keeper.specs.Model.{Model}
-use Rattle.csi_plans.specs.Plan.{after, refuse}
-use Rattle.csi_plans.specs.Size.{whole}
+use Rattle.csi_machine.specs.Plan.{after, refuse}
+use Rattle.csi_rules.specs.Size.{whole}
 use Rattle.csi_keeper.specs.State.{State, Allows}
 use Rattle.csi_machine.specs.Step.{is_of_plugin, NamesNone, plan, limited, limited_by, settled_plan, moved, step}
-use Rattle.csi_plans.specs.Verdicts.{Told, Says, Denies, told_of, Appended, IsTold, verdict_of}
+use Rattle.csi_machine.specs.Verdicts.{Told, Says, Denies, told_of, Appended, IsTold, verdict_of}
 use Rattle.csi_machine.specs.calls.Capacity.{capacity_of, served, greatest_size, tell_capacity}
 use Rattle.csi_machine.specs.calls.Listing.{list_after, start_of}
-use Rattle.csi_plans.specs.Modify.{modify}
+use Rattle.csi_machine.specs.Modify.{modify}
 use Rattle.csi_machine.specs.calls.Publish.{publish}
 use Rattle.csi_machine.specs.calls.Unpublish.{unpublish}
-use Rattle.csi_plans.specs.Finding.{Finds, volume_at}
-use Rattle.csi_plans.specs.Validate.{validate_found, confirm, deny}
+use Rattle.csi_rules.specs.Finding.{Finds, volume_at}
+use Rattle.csi_machine.specs.Validate.{validate_found, confirm, deny}
 use Rattle.csi_machine.proofs.CheckedLemmas.{asked}
 use Rattle.csi_machine.proofs.CreateLemmas.{create_sound}
 use Rattle.csi_machine.proofs.DeleteLemmas.{delete_sound}

@@ -5,8 +5,8 @@ use Rattle.csi_types.specs.Maps.{TextMap}
 use Rattle.csi_config.specs.Faults.{all_bytes}
 use Rattle.csi_config.specs.declared.config.Config.{Config}
 use Rattle.csi_config.specs.declared.pools.Pool.{Pool}
-use Rattle.csi_machine.specs.declared.choice.Room as code
-use Rattle.csi_machine.specs.Choice.{Room, room_value, free}
+use Rattle.csi_rules.specs.declared.choice.Room as code
+use Rattle.csi_rules.specs.Choice.{Room, room_value, free}
 use Rattle.csi_keeper.specs.State.{up_to_u64}
 use Rattle.csi_machine.specs.calls.Capacity.{served, is_served}
 

@@ -8,9 +8,9 @@ use Rattle.csi_keeper.specs.declared.change.Change.{Change}
 use Rattle.csi_keeper.specs.declared.change.StoreFault.{StoreFault}
 use Rattle.csi_keeper.specs.declared.change.StoreFault.TheVariants.{NoMemory, Refused, Down}
 use Rattle.csi_machine.specs.Answering.{Carries}
-use Rattle.csi_plans.specs.Plan.{after}
-use Rattle.csi_plans.specs.declared.body.Verdict.{Verdict}
-use Rattle.csi_plans.specs.declared.plan.Plan.{Plan}
+use Rattle.csi_machine.specs.Plan.{after}
+use Rattle.csi_machine.specs.declared.body.Verdict.{Verdict}
+use Rattle.csi_machine.specs.declared.plan.Plan.{Plan}
 
 up : (d : Bool) → (d ≡ true → ⊥) → d ≡ false
 up true never = absurd (never refl)

@@ -25,11 +25,11 @@ use Rattle.csi_keeper.specs.State.{State}
 use Rattle.csi_keeper.specs.declared.capability.CapKey.{CapKey}
 use Rattle.csi_keeper.specs.declared.change.Change.{Change}
 use Rattle.csi_keeper.specs.facts.Finite.{none_some, same_some}
-use Rattle.csi_machine.specs.Choice.{Room, rooms, fits, pairs, choice}
-use Rattle.csi_plans.specs.Size.{size, within, asked, whole, rounded_up, rounded_down, has_size}
-use Rattle.csi_plans.specs.Topology.{serves, terms}
+use Rattle.csi_rules.specs.Choice.{Room, rooms, fits, pairs, choice}
+use Rattle.csi_rules.specs.Size.{size, within, asked, whole, rounded_up, rounded_down, has_size}
+use Rattle.csi_rules.specs.Topology.{serves, terms}
 use Rattle.csi_machine.specs.calls.Create.{made, is_compatible}
-use Rattle.csi_plans.specs.facts.Capability.{has_one, have_ordered}
+use Rattle.csi_rules.specs.facts.Capability.{has_one, have_ordered}
 use Rattle.csi_machine.proofs.CheckedLemmas.{passed, not_off, key_by}
 use Rattle.csi_machine.proofs.CreateLemmas.{both_true, found, has_append, has_map, map_some, IsMade}
 use Rattle.csi_machine.proofs.ReachLemmas.{AreServedAlike, or_later, reachable}

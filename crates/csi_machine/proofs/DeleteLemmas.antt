@@ -10,8 +10,8 @@ use Rattle.csi_keeper.specs.declared.change.Change.TheVariants.{RemoveVolume}
 use Rattle.csi_keeper.specs.declared.volume.Attachment.{Attachment}
 use Rattle.csi_keeper.specs.declared.volume.Volume.{Volume}
 use Rattle.csi_machine.specs.calls.Delete.{delete, delete_found, delete_volume}
-use Rattle.csi_plans.specs.Finding.{volume_at}
-use Rattle.csi_plans.specs.Ids.{number_of_id}
+use Rattle.csi_rules.specs.Finding.{volume_at}
+use Rattle.csi_rules.specs.Ids.{number_of_id}
 use Rattle.csi_keeper.specs.Invariant.{IsInvariant}
 use Rattle.csi_keeper.specs.State.{State, Place, place_cmp, attached, changed, sizes}
 use Rattle.csi_keeper.specs.Texts.{Text}

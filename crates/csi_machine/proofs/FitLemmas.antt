@@ -32,8 +32,8 @@ use Rattle.csi_config.specs.declared.plugin.TheConstants.{MAX_NAME_BYTES}
 use Rattle.csi_config.specs.declared.pools.Pool.{Pool}
 use Rattle.csi_keeper.specs.declared.volume.Volume.{Volume}
 use Rattle.csi_keeper.specs.facts.Finite.{none_listed}
-use Rattle.csi_plans.specs.Ids.{id}
-use Rattle.csi_plans.specs.Info.{info_at, topology_of}
+use Rattle.csi_rules.specs.Ids.{id}
+use Rattle.csi_rules.specs.Info.{info_at, topology_of}
 use Rattle.envelope.specs.declared.limits.TheConstants.{MAX_BODY_BYTES}
 
 -- ---- how long a spelling is at most

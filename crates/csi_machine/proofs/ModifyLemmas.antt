@@ -23,11 +23,11 @@ use Rattle.csi_keeper.specs.Invariant.{IsInvariant, IsVolume}
 use Rattle.csi_keeper.specs.State.{State, changed, with_mutable, mutable_set}
 use Rattle.csi_keeper.specs.facts.Finite.{none_some, same_some}
 use Rattle.csi_keeper.specs.facts.Mutable.{stood, stands, as_many, same_sum}
-use Rattle.csi_plans.specs.declared.plan.Plan.{Plan}
-use Rattle.csi_plans.specs.Ids.{number_of_id}
-use Rattle.csi_plans.specs.Plan.{refuse, respond, make}
-use Rattle.csi_plans.specs.Finding.{numbered, volume_at}
-use Rattle.csi_plans.specs.Modify.{modify, modify_found, modify_own, modify_to}
+use Rattle.csi_machine.specs.declared.plan.Plan.{Plan}
+use Rattle.csi_rules.specs.Ids.{number_of_id}
+use Rattle.csi_machine.specs.Plan.{refuse, respond, make}
+use Rattle.csi_rules.specs.Finding.{numbered, volume_at}
+use Rattle.csi_machine.specs.Modify.{modify, modify_found, modify_own, modify_to}
 use Rattle.csi_machine.proofs.PlanLemmas.{IsFit}
 
 -- It keeps the invariant.

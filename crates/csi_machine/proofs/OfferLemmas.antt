@@ -25,25 +25,25 @@ use Rattle.csi_config.specs.declared.pools.Pool.{Pool}
 use Rattle.csi_config.specs.declared.sizes.Sizes.{Sizes}
 use Rattle.csi_config.specs.declared.sizes.TheConstants.{GRANULE_BYTES}
 use Rattle.csi_keeper.specs.declared.volume.Volume.{Volume}
-use Rattle.csi_machine.specs.Choice.{Room, rooms, free, choice, count}
+use Rattle.csi_rules.specs.Choice.{Room, rooms, free, choice, count}
 use Rattle.csi_machine.specs.Configured.{IsConfigured}
 use Rattle.csi_keeper.specs.Invariant.{IsInvariant}
 use Rattle.csi_machine.specs.Offer.{term_of, exactly, AsksFor, IsNew}
-use Rattle.csi_plans.specs.Info.{info_at}
-use Rattle.csi_plans.specs.Plan.{after, refuse}
-use Rattle.csi_plans.specs.declared.plan.Plan.{Plan}
-use Rattle.csi_plans.specs.Verdicts.{Told, Says, Denies, told_of}
+use Rattle.csi_rules.specs.Info.{info_at}
+use Rattle.csi_machine.specs.Plan.{after, refuse}
+use Rattle.csi_machine.specs.declared.plan.Plan.{Plan}
+use Rattle.csi_machine.specs.Verdicts.{Told, Says, Denies, told_of}
 use Rattle.envelope.specs.declared.limits.TheConstants.{MAX_BODY_BYTES}
-use Rattle.csi_plans.specs.Size.{size, within, asked, rounded_up, rounded_down}
+use Rattle.csi_rules.specs.Size.{size, within, asked, rounded_up, rounded_down}
 use Rattle.csi_keeper.specs.State.{State, changed, used, sizes}
 use Rattle.csi_keeper.specs.declared.change.Change.TheVariants.{AddVolume}
 use Rattle.csi_keeper.specs.Texts.{Text}
-use Rattle.csi_plans.specs.Topology.{serves, terms}
+use Rattle.csi_rules.specs.Topology.{serves, terms}
 use Rattle.csi_machine.specs.calls.Capacity.{capacity, served, is_served, greatest, greatest_size, tell_capacity}
 use Rattle.csi_machine.specs.Step.{moved, step}
 use Rattle.csi_machine.specs.calls.Create.{create, create_named, made, place, place_in}
 use Rattle.csi_machine.proofs.FitLemmas.{made_fits}
-use Rattle.csi_machine.proofs.ChoiceLemmas.{or_else, choice_one, choice_cons}
+use Rattle.csi_rules.specs.facts.Choice.{or_else, choice_one, choice_cons}
 use Rattle.csi_machine.proofs.CreateLemmas.{chosen, has_map}
 use Rattle.csi_keeper.specs.facts.Finite.{all_entries, none_listed}
 use Rattle.csi_keeper.specs.facts.Sums.{in_order, total_cons}

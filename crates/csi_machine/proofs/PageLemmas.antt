@@ -18,16 +18,16 @@ use Rattle.csi_config.specs.declared.config.Config.{Config}
 use Rattle.csi_types.specs.declared.requests.ListVolumes.{ListVolumes}
 use Rattle.csi_keeper.specs.Keeper.{Reads}
 use Rattle.csi_keeper.specs.Model.{Model}
-use Rattle.csi_plans.specs.Finding.{Finds}
-use Rattle.csi_plans.specs.Size.{whole}
-use Rattle.csi_plans.specs.facts.Finding.{found_then, read_found}
-use Rattle.csi_plans.specs.declared.body.Verdict.{Verdict}
-use Rattle.csi_plans.specs.declared.body.Verdict.TheVariants as verdict
+use Rattle.csi_rules.specs.Finding.{Finds}
+use Rattle.csi_rules.specs.Size.{whole}
+use Rattle.csi_rules.specs.facts.Finding.{found_then, read_found}
+use Rattle.csi_machine.specs.declared.body.Verdict.{Verdict}
+use Rattle.csi_machine.specs.declared.body.Verdict.TheVariants as verdict
 use Rattle.csi_machine.specs.declared.places.Place.{Place}
 use Rattle.csi_machine.specs.Places.{ArePlaced, IsPlaced, entry_at, last_row}
 use Rattle.csi_machine.specs.Pages.{HasWritten, IsPage, is_any, token_when}
 use Rattle.csi_machine.specs.declared.page.Page.{Page}
-use Rattle.csi_plans.specs.Verdicts.{IsTold, Told, told_of, within}
+use Rattle.csi_machine.specs.Verdicts.{IsTold, Told, told_of, within}
 use Rattle.csi_machine.specs.calls.Listing.{entries_for, last_of, list_after, list_volumes, listed, start_of, token_for, entry_of}
 
 last_push : (after : ℕ) (rows : List Listed) (row : Listed) → last_row after (rows ++ row ∷ []) ≡ row.number

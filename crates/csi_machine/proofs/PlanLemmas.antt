@@ -2,9 +2,9 @@
 use Rattle.std.proofs.Common.{◌≡◌, Option, Some, None, IfSome, refl}
 use Rattle.csi_config.specs.declared.config.Config.{Config}
 use Rattle.csi_keeper.specs.declared.change.Change.{Change}
-use Rattle.csi_plans.specs.declared.plan.Plan.{Plan}
+use Rattle.csi_machine.specs.declared.plan.Plan.{Plan}
 use Rattle.csi_keeper.specs.Invariant.{IsInvariant}
-use Rattle.csi_plans.specs.Plan.{after}
+use Rattle.csi_machine.specs.Plan.{after}
 use Rattle.csi_keeper.specs.State.{State, changed, Allows}
 
 -- a change that a State allows, and that keeps the invariant

@@ -9,7 +9,7 @@ use Rattle.csi_types.specs.Maps.{TextMap}
 use Rattle.csi_types.specs.Names.{is_empty}
 use Rattle.csi_types.specs.Topology.{has_alike_keys, is_within, same_topology}
 use Rattle.csi_types.specs.declared.topology.Requirement.{Requirement}
-use Rattle.csi_plans.specs.Topology.{serves, or_empty, terms, is_reachable}
+use Rattle.csi_rules.specs.Topology.{serves, or_empty, terms, is_reachable}
 use Rattle.csi_machine.proofs.CreateLemmas.{has_append}
 
 -- Lists and tests

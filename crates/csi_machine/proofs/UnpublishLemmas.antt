@@ -9,7 +9,7 @@ use Rattle.csi_config.specs.declared.config.Config.{Config}
 use Rattle.csi_keeper.specs.declared.change.Change.{Change}
 use Rattle.csi_keeper.specs.declared.change.Change.TheVariants.{Detach, DetachAll}
 use Rattle.csi_keeper.specs.declared.volume.Attachment.{Attachment}
-use Rattle.csi_plans.specs.Ids.{number_of_id}
+use Rattle.csi_rules.specs.Ids.{number_of_id}
 use Rattle.csi_keeper.specs.Invariant.{IsInvariant}
 use Rattle.csi_keeper.specs.State.{State, Place, place_cmp, attached, changed, Allows}
 use Rattle.csi_keeper.specs.Texts.{Text}

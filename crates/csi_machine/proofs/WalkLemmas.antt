@@ -21,17 +21,17 @@ use Rattle.envelope.specs.declared.limits.TheConstants.{MAX_BODY_BYTES}
 use Rattle.csi_keeper.specs.declared.change.Change.{Change}
 use Rattle.csi_keeper.specs.declared.change.Change.TheVariants.{AddVolume, RemoveVolume, Attach, Detach, DetachAll, SetMutable}
 use Rattle.csi_keeper.specs.declared.volume.Volume.{Volume}
-use Rattle.csi_plans.specs.Ids.{number_of, number_of_id, id}
+use Rattle.csi_rules.specs.Ids.{number_of, number_of_id, id}
 use Rattle.csi_keeper.specs.Invariant.{IsInvariant}
-use Rattle.csi_plans.specs.Plan.{after}
+use Rattle.csi_machine.specs.Plan.{after}
 use Rattle.csi_keeper.specs.State.{State, beyond}
 use Rattle.csi_machine.specs.Step.{plan, step, moved}
 use Rattle.csi_keeper.specs.Texts.{Text}
-use Rattle.csi_plans.specs.Verdicts.{Told, Says, Denies, told_of}
+use Rattle.csi_machine.specs.Verdicts.{Told, Says, Denies, told_of}
 use Rattle.csi_machine.specs.Walk.{Call, Next, Other, Page, asked_with, shown, listing_told, with_page, next_token, pages, AreRead, AreChecked, GoOn, End, AreOfVolumes, Stood, id_in, listed_ids, AreApart}
 use Rattle.csi_machine.specs.calls.Listing.{given, start_of, entries_for, listed, last_of, token_for, entry_of, list_after}
 use Rattle.csi_keeper.specs.facts.Finite.{all_entries}
-use Rattle.csi_plans.specs.facts.Ids.{number_of_decimal, id_named, below_on}
+use Rattle.csi_rules.specs.facts.Ids.{number_of_decimal, id_named, below_on}
 use Rattle.csi_machine.proofs.MomentLemmas.{Moment, walked, joined, Rises, AreNumbered, Lists, Stands, Ends, walked_rises, walked_lists}
 
 -- Lists

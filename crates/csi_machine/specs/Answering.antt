@@ -7,16 +7,16 @@ use Rattle.csi_config.specs.declared.config.Config.{Config}
 use Rattle.csi_types.specs.declared.requests.Request.{Request}
 use Rattle.csi_keeper.specs.declared.change.StoreFault.{StoreFault}
 use Rattle.csi_keeper.specs.declared.change.StoreFault.TheVariants.{NoMemory, Refused, Down}
-use Rattle.csi_plans.specs.declared.body.Verdict.{Verdict}
-use Rattle.csi_plans.specs.declared.plan.Plan.{Plan}
+use Rattle.csi_machine.specs.declared.body.Verdict.{Verdict}
+use Rattle.csi_machine.specs.declared.plan.Plan.{Plan}
 use Rattle.csi_keeper.specs.Invariant.{IsInvariant}
 use Rattle.csi_keeper.specs.Keeper.{IsQuiet, count_after}
 use Rattle.csi_keeper.specs.Model.{Model}
-use Rattle.csi_plans.specs.Down.{TellsDown}
-use Rattle.csi_plans.specs.Plan.{after}
+use Rattle.csi_rules.specs.Down.{TellsDown}
+use Rattle.csi_machine.specs.Plan.{after}
 use Rattle.csi_keeper.specs.State.{State, Allows}
 use Rattle.csi_machine.specs.Step.{step, settled_plan, is_of_plugin, NamesNone}
-use Rattle.csi_plans.specs.Verdicts.{Appended, IsTold, verdict_of}
+use Rattle.csi_machine.specs.Verdicts.{Appended, IsTold, verdict_of}
 
 -- the body of an outcome that is written
 abbrev pub body_of : Result Response Reason → List ℕ

@@ -4,9 +4,9 @@ use Rattle.csi_types.specs.declared.responses.Response.TheVariants as response
 use Rattle.csi_keeper.specs.declared.change.Change.TheVariants.{AddVolume}
 use Rattle.csi_machine.specs.declared.creation.Creation.{Creation}
 use Rattle.csi_machine.specs.declared.creation.Creation.TheVariants as creation
-use Rattle.csi_plans.specs.declared.plan.Plan.{Plan}
-use Rattle.csi_plans.specs.Info.{info_at}
-use Rattle.csi_plans.specs.Plan.{refuse, respond, make}
+use Rattle.csi_machine.specs.declared.plan.Plan.{Plan}
+use Rattle.csi_rules.specs.Info.{info_at}
+use Rattle.csi_machine.specs.Plan.{refuse, respond, make}
 
 abbrev pub plan_of : Creation → Plan
 plan_of (creation.Refused reason) = refuse reason

@@ -7,11 +7,11 @@ use Rattle.csi_types.specs.declared.limits.TheConstants.{MAX_NUMBER, MAX_VOLUMES
 use Rattle.csi_types.specs.declared.requests.CreateVolume.{CreateVolume}
 use Rattle.csi_config.specs.Values.{Has}
 use Rattle.csi_config.specs.declared.config.Config.{Config}
-use Rattle.csi_machine.specs.Choice.{rooms, count}
+use Rattle.csi_rules.specs.Choice.{rooms, count}
 use Rattle.csi_keeper.specs.State.{State, named}
 use Rattle.csi_keeper.specs.Texts.{Text}
-use Rattle.csi_plans.specs.Size.{size}
-use Rattle.csi_plans.specs.Topology.{terms}
+use Rattle.csi_rules.specs.Size.{size}
+use Rattle.csi_rules.specs.Topology.{terms}
 
 -- the topology of a GetCapacity as a term; none is the empty one
 abbrev pub term_of : Option TextMap → TextMap

@@ -5,8 +5,8 @@ use Rattle.std.specs.List.{AllByRecursion}
 use Rattle.csi_types.specs.declared.volume.Entry.{Entry}
 use Rattle.csi_config.specs.declared.config.Config.{Config}
 use Rattle.csi_keeper.specs.declared.listed.Listed.{Listed}
-use Rattle.csi_plans.specs.Ids.{id}
-use Rattle.csi_plans.specs.Info.{signed, segments_at, topology_of}
+use Rattle.csi_rules.specs.Ids.{id}
+use Rattle.csi_rules.specs.Info.{signed, segments_at, topology_of}
 use Rattle.csi_machine.specs.declared.places.Place.{Place}
 
 -- what a configuration gives the volumes of the pool

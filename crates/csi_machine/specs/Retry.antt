@@ -5,7 +5,7 @@ use Rattle.csi_types.specs.declared.requests.Request.{Request}
 use Rattle.csi_config.specs.declared.config.Config.{Config}
 use Rattle.csi_keeper.specs.State.{State}
 use Rattle.csi_machine.specs.Step.{step}
-use Rattle.csi_plans.specs.Verdicts.{Told}
+use Rattle.csi_machine.specs.Verdicts.{Told}
 
 -- how a try ends: marked, that is refused inside, for memory or by the store; refused since the store is down, which does nothing; or done, and the client
 -- is answered or is not

@@ -8,22 +8,22 @@ use Rattle.csi_types.specs.declared.requests.Request.TheVariants as request
 use Rattle.csi_codec.specs.Methods.{response_bytes}
 use Rattle.csi_config.specs.declared.config.Config.{Config}
 use Rattle.envelope.specs.declared.limits.TheConstants.{MAX_BODY_BYTES}
-use Rattle.csi_plans.specs.declared.plan.Plan.{Plan}
-use Rattle.csi_plans.specs.declared.body.Verdict.{Verdict}
-use Rattle.csi_plans.specs.declared.body.Verdict.TheVariants as verdict
+use Rattle.csi_machine.specs.declared.plan.Plan.{Plan}
+use Rattle.csi_machine.specs.declared.body.Verdict.{Verdict}
+use Rattle.csi_machine.specs.declared.body.Verdict.TheVariants as verdict
 use Rattle.csi_machine.specs.calls.Capacity.{capacity}
 use Rattle.csi_machine.specs.calls.Create.{create}
 use Rattle.csi_machine.specs.calls.Delete.{delete}
-use Rattle.csi_plans.specs.Ids.{number_of_id}
-use Rattle.csi_plans.specs.Identity.{plugin_info, plugin_capabilities, probe, controller_capabilities}
+use Rattle.csi_rules.specs.Ids.{number_of_id}
+use Rattle.csi_machine.specs.Identity.{plugin_info, plugin_capabilities, probe, controller_capabilities}
 use Rattle.csi_machine.specs.calls.Listing.{list_volumes}
-use Rattle.csi_plans.specs.Modify.{modify}
+use Rattle.csi_machine.specs.Modify.{modify}
 use Rattle.csi_machine.specs.calls.Publish.{publish}
 use Rattle.csi_machine.specs.calls.Unpublish.{unpublish}
-use Rattle.csi_plans.specs.Validate.{validate}
-use Rattle.csi_plans.specs.Plan.{refuse, after}
+use Rattle.csi_machine.specs.Validate.{validate}
+use Rattle.csi_machine.specs.Plan.{refuse, after}
 use Rattle.csi_keeper.specs.State.{State}
-use Rattle.csi_plans.specs.Verdicts.{Told, Says, Denies, told_of}
+use Rattle.csi_machine.specs.Verdicts.{Told, Says, Denies, told_of}
 
 -- by the request's method
 abbrev pub plan : Config → State → Request → Plan

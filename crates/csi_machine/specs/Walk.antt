@@ -18,7 +18,7 @@ use Rattle.csi_machine.specs.calls.Listing.{entry_of}
 use Rattle.csi_keeper.specs.State.{State}
 use Rattle.csi_machine.specs.Step.{plan, step}
 use Rattle.csi_keeper.specs.Texts.{Text}
-use Rattle.csi_plans.specs.Verdicts.{Told, Says, Denies}
+use Rattle.csi_machine.specs.Verdicts.{Told, Says, Denies}
 
 -- a call of a walk: its next page, of so many entries, or any other request
 pub data Call : Type 0 where

@@ -9,14 +9,15 @@ ghost use Rattle.csi_keeper.specs.Invariant.{IsInvariant};
 ghost use Rattle.csi_keeper.specs.State.{State, IsBounded};
 ghost use Rattle.csi_machine.specs.Configured.{IsConfigured};
 ghost use Rattle.csi_machine.specs.Step.{is_planned, limited, step};
-ghost use Rattle.csi_plans.specs.Verdicts.{Appended, IsTold, told_of};
+ghost use Rattle.csi_machine.specs.Verdicts.{Appended, IsTold, told_of};
 
+use crate::body::Verdict;
 use crate::calls::{append_page, create, plan_of};
 use crate::configured::configured;
+use crate::identity::append_ready;
 use crate::outcome::Outcome;
 use csi_config::Config;
 use csi_keeper::{Keeper, StoreFault};
-use csi_plans::{Verdict, append_ready};
 use csi_types::{CreateVolume, Map, Request};
 use std::alloc::Global;
 

@@ -4,7 +4,7 @@
 
 ghost use Rattle.std.specs.Prelude.{◌≡◌, None, IfErr, IfOk, IfSome, IsTrue};
 ghost use Rattle.csi_keeper.specs.State.{IsBounded};
-ghost use Rattle.csi_plans.specs.Finding.{Finds};
+ghost use Rattle.csi_rules.specs.Finding.{Finds};
 ghost use Rattle.csi_keeper.specs.declared.change.StoreFault.TheVariants.{NoMemory};
 ghost use Rattle.csi_machine.specs.Step.{is_of_plugin, is_planned, NamesNone, plan};
 
@@ -15,14 +15,14 @@ mod listing;
 mod publish;
 mod unpublish;
 
+use crate::identity::{plan_controller_capabilities, plan_plugin_capabilities, plan_plugin_info};
+use crate::modify::plan_modify;
+use crate::plan::Planning;
 use crate::planned::Planned;
+use crate::validate::plan_validate;
 pub(crate) use create::create;
 use csi_config::Config;
 use csi_keeper::Keeper;
-use csi_plans::{
-    Planning, plan_controller_capabilities, plan_modify, plan_plugin_capabilities,
-    plan_plugin_info, plan_validate,
-};
 use csi_types::Request;
 pub(crate) use listing::append_page;
 use std::alloc::Global;

@@ -4,13 +4,14 @@ ghost use Rattle.std.specs.Prelude.{Some};
 ghost use Rattle.csi_types.specs.declared.responses.Response.TheVariants as response;
 ghost use Rattle.csi_codec.specs.Methods.{response_bytes};
 ghost use Rattle.csi_machine.specs.Creation.{plan_of};
-ghost use Rattle.csi_plans.specs.Info.{info_at};
-ghost use Rattle.csi_plans.specs.Verdicts.{within, Appended, IsTold};
+ghost use Rattle.csi_rules.specs.Info.{info_at};
+ghost use Rattle.csi_machine.specs.Verdicts.{within, Appended, IsTold};
 
+use crate::body::{Verdict, limit_body};
 use crate::outcome::Outcome;
 use csi_codec::{CreatedVolume, encode_created};
 use csi_keeper::{Change, Keeper, StoreFault, Volume};
-use csi_plans::{CONTEXT_KEY, ID_PREFIX, Verdict, limit_body, signed};
+use csi_rules::{CONTEXT_KEY, ID_PREFIX, signed};
 use csi_types::{Map, Reason};
 use itoa::Buffer;
 use std::alloc::{AllocError, Global};

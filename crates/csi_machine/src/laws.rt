@@ -2,7 +2,7 @@
 //! nothing.
 
 ghost use Rattle.std.specs.Prelude.{◌≡◌, ◌<◌, ◌^◌, ℕ, List, [], ◌∷◌, None, Some};
-ghost use Rattle.csi_plans.specs.Ids.{id, number_of_id};
+ghost use Rattle.csi_rules.specs.Ids.{id, number_of_id};
 ghost use Rattle.csi_keeper.specs.Texts.{Text};
 ghost use Rattle.csi_keeper.specs.Invariant.{IsInvariant};
 ghost use Rattle.csi_keeper.specs.State.{State, changed};
@@ -10,16 +10,16 @@ ghost use Rattle.csi_keeper.specs.declared.change.Change.TheVariants.{AddVolume}
 ghost use Rattle.csi_machine.specs.Walk.{Call, pages, AreRead, AreChecked, AreOfVolumes, GoOn, End, Stood, listed_ids, AreApart};
 ghost use Rattle.csi_config.specs.Values.{Has};
 ghost use Rattle.std.specs.List.{AllByRecursion};
-ghost use Rattle.csi_machine.specs.Choice.{choice, rooms};
+ghost use Rattle.csi_rules.specs.Choice.{choice, rooms};
 ghost use Rattle.csi_machine.specs.Offer.{AsksFor, IsNew, exactly, term_of};
 ghost use Rattle.csi_machine.specs.calls.Capacity.{capacity, tell_capacity};
 ghost use Rattle.csi_machine.specs.calls.Create.{create, made, place_in};
 ghost use Rattle.csi_machine.specs.Retry.{Try, IsLife, AreTriesOf, all_tries, told_once, after_once, Marked, Unanswered, IsLifeOfTwo};
 ghost use Rattle.csi_machine.specs.Step.{step};
-ghost use Rattle.csi_plans.specs.Info.{info_at};
-ghost use Rattle.csi_plans.specs.Size.{size};
-ghost use Rattle.csi_plans.specs.Verdicts.{Told};
-ghost use Rattle.csi_plans.specs.Verdicts.Told.{Says};
+ghost use Rattle.csi_rules.specs.Info.{info_at};
+ghost use Rattle.csi_rules.specs.Size.{size};
+ghost use Rattle.csi_machine.specs.Verdicts.{Told};
+ghost use Rattle.csi_machine.specs.Verdicts.Told.{Says};
 ghost use Rattle.csi_codec.specs.Methods.{response_bytes};
 ghost use Rattle.csi_config.specs.declared.pools.Pool.{Pool};
 ghost use Rattle.csi_types.specs.declared.requests.CreateVolume.{CreateVolume};
@@ -36,7 +36,7 @@ use csi_types::laws::{equal_topologies, inclusions, overlays};
 
 /// An id names the volume that it was made of, and no other text names that volume.
 #[inline(always)]
-#[tactic(auto, using(csi_plans::specs::facts::Ids::id_named, csi_plans::specs::facts::Ids::named_id))]
+#[tactic(auto, using(csi_rules::specs::facts::Ids::id_named, csi_rules::specs::facts::Ids::named_id))]
 pub fn ids()
     ensures read { (n : ℕ) → n < 2 ^ 64 → number_of_id (id n) ≡ Some n }
     ensures only { (t : Text) (n : ℕ) → number_of_id t ≡ Some n → t ≡ id n }

@@ -5,10 +5,11 @@ ghost use Rattle.envelope.specs.declared.limits.TheConstants.{MAX_BODY_BYTES};
 ghost use Rattle.csi_keeper.specs.State.{IsBounded};
 ghost use Rattle.csi_machine.specs.Answering.{Carries, body_of};
 ghost use Rattle.csi_machine.specs.Step.{by_verdict, limited};
-ghost use Rattle.csi_plans.specs.declared.plan.Plan.{Plan as AnyPlan};
+ghost use Rattle.csi_machine.specs.declared.plan.Plan.{Plan as AnyPlan};
 
+use crate::body::Verdict;
+use crate::plan::Plan;
 use csi_keeper::{Keeper, StoreFault};
-use csi_plans::{Plan, Verdict};
 use std::alloc::{AllocError, Global};
 
 /// What is done about a request, as a plan says it.

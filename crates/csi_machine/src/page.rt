@@ -12,7 +12,7 @@ use crate::places::{Place, place_named, place_of};
 use csi_codec::{ListedEntry, encode_entry};
 use csi_config::Config;
 use csi_keeper::{ListedRow, PageFold};
-use csi_plans::{ID_PREFIX, signed};
+use csi_rules::{ID_PREFIX, signed};
 use itoa::Buffer;
 use std::alloc::{AllocError, Global};
 

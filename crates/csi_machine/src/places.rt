@@ -7,7 +7,7 @@ ghost use Rattle.csi_machine.specs.Places.{ArePlaced, IsPlaced};
 
 use csi_codec::Placement;
 use csi_config::Config;
-use csi_plans::{context_of, segments_at, topology_of};
+use csi_rules::{context_of, segments_at, topology_of};
 use csi_types::{Map, Text, copy_text};
 use std::alloc::{AllocError, Global};
 

@@ -4,12 +4,12 @@ ghost use Rattle.std.specs.Prelude.{◌≡◌, None, IfErr, IfOk, IfSome};
 ghost use Rattle.csi_config.specs.declared.config.Config.{Config as AnyConfig};
 ghost use Rattle.csi_keeper.specs.State.{State, IsBounded};
 ghost use Rattle.csi_keeper.specs.declared.change.StoreFault.TheVariants.{NoMemory};
-ghost use Rattle.csi_plans.specs.Finding.{Finds};
-ghost use Rattle.csi_plans.specs.declared.plan.Plan.{Plan as AnyPlan};
+ghost use Rattle.csi_rules.specs.Finding.{Finds};
+ghost use Rattle.csi_machine.specs.declared.plan.Plan.{Plan as AnyPlan};
 
+use crate::plan::Planning;
 use csi_config::Config;
 use csi_keeper::Keeper;
-use csi_plans::Planning;
 use csi_types::Boxed;
 use std::alloc::Global;
 

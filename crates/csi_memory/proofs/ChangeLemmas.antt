@@ -12,7 +12,7 @@ use Rattle.csi_keeper.specs.declared.change.Change.TheVariants.{AddVolume, Remov
 use Rattle.csi_keeper.specs.declared.volume.Volume.{Volume}
 use Rattle.csi_keeper.specs.declared.totals.Total.{Total}
 use Rattle.csi_keeper.specs.declared.totals.Totals.{Totals}
-use Rattle.csi_maps.specs.Memory.{Spot, IsSetAt, volumes_of, name_key}
+use Rattle.csi_memory.specs.Memory.{Spot, IsSetAt, volumes_of, name_key}
 use Rattle.csi_memory.specs.Kept.{IsKept}
 use Rattle.csi_keeper.specs.Totals.{total_of, more, less, HasRoom}
 use Rattle.csi_keeper.specs.State.{State, Place, changed, Allows, mutable_set, place_cmp}

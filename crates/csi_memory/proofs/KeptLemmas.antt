@@ -12,7 +12,7 @@ use Rattle.csi_keeper.specs.declared.volume.Attachment.{Attachment}
 use Rattle.csi_keeper.specs.declared.change.Change.TheVariants.{AddVolume, RemoveVolume, Attach}
 use Rattle.csi_keeper.specs.declared.volume.Volume.{Volume}
 use Rattle.csi_keeper.specs.declared.totals.Totals.{Totals}
-use Rattle.csi_maps.specs.Memory.{Spot, AreSpotted, IsSetAt, volumes_of, places_of, name_key}
+use Rattle.csi_memory.specs.Memory.{Spot, AreSpotted, IsSetAt, volumes_of, places_of, name_key}
 use Rattle.csi_memory.specs.Kept.{IsKept}
 use Rattle.csi_keeper.specs.Totals.{total_of, more, less}
 use Rattle.csi_keeper.specs.State.{State, Place, place_cmp, changed, Allows}

@@ -11,7 +11,7 @@ use Rattle.csi_types.specs.Maps.{same_text}
 use Rattle.csi_keeper.specs.declared.volume.Attachment.{Attachment}
 use Rattle.csi_keeper.specs.declared.volume.Volume.{Volume}
 use Rattle.csi_keeper.specs.declared.totals.Totals.{Totals}
-use Rattle.csi_maps.specs.Memory.{Spot, volumes_of, named_by, at_number, name_key}
+use Rattle.csi_memory.specs.Memory.{Spot, volumes_of, named_by, at_number, name_key}
 use Rattle.csi_memory.specs.Kept.{IsKept}
 use Rattle.csi_keeper.specs.State.{State, Place, named, place_cmp}
 use Rattle.csi_keeper.specs.Texts.{Text}

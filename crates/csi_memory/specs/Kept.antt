@@ -8,7 +8,7 @@ use Rattle.csi_keeper.specs.declared.volume.Volume.{Volume}
 use Rattle.csi_keeper.specs.declared.totals.Totals.{Totals}
 use Rattle.csi_keeper.specs.Totals.{AreTotals}
 use Rattle.csi_keeper.specs.State.{State, Place, place_cmp}
-use Rattle.csi_maps.specs.Memory.{volumes_of, places_of, name_key, Spot, AreSpotted}
+use Rattle.csi_memory.specs.Memory.{volumes_of, places_of, name_key, Spot, AreSpotted}
 
 -- rows, an index of names, an index of nodes and kept totals stand for a State
 pub record IsKept (next : ℕ) (volumes : List (ℕ × Volume)) (names : List (Place × ℕ)) (pools : Totals) (attachments : List (Place × Attachment)) (spots : List (Spot × Unit {0})) (s : State) : Type 0 where

@@ -1,4 +1,7 @@
 pub mod Fakes
 pub mod Holding
 pub mod Kept
+pub mod Memory
 pub mod Restoring
+pub mod Walking
+pub mod facts

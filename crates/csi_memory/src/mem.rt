@@ -6,15 +6,15 @@ ghost use Rattle.csi_keeper.specs.declared.change.Change.TheVariants.{AddVolume,
 ghost use Rattle.csi_memory.specs.Holding.{Holds};
 ghost use Rattle.csi_memory.specs.Restoring.{CanRestore, from_number, restored};
 
-use csi_keeper::{
-    Attachment, CapKey, Change, Keeper, PageFold, StoreFault, Totals, Usage, Volume, copy_volume,
-};
-use csi_maps::attachments::{attached_to, put_attachment, take_attachment, take_places};
-use csi_maps::names::{drop_name, set_name, volume_named};
-use csi_maps::nodes::numbers_at;
-use csi_maps::rows::{
+use crate::attachments::{attached_to, put_attachment, take_attachment, take_places};
+use crate::names::{drop_name, set_name, volume_named};
+use crate::nodes::numbers_at;
+use crate::rows::{
     caps_at, fold_after, nodes_after, put_volume, set_mutable, sizes_of, take_volume, volume_at,
     volumes_after,
+};
+use csi_keeper::{
+    Attachment, CapKey, Change, Keeper, PageFold, StoreFault, Totals, Usage, Volume, copy_volume,
 };
 use csi_types::{Items, Map, Text, copy_map, copy_text};
 use std::alloc::{AllocError, Global};

@@ -8,9 +8,9 @@ use Rattle.csi_types.specs.Checks.{checked}
 use Rattle.envelope.specs.Envelope.{CallBytes, ReplyBytes}
 use Rattle.envelope.specs.declared.limits.TheConstants.{REPLY_HEAD_BYTES}
 use Rattle.csi_codec.specs.Reading.{read_request}
-use Rattle.csi_plans.specs.declared.body.Verdict.{Verdict}
-use Rattle.csi_plans.specs.declared.body.Verdict.TheVariants as verdict
-use Rattle.csi_plans.specs.Verdicts.{Told, told_of, IsTold}
+use Rattle.csi_machine.specs.declared.body.Verdict.{Verdict}
+use Rattle.csi_machine.specs.declared.body.Verdict.TheVariants as verdict
+use Rattle.csi_machine.specs.Verdicts.{Told, told_of, IsTold}
 use Rattle.csi_keeper.specs.Model.{Model}
 use Rattle.csi_server.specs.Machine.{Machine, Mark, Unmarked, OutOfMemory, StoreRefused, StoreDown, Answers, Leaves, KnowsDown, marked, refused}
 use Rattle.csi_server.specs.Requests.{AnswersBy, LeavesBy, IsUnread, IsRequest, MayBe, requests, after_check, after_read, after_path, told}

@@ -16,10 +16,9 @@ use Rattle.csi_codec.specs.Reading.{read_request}
 use Rattle.csi_config.specs.declared.config.Config.{Config}
 use Rattle.csi_keeper.specs.Invariant.{IsInvariant}
 use Rattle.csi_keeper.specs.State.{State}
-use Rattle.csi_machine.specs.Retry.{Try, Ending, Marked, Down, Unanswered, Answered, after_try, told_by, told_of, IsDue, Leaves, IsLife, AreTriesOf, all_tries, told_once, after_once, still_open}
-use Rattle.csi_machine.specs.Retry.{state_after as after_tries}
+use Rattle.csi_machine.specs.Retry.{Try, Ending, Marked, Down, Unanswered, Answered, after_try, told_by, told_of, IsDue, Leaves, IsLife, AreTriesOf, all_tries, told_once, after_once, still_open, state_after as after_tries}
 use Rattle.csi_machine.specs.Step.{step}
-use Rattle.csi_plans.specs.Verdicts.{Told}
+use Rattle.csi_machine.specs.Verdicts.{Told}
 use Rattle.csi_server.specs.Machine.{Event, Mark, Unmarked, OutOfMemory, StoreRefused, StoreDown, marked, may_leave, refused, state_after}
 use Rattle.csi_server.specs.Machine.{step as call_step}
 use Rattle.csi_server.specs.Requests.{after_check, after_path, after_read, malformed, told}

@@ -4,8 +4,8 @@ use Rattle.csi_types.specs.declared.requests.Request.{Request}
 use Rattle.envelope.specs.Envelope.{ReplyBytes}
 use Rattle.envelope.specs.declared.limits.TheConstants.{REPLY_HEAD_BYTES}
 use Rattle.csi_config.specs.declared.config.Config.{Config}
-use Rattle.csi_plans.specs.declared.body.Verdict.{Verdict}
-use Rattle.csi_plans.specs.declared.body.Verdict.TheVariants as verdict
+use Rattle.csi_machine.specs.declared.body.Verdict.{Verdict}
+use Rattle.csi_machine.specs.declared.body.Verdict.TheVariants as verdict
 use Rattle.csi_keeper.specs.Model.{Model}
 use Rattle.csi_keeper.specs.declared.change.StoreFault.{StoreFault}
 use Rattle.csi_keeper.specs.declared.change.StoreFault.TheVariants as fault
@@ -13,7 +13,7 @@ use Rattle.csi_machine.specs.Answering.{IsOfAll, Performs}
 use Rattle.csi_keeper.specs.Invariant.{IsInvariant}
 use Rattle.csi_keeper.specs.State.{State}
 use Rattle.csi_machine.specs.Step.{is_of_plugin, step}
-use Rattle.csi_plans.specs.Verdicts.{Appended}
+use Rattle.csi_machine.specs.Verdicts.{Appended}
 use Rattle.csi_server.specs.Machine.{Mark, Unmarked, OutOfMemory, StoreRefused, StoreDown, KnowsDown, RoseBy, marked, store_mark}
 use Rattle.csi_server.specs.Requests.{AnswersBy, LeavesBy, MayBe, after_check, told}
 use Rattle.csi_server.specs.Service.{HasBody, room}

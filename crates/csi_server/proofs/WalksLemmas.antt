@@ -10,9 +10,8 @@ use Rattle.csi_config.specs.declared.config.Config.{Config}
 use Rattle.csi_keeper.specs.State.{State}
 use Rattle.csi_keeper.specs.Texts.{Text}
 use Rattle.csi_machine.specs.Step.{step}
-use Rattle.csi_machine.specs.Walk.{Call, Next, Other, Page, AreChecked, asked_with, next_token, shown, with_page}
-use Rattle.csi_machine.specs.Walk.{pages as request_pages, AreRead as AreRequestsRead}
-use Rattle.csi_plans.specs.Verdicts.{Told, Says, Denies}
+use Rattle.csi_machine.specs.Walk.{Call, Next, Other, Page, AreChecked, asked_with, next_token, shown, with_page, pages as request_pages, AreRead as AreRequestsRead}
+use Rattle.csi_machine.specs.Verdicts.{Told, Says, Denies}
 use Rattle.csi_server.specs.Machine.{Mark, Unmarked, OutOfMemory, StoreRefused, StoreDown, marked, refused}
 use Rattle.csi_server.specs.Machine.{step as call_step}
 use Rattle.csi_server.specs.Requests.{told}

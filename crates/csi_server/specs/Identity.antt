@@ -9,7 +9,7 @@ use Rattle.csi_types.specs.declared.requests.Request.TheVariants as request
 use Rattle.csi_types.specs.declared.responses.Response.{Response}
 use Rattle.csi_types.specs.declared.responses.Response.TheVariants as response
 use Rattle.csi_types.specs.Methods.{method_at}
-use Rattle.csi_plans.specs.Verdicts.{told_of}
+use Rattle.csi_machine.specs.Verdicts.{told_of}
 use Rattle.csi_keeper.specs.Model.{Model}
 use Rattle.csi_server.specs.Machine.{Machine}
 use Rattle.csi_server.specs.Requests.{requests}

@@ -9,7 +9,7 @@ use Rattle.csi_types.specs.Checks.{checked}
 use Rattle.csi_types.specs.Codes.{number_of}
 use Rattle.envelope.specs.Envelope.{ReplyBytes}
 use Rattle.csi_codec.specs.Reading.{read_request}
-use Rattle.csi_plans.specs.Verdicts.{Told, Says, Denies}
+use Rattle.csi_machine.specs.Verdicts.{Told, Says, Denies}
 use Rattle.csi_keeper.specs.Model.{Model}
 use Rattle.csi_server.specs.Machine.{Machine, Mark, Unmarked, OutOfMemory, StoreRefused, StoreDown, KnowsDown, RoseBy, refusal, refused, marked, store_mark}
 

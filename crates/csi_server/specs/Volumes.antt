@@ -16,8 +16,8 @@ use Rattle.csi_keeper.specs.State.{State}
 use Rattle.csi_keeper.specs.declared.change.StoreFault.{StoreFault}
 use Rattle.csi_keeper.specs.declared.change.StoreFault.TheVariants as fault
 use Rattle.csi_machine.specs.Step.{is_of_plugin, step}
-use Rattle.csi_plans.specs.declared.body.Verdict.{Verdict}
-use Rattle.csi_plans.specs.declared.body.Verdict.TheVariants as verdict
+use Rattle.csi_machine.specs.declared.body.Verdict.{Verdict}
+use Rattle.csi_machine.specs.declared.body.Verdict.TheVariants as verdict
 use Rattle.csi_server.specs.Machine.{Machine, Event, may_leave, refused, state_after}
 use Rattle.csi_server.specs.Machine.{step as call_step}
 use Rattle.csi_server.specs.Requests.{requests}

@@ -3,7 +3,7 @@ ghost use Rattle.std.specs.Io.KnownBytes.{Consumes, IsAtEnd, Keeps};
 ghost use Rattle.csi_types.specs.declared.requests.Request.{Request as AnyRequest};
 ghost use Rattle.csi_types.specs.Methods.{method_at};
 ghost use Rattle.csi_codec.specs.Reading.{read_request};
-ghost use Rattle.csi_plans.specs.Verdicts.{told_of, Appended, IsTold};
+ghost use Rattle.csi_machine.specs.Verdicts.{told_of, Appended, IsTold};
 ghost use Rattle.csi_server.specs.Identity.{said, known, outcome_of, identity, still};
 ghost use Rattle.csi_server.specs.Requests.{after_check, after_read, AnswersBy, MayBe};
 ghost use Rattle.csi_server.specs.Serving.{Ended, Writes};

@@ -17,13 +17,12 @@ ghost use Rattle.csi_server.specs.Identity.{identity};
 ghost use Rattle.csi_server.specs.Requests.{told};
 ghost use Rattle.csi_server.specs.Tries.{Asks, Exchange, asked, spelled_call, events_of, tries_of, heard_of, IsLeft, IsLifeOfCalls, IsLifeOfTwo};
 ghost use Rattle.csi_server.specs.Volumes.{volumes, seen, IsPending};
-ghost use Rattle.csi_machine.specs.Retry.{Leaves, AreTriesOf, all_tries, told_of, told_once, after_once};
-ghost use Rattle.csi_machine.specs.Retry.{state_after as after_tries};
+ghost use Rattle.csi_machine.specs.Retry.{Leaves, AreTriesOf, all_tries, told_of, told_once, after_once, state_after as after_tries};
 ghost use Rattle.csi_machine.specs.Step.{step};
 ghost use Rattle.csi_config.specs.Values.{Has};
 ghost use Rattle.csi_config.specs.declared.config.Config.{Config as AnyConfig};
 ghost use Rattle.csi_machine.specs.Walk.{AreApart, AreOfVolumes, End, GoOn, Stood, listed_ids};
-ghost use Rattle.csi_plans.specs.Ids.{id};
+ghost use Rattle.csi_rules.specs.Ids.{id};
 ghost use Rattle.csi_server.specs.Walks.{AreAsked, AreRead, Turn, pages};
 ghost use Rattle.csi_keeper.specs.State.{State as MachineState};
 

@@ -4,8 +4,8 @@ use Rattle.std.proofs.lemmas.Result.{err_from_is_err_and}
 use Rattle.std.specs.List.{AllByRecursion}
 use Rattle.std.specs.Result.{IsErrAnd}
 use Rattle.sqlite.specs.Order.{Row}
-use Rattle.csi_statements.specs.Cells.{as_flag}
-use Rattle.csi_statements.specs.Rows.{bool_value}
+use Rattle.csi_sql.specs.Cells.{as_flag}
+use Rattle.csi_sql.specs.Rows.{bool_value}
 
 pub flag_is : (b : Bool) → as_flag (bool_value b) ≡ Some b
 flag_is true = refl

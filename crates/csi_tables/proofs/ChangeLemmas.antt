@@ -13,8 +13,8 @@ use Rattle.csi_keeper.specs.Texts.{Text}
 use Rattle.csi_keeper.specs.Totals.{AreTotals, total_of}
 use Rattle.csi_keeper.specs.declared.change.Change.{Change}
 use Rattle.csi_keeper.specs.declared.totals.Totals.{Totals}
-use Rattle.csi_schema.specs.Tables.{schema}
-use Rattle.csi_schema.specs.Transactions.{CommitsOver}
+use Rattle.csi_sql.specs.Tables.{schema}
+use Rattle.csi_sql.specs.Transactions.{CommitsOver}
 use Rattle.csi_tables.specs.Answers.{of_database}
 use Rattle.csi_tables.specs.Encoding.{ReadsBack}
 use Rattle.csi_tables.specs.Holding.{IsRows, IsStorable, Shows, conn_doubt, conn_holds}

@@ -10,7 +10,7 @@ use Rattle.csi_keeper.specs.State.{State, page, published, published_of_page}
 use Rattle.csi_keeper.specs.Texts.{Text}
 use Rattle.csi_keeper.specs.declared.listed.Listed.{Listed}
 use Rattle.csi_keeper.specs.declared.volume.Volume.{Volume}
-use Rattle.csi_statements.specs.Rows.{IsUndone}
+use Rattle.csi_sql.specs.Transactions.{IsUndone}
 use Rattle.csi_tables.specs.Holding.{conn_holds}
 use Rattle.csi_tables.specs.Refusing.{ConnReads, IsRefusal, by_disk, as_shut, at_limit, as_refused}
 use Rattle.csi_tables.specs.declared.fault.Fault.{Fault}

@@ -18,10 +18,11 @@ use Rattle.csi_keeper.specs.declared.volume.Attachment.{Attachment}
 use Rattle.csi_keeper.specs.declared.volume.Volume.{Volume}
 use Rattle.csi_keeper.specs.facts.Finite.{none_listed}
 use Rattle.csi_keeper.specs.facts.Sums.{in_order}
-use Rattle.csi_schema.specs.Making.{MakesTables}
-use Rattle.csi_schema.specs.Tables.{no_schema}
-use Rattle.csi_schema.specs.Transactions.{ChangesFrom, LeavesFrom}
-use Rattle.csi_statements.specs.Rows.{seen_volume, seen_attachment, AreKeyed}
+use Rattle.csi_sql.specs.Making.{MakesTables}
+use Rattle.csi_sql.specs.Tables.{no_schema}
+use Rattle.csi_sql.specs.Transactions.{ChangesFrom, LeavesFrom}
+use Rattle.csi_sql.specs.Rows.{seen_volume, seen_attachment}
+use Rattle.csi_sql.specs.Effects.{AreKeyed}
 use Rattle.csi_tables.specs.Encoding.{ReadsBack}
 use Rattle.csi_tables.specs.Holding.{IsRows, IsStorable, IsStored, IsPlaced, volume_entry, attachment_entry}
 use Rattle.csi_tables.specs.Keeping.{IsNewOver}

@@ -18,10 +18,10 @@ use Rattle.csi_keeper.specs.State.{State, Place, place_cmp, published, published
 use Rattle.csi_keeper.specs.Texts.{text_cmp}
 use Rattle.csi_keeper.specs.declared.volume.Attachment.{Attachment}
 use Rattle.csi_keeper.specs.declared.volume.Volume.{Volume}
-use Rattle.csi_statements.specs.Cells.{as_number}
-use Rattle.csi_statements.specs.Rows.{number_value, seen_volume, seen_attachment}
-use Rattle.csi_statements.specs.Shown.{IsShownOf, IsBeginningOf, last_number}
-use Rattle.csi_statements.specs.Statements.{page_numbers_query, places_query}
+use Rattle.csi_sql.specs.Cells.{as_number}
+use Rattle.csi_sql.specs.Rows.{number_value, seen_volume, seen_attachment}
+use Rattle.csi_sql.specs.Shown.{IsShownOf, IsBeginningOf, last_number}
+use Rattle.csi_sql.specs.Statements.{page_numbers_query, places_query}
 use Rattle.csi_tables.specs.Holding.{IsRows, IsStored, IsPlaced, volume_entry, attachment_entry}
 use Rattle.csi_tables.specs.Places.{place_row, nodes_at, IsRisen, AreRising, AreTexts}
 use Rattle.csi_tables.proofs.ShownLemmas.{and_true, is_above, to_numeric, all-take, take-map, volumes_up, places_up, by_rising, passed}

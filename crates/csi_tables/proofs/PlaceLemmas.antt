@@ -9,7 +9,7 @@ use Rattle.sqlite.specs.declared.types.Value.TheVariants.{Text as Words}
 use Rattle.sqlite_trees.proofs.ListLemmas.{all-append}
 use Rattle.csi_keeper.specs.State.{Place}
 use Rattle.csi_keeper.specs.Texts.{Text}
-use Rattle.csi_statements.specs.Rows.{number_value}
+use Rattle.csi_sql.specs.Rows.{number_value}
 use Rattle.csi_tables.specs.Places.{place_row, nodes_at, IsRisen, AreRising}
 
 -- ---- lists

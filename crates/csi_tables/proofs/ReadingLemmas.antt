@@ -17,8 +17,8 @@ use Rattle.csi_codec.specs.Reading.{read_request}
 use Rattle.csi_keeper.specs.Capability.{key_of}
 use Rattle.csi_keeper.specs.Texts.{Text}
 use Rattle.csi_keeper.specs.declared.capability.CapKey.{CapKey}
-use Rattle.csi_statements.specs.Cells.{as_blob, as_number}
-use Rattle.csi_statements.specs.Rows.{meta_row, number_value, seen_meta}
+use Rattle.csi_sql.specs.Cells.{as_blob, as_number}
+use Rattle.csi_sql.specs.Rows.{meta_row, number_value, seen_meta}
 use Rattle.csi_tables.specs.Reading.{AreKeysOf, AreReadOf, ShowNodes, ShowsNumber, is_number}
 use Rattle.csi_tables.proofs.CellLemmas.{read_more}
 use Rattle.csi_tables.proofs.PlaceLemmas.{numbers_differ, take_one, take_whole}

@@ -12,12 +12,14 @@ use Rattle.csi_keeper.specs.State.{State}
 use Rattle.csi_keeper.specs.facts.Reads.{if_ok}
 use Rattle.csi_keeper.specs.declared.change.StoreFault.{StoreFault}
 use Rattle.csi_keeper.specs.declared.change.StoreFault.TheVariants as store
-use Rattle.csi_schema.specs.Failing as fails
-use Rattle.csi_schema.specs.Failing.{SqlRefuses}
-use Rattle.csi_schema.specs.Tables.{schema}
-use Rattle.csi_schema.specs.declared.formats.TheConstants.{LATEST_FORMAT}
-use Rattle.csi_statements.specs.Failing.{FailsFor, HasNoNext}
-use Rattle.csi_statements.specs.Rows.{IsUndone, ReadsOnly, meta_row, number_value, seen_meta}
+use Rattle.csi_sql.specs.Failing as fails
+use Rattle.csi_sql.specs.Failing.{SqlRefuses, FailsFor}
+use Rattle.csi_sql.specs.Tables.{schema}
+use Rattle.csi_sql.specs.declared.formats.TheConstants.{LATEST_FORMAT}
+use Rattle.csi_sql.specs.Refusing.{HasNoNext}
+use Rattle.csi_sql.specs.Transactions.{IsUndone}
+use Rattle.csi_sql.specs.Effects.{ReadsOnly}
+use Rattle.csi_sql.specs.Rows.{meta_row, number_value, seen_meta}
 use Rattle.csi_tables.specs.Answers.{answered, of_database}
 use Rattle.csi_tables.specs.Holding.{Shows, conn_doubt, conn_holds}
 use Rattle.csi_tables.specs.Refusing.{ConnReads, HasKnownModes, IsRefusal, by_disk, as_shut, at_limit, as_refused}

@@ -26,11 +26,12 @@ use Rattle.csi_keeper.specs.declared.volume.Attachment.{Attachment}
 use Rattle.csi_keeper.specs.declared.volume.Volume.{Volume}
 use Rattle.csi_keeper.specs.facts.Finite.{entries_retained, not_there}
 use Rattle.csi_keeper.specs.facts.Orders.{place_total, place_exact}
-use Rattle.csi_schema.specs.Tables.{schema}
-use Rattle.csi_schema.specs.declared.formats.TheConstants.{LATEST_FORMAT}
-use Rattle.csi_statements.specs.Deletes.{is_same, is_place, is_of, is_numbered, Drops}
-use Rattle.csi_statements.specs.Rows.{meta_row, seen_meta, seen_volume, seen_attachment, volume_row, attachment_row, AreKeyed, AddsAttachment, AddsNumbered, SetsFormat}
-use Rattle.csi_statements.specs.Updates.{SetsParams}
+use Rattle.csi_sql.specs.Tables.{schema}
+use Rattle.csi_sql.specs.declared.formats.TheConstants.{LATEST_FORMAT}
+use Rattle.csi_sql.specs.Deletes.{is_same, is_place, is_of, is_numbered, Drops}
+use Rattle.csi_sql.specs.Rows.{meta_row, seen_meta, seen_volume, seen_attachment, volume_row, attachment_row}
+use Rattle.csi_sql.specs.Effects.{AreKeyed, AddsAttachment, AddsNumbered, SetsFormat}
+use Rattle.csi_sql.specs.Updates.{SetsParams}
 use Rattle.csi_tables.specs.Encoding.{caps_bytes, params_bytes, FitCaps, FitParams}
 use Rattle.csi_tables.specs.Holding.{IsRows, IsRowsOf, IsStorable, IsStored, IsPlaced, volume_entry, attachment_entry}
 use Rattle.csi_tables.specs.facts.Entries.{has_permuted}

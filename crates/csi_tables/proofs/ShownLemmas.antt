@@ -26,10 +26,10 @@ use Rattle.csi_keeper.specs.State.{State, Place, place_cmp, attached, attached_a
 use Rattle.csi_keeper.specs.Texts.{text_cmp}
 use Rattle.csi_keeper.specs.declared.volume.Attachment.{Attachment}
 use Rattle.csi_keeper.specs.declared.volume.Volume.{Volume}
-use Rattle.csi_statements.specs.Deletes.{is_same}
-use Rattle.csi_statements.specs.Rows.{number_value, seen_volume, seen_attachment}
-use Rattle.csi_statements.specs.Shown.{IsShownOf, IsFoundBy, IsBeginningOf}
-use Rattle.csi_statements.specs.Statements.{attached_query, named_query, nodes_query, page_query, sizes_query, volume_query}
+use Rattle.csi_sql.specs.Deletes.{is_same}
+use Rattle.csi_sql.specs.Rows.{number_value, seen_volume, seen_attachment}
+use Rattle.csi_sql.specs.Shown.{IsShownOf, IsFoundBy, IsBeginningOf}
+use Rattle.csi_sql.specs.Statements.{attached_query, named_query, nodes_query, page_query, sizes_query, volume_query}
 use Rattle.csi_tables.specs.Encoding.{AreKnown}
 use Rattle.csi_tables.specs.Holding.{IsRows, IsStored, IsPlaced, IsReadable, IsReadablePlace, volume_entry, attachment_entry, node_entry}
 use Rattle.csi_tables.specs.Refusing.{HasKnownModes}

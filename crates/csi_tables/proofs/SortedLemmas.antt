@@ -12,7 +12,7 @@ use Rattle.sqlite_sql.proofs.QueryLemmas.{key_cmp_total}
 use Rattle.sqlite_keyed.proofs.ListLemmas.{IsPermutation-filter, filter-map, filter_same, map-map}
 use Rattle.sqlite_keyed.proofs.SortLemmas.{sorted_unique}
 use Rattle.sqlite_trees.proofs.ListLemmas.{ascending-map}
-use Rattle.csi_statements.specs.Shown.{IsShownOf}
+use Rattle.csi_sql.specs.Shown.{IsShownOf}
 
 pub output_total : (q : Query) → IsTotalOrder (output_cmp q)
 output_total q = on_total (λ (o : Output). o.0) (key_cmp_total (map (λ k. k.1) q.order) 0)

@@ -13,8 +13,8 @@ use Rattle.csi_keeper.specs.declared.capability.Kind.TheVariants.{Block}
 use Rattle.csi_keeper.specs.declared.volume.Attachment.{Attachment}
 use Rattle.csi_keeper.specs.declared.volume.Volume.{Volume}
 use Rattle.csi_keeper.specs.facts.Orders.{place_total}
-use Rattle.csi_schema.specs.declared.formats.TheConstants.{FIRST_FORMAT, LATEST_FORMAT}
-use Rattle.csi_statements.specs.Rows.{bool_value, meta_row}
+use Rattle.csi_sql.specs.declared.formats.TheConstants.{FIRST_FORMAT, LATEST_FORMAT}
+use Rattle.csi_sql.specs.Rows.{bool_value, meta_row}
 use Rattle.csi_tables.specs.Encoding.{ReadsBack}
 use Rattle.csi_tables.specs.Holding.{IsEitherRows, IsRows, IsRowsOf, IsStored, IsPlaced, volume_entry, attachment_entry}
 use Rattle.csi_tables.proofs.EncodingLemmas.{keys_in, params_in, keys_back, params_back}

@@ -9,7 +9,7 @@ use Rattle.sqlite.specs.Ops.{binary, is_true, from_truth}
 use Rattle.sqlite.specs.Order.{value_cmp}
 use Rattle.sqlite_value.proofs.OrderLemmas.{value_cmp-Int, value_cmp-Text}
 use Rattle.csi_keeper.specs.Texts.{text_cmp}
-use Rattle.csi_statements.specs.Deletes.{is_same}
+use Rattle.csi_sql.specs.Deletes.{is_same}
 
 pub truth_test : (b : Bool) → is_true (from_truth (Some b)) ≡ b
 truth_test true = refl

@@ -19,9 +19,10 @@ use Rattle.csi_keeper.specs.declared.change.Change.{Change}
 use Rattle.csi_keeper.specs.declared.totals.Totals.{Totals}
 use Rattle.csi_keeper.specs.declared.volume.Attachment.{Attachment}
 use Rattle.csi_keeper.specs.declared.volume.Volume.{Volume}
-use Rattle.csi_schema.specs.Tables.{schema}
-use Rattle.csi_schema.specs.declared.formats.TheConstants.{FIRST_FORMAT, LATEST_FORMAT}
-use Rattle.csi_statements.specs.Rows.{number_value, bool_value, meta_row, seen_meta, seen_volume, seen_attachment, AreKeyed}
+use Rattle.csi_sql.specs.Tables.{schema}
+use Rattle.csi_sql.specs.declared.formats.TheConstants.{FIRST_FORMAT, LATEST_FORMAT}
+use Rattle.csi_sql.specs.Rows.{number_value, bool_value, meta_row, seen_meta, seen_volume, seen_attachment}
+use Rattle.csi_sql.specs.Effects.{AreKeyed}
 use Rattle.csi_tables.specs.Encoding.{caps_bytes, params_bytes, AreKnown, FitCaps, FitParams}
 use Rattle.csi_tables.specs.declared.health.Health.{Health}
 

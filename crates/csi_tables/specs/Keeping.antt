@@ -7,7 +7,7 @@ use Rattle.csi_keeper.specs.State.{State, first_state}
 use Rattle.csi_keeper.specs.declared.change.Change.{Change}
 use Rattle.csi_keeper.specs.declared.change.StoreFault.{StoreFault}
 use Rattle.csi_keeper.specs.declared.change.StoreFault.TheVariants.{Refused}
-use Rattle.csi_schema.specs.Tables.{no_schema}
+use Rattle.csi_sql.specs.Tables.{no_schema}
 use Rattle.csi_tables.specs.Holding.{Store, conn_doubt, model_with}
 use Rattle.csi_tables.specs.Refusing.{RefusesChange, StoreRefuses}
 use Rattle.csi_tables.specs.declared.tables.Tables.{Tables}

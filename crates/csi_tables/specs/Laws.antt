@@ -5,8 +5,8 @@ use Rattle.sqlite.specs.Tree.{Trees}
 use Rattle.csi_config.specs.declared.config.Config.{Config}
 use Rattle.csi_keeper.specs.Invariant.{IsInvariant}
 use Rattle.csi_keeper.specs.State.{State}
-use Rattle.csi_schema.specs.Tables.{schema}
-use Rattle.csi_statements.specs.Rows.{SetsFormat}
+use Rattle.csi_sql.specs.Tables.{schema}
+use Rattle.csi_sql.specs.Effects.{SetsFormat}
 use Rattle.csi_tables.specs.Holding.{IsEitherRows, IsRows, IsRowsOf}
 use Rattle.csi_tables.specs.Refusing.{HasKnownModes}
 

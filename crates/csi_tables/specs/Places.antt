@@ -6,7 +6,7 @@ use Rattle.sqlite.specs.Tree.{IsAscending}
 use Rattle.sqlite.specs.declared.types.Value.TheVariants.{Text}
 use Rattle.csi_keeper.specs.State.{Place}
 use Rattle.csi_keeper.specs.Texts as texts
-use Rattle.csi_statements.specs.Rows.{number_value}
+use Rattle.csi_sql.specs.Rows.{number_value}
 
 -- number, node
 abbrev pub place_row : Place → Row

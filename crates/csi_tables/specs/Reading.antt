@@ -18,9 +18,9 @@ use Rattle.csi_keeper.specs.Texts as texts
 use Rattle.csi_keeper.specs.declared.capability.CapKey.{CapKey}
 use Rattle.csi_keeper.specs.declared.volume.Attachment.{Attachment}
 use Rattle.csi_keeper.specs.declared.volume.Volume.{Volume}
-use Rattle.csi_schema.specs.Tables.{schema}
-use Rattle.csi_statements.specs.Cells.{as_flag, as_number}
-use Rattle.csi_statements.specs.Rows.{number_value}
+use Rattle.csi_sql.specs.Tables.{schema}
+use Rattle.csi_sql.specs.Cells.{as_flag, as_number}
+use Rattle.csi_sql.specs.Rows.{number_value}
 
 -- ---- bytes
 

@@ -17,9 +17,9 @@ use Rattle.csi_keeper.specs.declared.change.Change.TheVariants.{AddVolume, Remov
 use Rattle.csi_keeper.specs.declared.totals.Totals.{Totals}
 use Rattle.csi_keeper.specs.declared.volume.Attachment.{Attachment}
 use Rattle.csi_keeper.specs.declared.volume.Volume.{Volume}
-use Rattle.csi_statements.specs.Failing.{RefusesAttachment, RefusesDetaching, RefusesDetachingAll, RefusesNumbered, RefusesParams, RefusesRemoval}
-use Rattle.csi_schema.specs.Transactions.{LeavesNothingNew}
-use Rattle.csi_statements.specs.Rows.{IsUndone, attachment_row, seen_volume, volume_row}
+use Rattle.csi_sql.specs.Refusing.{RefusesAttachment, RefusesDetaching, RefusesDetachingAll, RefusesNumbered, RefusesParams, RefusesRemoval}
+use Rattle.csi_sql.specs.Transactions.{LeavesNothingNew, IsUndone}
+use Rattle.csi_sql.specs.Rows.{attachment_row, seen_volume, volume_row}
 use Rattle.csi_tables.specs.Encoding.{caps_bytes, params_bytes, AreKnown}
 use Rattle.csi_tables.specs.Holding.{IsStorable, Store, conn_doubt, conn_holds, store_doubt, store_holds, ConnFails, ConnMakes, ConnTells, StoreFails, StoreMakes, volume_entry}
 use Rattle.csi_tables.specs.declared.fault.Fault.{Fault}

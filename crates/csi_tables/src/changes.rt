@@ -18,10 +18,8 @@ use crate::encoding::{read_back, write_caps, write_params};
 use crate::fault::Fault;
 use crate::read::by_number;
 use csi_keeper::{Attachment, CapKey, Change, Totals, Volume};
-use csi_transactions::changes::{
-    add_volume, attach, detach, detach_all, remove_volume, set_params,
-};
-use csi_transactions::reads;
+use csi_sql::changes::{add_volume, attach, detach, detach_all, remove_volume, set_params};
+use csi_sql::reads;
 use csi_types::{Map, Text, copy_text};
 use sqlite::{Alter, Connection};
 use std::alloc::{AllocError, Global};

@@ -1,4 +1,4 @@
-//! A keeper of volumes in SQLite, over the tables of `csi_schema` by the transactions of `csi_transactions`.
+//! A keeper of volumes in SQLite, over the tables of `csi_sql` by its transactions.
 //!
 //! A volume and an attachment are a row each. Capabilities stand in a column as the canonical bytes of a `CreateVolumeRequest` that has these
 //! alone, and so do parameters, with the mutable ones beside them (`specs/Encoding.antt`); what can't be read again, or has a number from 2^63 on, is no

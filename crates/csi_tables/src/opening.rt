@@ -3,11 +3,10 @@
 ghost use Rattle.std.specs.Prelude.{◌≡◌, false, IfErr, IfOk, IsTrue};
 ghost use Rattle.sqlite.specs.Held.{state};
 ghost use Rattle.sqlite.specs.State.{HasCleanDisk, Survives};
-ghost use Rattle.csi_schema.specs.Failing.{FailsFor};
-ghost use Rattle.csi_schema.specs.Making.{MakesTables, RefusesTables};
-ghost use Rattle.csi_schema.specs.Tables.{no_schema};
-ghost use Rattle.csi_schema.specs.Transactions.{LeavesFrom};
-ghost use Rattle.csi_statements.specs.Rows.{IsUndone};
+ghost use Rattle.csi_sql.specs.Failing.{FailsFor};
+ghost use Rattle.csi_sql.specs.Making.{MakesTables, RefusesTables};
+ghost use Rattle.csi_sql.specs.Tables.{no_schema};
+ghost use Rattle.csi_sql.specs.Transactions.{LeavesFrom, IsUndone};
 ghost use Rattle.csi_keeper.specs.State.{State};
 ghost use Rattle.csi_tables.specs.Holding.{conn_doubt, store_doubt, store_holds};
 ghost use Rattle.csi_tables.specs.Keeping.{connection_of, is_down, refusals, store_of, IsNewOver};
@@ -15,7 +14,7 @@ ghost use Rattle.csi_tables.specs.Keeping.{connection_of, is_down, refusals, sto
 use crate::encoding::read_back;
 use crate::tables::Tables;
 use csi_keeper::Totals;
-use csi_schema::make_tables;
+use csi_sql::make_tables;
 use sqlite::{Alter, Connection, Error};
 use std::alloc::Global;
 

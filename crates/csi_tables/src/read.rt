@@ -14,7 +14,7 @@ use crate::fault::Fault;
 use crate::nodes::nodes_of_each;
 use crate::rows::{attachments_from, number_in, numbers_from, volume_of, volumes_from};
 use csi_keeper::{Attachment, Listed, Volume, listed_each};
-use csi_transactions::reads;
+use csi_sql::reads;
 use csi_types::{Items, Text};
 use sqlite::{Alter, Connection};
 use std::alloc::Global;

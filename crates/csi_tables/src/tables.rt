@@ -96,7 +96,7 @@ impl<S: Alter> Keeper for Tables<S> {
         ensures reads { Reads (tables_model S.Store self.old) (tables_model S.Store self.new) result (λ s v. v ≡ get s.volumes number) }
         ensures refused { TablesRefuses S.Store self.old self.new ⊥ result }
         ensures limit { self.new.conn.step_limit ≡ self.old.conn.step_limit }
-        ensures sure { 2 ^ 63 ≤ number → OnErr result (IsTrue self.old.health.is_down) }
+        ensures error_only_if { 2 ^ 63 ≤ number → OnErr result (IsTrue self.old.health.is_down) }
     {
         self.health.begin()?;
         if number >= NUMBERS {
@@ -110,7 +110,7 @@ impl<S: Alter> Keeper for Tables<S> {
         ensures reads { Reads (tables_model S.Store self.old) (tables_model S.Store self.new) result (λ s keys. keys ≡ option_map (λ v. v.caps) (get s.volumes number)) }
         ensures refused { TablesRefuses S.Store self.old self.new ⊥ result }
         ensures limit { self.new.conn.step_limit ≡ self.old.conn.step_limit }
-        ensures sure { 2 ^ 63 ≤ number → OnErr result (IsTrue self.old.health.is_down) }
+        ensures error_only_if { 2 ^ 63 ≤ number → OnErr result (IsTrue self.old.health.is_down) }
     {
         match self.by_number(alloc, number)? {
             Some(volume) => Ok(Some(volume.caps)),
@@ -122,7 +122,7 @@ impl<S: Alter> Keeper for Tables<S> {
         ensures reads { Reads (tables_model S.Store self.old) (tables_model S.Store self.new) result (λ s xs. xs ≡ attached s number) }
         ensures refused { TablesRefuses S.Store self.old self.new ⊥ result }
         ensures limit { self.new.conn.step_limit ≡ self.old.conn.step_limit }
-        ensures sure { 2 ^ 63 ≤ number → OnErr result (IsTrue self.old.health.is_down) }
+        ensures error_only_if { 2 ^ 63 ≤ number → OnErr result (IsTrue self.old.health.is_down) }
     {
         self.health.begin()?;
         if number >= NUMBERS {
@@ -154,7 +154,7 @@ impl<S: Alter> Keeper for Tables<S> {
 
     fn used_in(&mut self, pool: &Text) -> Result<Usage, StoreFault>
         ensures reads { Reads (tables_model S.Store self.old) (tables_model S.Store self.new) result (λ s u. u ≡ used s pool.now) }
-        ensures sure { OnErr result (IsTrue self.old.health.is_down) }
+        ensures error_only_if { OnErr result (IsTrue self.old.health.is_down) }
         ensures limit { self.new.conn.step_limit ≡ self.old.conn.step_limit }
     {
         self.health.begin()?;
@@ -165,7 +165,7 @@ impl<S: Alter> Keeper for Tables<S> {
         ensures reads { Reads (tables_model S.Store self.old) (tables_model S.Store self.new) result (λ s xs. xs ≡ page s after count) }
         ensures refused { TablesRefuses S.Store self.old self.new ⊥ result }
         ensures limit { self.new.conn.step_limit ≡ self.old.conn.step_limit }
-        ensures sure { 2 ^ 63 ≤ after → OnErr result (IsTrue self.old.health.is_down) }
+        ensures error_only_if { 2 ^ 63 ≤ after → OnErr result (IsTrue self.old.health.is_down) }
     {
         self.health.begin()?;
         if after >= NUMBERS {
@@ -184,7 +184,7 @@ impl<S: Alter> Keeper for Tables<S> {
         ensures reads { Reads (tables_model S.Store self.old) (tables_model S.Store self.new) result (λ s xs. xs ≡ published_of_page s after count) }
         ensures refused { TablesRefuses S.Store self.old self.new ⊥ result }
         ensures limit { self.new.conn.step_limit ≡ self.old.conn.step_limit }
-        ensures sure { 2 ^ 63 ≤ after → OnErr result (IsTrue self.old.health.is_down) }
+        ensures error_only_if { 2 ^ 63 ≤ after → OnErr result (IsTrue self.old.health.is_down) }
     {
         self.health.begin()?;
         if after >= NUMBERS {
@@ -203,7 +203,7 @@ impl<S: Alter> Keeper for Tables<S> {
         ensures reads { Reads (tables_model S.Store self.old) (tables_model S.Store self.new) result (λ s xs. xs ≡ listing s after count) }
         ensures refused { TablesRefuses S.Store self.old self.new ⊥ result }
         ensures limit { self.new.conn.step_limit ≡ self.old.conn.step_limit }
-        ensures sure { 2 ^ 63 ≤ after → OnErr result (IsTrue self.old.health.is_down) }
+        ensures error_only_if { 2 ^ 63 ≤ after → OnErr result (IsTrue self.old.health.is_down) }
     {
         self.health.begin()?;
         if after >= NUMBERS {

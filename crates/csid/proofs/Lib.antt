@@ -1,1 +1,4 @@
+mod GivenLemmas
+mod MemoryLemmas
+mod ReadingLemmas
 mod TakingLemmas

@@ -1,3 +1,4 @@
+pub mod Reading
 pub mod Serving
 pub mod Starting
 pub mod Statuses

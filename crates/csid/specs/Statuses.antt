@@ -3,22 +3,22 @@ use Rattle.std.specs.Prelude.{◌≡◌, ◌⊎◌, ℕ, Option, Some, None}
 use Rattle.csi_server.specs.declared.end.RunEnd.{RunEnd}
 use Rattle.csi_server.specs.declared.end.RunEnd.TheVariants as end
 use Rattle.command_line.specs.Statuses.{arguments_status}
-use Rattle.csid.specs.declared.failure.Thing.{Thing}
-use Rattle.csid.specs.declared.failure.Thing.TheVariants.{Configuration, Tables, Socket}
+use Rattle.csid.specs.declared.failure.Resource.{Resource}
+use Rattle.csid.specs.declared.failure.Resource.TheVariants.{Configuration, Tables, Socket}
 use Rattle.csid.specs.declared.failure.Failure.{Failure}
 use Rattle.csid.specs.declared.failure.Failure.TheVariants as failure
 
 -- the exit status without this
-abbrev pub thing_status : Thing → ℕ
-thing_status Configuration = 3
-thing_status Tables = 4
-thing_status Socket = 7
+abbrev pub resource_status : Resource → ℕ
+resource_status Configuration = 3
+resource_status Tables = 4
+resource_status Socket = 7
 
 -- the exit status that a failure gives
 abbrev pub failure_status : Failure → ℕ
 failure_status (failure.Malformed fault) = 1
 failure_status (failure.Arguments fault) = arguments_status fault
-failure_status (failure.Unusable thing cause) = thing_status thing
+failure_status (failure.Unusable thing cause) = resource_status thing
 failure_status failure.NoTablesPath = 4
 failure_status (failure.ReadFailed source) = 5
 failure_status (failure.WriteFailed sink) = 5

@@ -1,7 +1,7 @@
 //! Why the program ends otherwise than well, and the status that it ends with.
 
 ghost use Rattle.std.specs.Prelude.{◌≡◌, IfErr, IfOk, Some};
-ghost use Rattle.csid.specs.Statuses.{IsOrNoMemory, end_of, failure_status, status_of, thing_status};
+ghost use Rattle.csid.specs.Statuses.{IsOrNoMemory, end_of, failure_status, status_of, resource_status};
 ghost use Rattle.csid.specs.declared.failure.Failure.TheVariants.{NoMemory, Unusable};
 
 use command_line::{ArgumentsFault, Cause, cause};
@@ -13,7 +13,7 @@ use thiserror::Error;
 
 /// What cannot be had, of which there is a name.
 #[derive(Clone, Copy, Debug)]
-pub(crate) enum Thing {
+pub(crate) enum Resource {
     /// The configuration, by its file.
     Configuration,
     /// The tables, by their file.
@@ -22,15 +22,15 @@ pub(crate) enum Thing {
     Socket,
 }
 
-impl Thing {
+impl Resource {
     // The exit status without it.
     fn status(self) -> u8
-        ensures { result ≡ thing_status self }
+        ensures { result ≡ resource_status self }
     {
         match self {
-            Thing::Configuration => 3,
-            Thing::Tables => 4,
-            Thing::Socket => 7,
+            Resource::Configuration => 3,
+            Resource::Tables => 4,
+            Resource::Socket => 7,
         }
     }
 }
@@ -46,7 +46,7 @@ pub(crate) enum Failure {
     Arguments(#[from] ArgumentsFault),
     /// This cannot be had: its name, and why.
     #[error("{1}")]
-    Unusable(Thing, Cause),
+    Unusable(Resource, Cause),
     /// The tables have no path.
     #[error("the path of the tables is empty")]
     NoTablesPath,
@@ -97,10 +97,10 @@ impl From<AllocError> for Failure {
 
 impl Failure {
     // What cannot be had, and why; want of memory, where there was none to say so.
-    fn of(thing: Thing, cause: Result<Cause, AllocError>) -> Failure
+    fn of(thing: Resource, cause: Result<Cause, AllocError>) -> Failure
         ensures told { IfOk cause (λ why. result ≡ Unusable thing why) }
         ensures memory { IfErr cause (λ _. result ≡ NoMemory) }
-        ensures status { IsOrNoMemory (thing_status thing) result }
+        ensures status { IsOrNoMemory (resource_status thing) result }
     {
         match cause {
             Ok(cause) => Failure::Unusable(thing, cause),
@@ -112,21 +112,21 @@ impl Failure {
     pub(crate) fn of_configuration<T: Display>(alloc: Global, path: &str, why: &T) -> Failure
         ensures { IsOrNoMemory 3 result }
     {
-        Failure::of(Thing::Configuration, cause(alloc, path, why))
+        Failure::of(Resource::Configuration, cause(alloc, path, why))
     }
 
     /// The tables in a file cannot be had.
     pub(crate) fn of_tables<T: Display>(alloc: Global, path: &str, why: &T) -> Failure
         ensures { IsOrNoMemory 4 result }
     {
-        Failure::of(Thing::Tables, cause(alloc, path, why))
+        Failure::of(Resource::Tables, cause(alloc, path, why))
     }
 
     /// The socket at a path cannot be made for a group, or fails: the path or the group is named.
     pub(crate) fn of_socket<T: Display>(alloc: Global, name: &str, why: &T) -> Failure
         ensures { IsOrNoMemory 7 result }
     {
-        Failure::of(Thing::Socket, cause(alloc, name, why))
+        Failure::of(Resource::Socket, cause(alloc, name, why))
     }
 
     /// The exit status.

@@ -1,22 +1,26 @@
 //! Volumes that a log keeps, which another program is: its socket, what it tells at the start, and calls over both.
 
-ghost use Rattle.std.specs.Prelude.{◌≡◌, false, IfErr};
+ghost use Rattle.std.specs.Prelude.{◌≡◌, false, IfErr, IfOk, OnOk};
+ghost use Rattle.csi_log.specs.Items.{seen_notes};
+ghost use Rattle.csid.specs.Reading.{AreTaken, IsAgreed, IsCopied, IsReadFrom, MakesMeta, SettlesMeta};
 ghost use Rattle.csid.specs.Statuses.{IsOrNoMemory};
 
 use crate::console::Console;
 use crate::content::read_content;
 use crate::failure::Failure;
 use crate::memory::{files_of, open};
-use crate::peer::Lead;
+use crate::peer::Leadership;
 use crate::tables::{keep, of_adoption, of_database, of_reading, tell_content};
 use csi_adoption::{AdoptFault, Foreign};
 use csi_client::{Received, ReceivedReply};
 use csi_config::Config;
+use csi_log::laws::gives_rows;
 use csi_log::{
     Channel, Notes, Peer, ReadFault, RemoteLog, RowsFault, lead_frame, make_frame, read_rows,
 };
 use csi_memory::MemKeeper;
 use csi_tables::Tables;
+use csi_tables::laws::one_state;
 use csi_through::Through;
 use sqlite::{Alter, Connection};
 use std::alloc::Global;
@@ -30,22 +34,22 @@ use std::{io, str};
 const LONGEST: u64 = 30;
 
 /// A peer, and whether it was asked for something. What it gives is what the peer gave.
-pub(crate) struct Noted<P> {
+pub(crate) struct TrackedPeer<P> {
     peer: P,
     // For who answers calls over it.
     is_asked: Rc<Cell<bool>>,
 }
 
-impl<P: Drop> Drop for Noted<P> {
+impl<P: Drop> Drop for TrackedPeer<P> {
     fn drop(self) {
-        let Noted {
+        let TrackedPeer {
             peer: _peer,
             is_asked: _is_asked,
         } = self;
     }
 }
 
-impl<P: Peer> Peer for Noted<P> {
+impl<P: Peer> Peer for TrackedPeer<P> {
     ghost model = { λ noted. P.model noted.peer };
 
     ghost exchanged = { λ old new. P.exchanged old.peer new.peer };
@@ -57,10 +61,10 @@ impl<P: Peer> Peer for Noted<P> {
 }
 
 /// The connection to a log.
-pub(crate) type Line = Noted<Channel<UnixStream, UnixStream>>;
+pub(crate) type LogPeer = TrackedPeer<Channel<UnixStream, UnixStream>>;
 
 /// What is kept in memory of a log's volumes, and the log.
-pub(crate) type Remote = Through<MemKeeper, RemoteLog<Line>>;
+pub(crate) type Remote = Through<MemKeeper, RemoteLog<LogPeer>>;
 
 /// A log that was read.
 pub(crate) struct OpenLog {
@@ -104,14 +108,14 @@ pub(crate) fn leads(alloc: Global, stream: &UnixStream) -> bool {
 
 /// A log, as the replies to a peer have to do with it.
 #[derive(Clone, Copy, Drop)]
-pub(crate) struct Leading<'a> {
+pub(crate) struct LogLeadership<'a> {
     pub(crate) stream: &'a UnixStream,
     /// Whether it was asked for a change since the last reply.
     pub(crate) is_asked: &'a Rc<Cell<bool>>,
     pub(crate) alloc: Global,
 }
 
-impl Lead for Leading<'_> {
+impl Leadership for LogLeadership<'_> {
     // A change that was asked for tells it too: it is made while the log leads alone. Else another log may have led since, and made changes that are not
     // in memory.
     fn holds(&mut self) -> bool {
@@ -174,17 +178,25 @@ fn of_pages(alloc: Global, path: &str, fault: &ReadFault) -> Failure
     }
 }
 
-// Has a log without any row make the row of meta, as it is in the new tables here.
-fn make_meta<P: Peer>(alloc: Global, path: &str, log: &mut P) -> Result<(), Failure>
-    ensures { IfErr result (λ failure. IsOrNoMemory 4 failure) }
+// Whether a log agreed.
+fn agreed(alloc: Global, path: &str, received: Received) -> Result<(), Failure>
+    ensures agreed { OnOk result (IsAgreed received) }
+    ensures failure { IfErr result (λ failure. IsOrNoMemory 4 failure) }
 {
-    let frame = match make_frame(alloc) {
-        Ok(frame) => frame,
-        Err(fault) => return Err(of_reading(alloc, path, fault)),
-    };
-    match log.exchange(alloc, frame.as_slice()) {
+    match received {
         Received::Reply(reply) if reply.status == 0 => Ok(()),
         received => Err(of_received(alloc, path, &received)),
+    }
+}
+
+// Has a log without any row make the row of meta, as it is in the new tables here.
+fn make_meta<P: Peer>(alloc: Global, path: &str, log: &mut P) -> Result<(), Failure>
+    ensures made { OnOk result (MakesMeta P.exchanged log.old log.new) }
+    ensures failure { IfErr result (λ failure. IsOrNoMemory 4 failure) }
+{
+    match make_frame(alloc) {
+        Ok(frame) => agreed(alloc, path, log.exchange(alloc, frame.as_slice())),
+        Err(fault) => Err(of_reading(alloc, path, fault)),
     }
 }
 
@@ -195,7 +207,8 @@ fn settle_meta<P: Peer>(
     log: &mut P,
     notes: &Notes,
 ) -> Result<(), Failure>
-    ensures { IfErr result (λ failure. IsOrNoMemory 4 failure) }
+    ensures settled { OnOk result (SettlesMeta P.exchanged log.old log.new (seen_notes notes.now)) }
+    ensures failure { IfErr result (λ failure. IsOrNoMemory 4 failure) }
 {
     match notes.format {
         Some(1) => Err(Failure::of_tables(
@@ -228,8 +241,11 @@ fn read_tables<P: Peer, S: Alter + Drop>(
     mut conn: Connection<S>,
 ) -> Result<Tables<S>, Failure>
     requires { conn.in_transaction ≡ false }
-    ensures { IfErr result (λ failure. IsOrNoMemory 4 failure) }
+    ensures taken { IfOk result (AreTaken S.Store config.now conn P.exchanged log.old log.new) }
+    ensures failure { IfErr result (λ failure. IsOrNoMemory 4 failure) }
 {
+    gives_rows();
+    one_state();
     let notes = match read_rows(rt.alloc(), log, &mut conn) {
         Ok(notes) => notes,
         Err(fault) => return Err(of_pages(rt.alloc(), path, &fault)),
@@ -247,7 +263,8 @@ fn read_log<P: Peer + Drop, S: Alter + Drop>(
     conn: Connection<S>,
 ) -> Result<Through<MemKeeper, RemoteLog<P>>, Failure>
     requires { conn.in_transaction ≡ false }
-    ensures { IfErr result (λ failure. IsOrNoMemory 4 failure) }
+    ensures copied { IfOk result (IsCopied S.Store config.now conn P.exchanged log) }
+    ensures failure { IfErr result (λ failure. IsOrNoMemory 4 failure) }
 {
     let rt = console.rt;
     let mut tables = read_tables(rt, config, path, &mut log, conn)?;
@@ -268,7 +285,8 @@ fn read_over_memory<P: Peer + Drop>(
     path: &str,
     log: P,
 ) -> Result<Through<MemKeeper, RemoteLog<P>>, Failure>
-    ensures { IfErr result (λ failure. IsOrNoMemory 4 failure) }
+    ensures read { IfOk result (IsReadFrom config.now P.exchanged log) }
+    ensures failure { IfErr result (λ failure. IsOrNoMemory 4 failure) }
 {
     let alloc = console.rt.alloc();
     let conn = open(alloc, path, files_of(alloc, &[], &[])?)?;
@@ -285,17 +303,21 @@ fn connect(rt: &HostRuntime, path: &str) -> io::Result<UnixStream> {
 }
 
 // The line over a connection.
-fn line_over(stream: &UnixStream, is_asked: Rc<Cell<bool>>) -> io::Result<Line> {
-    Ok(Noted {
+fn tracked_peer(stream: &UnixStream, is_asked: Rc<Cell<bool>>) -> io::Result<LogPeer> {
+    Ok(TrackedPeer {
         peer: Channel::new(stream.try_clone()?, stream.try_clone()?),
         is_asked,
     })
 }
 
 // A connection to a log, and the line over it.
-fn reach(rt: &HostRuntime, path: &str, is_asked: Rc<Cell<bool>>) -> io::Result<(UnixStream, Line)> {
+fn reach(
+    rt: &HostRuntime,
+    path: &str,
+    is_asked: Rc<Cell<bool>>,
+) -> io::Result<(UnixStream, LogPeer)> {
     let stream = connect(rt, path)?;
-    let line = line_over(&stream, is_asked)?;
+    let line = tracked_peer(&stream, is_asked)?;
     Ok((stream, line))
 }
 

@@ -1,7 +1,9 @@
 //! Databases in files that are in memory.
 
-ghost use Rattle.std.specs.Prelude.{◌≡◌, false, IfErr, IfOk, IsTrue};
-ghost use Rattle.sqlite_disk.specs.Memory.{memory_is_usable};
+ghost use Rattle.std.specs.Prelude.{◌≡◌, false, length, IfErr, IfOk, IsTrue};
+ghost use Rattle.sqlite.specs.Files.{file_state};
+ghost use Rattle.sqlite_disk.specs.Memory.{memory_bytes, memory_is_usable};
+ghost use Rattle.csi_sql.specs.Tables.{no_schema};
 ghost use Rattle.csid.specs.Statuses.{IsOrNoMemory};
 
 use crate::failure::Failure;
@@ -16,6 +18,7 @@ const SEED: u64 = 1;
 // A file in memory.
 fn in_memory(alloc: Global, bytes: &[u8]) -> Result<Memory, Failure>
     ensures usable { IfOk result (λ file. IsTrue (memory_is_usable file)) }
+    ensures bytes { IfOk result (λ file. memory_bytes file ≡ bytes.now) }
     ensures failure { IfErr result (λ failure. IsOrNoMemory 4 failure) }
 {
     let mut file = Memory::new(alloc);
@@ -32,6 +35,7 @@ fn in_memory(alloc: Global, bytes: &[u8]) -> Result<Memory, Failure>
 /// Where memory is refused.
 pub(crate) fn files_of(alloc: Global, log: &[u8], db: &[u8]) -> Result<Files<Memory>, Failure>
     ensures usable { IfOk result (λ files. IsTrue (memory_is_usable files.log) × IsTrue (memory_is_usable files.db)) }
+    ensures bytes { IfOk result (λ files. (memory_bytes files.log ≡ log.now) × (memory_bytes files.db ≡ db.now)) }
     ensures failure { IfErr result (λ failure. IsOrNoMemory 4 failure) }
 {
     let log = in_memory(alloc, log)?;
@@ -53,6 +57,7 @@ pub(crate) fn open(
 ) -> Result<Connection<FileStore<Memory>>, Failure>
     requires usable { IsTrue (memory_is_usable files.log) × IsTrue (memory_is_usable files.db) }
     ensures idle { IfOk result (λ conn. conn.in_transaction ≡ false) }
+    ensures blank { length (memory_bytes files.db) ≡ 0 → IfOk result (λ conn. (file_state conn).now.schema ≡ no_schema) }
     ensures failure { IfErr result (λ failure. IsOrNoMemory 4 failure) }
 {
     match Connection::open_files(alloc, files, Options::new(SEED)) {

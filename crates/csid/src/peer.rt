@@ -13,7 +13,7 @@ pub(crate) fn has_gone(stream: &UnixStream) -> bool {
 }
 
 /// Who says whether replies hold that were made of what is in memory.
-pub(crate) trait Lead {
+pub(crate) trait Leadership {
     /// Whether they hold. It is asked before the first byte of each reply.
     fn holds(&mut self) -> bool;
 }
@@ -22,7 +22,7 @@ pub(crate) trait Lead {
 #[derive(Clone, Copy, Drop)]
 pub(crate) struct Always;
 
-impl Lead for Always {
+impl Leadership for Always {
     fn holds(&mut self) -> bool {
         true
     }
@@ -30,7 +30,7 @@ impl Lead for Always {
 
 /// A writer of replies, each of which is written only where it holds. None is, once one did not.
 #[derive(Drop)]
-pub(crate) struct Guarded<L, W> {
+pub(crate) struct GuardedWriter<L, W> {
     lead: L,
     writer: W,
     // Whether a reply has begun that holds.
@@ -39,9 +39,9 @@ pub(crate) struct Guarded<L, W> {
     pub(crate) is_cut: bool,
 }
 
-impl<L: Lead, W: Write> Guarded<L, W> {
-    pub(crate) fn new(lead: L, writer: W) -> Guarded<L, W> {
-        Guarded {
+impl<L: Leadership, W: Write> GuardedWriter<L, W> {
+    pub(crate) fn new(lead: L, writer: W) -> GuardedWriter<L, W> {
+        GuardedWriter {
             lead,
             writer,
             is_open: false,
@@ -61,7 +61,7 @@ impl<L: Lead, W: Write> Guarded<L, W> {
     }
 }
 
-impl<L: Lead, W: Write> Write for Guarded<L, W> {
+impl<L: Leadership, W: Write> Write for GuardedWriter<L, W> {
     ghost contents = { λ guarded. W.contents guarded.writer };
 
     fn write(&mut self, buf: &[u8]) -> io::Result<usize> {

@@ -7,8 +7,8 @@ use crate::command::Serving;
 use crate::console::{Console, Ending};
 use crate::failure::{Failure, Peer, outcome};
 use crate::group::group_number;
-use crate::log::{Leading, OpenLog, open_log};
-use crate::peer::{Always, Guarded, Lead, has_gone};
+use crate::log::{LogLeadership, OpenLog, open_log};
+use crate::peer::{Always, GuardedWriter, Leadership, has_gone};
 use crate::pending::{Pending, Start};
 use crate::run::FIRST_NUMBER;
 use crate::serving::{Answered, Place, serve_place};
@@ -136,7 +136,7 @@ fn turn_of<'a>(
 }
 
 // Answers the calls of one connection over a keeper, until it ends or a log does not lead any more. Whether that is why it ended.
-fn serve_one<K: Keeper, L: Lead + Drop>(
+fn serve_one<K: Keeper, L: Leadership + Drop>(
     service: &Service<'_>,
     waiting: &mut Waiting,
     keeper: &mut K,
@@ -147,7 +147,7 @@ fn serve_one<K: Keeper, L: Lead + Drop>(
         return false;
     };
     let mut reader = peer.sent.as_slice().chain(&turn);
-    let mut writer = Guarded::new(lead, &turn);
+    let mut writer = GuardedWriter::new(lead, &turn);
     let end = serve(
         service.console.rt.alloc(),
         service.config,
@@ -251,7 +251,7 @@ fn serve_over_tables<'a>(service: &'a Service<'a>, waiting: &'a mut Waiting, pee
     };
     let ending = &turn.ending;
     let mut reader = peer.sent.as_slice().chain(&turn);
-    let mut writer = Guarded::new(Always, &turn);
+    let mut writer = GuardedWriter::new(Always, &turn);
     answer_over_tables(service, ending, &mut reader, &mut writer);
 }
 
@@ -309,7 +309,7 @@ fn serve_open(
 ) -> OpenLog {
     // What was read at its opening says nothing of a reply.
     open.is_asked.set(false);
-    let leading = Leading {
+    let leading = LogLeadership {
         stream: &open.stream,
         is_asked: &open.is_asked,
         alloc: service.console.rt.alloc(),

@@ -2,7 +2,7 @@
 
 ghost use Rattle.std.specs.Prelude.{◌≡◌, false, IfOk};
 
-use csi_schema::make_tables;
+use csi_sql::make_tables;
 use sqlite::{Alter, Connection, Error as SqlError, ErrorCode, MemStore};
 use std::alloc::Global;
 use test_kit::RowFault;

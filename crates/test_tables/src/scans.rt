@@ -7,8 +7,8 @@ mod scan;
 
 use crate::cells::or_none;
 use crate::database::{make, run, without_tables};
-use csi_scans::{Each, Rising, TextSum, Weight};
-use csi_schema::is_our_schema;
+use csi_constraints::{Each, Rising, TextSum, Weight};
+use csi_sql::is_our_schema;
 use folds::Showing;
 pub(crate) use scan::Scan;
 use sqlite::{Alter, Connection};

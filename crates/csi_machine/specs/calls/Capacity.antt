@@ -6,11 +6,11 @@ use Rattle.csi_types.specs.Maps.{TextMap}
 use Rattle.csi_types.specs.declared.requests.GetCapacity.{GetCapacity}
 use Rattle.csi_types.specs.declared.responses.Response.TheVariants as response
 use Rattle.csi_config.specs.declared.config.Config.{Config}
-use Rattle.csi_plans.specs.declared.plan.Plan.{Plan}
-use Rattle.csi_machine.specs.Choice.{Room, rooms, free}
-use Rattle.csi_plans.specs.Plan.{respond}
+use Rattle.csi_machine.specs.declared.plan.Plan.{Plan}
+use Rattle.csi_rules.specs.Choice.{Room, rooms, free}
+use Rattle.csi_machine.specs.Plan.{respond}
 use Rattle.csi_keeper.specs.State.{State}
-use Rattle.csi_plans.specs.Topology.{serves}
+use Rattle.csi_rules.specs.Topology.{serves}
 
 abbrev pub is_served : Option TextMap → Room → Bool
 is_served None room = true

@@ -9,15 +9,15 @@ use Rattle.csi_types.specs.declared.responses.Response.TheVariants as response
 use Rattle.csi_config.specs.declared.config.Config.{Config}
 use Rattle.csi_config.specs.declared.pools.Pool.{Pool}
 use Rattle.csi_keeper.specs.declared.change.Change.TheVariants.{AddVolume}
-use Rattle.csi_plans.specs.declared.plan.Plan.{Plan}
+use Rattle.csi_machine.specs.declared.plan.Plan.{Plan}
 use Rattle.csi_keeper.specs.declared.volume.Volume.{Volume}
 use Rattle.csi_keeper.specs.Capability.{have_keys, keys_of}
-use Rattle.csi_machine.specs.Choice.{Room, rooms, choice, count}
-use Rattle.csi_plans.specs.Info.{segments_at, info_at}
-use Rattle.csi_plans.specs.Plan.{refuse, respond, make}
-use Rattle.csi_plans.specs.Size.{size, has_size}
+use Rattle.csi_rules.specs.Choice.{Room, rooms, choice, count}
+use Rattle.csi_rules.specs.Info.{segments_at, info_at}
+use Rattle.csi_machine.specs.Plan.{refuse, respond, make}
+use Rattle.csi_rules.specs.Size.{size, has_size}
 use Rattle.csi_keeper.specs.State.{State, named}
-use Rattle.csi_plans.specs.Topology.{is_reachable, terms}
+use Rattle.csi_rules.specs.Topology.{is_reachable, terms}
 
 -- a volume of the name stands
 

@@ -4,12 +4,12 @@ use Rattle.csi_types.specs.declared.reason.Reason.TheVariants.{VolumeInUse}
 use Rattle.csi_types.specs.declared.requests.DeleteVolume.{DeleteVolume}
 use Rattle.csi_types.specs.declared.responses.Response.TheVariants as response
 use Rattle.csi_keeper.specs.declared.change.Change.TheVariants.{RemoveVolume}
-use Rattle.csi_plans.specs.declared.plan.Plan.{Plan}
+use Rattle.csi_machine.specs.declared.plan.Plan.{Plan}
 use Rattle.csi_keeper.specs.declared.volume.Attachment.{Attachment}
 use Rattle.csi_keeper.specs.declared.volume.Volume.{Volume}
-use Rattle.csi_plans.specs.Finding.{volume_at}
-use Rattle.csi_plans.specs.Ids.{number_of_id}
-use Rattle.csi_plans.specs.Plan.{refuse, respond, make}
+use Rattle.csi_rules.specs.Finding.{volume_at}
+use Rattle.csi_rules.specs.Ids.{number_of_id}
+use Rattle.csi_machine.specs.Plan.{refuse, respond, make}
 use Rattle.csi_keeper.specs.State.{State, attached}
 
 -- a volume that is attached is in use

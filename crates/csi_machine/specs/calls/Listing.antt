@@ -8,12 +8,12 @@ use Rattle.csi_types.specs.declared.requests.ListVolumes.{ListVolumes}
 use Rattle.csi_types.specs.declared.responses.Response.TheVariants as response
 use Rattle.csi_types.specs.declared.volume.Entry.{Entry}
 use Rattle.csi_config.specs.declared.config.Config.{Config}
-use Rattle.csi_plans.specs.declared.plan.Plan.{Plan}
+use Rattle.csi_machine.specs.declared.plan.Plan.{Plan}
 use Rattle.csi_keeper.specs.declared.volume.Volume.{Volume}
-use Rattle.csi_plans.specs.Ids.{number_of}
-use Rattle.csi_plans.specs.Info.{info}
-use Rattle.csi_plans.specs.Plan.{refuse, respond}
-use Rattle.csi_plans.specs.Size.{whole}
+use Rattle.csi_rules.specs.Ids.{number_of}
+use Rattle.csi_rules.specs.Info.{info}
+use Rattle.csi_machine.specs.Plan.{refuse, respond}
+use Rattle.csi_rules.specs.Size.{whole}
 use Rattle.csi_keeper.specs.State.{State, published, beyond, page}
 use Rattle.csi_keeper.specs.Texts.{Text}
 

@@ -11,15 +11,15 @@ use Rattle.csi_config.specs.declared.nodes.Node.{Node}
 use Rattle.csi_keeper.specs.Lookup.{node_of}
 use Rattle.csi_keeper.specs.declared.capability.CapKey.{CapKey}
 use Rattle.csi_keeper.specs.declared.change.Change.TheVariants.{Attach}
-use Rattle.csi_plans.specs.declared.plan.Plan.{Plan}
+use Rattle.csi_machine.specs.declared.plan.Plan.{Plan}
 use Rattle.csi_keeper.specs.declared.volume.Attachment.{Attachment}
 use Rattle.csi_keeper.specs.declared.volume.Volume.{Volume}
 use Rattle.csi_keeper.specs.Capability.{key_of, same_key, has_key}
 use Rattle.csi_keeper.specs.Coexistence.{coexist}
-use Rattle.csi_plans.specs.Finding.{volume_at}
-use Rattle.csi_plans.specs.Ids.{number_of_id}
-use Rattle.csi_plans.specs.Plan.{refuse, respond, make}
-use Rattle.csi_plans.specs.Response.{publication}
+use Rattle.csi_rules.specs.Finding.{volume_at}
+use Rattle.csi_rules.specs.Ids.{number_of_id}
+use Rattle.csi_machine.specs.Plan.{refuse, respond, make}
+use Rattle.csi_machine.specs.Response.{publication}
 use Rattle.csi_keeper.specs.State.{State, attached, attached_at}
 use Rattle.csi_keeper.specs.Texts.{Text}
 

@@ -4,11 +4,11 @@ use Rattle.csi_types.specs.Names.{is_empty}
 use Rattle.csi_types.specs.declared.requests.Unpublish.{Unpublish}
 use Rattle.csi_types.specs.declared.responses.Response.TheVariants as response
 use Rattle.csi_keeper.specs.declared.change.Change.TheVariants.{Detach, DetachAll}
-use Rattle.csi_plans.specs.declared.plan.Plan.{Plan}
+use Rattle.csi_machine.specs.declared.plan.Plan.{Plan}
 use Rattle.csi_keeper.specs.declared.volume.Attachment.{Attachment}
 use Rattle.csi_machine.specs.calls.Publish.{is_at}
-use Rattle.csi_plans.specs.Ids.{number_of_id}
-use Rattle.csi_plans.specs.Plan.{respond, make}
+use Rattle.csi_rules.specs.Ids.{number_of_id}
+use Rattle.csi_machine.specs.Plan.{respond, make}
 use Rattle.csi_keeper.specs.State.{State, attached}
 use Rattle.csi_keeper.specs.Texts.{Text}
 

@@ -3,16 +3,17 @@
 ghost use Rattle.std.specs.Prelude.{◌≡◌, ◌≤◌, ◌^◌, None, IfOk, map, sum_by};
 ghost use Rattle.std.specs.List.{list_all};
 ghost use Rattle.csi_types.specs.Checks.{is_supported};
-ghost use Rattle.csi_machine.specs.Choice.{room_value, free};
+ghost use Rattle.csi_rules.specs.Choice.{room_value, free};
 ghost use Rattle.csi_keeper.specs.State.{up_to_u64};
 ghost use Rattle.csi_machine.specs.calls.Capacity.{is_served, served, greatest, tell_capacity, capacity_of, capacity};
 
-use crate::choice::{Room, read_rooms};
+use crate::plan::{Plan, Planning, respond};
 use crate::planned::Planned;
+use crate::response::Answer;
 use csi_config::Config;
 use csi_config::laws::{pool_bytes_whole, sizes_whole};
 use csi_keeper::Keeper;
-use csi_plans::{Answer, Plan, Planning, respond, serves};
+use csi_rules::{Room, read_rooms, serves};
 use csi_types::{Capability, GetCapacity, Map, Response, is_supported};
 use std::alloc::{AllocError, Global};
 

@@ -2,19 +2,20 @@
 
 ghost use Rattle.std.specs.Prelude.{◌≡◌, Some, None, IfOk, IfSome, map};
 ghost use Rattle.std.specs.Option.{option_copied};
-ghost use Rattle.csi_plans.specs.Finding.{Finds};
-ghost use Rattle.csi_machine.specs.Choice.{room_value, rooms};
+ghost use Rattle.csi_rules.specs.Finding.{Finds};
+ghost use Rattle.csi_rules.specs.Choice.{room_value, rooms};
 ghost use Rattle.csi_keeper.specs.State.{IsBounded};
 ghost use Rattle.std.specs.FinMap.{empty};
 ghost use Rattle.csi_machine.specs.Creation.{plan_of};
 ghost use Rattle.csi_machine.specs.calls.Create.{is_compatible, again, made, place_in, place, fresh, create};
 
-use crate::choice::{Room, choose, count, read_rooms};
 use crate::creation::Creation;
 use csi_config::laws::sizes_whole;
 use csi_config::{Config, Pool};
 use csi_keeper::{Keeper, StoreFault, Volume};
-use csi_plans::{has_size, have_keys, is_reachable, keys_of, segments_at, size};
+use csi_rules::{
+    Room, choose, count, has_size, have_keys, is_reachable, keys_of, read_rooms, segments_at, size,
+};
 use csi_types::{
     CreateVolume, MAX_NUMBER, MAX_VOLUMES, Map, Reason, copy_map, copy_text, has_each,
 };

@@ -2,13 +2,15 @@
 
 ghost use Rattle.std.specs.Prelude.{◌≡◌, None, IfOk, IfSome};
 ghost use Rattle.csi_keeper.specs.State.{IsBounded};
-ghost use Rattle.csi_plans.specs.Ids.{number_of_id};
+ghost use Rattle.csi_rules.specs.Ids.{number_of_id};
 ghost use Rattle.csi_machine.specs.calls.Delete.{delete_volume, delete};
 
+use crate::plan::{Plan, Planning, make, refuse, respond};
 use crate::planned::Planned;
+use crate::response::Answer;
 use csi_config::Config;
 use csi_keeper::{Attachment, Change, Keeper};
-use csi_plans::{Answer, Plan, Planning, caps_of, make, refuse, respond};
+use csi_rules::caps_of;
 use csi_types::{DeleteVolume, Reason};
 use std::alloc::{AllocError, Global};
 

@@ -3,15 +3,17 @@
 ghost use Rattle.std.specs.Prelude.{◌≡◌, Some, None, IfOk, IfSome, find, not};
 ghost use Rattle.std.specs.Option.{option_copied};
 ghost use Rattle.csi_keeper.specs.State.{IsBounded};
-ghost use Rattle.csi_plans.specs.Finding.{Finds};
-ghost use Rattle.csi_plans.specs.Ids.{number_of_id};
+ghost use Rattle.csi_rules.specs.Finding.{Finds};
+ghost use Rattle.csi_rules.specs.Ids.{number_of_id};
 ghost use Rattle.csi_machine.specs.calls.Publish.{is_at, publish_again, has_conflict, attach, publish, publish_node, publish_at, publish_key, asked_key};
 ghost use Rattle.csi_keeper.specs.Lookup.{node_of};
 
+use crate::plan::{Plan, Planning, make, refuse, respond};
 use crate::planned::Planned;
+use crate::response::Answer;
 use csi_config::{Config, Node};
 use csi_keeper::{Attachment, CapKey, Change, Keeper, cap_key, coexist, has_key};
-use csi_plans::{Answer, Plan, Planning, caps_of, make, refuse, respond};
+use csi_rules::caps_of;
 use csi_types::{Capability, Publish, Reason, Text, copy_text};
 use std::alloc::{AllocError, Global};
 

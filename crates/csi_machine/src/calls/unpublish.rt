@@ -2,14 +2,16 @@
 
 ghost use Rattle.std.specs.Prelude.{◌≡◌, None, IfOk, IfSome};
 ghost use Rattle.csi_keeper.specs.State.{IsBounded};
-ghost use Rattle.csi_plans.specs.Ids.{number_of_id};
+ghost use Rattle.csi_rules.specs.Ids.{number_of_id};
 ghost use Rattle.csi_machine.specs.calls.Unpublish.{detach_all, detach, unpublish};
 
 use crate::calls::publish::attachment_at;
+use crate::plan::{Plan, Planning, make, respond};
 use crate::planned::Planned;
+use crate::response::Answer;
 use csi_config::Config;
 use csi_keeper::{Attachment, Change, Keeper};
-use csi_plans::{Answer, Plan, Planning, make, number_of_id, respond};
+use csi_rules::number_of_id;
 use csi_types::{Text, Unpublish, copy_text};
 use std::alloc::{AllocError, Global};
 

@@ -1,8 +1,8 @@
 //! Which scan is taken.
 
 use crate::database::refused;
-use csi_scans::{Fold, scan_attachments, scan_meta, scan_owners, scan_places, scan_volumes};
-use csi_schema::is_our_schema;
+use csi_constraints::{Fold, scan_attachments, scan_meta, scan_owners, scan_places, scan_volumes};
+use csi_sql::is_our_schema;
 use sqlite::{Alter, Connection};
 use test_kit::RowFault;
 

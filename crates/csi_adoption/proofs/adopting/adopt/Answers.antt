@@ -1,6 +1,6 @@
 use Rattle.std.proofs.Common.{◌≡◌, ◌∙◌, ap, sym, true≢false}
-use Rattle.csi_schema.specs.Tables.{no_schema}
-use Rattle.csi_judging.specs.Faults.{is_failure}
+use Rattle.csi_sql.specs.Tables.{no_schema}
+use Rattle.csi_adoption.specs.Faults.{is_failure}
 use Rattle.csi_adoption.proofs.FaultLemmas.{error_fails}
 use Rattle.csi_adoption.proofs.AdoptLemmas.{is_adopted, is_made, is_refused, is_settled, is_unmade, stands}
 use Rattle.csi_adoption.proofs.FailingLemmas.{settled_cause, tables_cause}

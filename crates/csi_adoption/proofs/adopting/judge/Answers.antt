@@ -1,8 +1,8 @@
 use Rattle.std.proofs.Common.{rules, ◌≡◌, ◌∙◌, inl, inr, refl, sym, ap, ap₂, subst, Err, IfErr, true≢false}
 use Rattle.sqlite.specs.Held.{state}
-use Rattle.csi_schema.specs.Tables.{schema as our_schema}
-use Rattle.csi_judging.specs.Seen.{sums_of}
-use Rattle.csi_judging.specs.declared.fault.AdoptFault.TheVariants.{NoMemory}
+use Rattle.csi_sql.specs.Tables.{schema as our_schema}
+use Rattle.csi_adoption.specs.Seen.{sums_of}
+use Rattle.csi_adoption.specs.declared.fault.AdoptFault.TheVariants.{NoMemory}
 use Rattle.csi_adoption.specs.Adopting.{IsNotRefused}
 use Rattle.csi_adoption.specs.Failing.{IsOfShut}
 use Rattle.csi_adoption.specs.Judging.{total_in}

@@ -1,7 +1,7 @@
 use Rattle.std.proofs.Common.{◌≡◌, sym, subst, map, Err}
 use Rattle.sqlite.specs.Held.{state}
-use Rattle.csi_schema.specs.Rows.{seen_attachment}
-use Rattle.csi_scans.specs.Scans.{IsInOrder}
+use Rattle.csi_sql.specs.Rows.{seen_attachment}
+use Rattle.csi_constraints.specs.Scans.{IsInOrder}
 use Rattle.csi_adoption.specs.Judging.{JudgesRows, volumes_unless}
 use Rattle.csi_adoption.proofs.JudgedLemmas.{counts_fault, joined_failure, judged_err, none_broken, owner_fault}
 use Rattle.csi_adoption.proofs.FaultLemmas.{is_err, not_memory}

@@ -1,6 +1,6 @@
 use Rattle.std.proofs.Common.{map, subst}
 use Rattle.sqlite.specs.Tree.{Trees}
-use Rattle.csi_scans.specs.Scans.{keyed_attachment, IsInOrder}
+use Rattle.csi_constraints.specs.Scans.{keyed_attachment, IsInOrder}
 use Rattle.csi_adoption.proofs.ChainLemmas.{clean_before, ended, failed, same_trees, chained}
 use Rattle.csi_adoption.proofs.FailingLemmas.{cause_behind, handed_error}
 use Rattle.csi_adoption.proofs.adopting.see_tables.Goals as goal

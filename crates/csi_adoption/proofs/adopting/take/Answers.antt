@@ -1,7 +1,7 @@
 use Rattle.std.proofs.Common.{◌≡◌, ◌∙◌, sym, arith, true, false, true≢false}
 use Rattle.sqlite.specs.Held.{state}
 use Rattle.sqlite.specs.State.{HasCleanDisk}
-use Rattle.csi_judging.specs.Faults.{failure_of, is_failure}
+use Rattle.csi_adoption.specs.Faults.{failure_of, is_failure}
 use Rattle.csi_adoption.specs.Failing.{IsOfShut}
 use Rattle.csi_adoption.specs.Judging.{IsFaultOf}
 use Rattle.csi_adoption.proofs.FaultLemmas.{error_fails}

@@ -1,5 +1,5 @@
 use Rattle.std.proofs.Common.{subst, sym}
-use Rattle.csi_scans.specs.declared.sums.Weight.TheVariants.{One}
+use Rattle.csi_constraints.specs.declared.sums.Weight.TheVariants.{One}
 use Rattle.csi_constraints.specs.Attachments.{has_flag, is_at_node}
 use Rattle.csi_constraints.specs.Coded.{has_cap}
 use Rattle.csi_constraints.specs.Kinds.{has_attachment_kinds}

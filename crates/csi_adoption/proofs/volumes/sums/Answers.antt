@@ -1,6 +1,6 @@
 use Rattle.std.proofs.Common.{subst}
 use Rattle.std.specs.List.{AllZip}
-use Rattle.csi_scans.specs.declared.sums.Weight.TheVariants.{Number, One}
+use Rattle.csi_constraints.specs.declared.sums.Weight.TheVariants.{Number, One}
 use Rattle.csi_adoption.specs.Scanning.{IsBegun}
 use Rattle.csi_adoption.proofs.volumes.sums.Goals as goal
 

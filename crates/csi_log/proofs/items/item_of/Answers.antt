@@ -1,5 +1,5 @@
 use Rattle.std.proofs.Common.{◌≡◌, ◌∙◌, ap, sym, subst, refl}
-use Rattle.csi_schema.specs.facts.Failing.{handed}
+use Rattle.csi_sql.specs.facts.Failing.{handed}
 use Rattle.csi_log.specs.Asking.{bytes_field}
 use Rattle.csi_log.specs.Pages.{IsItem}
 use Rattle.csi_log.specs.Taking.{IsItemFault}

@@ -1,7 +1,7 @@
 use Rattle.std.proofs.Common.{◌≡◌, ◌∙◌, ap, sym, subst, refl, Some, List, ℕ}
 use Rattle.std.specs.Prelude.{IsUtf8}
 use Rattle.std.specs.Result.{IsErrAnd}
-use Rattle.csi_schema.specs.facts.Failing.{handed}
+use Rattle.csi_sql.specs.facts.Failing.{handed}
 use Rattle.csi_log.specs.Asking.{bytes_field}
 use Rattle.csi_log.specs.Cells.{bytes_of, number_of}
 use Rattle.csi_log.specs.Pages.{IsItem, Volume}

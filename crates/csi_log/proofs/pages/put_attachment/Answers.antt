@@ -1,6 +1,7 @@
 use Rattle.std.proofs.Common.{subst, sym}
-use Rattle.csi_statements.specs.Failing.{RefusesAttachment}
-use Rattle.csi_statements.specs.Rows.{AddsAttachment, attachment_row}
+use Rattle.csi_sql.specs.Refusing.{RefusesAttachment}
+use Rattle.csi_sql.specs.Effects.{AddsAttachment}
+use Rattle.csi_sql.specs.Rows.{attachment_row}
 use Rattle.csi_log.specs.Items.{attachment_columns}
 use Rattle.csi_log.specs.Pages.{Attachment}
 use Rattle.csi_log.proofs.ItemsLemmas.{flag_again}

@@ -1,5 +1,5 @@
-use Rattle.csi_statements.specs.Failing.{RefusesNext}
-use Rattle.csi_statements.specs.Rows.{SetsNext}
+use Rattle.csi_sql.specs.Refusing.{RefusesNext}
+use Rattle.csi_sql.specs.Effects.{SetsNext}
 use Rattle.csi_log.specs.Pages.{Meta}
 use Rattle.csi_log.proofs.PagesLemmas.{puts_err}
 use Rattle.csi_log.proofs.pages.put_meta.Goals as goal

@@ -4,7 +4,7 @@ use Rattle.csi_types.specs.declared.requests.ListVolumes.{ListVolumes}
 use Rattle.csi_types.specs.declared.requests.Request.{Request}
 use Rattle.csi_types.specs.declared.requests.Request.TheVariants as request
 use Rattle.csi_machine.specs.Answering.{Performs}
-use Rattle.csi_plans.specs.Size.{whole}
+use Rattle.csi_rules.specs.Size.{whole}
 use Rattle.csi_machine.specs.calls.Listing.{start_of}
 use Rattle.csi_machine.proofs.AnsweringLemmas.{keeps, list_still, settled_sound, still_performed}
 use Rattle.csi_machine.proofs.answering.append_answer.Goals as goal

@@ -3,7 +3,7 @@ use Rattle.csi_types.specs.declared.requests.Request.TheVariants.{Create}
 use Rattle.csi_keeper.specs.declared.change.StoreFault.{StoreFault}
 use Rattle.csi_machine.specs.Answering.{Performs}
 use Rattle.csi_machine.specs.Step.{limited, settled_plan}
-use Rattle.csi_plans.specs.declared.body.Verdict.{Verdict}
+use Rattle.csi_machine.specs.declared.body.Verdict.{Verdict}
 use Rattle.csi_machine.proofs.AnsweringLemmas.{carried, fault_performed, performed, settled_sound}
 use Rattle.csi_machine.proofs.answering.append_creation.Goals as goal
 

@@ -2,7 +2,7 @@ use Rattle.std.proofs.Common.{◌≡◌, Err, IfErr, Result, ap, rules, subst, s
 use Rattle.csi_keeper.specs.declared.change.StoreFault.{StoreFault}
 use Rattle.csi_keeper.specs.declared.change.StoreFault.TheVariants.{NoMemory}
 use Rattle.csi_keeper.specs.facts.Reads.{quiet_then}
-use Rattle.csi_plans.specs.declared.body.Verdict.{Verdict}
+use Rattle.csi_machine.specs.declared.body.Verdict.{Verdict}
 use Rattle.csi_machine.specs.Step.{limited, settled_plan}
 use Rattle.csi_machine.proofs.AnsweringLemmas.{carried, limited_none, performed, settled_sound}
 use Rattle.csi_machine.proofs.answering.append_planned.Goals as goal

@@ -4,11 +4,11 @@ use Rattle.csi_types.specs.declared.requests.Validate.{Validate}
 use Rattle.csi_keeper.specs.declared.change.StoreFault.{StoreFault}
 use Rattle.csi_keeper.specs.declared.change.StoreFault.TheVariants.{NoMemory}
 use Rattle.csi_machine.specs.Step.{NamesNone, plan}
-use Rattle.csi_plans.specs.declared.plan.Plan.{Plan}
-use Rattle.csi_plans.specs.Ids.{number_of_id}
-use Rattle.csi_plans.specs.Modify.{modify}
-use Rattle.csi_plans.specs.Validate.{validate}
-use Rattle.csi_plans.specs.facts.Finding.{found_as}
+use Rattle.csi_machine.specs.declared.plan.Plan.{Plan}
+use Rattle.csi_rules.specs.Ids.{number_of_id}
+use Rattle.csi_machine.specs.Modify.{modify}
+use Rattle.csi_machine.specs.Validate.{validate}
+use Rattle.csi_rules.specs.facts.Finding.{found_as}
 use Rattle.csi_machine.proofs.calls.plan_of.Goals as goal
 
 pub returns-in-Delete-clause-finds : goal.returns-in-Delete-clause-finds

@@ -1,6 +1,6 @@
 use Rattle.std.proofs.Common.{false}
 use Rattle.csi_server.specs.Identity.{said, still}
-use Rattle.csi_plans.specs.Verdicts.{told_of}
+use Rattle.csi_machine.specs.Verdicts.{told_of}
 use Rattle.csi_server.proofs.Requesting.{unread_by, read_by}
 use Rattle.csi_server.proofs.identity.answer_message.Goals as goal
 

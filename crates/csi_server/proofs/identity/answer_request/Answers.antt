@@ -1,9 +1,8 @@
 use Rattle.std.proofs.Common.{refl, subst, Ok, Err}
 use Rattle.std.specs.declared.alloc.AllocError.{AllocError}
-use Rattle.csi_plans.specs.Verdicts.{IsTold}
-use Rattle.csi_plans.specs.Verdicts.{told_of}
-use Rattle.csi_plans.specs.declared.body.Verdict.{Verdict}
-use Rattle.csi_plans.specs.declared.body.Verdict.TheVariants as verdict
+use Rattle.csi_machine.specs.Verdicts.{IsTold, told_of}
+use Rattle.csi_machine.specs.declared.body.Verdict.{Verdict}
+use Rattle.csi_machine.specs.declared.body.Verdict.TheVariants as verdict
 use Rattle.csi_server.specs.Identity.{said}
 use Rattle.csi_server.specs.Service.{room}
 use Rattle.csi_server.proofs.Requesting.{said_by}

@@ -1,7 +1,7 @@
 use Rattle.std.proofs.Common.{false}
 use Rattle.csi_types.specs.Methods.{method_at}
 use Rattle.csi_server.specs.Identity.{said, known}
-use Rattle.csi_plans.specs.Verdicts.{told_of}
+use Rattle.csi_machine.specs.Verdicts.{told_of}
 use Rattle.csi_server.proofs.Forms.{formed_reply, short_told}
 use Rattle.csi_server.proofs.laws.formed_identity.Goals as goal
 

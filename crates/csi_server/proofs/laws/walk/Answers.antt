@@ -2,7 +2,7 @@ use Rattle.std.proofs.Common.{List, [], subst, sym}
 use Rattle.std.specs.List.{AllByRecursion}
 use Rattle.csi_config.specs.Values.{Has}
 use Rattle.csi_machine.specs.Walk.{AreApart, AreOfVolumes, End, GoOn, Page, Stood, listed_ids}
-use Rattle.csi_plans.specs.Ids.{id}
+use Rattle.csi_rules.specs.Ids.{id}
 use Rattle.csi_server.proofs.WalksLemmas.{walked}
 use Rattle.csi_server.proofs.laws.walk.Goals as goal
 

@@ -1,6 +1,7 @@
 use Rattle.std.proofs.Common.{inr, ◌∙◌, arith, [], ◌∷◌}
 use Rattle.csi_keeper.specs.declared.change.Change.TheVariants.{Attach}
-use Rattle.csi_statements.specs.Rows.{AddsAttachment, attachment_row}
+use Rattle.csi_sql.specs.Effects.{AddsAttachment}
+use Rattle.csi_sql.specs.Rows.{attachment_row}
 use Rattle.csi_tables.specs.Encoding.{caps_bytes}
 use Rattle.csi_tables.proofs.ChangeLemmas.{changes, changes_not}
 use Rattle.csi_tables.proofs.RowLemmas.{rows_attached}

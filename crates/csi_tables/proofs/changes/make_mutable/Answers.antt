@@ -5,9 +5,9 @@ use Rattle.sqlite.specs.declared.types.Value.TheVariants.{Blob}
 use Rattle.csi_types.specs.Maps.{TextMap}
 use Rattle.csi_keeper.specs.declared.change.Change.TheVariants.{SetMutable}
 use Rattle.csi_keeper.specs.declared.volume.Volume.{Volume}
-use Rattle.csi_statements.specs.Rows.{number_value}
-use Rattle.csi_statements.specs.Texts as texts
-use Rattle.csi_statements.specs.Updates.{SetsParams}
+use Rattle.csi_sql.specs.Rows.{number_value}
+use Rattle.csi_sql.specs.Texts as texts
+use Rattle.csi_sql.specs.Updates.{SetsParams}
 use Rattle.csi_tables.specs.Encoding.{params_bytes, FitParams}
 use Rattle.csi_tables.specs.Holding.{IsStorable}
 use Rattle.csi_tables.proofs.ChangeLemmas.{changes_behind, changes_never, changes_not_behind, stays, unmade}

@@ -1,6 +1,6 @@
 use Rattle.csi_keeper.specs.declared.change.Change.TheVariants.{Detach}
-use Rattle.csi_statements.specs.Deletes.{Drops, is_place}
-use Rattle.csi_statements.specs.Rows.{seen_attachment}
+use Rattle.csi_sql.specs.Deletes.{Drops, is_place}
+use Rattle.csi_sql.specs.Rows.{seen_attachment}
 use Rattle.csi_tables.proofs.ChangeLemmas.{changes, changes_not, stays}
 use Rattle.csi_tables.proofs.RowLemmas.{nothing_detached, rows_detached}
 use Rattle.csi_tables.proofs.changes.unmake_attachment.Goals as goal

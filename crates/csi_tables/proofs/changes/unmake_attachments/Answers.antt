@@ -1,6 +1,6 @@
 use Rattle.csi_keeper.specs.declared.change.Change.TheVariants.{DetachAll}
-use Rattle.csi_statements.specs.Deletes.{Drops, is_of}
-use Rattle.csi_statements.specs.Rows.{seen_attachment}
+use Rattle.csi_sql.specs.Deletes.{Drops, is_of}
+use Rattle.csi_sql.specs.Rows.{seen_attachment}
 use Rattle.csi_tables.proofs.ChangeLemmas.{changes, changes_not, stays}
 use Rattle.csi_tables.proofs.RowLemmas.{nothing_detached_all, rows_detached_all}
 use Rattle.csi_tables.proofs.changes.unmake_attachments.Goals as goal

@@ -3,9 +3,9 @@ use Rattle.sqlite.specs.Held.{state}
 use Rattle.csi_keeper.specs.Totals.{AreTotals}
 use Rattle.csi_keeper.specs.declared.change.Change.TheVariants.{RemoveVolume}
 use Rattle.csi_keeper.specs.facts.Totals.{totals_removed}
-use Rattle.csi_statements.specs.Deletes.{Drops, is_numbered}
-use Rattle.csi_statements.specs.Rows.{number_value, seen_volume}
-use Rattle.csi_statements.specs.Texts as texts
+use Rattle.csi_sql.specs.Deletes.{Drops, is_numbered}
+use Rattle.csi_sql.specs.Rows.{number_value, seen_volume}
+use Rattle.csi_sql.specs.Texts as texts
 use Rattle.csi_tables.proofs.ChangeLemmas.{beside, changes_behind, changes_not_behind, never_ok, on_ok, stays, unmade}
 use Rattle.csi_tables.proofs.KeepLemmas.{on_err}
 use Rattle.csi_tables.proofs.RowLemmas.{nothing_removed, none_removed, rows_removed, storable_removed}

@@ -3,7 +3,7 @@ use Rattle.std.specs.List.{AllByRecursion}
 use Rattle.csi_keeper.specs.State.{Place}
 use Rattle.sqlite.specs.Order.{Row, column}
 use Rattle.sqlite.specs.declared.types.Value.TheVariants.{Text as Words}
-use Rattle.csi_statements.specs.Rows.{number_value}
+use Rattle.csi_sql.specs.Rows.{number_value}
 use Rattle.csi_tables.specs.Places.{nodes_at, place_row}
 use Rattle.csi_tables.specs.Reading.{ShowNodes}
 use Rattle.csi_tables.specs.declared.fault.Fault.TheVariants.{Refused}

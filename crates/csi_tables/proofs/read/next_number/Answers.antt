@@ -1,7 +1,7 @@
 use Rattle.std.proofs.Common.{◌∙◌, sym, ap}
 use Rattle.sqlite.specs.Order.{Row, column}
 use Rattle.csi_keeper.specs.facts.Reads.{if_ok}
-use Rattle.csi_schema.specs.declared.formats.TheConstants.{LATEST_FORMAT}
+use Rattle.csi_sql.specs.declared.formats.TheConstants.{LATEST_FORMAT}
 use Rattle.csi_tables.proofs.ReadingLemmas.{one_number, stated}
 use Rattle.csi_tables.proofs.RefusalLemmas.{has_next, read_as, unread}
 use Rattle.csi_tables.proofs.read.next_number.Goals as goal

@@ -1,6 +1,6 @@
 use Rattle.std.proofs.Common.{◌∙◌, ◌+◌, sym, ap, arith, subst, take, ℕ, [], ◌∷◌}
 use Rattle.sqlite.specs.Order.{column, Row}
-use Rattle.csi_statements.specs.Rows.{number_value}
+use Rattle.csi_sql.specs.Rows.{number_value}
 use Rattle.csi_tables.specs.Reading.{AreReadOf, ShowsNumber}
 use Rattle.csi_tables.specs.declared.fault.Fault.TheVariants.{Refused}
 use Rattle.csi_tables.proofs.CellLemmas.{entry_of, handed_on}

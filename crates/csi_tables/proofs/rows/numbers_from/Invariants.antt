@@ -1,5 +1,5 @@
 use Rattle.std.proofs.Common.{◌≡◌, ℕ, List, [], ◌∷◌, map, take}
-use Rattle.csi_statements.specs.Rows.{number_value}
+use Rattle.csi_sql.specs.Rows.{number_value}
 use Rattle.csi_tables.specs.Reading.{AreReadOf, ShowsNumber}
 use Rattle.csi_tables.proofs.rows.numbers_from.Given as goal
 

@@ -1,5 +1,5 @@
 use Rattle.std.proofs.Common.{map}
-use Rattle.csi_machine.specs.Choice.{room_value}
+use Rattle.csi_rules.specs.Choice.{room_value}
 use Rattle.csi_machine.proofs.CapacityLemmas.{sum_small}
 use Rattle.csi_machine.proofs.calls.capacity.capacity_of.Goals as goal
 

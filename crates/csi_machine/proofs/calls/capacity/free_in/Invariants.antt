@@ -1,8 +1,7 @@
 use Rattle.std.proofs.Common.{◌≡◌, map, take, sum_by}
 use Rattle.csi_keeper.specs.State.{up_to_u64}
-use Rattle.csi_machine.specs.Choice.{free}
+use Rattle.csi_rules.specs.Choice.{free, room_value}
 use Rattle.csi_machine.specs.calls.Capacity.{served, greatest}
-use Rattle.csi_machine.specs.Choice.{room_value}
 use Rattle.csi_machine.proofs.calls.capacity.free_in.Given as goal
 
 abbrev pub invariant-loop-room : goal.invariant-loop-room

@@ -1,8 +1,8 @@
 use Rattle.std.proofs.Common.{rules, ◌≡◌, ◌∙◌, ap, subst, sym, map, Some, IfSome}
-use Rattle.csi_plans.specs.declared.plan.Plan.{Plan}
+use Rattle.csi_machine.specs.declared.plan.Plan.{Plan}
 use Rattle.csi_machine.specs.calls.Create.{place}
-use Rattle.csi_machine.specs.Choice.{room_value}
-use Rattle.csi_plans.specs.Size.{size}
+use Rattle.csi_rules.specs.Choice.{room_value}
+use Rattle.csi_rules.specs.Size.{size}
 use Rattle.csi_keeper.specs.State.{IsBounded}
 use Rattle.csi_machine.proofs.CreateLemmas.{fresh_bounded}
 use Rattle.csi_keeper.specs.facts.Reads.{if_ok}

@@ -1,6 +1,6 @@
 use Rattle.std.proofs.Common.{rules, ◌≡◌, length, [], subst, to_z, of_z, w32}
-use Rattle.csi_plans.specs.Size.{whole}
-use Rattle.csi_plans.specs.facts.Finding.{found_so}
+use Rattle.csi_rules.specs.Size.{whole}
+use Rattle.csi_rules.specs.facts.Finding.{found_so}
 use Rattle.csi_machine.specs.Pages.{IsPage}
 use Rattle.csi_machine.proofs.PageLemmas.{page_told}
 use Rattle.csi_machine.proofs.calls.listing.append_after.Goals as goal

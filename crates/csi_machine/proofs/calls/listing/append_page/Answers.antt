@@ -1,5 +1,5 @@
 use Rattle.std.proofs.Common.{rules, ◌≡◌, Some, to_z, of_z, w32}
-use Rattle.csi_plans.specs.Size.{whole}
+use Rattle.csi_rules.specs.Size.{whole}
 use Rattle.csi_machine.specs.calls.Listing.{start_of}
 use Rattle.csi_machine.proofs.PageLemmas.{page_then}
 use Rattle.csi_machine.proofs.calls.listing.append_page.Goals as goal

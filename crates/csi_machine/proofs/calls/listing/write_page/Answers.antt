@@ -1,5 +1,5 @@
 use Rattle.std.proofs.Common.{rules}
-use Rattle.csi_plans.specs.Size.{whole}
+use Rattle.csi_rules.specs.Size.{whole}
 use Rattle.csi_machine.proofs.PageLemmas.{page_finds}
 use Rattle.csi_machine.proofs.calls.listing.write_page.Goals as goal
 

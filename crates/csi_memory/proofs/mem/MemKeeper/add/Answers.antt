@@ -1,6 +1,6 @@
 use Rattle.std.proofs.Common.{ap, refl, ◌∙◌, ◌≡◌, ℕ}
 use Rattle.csi_keeper.specs.declared.volume.Volume.{Volume}
-use Rattle.csi_maps.specs.Memory.{volumes_of}
+use Rattle.csi_memory.specs.Memory.{volumes_of}
 use Rattle.csi_keeper.specs.facts.Finite.{none_some, same_some}
 use Rattle.csi_memory.proofs.ChangeLemmas.{added, dropped_as, refused_rows, refused_total, stands_now}
 use Rattle.csi_memory.proofs.mem.MemKeeper.add.Goals as goal

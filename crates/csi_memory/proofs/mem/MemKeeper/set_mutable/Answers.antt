@@ -1,6 +1,6 @@
 use Rattle.std.proofs.Common.{◌∙◌, ap}
 use Rattle.csi_types.specs.Maps.{TextMap}
-use Rattle.csi_maps.specs.Memory.{volumes_of}
+use Rattle.csi_memory.specs.Memory.{volumes_of}
 use Rattle.csi_keeper.specs.State.{mutable_set}
 use Rattle.std.specs.FinMap.{get}
 use Rattle.csi_memory.proofs.ChangeLemmas.{kept_mutable}

@@ -1,5 +1,5 @@
 use Rattle.std.proofs.Common.{◌∙◌, ap, refl}
-use Rattle.csi_maps.specs.Memory.{named_by, volumes_of}
+use Rattle.csi_memory.specs.Memory.{named_by, volumes_of}
 use Rattle.csi_keeper.specs.facts.Reads.{read_same}
 use Rattle.csi_memory.proofs.NamesLemmas.{named_kept}
 use Rattle.csi_memory.proofs.mem.MemKeeperKeeper.by_name.Goals as goal

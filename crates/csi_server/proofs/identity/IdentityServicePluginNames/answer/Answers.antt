@@ -1,6 +1,6 @@
 use Rattle.std.proofs.Common.{◌∙◌, false, sym}
 use Rattle.envelope.specs.Envelope.{bytes_of}
-use Rattle.csi_plans.specs.Verdicts.{told_of}
+use Rattle.csi_machine.specs.Verdicts.{told_of}
 use Rattle.csi_types.specs.Methods.{method_at}
 use Rattle.csi_server.specs.Identity.{said, known, still}
 use Rattle.csi_server.proofs.Requesting.{unknown_by, call_by}

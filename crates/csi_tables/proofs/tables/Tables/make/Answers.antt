@@ -3,9 +3,9 @@ use Rattle.sqlite.specs.Held.{Held, state}
 use Rattle.sqlite.specs.State.{HasCleanDisk, Survives}
 use Rattle.csi_keeper.specs.Totals.{total_of, zero_total}
 use Rattle.csi_keeper.specs.declared.totals.Totals.{Totals}
-use Rattle.csi_schema.specs.Making.{MakesTables}
-use Rattle.csi_schema.specs.Tables.{no_schema}
-use Rattle.csi_schema.specs.Transactions.{ChangesFrom, LeavesFrom}
+use Rattle.csi_sql.specs.Making.{MakesTables}
+use Rattle.csi_sql.specs.Tables.{no_schema}
+use Rattle.csi_sql.specs.Transactions.{ChangesFrom, LeavesFrom}
 use Rattle.csi_tables.proofs.NewLemmas.{is_new_over}
 use Rattle.csi_tables.proofs.tables.Tables.make.Goals as goal
 

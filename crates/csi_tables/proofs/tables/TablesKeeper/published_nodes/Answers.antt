@@ -8,4 +8,4 @@ returns-then-after-ge-NUMBERS-clause-reads g c = keeps_none g.S.Store c.args.sel
 pub returns : goal.returns
 returns g c =
     let it = keeps_read c.args.self.now.totals c.in_ok-begin.ensures c.published_nodes-answer.ensures c.end.ensures in
-    record { reads = it.reads; refused = it.refused; limit = it.limit; sure = λ far. absurd (omega (arith, far, c.if-after-ge-NUMBERS.false)) }
+    record { reads = it.reads; refused = it.refused; limit = it.limit; error_only_if = λ far. absurd (omega (arith, far, c.if-after-ge-NUMBERS.false)) }

@@ -1,7 +1,6 @@
 use Rattle.std.proofs.Common.{◌≤◌, ◌^◌, List, map, sum_by, subst, sym}
-use Rattle.csi_machine.specs.declared.choice.Room as code
-use Rattle.csi_machine.specs.Choice.{room_value}
-use Rattle.csi_machine.specs.Choice.{free}
+use Rattle.csi_rules.specs.declared.choice.Room as code
+use Rattle.csi_rules.specs.Choice.{room_value, free}
 use Rattle.csi_machine.proofs.CapacityLemmas.{rooms_fit}
 use Rattle.csi_machine.proofs.calls.capacity.GetCapacityPlanned.plan.Goals as goal
 

@@ -2,10 +2,10 @@ use Rattle.std.proofs.Common.{◌≡◌, ◌∙◌, ℕ, Option, ap, refl, sym}
 use Rattle.csi_keeper.specs.State.{State, attached}
 use Rattle.csi_keeper.specs.declared.volume.Volume.{Volume}
 use Rattle.csi_machine.specs.calls.Delete.{delete_found, delete_volume}
-use Rattle.csi_plans.specs.Finding.{volume_at}
-use Rattle.csi_plans.specs.Ids.{number_of_id}
-use Rattle.csi_plans.specs.Plan.{respond}
-use Rattle.csi_plans.specs.facts.Finding.{found_so, found_then, keys_so, none_found, read_found}
+use Rattle.csi_rules.specs.Finding.{volume_at}
+use Rattle.csi_rules.specs.Ids.{number_of_id}
+use Rattle.csi_machine.specs.Plan.{respond}
+use Rattle.csi_rules.specs.facts.Finding.{found_so, found_then, keys_so, none_found, read_found}
 use Rattle.csi_machine.proofs.calls.delete.DeleteVolumePlanned.plan.Goals as goal
 
 pub returns-in_default-clause-finds : goal.returns-in_default-clause-finds

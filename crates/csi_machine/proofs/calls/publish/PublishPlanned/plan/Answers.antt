@@ -2,9 +2,9 @@ use Rattle.std.proofs.Common.{◌∙◌, List, ap, refl, sym}
 use Rattle.csi_keeper.specs.Lookup.{node_of}
 use Rattle.csi_keeper.specs.declared.capability.CapKey.{CapKey}
 use Rattle.csi_machine.specs.calls.Publish.{publish_found, publish_node}
-use Rattle.csi_plans.specs.Finding.{volume_at}
-use Rattle.csi_plans.specs.Ids.{number_of_id}
-use Rattle.csi_plans.specs.facts.Finding.{found_so, found_then, keys_so, none_found}
+use Rattle.csi_rules.specs.Finding.{volume_at}
+use Rattle.csi_rules.specs.Ids.{number_of_id}
+use Rattle.csi_rules.specs.facts.Finding.{found_so, found_then, keys_so, none_found}
 use Rattle.csi_machine.proofs.calls.publish.PublishPlanned.plan.Goals as goal
 
 pub returns-in_default-clause-finds : goal.returns-in_default-clause-finds

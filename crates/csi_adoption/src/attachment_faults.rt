@@ -1,0 +1,71 @@
+//! The faults of attachments, and of the nodes that they are at.
+
+ghost use Rattle.std.specs.Prelude.{◌≡◌, IfOk, option_copied, unwrap_or, []};
+ghost use Rattle.csi_adoption.specs.Faults.{Says, attachment_fault, full_node, node_fault};
+ghost use Rattle.csi_adoption.specs.Seen.{sums_of};
+
+use crate::fault::AdoptFault;
+use csi_config::Node;
+use csi_constraints::{AttachmentConstraint, BrokenConstraint, RowName, TextSum};
+use csi_types::{Text, copy_text};
+use std::alloc::{AllocError, Global};
+
+// The text that a row is named by, and none where it has no text.
+fn text_of(alloc: Global, text: &Option<Text>) -> Result<Text, AllocError>
+    ensures { IfOk result (λ copy. copy ≡ unwrap_or text.now []) }
+{
+    match text {
+        Some(text) => copy_text(alloc, text.as_str()),
+        None => Ok(Text::new(alloc)),
+    }
+}
+
+/// The fault of an attachment that breaks a constraint, where one was found.
+///
+/// # Errors
+///
+/// That fault, which names the attachment, or [`AdoptFault::NoMemory`].
+pub(crate) fn check_attachment(
+    alloc: Global,
+    found: &Option<RowName>,
+    constraint: AttachmentConstraint,
+) -> Result<(), AdoptFault>
+    ensures { Says (attachment_fault constraint found.now) result }
+{
+    let Some(name) = found else {
+        return Ok(());
+    };
+    Err(AdoptFault::Broken(BrokenConstraint::Attachment {
+        number: name.number.unwrap_or(0),
+        node: text_of(alloc, &name.text)?,
+        constraint,
+    }))
+}
+
+// The first node that has more attachments than it can.
+fn full_node<'a>(nodes: &'a [Node], volumes: &[TextSum]) -> Option<&'a Node>
+    ensures { option_copied result ≡ full_node nodes.now (sums_of volumes.now) }
+{
+    for (node, volumes) in nodes.iter().zip(volumes.iter()) {
+        if volumes.sum > node.max_volumes {
+            return Some(node);
+        }
+    }
+    None
+}
+
+/// The fault of a node that has more attachments than it can.
+pub(crate) fn check_nodes(
+    alloc: Global,
+    nodes: &[Node],
+    volumes: &[TextSum],
+) -> Result<(), AdoptFault>
+    ensures { Says (node_fault nodes.now (sums_of volumes.now)) result }
+{
+    match full_node(nodes, volumes) {
+        Some(node) => Err(AdoptFault::Broken(BrokenConstraint::Node {
+            id: copy_text(alloc, node.id.as_str())?,
+        })),
+        None => Ok(()),
+    }
+}

@@ -1,0 +1,94 @@
+//! Why tables are not adopted.
+
+ghost use Rattle.std.specs.Prelude.{◌≡◌};
+ghost use Rattle.csi_adoption.specs.Faults.{failure_of};
+ghost use Rattle.csi_adoption.specs.declared.fault.AdoptFault.TheVariants.{NoMemory};
+
+use csi_constraints::BrokenConstraint;
+use sqlite::{Error as SqlError, ErrorCode};
+use std::alloc::{AllocError, AllocFailed};
+use thiserror::Error;
+
+/// What is not as this program makes it.
+#[derive(Clone, Copy, Debug, Error)]
+pub enum Foreign {
+    /// There are other tables, indexes or views, or other columns.
+    #[error("the tables are not those of csid")]
+    Schema,
+    /// The one row of meta is not there, or has no number of a format.
+    #[error("meta has no row with the number of a format")]
+    Meta,
+    /// A value in a row of volumes is not of its column's kind.
+    #[error("volume {number}: a value is not of the kind of its column")]
+    Volume {
+        /// The volume's number, as it stands in the row.
+        number: i64,
+    },
+    /// A value in a row of attachments is not of its column's kind.
+    #[error("row {rowid} of attachments: a value is not of the kind of its column")]
+    Attachment {
+        /// The rowid.
+        rowid: i64,
+    },
+}
+
+/// Why tables are not adopted. Its `Display` names the row where one is to blame.
+#[derive(Debug, Error)]
+pub enum AdoptFault {
+    /// The tables are not those that this program makes.
+    #[error("{0}")]
+    Foreign(Foreign),
+    /// A later program made the tables.
+    #[error("the tables have format {format}, and the latest known is 2")]
+    Newer {
+        /// The number of their format.
+        format: i64,
+    },
+    /// The rows break a constraint.
+    #[error("{0}")]
+    Broken(BrokenConstraint),
+    /// The database failed.
+    #[error("the database failed: {0}")]
+    Store(SqlError),
+    /// Memory was refused.
+    #[error("out of memory")]
+    NoMemory,
+}
+
+impl Drop for AdoptFault {
+    fn drop(self) {
+        match self {
+            AdoptFault::Foreign(_) | AdoptFault::NoMemory => {}
+            AdoptFault::Newer { format: _ } => {}
+            AdoptFault::Broken(_broken) => {}
+            AdoptFault::Store(_error) => {}
+        }
+    }
+}
+
+impl From<SqlError> for AdoptFault {
+    ghost from_gives = { λ error fault. fault ≡ failure_of error };
+
+    fn from(error: SqlError) -> AdoptFault {
+        match error {
+            SqlError::SqliteFailure(ErrorCode::OutOfMemory) => AdoptFault::NoMemory,
+            other => AdoptFault::Store(other),
+        }
+    }
+}
+
+impl From<AllocError> for AdoptFault {
+    ghost from_gives = { λ _ fault. fault ≡ NoMemory };
+
+    fn from(_: AllocError) -> AdoptFault {
+        AdoptFault::NoMemory
+    }
+}
+
+impl<T: Drop> From<AllocFailed<T>> for AdoptFault {
+    ghost from_gives = { λ _ fault. fault ≡ NoMemory };
+
+    fn from(_: AllocFailed<T>) -> AdoptFault {
+        AdoptFault::NoMemory
+    }
+}

@@ -1,0 +1,76 @@
+-- What a fold over rows has become.
+use Rattle.std.specs.Prelude.{◌≡◌, ◌⊎◌, ◌↔◌, ℕ, ◌+◌, ◌-◌, ◌^◌, min, sum_by, ℤ, int_lt, Bool, true, false, if◌then◌else◌, IsTrue, unwrap_or, List, [], ◌∷◌, ◌++◌, map, Option, Some, None}
+use Rattle.std.specs.List.{AllByRecursion}
+use Rattle.std.specs.Ordering.{is_eq, nat_cmp}
+use Rattle.std.specs.Cmp.Lexicographic.{slice_cmp}
+use Rattle.std.specs.declared.cmp.Ordering.TheVariants.{Less}
+use Rattle.sqlite.specs.Order.{Row, column, value_cmp}
+use Rattle.sqlite.specs.Tree.{IsAscending}
+use Rattle.sqlite.specs.View.{is_int}
+use Rattle.sqlite.specs.declared.types.Value.{Value}
+use Rattle.sqlite.specs.declared.types.Value.TheVariants.{Int, Text}
+use Rattle.csi_sql.specs.Cells.{as_number}
+use Rattle.csi_constraints.specs.declared.sums.Weight.{Weight}
+use Rattle.csi_constraints.specs.declared.sums.Weight.TheVariants.{One, Number}
+
+-- one of some is such
+abbrev pub HasSome : {X : Type 0} → (X → Type 0) → List X → Type 0
+HasSome P [] = ⊥
+HasSome P (x ∷ xs) = P x ⊎ HasSome P xs
+
+-- ---- sums
+
+-- the number in a column, and 0 where there is none
+abbrev pub number_in : ℕ → Row → ℕ
+number_in at row = unwrap_or (as_number (column row at)) 0
+
+-- what a row of the text adds
+abbrev pub weight_of : Weight → Row → ℕ
+weight_of One row = 1
+weight_of (Number at) row = number_in at row
+
+abbrev pub is_text : List ℕ → Value → Bool
+is_text text (Text t) = is_eq (slice_cmp nat_cmp t text)
+is_text text _ = false
+
+-- what a row adds: nothing, if it has another text in the column
+abbrev pub added_by : ℕ → List ℕ → Weight → Row → ℕ
+added_by at text weight row = if is_text text (column row at) then weight_of weight row else 0
+
+-- a sum behind the rows, or 2^64 - 1 where it is more
+abbrev pub sum_after : ℕ → List ℕ → Weight → ℕ → List Row → ℕ
+sum_after at text weight sum rows = min (sum + sum_by (added_by at text weight) rows) (2 ^ 64 - 1)
+
+-- ---- integers that rise
+
+abbrev pub as_integer : Value → Option ℤ
+as_integer (Int n) = Some n
+as_integer _ = None
+
+abbrev pub is_above : Option ℤ → ℤ → Bool
+is_above None n = true
+is_above (Some m) n = int_lt m n
+
+-- an integer that came before, if one did
+abbrev pub before : Option ℤ → List Value
+before None = []
+before (Some n) = Int n ∷ []
+
+-- what came before, and the values of a column
+abbrev pub values_from : ℕ → Option ℤ → List Row → List Value
+values_from at last rows = before last ++ map (λ r. column r at) rows
+
+-- each row has an integer in the column, and each is above those before it
+pub record IsRising (at : ℕ) (last : Option ℤ) (rows : List Row) : Type 0 where
+  pub integers : AllByRecursion (λ r. is_int (column r at) ≡ true) rows
+  pub rising : IsAscending (λ a b. value_cmp a b ≡ Less) (values_from at last rows)
+
+-- the integer at the end of the values, if there is one
+abbrev pub IsLast : List Value → Option ℤ → Type 0
+IsLast values None = values ≡ []
+IsLast values (Some n) = (front : List Value) × (values ≡ front ++ Int n ∷ [])
+
+-- a test of the rise that was good or not, and what it is behind the rows
+pub record Rises (at : ℕ) (was : Bool) (last : Option ℤ) (rows : List Row) (good : Bool) (next : Option ℤ) : Type 0 where
+  pub good_is : IsTrue good ↔ (IsTrue was × IsRising at last rows)
+  pub last_is : IsTrue good → IsLast (values_from at last rows) next

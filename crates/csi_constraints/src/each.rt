@@ -1,0 +1,31 @@
+//! Many folds of one type over the same rows.
+
+ghost use Rattle.std.specs.Prelude.{[]};
+ghost use Rattle.std.specs.List.{AllZip};
+ghost use Rattle.csi_constraints.specs.Folds.{HasSome};
+ghost use Rattle.csi_constraints.specs.facts.Starts.{each_itself};
+
+use crate::fold::Fold;
+use sqlite::{Error, Row};
+
+/// Folds of one type over the same rows, as one for each pool or for each node.
+#[derive(Drop)]
+pub struct Each<F> {
+    /// The folds. Each takes each row, in their order.
+    pub parts: Vec<F>,
+}
+
+impl<F: Fold> Fold for Each<F> {
+    ghost folds = { λ first rows now. AllZip (λ a b. F.folds a rows b) first.parts.items now.parts.items };
+
+    ghost takes_memory = { λ fold row. HasSome (λ part. F.takes_memory part row) fold.parts.items };
+
+    ghost starts = { λ first. each_itself (λ a b. F.folds a [] b) F.starts first.parts.items };
+
+    fn take(&mut self, row: &Row) -> Result<(), Error> {
+        for part in self.parts.iter_mut() {
+            part.take(row)?;
+        }
+        Ok(())
+    }
+}

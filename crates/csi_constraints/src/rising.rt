@@ -1,0 +1,45 @@
+//! Integers that rise.
+
+ghost use Rattle.std.specs.Prelude.{◌≡◌, refl};
+ghost use Rattle.csi_constraints.specs.Folds.{Rises, is_above};
+ghost use Rattle.csi_constraints.specs.facts.Starts.{rises_none};
+
+use crate::cells::integer_at;
+use crate::fold::Fold;
+use sqlite::{Error, Row};
+
+fn is_above_last(last: Option<i64>, integer: i64) -> bool
+    ensures { result ≡ is_above last integer }
+{
+    match last {
+        Some(last) => last < integer,
+        None => true,
+    }
+}
+
+/// Whether each row has an integer in a column, and each is above those before it.
+#[derive(Drop)]
+pub struct Rising {
+    /// The column, counted from 0.
+    pub column: usize,
+    /// The integer that came last; `None` where there is none yet.
+    pub last: Option<i64>,
+    /// Whether the integers have risen so far. It begins as `true`.
+    pub good: bool,
+}
+
+impl Fold for Rising {
+    ghost folds = { λ first rows now. (now.column ≡ first.column) × Rises first.column first.good first.last rows now.good now.last };
+
+    ghost takes_memory = { λ _ _. ⊥ };
+
+    ghost starts = { λ first. (refl, rises_none first.column first.good first.last) };
+
+    fn take(&mut self, row: &Row) -> Result<(), Error> {
+        match integer_at(row, self.column) {
+            Some(integer) if is_above_last(self.last, integer) => self.last = Some(integer),
+            _ => self.good = false,
+        }
+        Ok(())
+    }
+}

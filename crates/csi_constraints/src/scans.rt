@@ -1,0 +1,104 @@
+//! The scans: each a query with a fixed text over our tables.
+
+ghost use Rattle.std.specs.Prelude.{◌≡◌, IsPermutation, false, map};
+ghost use Rattle.sqlite.specs.Held.{state};
+ghost use Rattle.sqlite.specs.State.{HasCleanDisk};
+ghost use Rattle.csi_sql.specs.Rows.{seen_attachment, seen_meta, seen_volume};
+ghost use Rattle.csi_sql.specs.Tables.{schema as our_schema};
+ghost use Rattle.csi_constraints.specs.ScanFailing.{HasTooMany};
+ghost use Rattle.csi_constraints.specs.Scans.{FoldsOver, IsInOrder, keyed_attachment, owners};
+
+use crate::fold::{Fold, each_row};
+use sqlite::{Alter, Connection, Error};
+
+/// Folds each row of meta: `k`, `format_no` and `next_number`.
+///
+/// # Errors
+///
+/// Where the rows cannot be read, and what the fold answers.
+pub fn scan_meta<S: Alter, F: Fold>(conn: &mut Connection<S>, fold: &mut F) -> Result<(), Error>
+    requires idle { conn.old.in_transaction ≡ false }
+    requires ours { HasCleanDisk (state S.Store conn.old) → conn.old.schema ≡ our_schema }
+    ensures { FoldsOver S.Store conn.old conn.new F.folds fold.old fold.new
+        (IsPermutation (map seen_meta ((state S.Store conn.old).now.trees 0))) (HasTooMany S.Store conn.old) result }
+{
+    each_row(conn, "SELECT k, format_no, next_number FROM meta", fold)
+}
+
+/// Folds each row of volumes in the order of the numbers: number, name, bytes, pool, caps and params.
+///
+/// # Errors
+///
+/// Where the rows cannot be read, and what the fold answers.
+pub fn scan_volumes<S: Alter, F: Fold>(conn: &mut Connection<S>, fold: &mut F) -> Result<(), Error>
+    requires idle { conn.old.in_transaction ≡ false }
+    requires ours { HasCleanDisk (state S.Store conn.old) → conn.old.schema ≡ our_schema }
+    ensures { FoldsOver S.Store conn.old conn.new F.folds fold.old fold.new
+        (IsInOrder (map seen_volume ((state S.Store conn.old).now.trees 1))) (HasTooMany S.Store conn.old) result }
+{
+    each_row(
+        conn,
+        "SELECT number, name, bytes, pool, caps, params FROM volumes ORDER BY number",
+        fold,
+    )
+}
+
+/// Folds each row of attachments in the order of the rowids: the rowid, number, node, cap and
+/// readonly.
+///
+/// # Errors
+///
+/// Where the rows cannot be read, and what the fold answers.
+pub fn scan_attachments<S: Alter, F: Fold>(
+    conn: &mut Connection<S>,
+    fold: &mut F,
+) -> Result<(), Error>
+    requires idle { conn.old.in_transaction ≡ false }
+    requires ours { HasCleanDisk (state S.Store conn.old) → conn.old.schema ≡ our_schema }
+    ensures { FoldsOver S.Store conn.old conn.new F.folds fold.old fold.new
+        (IsInOrder (map keyed_attachment ((state S.Store conn.old).now.trees 3))) (HasTooMany S.Store conn.old) result }
+{
+    each_row(
+        conn,
+        "SELECT rowid, number, node, cap, readonly FROM attachments ORDER BY rowid",
+        fold,
+    )
+}
+
+/// Folds each attachment with the caps of its volume, in the order of the numbers: number, node, cap
+/// and readonly, and the volume's caps. They are NULL where no volume has the number.
+///
+/// # Errors
+///
+/// Where the rows cannot be read, and what the fold answers.
+pub fn scan_owners<S: Alter, F: Fold>(conn: &mut Connection<S>, fold: &mut F) -> Result<(), Error>
+    requires idle { conn.old.in_transaction ≡ false }
+    requires ours { HasCleanDisk (state S.Store conn.old) → conn.old.schema ≡ our_schema }
+    ensures { FoldsOver S.Store conn.old conn.new F.folds fold.old fold.new
+        (IsInOrder (owners ((state S.Store conn.old).now.trees 3) ((state S.Store conn.old).now.trees 1))) (HasTooMany S.Store conn.old) result }
+{
+    each_row(
+        conn,
+        "SELECT a.number, a.node, a.cap, a.readonly, v.caps FROM attachments AS a LEFT JOIN volumes AS v ON v.number = a.number ORDER BY a.number",
+        fold,
+    )
+}
+
+/// Folds each attachment in the order of the numbers, so that those of one volume come one after the
+/// other: number, node, cap and readonly.
+///
+/// # Errors
+///
+/// Where the rows cannot be read, and what the fold answers.
+pub fn scan_places<S: Alter, F: Fold>(conn: &mut Connection<S>, fold: &mut F) -> Result<(), Error>
+    requires idle { conn.old.in_transaction ≡ false }
+    requires ours { HasCleanDisk (state S.Store conn.old) → conn.old.schema ≡ our_schema }
+    ensures { FoldsOver S.Store conn.old conn.new F.folds fold.old fold.new
+        (IsInOrder (map seen_attachment ((state S.Store conn.old).now.trees 3))) (HasTooMany S.Store conn.old) result }
+{
+    each_row(
+        conn,
+        "SELECT number, node, cap, readonly FROM attachments ORDER BY number",
+        fold,
+    )
+}

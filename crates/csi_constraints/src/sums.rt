@@ -1,0 +1,76 @@
+//! Sums over the rows that have a text.
+
+ghost use Rattle.std.specs.Prelude.{◌≡◌, ◌<◌, ◌^◌, refl};
+ghost use Rattle.std.specs.Ordering.{is_eq, nat_cmp};
+ghost use Rattle.std.specs.Cmp.Lexicographic.{slice_cmp};
+ghost use Rattle.sqlite.specs.Order.{column};
+ghost use Rattle.csi_constraints.specs.Folds.{is_text, sum_after, weight_of};
+ghost use Rattle.csi_constraints.specs.facts.Starts.{still_sum};
+
+use crate::fold::Fold;
+use csi_sql::values::{number_at, text_at};
+use sqlite::{Error, Row};
+use std::cmp::Ordering;
+
+/// What a row adds to a sum.
+#[derive(Clone, Copy)]
+pub enum Weight {
+    /// One, so that the sum counts the rows.
+    One,
+    /// The number in this column, counted from 0; nothing where there is none.
+    Number(usize),
+}
+
+fn is_same_text(a: &[u8], b: &[u8]) -> bool
+    ensures { result ≡ is_eq (slice_cmp nat_cmp a.now b.now) }
+{
+    matches!(a.cmp(b), Ordering::Equal)
+}
+
+fn has_text(row: &Row, at: usize, text: &[u8]) -> bool
+    ensures { result ≡ is_text text.now (column row.now at) }
+{
+    match text_at(row, at) {
+        Some(bytes) => is_same_text(bytes, text),
+        None => false,
+    }
+}
+
+fn weight_in(row: &Row, weight: Weight) -> u64
+    ensures { result ≡ weight_of weight row.now }
+{
+    match weight {
+        Weight::One => 1,
+        Weight::Number(at) => number_at(row, at).unwrap_or(0),
+    }
+}
+
+/// The sum over the rows that have a text in a column, as the bytes of the volumes of a pool.
+#[derive(Drop)]
+pub struct TextSum {
+    /// The column of the text, counted from 0.
+    pub column: usize,
+    /// The text. A row with another one, or with none, adds nothing.
+    pub text: Vec<u8>,
+    /// What a row of the text adds.
+    pub weight: Weight,
+    /// The sum so far, or 2^64 - 1 where it is more.
+    pub sum: u64,
+}
+
+impl Fold for TextSum {
+    ghost folds = { λ first rows now.
+        (now.column ≡ first.column) × (now.text ≡ first.text) × (now.weight ≡ first.weight)
+        × (first.sum < 2 ^ 64 → now.sum ≡ sum_after first.column first.text.items first.weight first.sum rows) };
+
+    ghost takes_memory = { λ _ _. ⊥ };
+
+    ghost starts = { λ first. (refl, refl, refl, still_sum first.sum) };
+
+    fn take(&mut self, row: &Row) -> Result<(), Error> {
+        if has_text(row, self.column, self.text.as_slice()) {
+            self.sum = self.sum.saturating_add(weight_in(row, self.weight));
+        }
+        Ok(())
+    }
+}

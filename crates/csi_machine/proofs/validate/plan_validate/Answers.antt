@@ -1,0 +1,10 @@
+use Rattle.std.proofs.Common.{◌∙◌, ap, sym}
+use Rattle.csi_machine.specs.Validate.{validate_found}
+use Rattle.csi_rules.specs.facts.Finding.{found_so}
+use Rattle.csi_machine.proofs.validate.plan_validate.Goals as goal
+
+pub returns-in_default-clause-finds : goal.returns-in_default-clause-finds
+returns-in_default-clause-finds g c = found_so c.in_ok-volume.ensures.finds (λ s named. c.refuse.ensures ∙ ap (validate_found c.args.request.now) (sym c.in_default.is ∙ named))
+
+pub returns-clause-finds : goal.returns-clause-finds
+returns-clause-finds g c = found_so c.in_ok-volume.ensures.finds (λ s named. c.in_ok-validate_volume.ensures.value ∙ ap (validate_found c.args.request.now) (sym c.in-Some.is ∙ named))

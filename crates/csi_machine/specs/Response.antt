@@ -1,0 +1,28 @@
+-- The response of a plan, wherever it stands.
+use Rattle.std.specs.Prelude.{Bool, true, false, codes}
+use Rattle.std.specs.FinMap.{empty, insert}
+use Rattle.csi_types.specs.Maps.{TextMap}
+use Rattle.csi_keeper.specs.Texts.{Text}
+use Rattle.csi_types.specs.declared.responses.Response.{Response}
+use Rattle.csi_types.specs.declared.responses.Response.TheVariants as response
+use Rattle.csi_machine.specs.declared.response.Kept.{Kept}
+use Rattle.csi_machine.specs.declared.response.Kept.TheVariants as kept
+
+-- ---- a publication (CSI specification, 'ControllerPublishVolume')
+
+abbrev pub flag_text : Bool → Text
+flag_text true = codes "true"
+flag_text false = codes "false"
+
+-- the publish_context
+abbrev pub publication : Bool → TextMap
+publication readonly = insert empty (codes "readonly") (flag_text readonly)
+
+-- ---- where a response stands
+
+abbrev pub kept_response : Kept → Response
+kept_response (kept.Made r) = r
+kept_response kept.Delete = response.Delete
+kept_response kept.Unpublish = response.Unpublish
+kept_response kept.Modify = response.Modify
+kept_response (kept.Published readonly) = response.Publish (publication readonly)

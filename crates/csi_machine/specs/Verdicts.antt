@@ -1,0 +1,39 @@
+-- How a request is answered in a reply: by the body of its response, or by the reason of a refusal.
+use Rattle.std.specs.Prelude.{◌≡◌, ℕ, ◌≤◌, nat_le, List, ◌++◌, length, Result, Ok, Err, if◌then◌else◌}
+use Rattle.csi_types.specs.declared.responses.Response.{Response}
+use Rattle.csi_types.specs.declared.reason.Reason.{Reason}
+use Rattle.csi_types.specs.declared.reason.Reason.TheVariants.{ReplyTooLarge}
+use Rattle.csi_codec.specs.Methods.{response_bytes}
+use Rattle.envelope.specs.declared.limits.TheConstants.{MAX_BODY_BYTES}
+use Rattle.csi_machine.specs.declared.body.Verdict.{Verdict}
+use Rattle.csi_machine.specs.declared.body.Verdict.TheVariants as verdict
+
+-- a body that a reply holds, or the reason of a refusal
+pub data Told : Type 0 where
+  Says : List ℕ → Told
+  Denies : Reason → Told
+
+-- a body that a reply can't hold is refused
+abbrev pub within : List ℕ → Told
+within body = if nat_le (length body) MAX_BODY_BYTES then Says body else Denies ReplyTooLarge
+
+abbrev pub told_of : Result Response Reason → Told
+told_of (Ok r) = within (response_bytes r)
+told_of (Err reason) = Denies reason
+
+-- the verdict of an outcome whose body is written
+abbrev pub verdict_of : Result Response Reason → Verdict
+verdict_of (Ok r) = verdict.Done
+verdict_of (Err reason) = verdict.Refused reason
+
+-- a body comes behind what stood in the vector, and anything else leaves the vector as it was
+abbrev pub Appended : {E : Type 0} → List ℕ → List ℕ → Result Verdict E → Type 0
+Appended old new (Ok verdict.Done) = (body : List ℕ) × (new ≡ old ++ body) × (length body ≤ MAX_BODY_BYTES)
+Appended old new (Ok (verdict.Refused reason)) = new ≡ old
+Appended old new (Err e) = new ≡ old
+
+-- what is answered is what is to be told; where the call fails nothing is
+abbrev pub IsTold : {E : Type 0} → Told → List ℕ → List ℕ → Result Verdict E → Type 0
+IsTold told old new (Ok verdict.Done) = (body : List ℕ) × (told ≡ Says body) × (new ≡ old ++ body)
+IsTold told old new (Ok (verdict.Refused reason)) = told ≡ Denies reason
+IsTold told old new (Err e) = Unit {0}

@@ -1,0 +1,48 @@
+//! The body of a reply.
+
+ghost use Rattle.std.specs.Prelude.{◌≤◌, drop, length, take, Ok};
+ghost use Rattle.std.specs.declared.alloc.AllocError.{AllocError as AnyError};
+ghost use Rattle.csi_codec.specs.Methods.{response_bytes};
+ghost use Rattle.csi_machine.specs.Verdicts.{within, Appended, IsTold};
+
+use csi_codec::encode_response;
+use csi_types::{Reason, Response};
+use envelope::MAX_BODY_BYTES;
+use std::alloc::AllocError;
+
+/// How a request is answered.
+#[derive(Clone, Copy, Debug)]
+pub enum Verdict {
+    /// It is done, and the body of its response is written.
+    Done,
+    /// It is refused.
+    Refused(Reason),
+}
+
+/// Takes the body that begins at `from` back where it has more than [`MAX_BODY_BYTES`], and refuses it with [`Reason::ReplyTooLarge`].
+pub(crate) fn limit_body(out: &mut Vec<u8>, from: usize) -> Verdict
+    requires { from ≤ length out.old.items }
+    ensures appended { Appended {E = AnyError} (take from out.old.items) out.new.items (Ok result) }
+    ensures told { IsTold {E = AnyError} (within (drop from out.old.items)) (take from out.old.items) out.new.items (Ok result) }
+{
+    if out.len() - from > MAX_BODY_BYTES {
+        out.truncate(from);
+        return Verdict::Refused(Reason::ReplyTooLarge);
+    }
+    Verdict::Done
+}
+
+/// Appends the body of a response, or refuses one of more than [`MAX_BODY_BYTES`] with
+/// [`Reason::ReplyTooLarge`]; the vector is then as it was.
+///
+/// # Errors
+///
+/// Where memory is refused the vector is as it was.
+pub fn append_body(response: &Response, out: &mut Vec<u8>) -> Result<Verdict, AllocError>
+    ensures appended { Appended out.old.items out.new.items result }
+    ensures told { IsTold (within (response_bytes response.now)) out.old.items out.new.items result }
+{
+    let from = out.len();
+    encode_response(response, out)?;
+    Ok(limit_body(out, from))
+}

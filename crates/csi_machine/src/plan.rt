@@ -1,0 +1,88 @@
+//! What a request is answered, and the one change that it makes.
+
+ghost use Rattle.std.specs.Prelude.{◌≡◌, IfOk};
+ghost use Rattle.csi_machine.specs.Plan.{make, refuse, respond};
+ghost use Rattle.csi_machine.specs.Verdicts.{verdict_of};
+
+use crate::body::Verdict;
+use crate::response::Answer;
+use csi_keeper::{Change, StoreFault};
+use csi_types::{Boxed, Reason};
+use std::alloc::{AllocError, Global};
+
+/// A plan, or why none was made: what the keeper answered, or want of memory.
+pub(crate) type Planning = Result<Plan, StoreFault>;
+
+/// What a request is answered, and the change that is made before it is.
+pub struct Plan {
+    /// The response, or the reason for which the request is refused and changes nothing.
+    pub outcome: Result<Answer, Reason>,
+    /// What changes, if anything.
+    pub change: Option<Boxed<Change>>,
+}
+
+// Written out, so that what drops one has one call for it, and its proof no branch for each of its parts.
+impl Drop for Plan {
+    #[inline(always)]
+    fn drop(self) {
+        let Plan {
+            outcome: _outcome,
+            change: _change,
+        } = self;
+    }
+}
+
+fn verdict_of(outcome: &Result<Answer, Reason>) -> Verdict
+    ensures { result ≡ verdict_of outcome.now }
+{
+    match outcome {
+        Ok(_) => Verdict::Done,
+        Err(reason) => Verdict::Refused(*reason),
+    }
+}
+
+impl Plan {
+    /// Its verdict, and its change.
+    pub fn into_parts(self) -> (Verdict, Option<Boxed<Change>>)
+        ensures { result ≡ (verdict_of self.outcome, self.change) }
+    {
+        let Plan { outcome, change } = self;
+        (verdict_of(&outcome), change)
+    }
+}
+
+/// A refusal, which changes nothing.
+pub(crate) fn refuse(reason: Reason) -> Plan
+    ensures { result ≡ refuse reason }
+{
+    Plan {
+        outcome: Err(reason),
+        change: None,
+    }
+}
+
+/// A response behind a change. Who calls it knows which change it is, so it is not moved whole.
+///
+/// # Errors
+///
+/// Where memory was refused.
+#[inline(always)]
+pub(crate) fn make(alloc: Global, answer: Answer, change: Change) -> Result<Plan, AllocError>
+    ensures { IfOk result (λ plan. plan ≡ make answer change) }
+{
+    let change = Boxed::new(alloc, change)?;
+    Ok(Plan {
+        outcome: Ok(answer),
+        change: Some(change),
+    })
+}
+
+/// A response that changes nothing.
+pub(crate) fn respond(answer: Answer) -> Plan
+    ensures { result ≡ respond answer }
+{
+    Plan {
+        outcome: Ok(answer),
+        change: None,
+    }
+}

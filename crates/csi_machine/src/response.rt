@@ -1,0 +1,133 @@
+//! The response of a plan.
+
+ghost use Rattle.std.specs.Prelude.{◌≡◌, IfOk};
+ghost use Rattle.csi_types.specs.declared.responses.Response.TheVariants as response;
+ghost use Rattle.csi_codec.specs.Methods.{response_bytes};
+ghost use Rattle.csi_machine.specs.Response.{flag_text, publication};
+ghost use Rattle.csi_machine.specs.Verdicts.{within, Appended, IsTold};
+
+use crate::body::{Verdict, append_body, limit_body};
+use csi_codec::encode_published;
+use csi_types::{Boxed, Response};
+use std::alloc::{AllocError, Global};
+use std::marker::Model;
+
+// Where a response stands.
+#[derive(Drop)]
+enum Kept {
+    // In memory of its own.
+    Made(Boxed<Response>),
+    // Nowhere, since it has no field.
+    Delete,
+    Unpublish,
+    Modify,
+    // Nowhere: it says whether the volume is only read.
+    Published(bool),
+}
+
+// The only key of a publication's context.
+const READONLY: &str = "readonly";
+
+fn flag_text(flag: bool) -> &'static str
+    ensures { result.now ≡ flag_text flag }
+{
+    if flag { "true" } else { "false" }
+}
+
+// Appends the response of a publication, or refuses it where no reply holds it.
+fn append_published(readonly: bool, out: &mut Vec<u8>) -> Result<Verdict, AllocError>
+    ensures appended { Appended out.old.items out.new.items result }
+    ensures told { IsTold (within (response_bytes (response.Publish (publication readonly)))) out.old.items out.new.items result }
+{
+    let from = out.len();
+    if let Err(refused) = encode_published(READONLY, flag_text(readonly), out) {
+        out.truncate(from);
+        return Err(refused);
+    }
+    Ok(limit_body(out, from))
+}
+
+/// A response. Those of DeleteVolume, ControllerPublishVolume, ControllerUnpublishVolume and ControllerModifyVolume take no memory.
+#[derive(Drop)]
+pub struct Answer {
+    kept: Kept,
+}
+
+impl Model for Answer {
+    ghost use Rattle.csi_types.specs.declared.responses.Response.{Response as AnyResponse};
+    ghost use Rattle.csi_machine.specs.Response.{kept_response};
+    ghost use Rattle.csi_types.specs.contracts.responses.Response as response;
+    ghost use Rattle.std.specs.Coded.{codes};
+
+    ghost Value = { AnyResponse };
+
+    ghost coded = { Prim.hlevel (codes, response.the_row.coded) };
+
+    ghost view = { λ a. kept_response a.kept };
+}
+
+impl Answer {
+    /// This response, in memory of its own.
+    ///
+    /// # Errors
+    ///
+    /// Where memory was refused.
+    #[inline(always)]
+    pub fn of(alloc: Global, response: Response) -> Result<Answer, AllocError>
+        ensures { IfOk result (λ answer. answer ≡ response) }
+    {
+        Ok(Answer {
+            kept: Kept::Made(Boxed::new(alloc, response)?),
+        })
+    }
+
+    /// The response of a deletion.
+    pub fn deleted() -> Answer
+        ensures { result ≡ response.Delete }
+    {
+        Answer { kept: Kept::Delete }
+    }
+
+    /// The response of a modification.
+    pub fn modified() -> Answer
+        ensures { result ≡ response.Modify }
+    {
+        Answer { kept: Kept::Modify }
+    }
+
+    /// The response where a volume is not published any more.
+    pub fn unpublished() -> Answer
+        ensures { result ≡ response.Unpublish }
+    {
+        Answer {
+            kept: Kept::Unpublish,
+        }
+    }
+
+    /// The response of a publication.
+    pub fn published(readonly: bool) -> Answer
+        ensures { result ≡ response.Publish (publication readonly) }
+    {
+        Answer {
+            kept: Kept::Published(readonly),
+        }
+    }
+
+    /// Appends its body, as [`append_body`] does.
+    ///
+    /// # Errors
+    ///
+    /// As of [`append_body`].
+    pub fn append(&self, out: &mut Vec<u8>) -> Result<Verdict, AllocError>
+        ensures appended { Appended out.old.items out.new.items result }
+        ensures told { IsTold (within (response_bytes self.now)) out.old.items out.new.items result }
+    {
+        match &self.kept {
+            Kept::Made(response) => append_body(response.get(), out),
+            Kept::Delete => append_body(&Response::Delete, out),
+            Kept::Unpublish => append_body(&Response::Unpublish, out),
+            Kept::Modify => append_body(&Response::Modify, out),
+            Kept::Published(readonly) => append_published(*readonly, out),
+        }
+    }
+}

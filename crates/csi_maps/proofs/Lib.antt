@@ -1,3 +1,0 @@
-mod ChangeLemmas
-mod DetachLemmas
-mod WalkLemmas

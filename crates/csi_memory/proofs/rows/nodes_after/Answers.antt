@@ -1,0 +1,13 @@
+use Rattle.std.proofs.Common.{rules, ◌∙◌}
+use Rattle.std.specs.Map.Iter.{deref_pair}
+use Rattle.std.proofs.lemmas.Map.Iter.{rest_so_far}
+use Rattle.csi_memory.specs.Memory.{nodes_in}
+use Rattle.csi_memory.specs.facts.Listing.{page_full}
+use Rattle.csi_memory.proofs.rows.nodes_after.Goals as goal
+
+pub returns-then-len-count : goal.returns-then-len-count
+returns-then-len-count c =
+    record {
+      value = page_full (λ e. nodes_in c.args.attachments.now.entries e.1.number) _ _ _ c.loop-volume.nodes c.args.count (search rules ∙ rest_so_far deref_pair c.loop-volume.yielded _ _ c.loop-volume.yielded_by) c.loop-volume.invariant.told c.loop-volume.invariant.most (search rules);
+      ordered = search rules;
+    }

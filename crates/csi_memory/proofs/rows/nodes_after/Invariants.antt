@@ -1,0 +1,12 @@
+use Rattle.std.proofs.Common.{◌≡◌, ◌≤◌, map, length}
+use Rattle.std.specs.Map.Iter.{deref_pair}
+use Rattle.csi_memory.specs.Memory.{nodes_in}
+use Rattle.csi_memory.specs.Walking.{IsOver}
+use Rattle.csi_memory.proofs.rows.nodes_after.Given as goal
+
+abbrev pub invariant-loop-volume : goal.invariant-loop-volume
+invariant-loop-volume l = record {
+  told : l.nodes ≡ map (λ e. nodes_in l.attachments.entries e.1.number) (map deref_pair l.yielded);
+  most : length l.nodes ≤ l.count;
+  over : IsOver l.attachments.entries l.walk;
+}

@@ -1,0 +1,191 @@
+//! The volumes in memory, by their numbers.
+
+ghost use Rattle.std.specs.Prelude.{◌≡◌, ℕ, IfErr, IfOk, OnOk, OnErr, map, filter, take};
+ghost use Rattle.std.specs.BTreeMap.{values};
+ghost use Rattle.std.specs.BTreeMap.Range.{entries_between};
+ghost use Rattle.std.specs.Map.Iter.{ShowsInOrder, deref_pair};
+ghost use Rattle.csi_keeper.specs.declared.volume.Volume.{Volume as Row};
+ghost use Rattle.std.specs.FinMap.{get, insert, remove, entries};
+ghost use Rattle.std.specs.Option.{option_map};
+ghost use Rattle.std.specs.Ordering.{nat_cmp};
+ghost use Rattle.std.specs.declared.ops.Bound.TheVariants.{Excluded, Unbounded};
+ghost use Rattle.csi_types.specs.Maps.{same_text};
+ghost use Rattle.csi_memory.specs.Memory.{volumes_of, nodes_in, listed_in};
+ghost use Rattle.csi_keeper.specs.State.{mutable_set};
+
+use crate::walk::walk_after;
+use csi_keeper::{Attachment, CapKey, PageFold, Volume, copy_keys, copy_volume, lent_at};
+use csi_types::{Items, Map, Text};
+use std::alloc::{AllocError, AllocFailed, Global};
+use std::collections::BTreeMap;
+use std::collections::btree_map::Range;
+use std::ops::Bound;
+
+/// A copy of the volume of a number.
+#[tactic(auto, using(crate::specs::facts::Trees::get_number))]
+pub(crate) fn volume_at(
+    alloc: Global,
+    volumes: &BTreeMap<u64, Volume>,
+    number: u64,
+) -> Result<Option<Volume>, AllocError>
+    ensures { IfOk result (λ v. v ≡ get (volumes_of volumes.now.entries) number) }
+{
+    match volumes.get(&number) {
+        Some(volume) => Ok(Some(copy_volume(alloc, volume)?)),
+        None => Ok(None),
+    }
+}
+
+/// A copy of the capability keys of the volume of a number.
+#[tactic(auto, using(crate::specs::facts::Trees::get_number))]
+pub(crate) fn caps_at(
+    alloc: Global,
+    volumes: &BTreeMap<u64, Volume>,
+    number: u64,
+) -> Result<Option<Items<CapKey>>, AllocError>
+    ensures { IfOk result (λ keys. keys ≡ option_map (λ v. v.caps) (get (volumes_of volumes.now.entries) number)) }
+{
+    match volumes.get(&number) {
+        Some(volume) => Ok(Some(copy_keys(alloc, &volume.caps)?)),
+        None => Ok(None),
+    }
+}
+
+fn is_in(volume: &Volume, pool: &str) -> bool
+    ensures { result ≡ same_text volume.now.pool pool.now }
+{
+    volume.pool.as_str() == pool
+}
+
+/// The bytes of a pool's volumes, in rising order of their numbers.
+#[tactic(auto, using(crate::specs::facts::Listing::rows_are))]
+pub(crate) fn sizes_of(
+    alloc: Global,
+    volumes: &BTreeMap<u64, Volume>,
+    pool: &str,
+) -> Result<Vec<u64>, AllocError>
+    ensures value { IfOk result (λ xs. xs.items ≡ map (λ v. v.bytes) (filter (λ v. same_text v.pool pool.now) (values volumes.now))) }
+    ensures ordered { entries (volumes_of volumes.now.entries) ≡ volumes.now.entries }
+{
+    volumes
+        .values()
+        .filter(|v| is_in(v, pool))
+        .map(|v| v.bytes)
+        .collect(alloc)
+}
+
+#[tactic(auto, using(crate::specs::facts::Listing::rows_are))]
+fn beyond(volumes: &BTreeMap<u64, Volume>, after: u64) -> Range<'_, u64, Volume>
+    ensures rest { result ≡ entries_between nat_cmp (Excluded after) Unbounded volumes.now.entries }
+    ensures runs { ShowsInOrder (deref_pair {K = ℕ} {X = Row}) }
+    ensures ordered { entries (volumes_of volumes.now.entries) ≡ volumes.now.entries }
+{
+    volumes.range((Bound::Excluded(after), Bound::Unbounded))
+}
+
+/// Copies of the volumes with greater numbers, at most that many.
+pub(crate) fn volumes_after(
+    alloc: Global,
+    volumes: &BTreeMap<u64, Volume>,
+    after: u64,
+    count: u32,
+) -> Result<Items<Volume>, AllocError>
+    ensures value { IfOk result (λ vs. vs ≡ take count (map (λ e. e.1) (entries_between nat_cmp (Excluded after) Unbounded volumes.now.entries))) }
+    ensures ordered { entries (volumes_of volumes.now.entries) ≡ volumes.now.entries }
+{
+    let rows = beyond(volumes, after);
+    let mut copies = Items::with_room(alloc, volumes.len().min(count as usize))?;
+    for (_, volume) in rows {
+        if copies.len() >= count as usize {
+            return Ok(copies);
+        }
+        copies.push(copy_volume(alloc, volume)?)?;
+    }
+    Ok(copies)
+}
+
+/// The nodes of the volumes with greater numbers, of at most that many volumes.
+pub(crate) fn nodes_after(
+    alloc: Global,
+    volumes: &BTreeMap<u64, Volume>,
+    attachments: &BTreeMap<(u64, Text), Attachment>,
+    after: u64,
+    count: u32,
+) -> Result<Items<Items<Text>>, AllocError>
+    ensures value { IfOk result (λ xs. xs ≡ take count
+        (map (λ e. nodes_in attachments.now.entries e.1.number) (entries_between nat_cmp (Excluded after) Unbounded volumes.now.entries))) }
+    ensures ordered { entries (volumes_of volumes.now.entries) ≡ volumes.now.entries }
+{
+    let rows = beyond(volumes, after);
+    let mut walk = walk_after(alloc, attachments, after);
+    let mut nodes = Items::with_room(alloc, volumes.len().min(count as usize))?;
+    for (_, volume) in rows {
+        if nodes.len() >= count as usize {
+            return Ok(nodes);
+        }
+        nodes.push(walk.nodes_of(alloc, attachments, volume.number)?)?;
+    }
+    Ok(nodes)
+}
+
+/// Folds what a listing tells of the volumes with greater numbers, of at most that many.
+#[inline(always)]
+pub(crate) fn fold_after<F: PageFold>(
+    alloc: Global,
+    volumes: &BTreeMap<u64, Volume>,
+    attachments: &BTreeMap<(u64, Text), Attachment>,
+    after: u64,
+    count: u32,
+    fold: &mut F,
+) -> Result<(), AllocError>
+    ensures folded { OnOk result (F.folds fold.old (take count
+        (map (λ e. listed_in attachments.now.entries e.1) (entries_between nat_cmp (Excluded after) Unbounded volumes.now.entries))) fold.new) }
+    ensures kept { F.keeps fold.old fold.new }
+    ensures ordered { entries (volumes_of volumes.now.entries) ≡ volumes.now.entries }
+{
+    let rows = beyond(volumes, after);
+    let mut walk = walk_after(alloc, attachments, after);
+    let mut left = count;
+    for (_, volume) in rows {
+        if left == 0 {
+            return Ok(());
+        }
+        left -= 1;
+        let nodes = walk.nodes_of(alloc, attachments, volume.number)?;
+        fold.take(&lent_at(volume, &nodes))?;
+    }
+    Ok(())
+}
+
+/// Adds a volume. Where memory is refused the rows stay, and it comes back with its number.
+#[tactic(auto, using(crate::specs::facts::Trees::one_volume))]
+pub(crate) fn put_volume(
+    volumes: &mut BTreeMap<u64, Volume>,
+    volume: Volume,
+) -> Result<(), AllocFailed<(u64, Volume)>>
+    ensures ok { OnOk result (volumes_of volumes.new.entries ≡ insert (volumes_of volumes.old.entries) volume.number volume) }
+    ensures err { OnErr result (volumes.new.entries ≡ volumes.old.entries) }
+    ensures back { IfErr result (λ failed. failed.value ≡ (volume.number, volume)) }
+{
+    volumes.insert(volume.number, volume)?;
+    Ok(())
+}
+
+/// Takes the volume of a number away.
+#[tactic(auto, using(crate::specs::facts::Trees::no_volume, crate::specs::facts::Trees::get_number))]
+pub(crate) fn take_volume(volumes: &mut BTreeMap<u64, Volume>, number: u64) -> Option<Volume>
+    ensures value { result ≡ get (volumes_of volumes.old.entries) number }
+    ensures rest { volumes_of volumes.new.entries ≡ remove (volumes_of volumes.old.entries) number }
+{
+    volumes.remove(&number)
+}
+
+/// Gives the volume of a number, where one stands, other mutable parameters. It takes no memory.
+#[tactic(auto, using(crate::proofs::RowChangeLemmas::one_mutable, crate::proofs::RowChangeLemmas::no_mutable))]
+pub(crate) fn set_mutable(volumes: &mut BTreeMap<u64, Volume>, number: u64, mutable: Map)
+    ensures { volumes_of volumes.new.entries ≡ mutable_set (volumes_of volumes.old.entries) number mutable (get (volumes_of volumes.old.entries) number) }
+{
+    if let Some(volume) = volumes.get_mut(&number) {
+        volume.mutable = mutable;
+    }
+}

@@ -1,7 +1,0 @@
-use Rattle.std.proofs.Common.{◌≡◌, drop}
-use Rattle.csi_keeper.specs.Capability.{have_keys}
-use Rattle.csi_plans.proofs.capability.few_have.Given as goal
-
--- the keys of the capabilities that are left are there, if all are
-abbrev pub invariant-loop-capability : goal.invariant-loop-capability
-invariant-loop-capability l = have_keys l.keys (drop l.capability-index l.capabilities) ≡ have_keys l.keys l.capabilities

@@ -1,5 +1,0 @@
-use Rattle.std.proofs.Common.{◌≡◌, take}
-use Rattle.csi_plans.proofs.validate.copy_capabilities.Given as goal
-
-abbrev pub invariant-loop-capability : goal.invariant-loop-capability
-invariant-loop-capability l = l.copies ≡ take l.capability-index l.capabilities

@@ -1,3 +1,0 @@
-pub mod Capability
-pub mod Finding
-pub mod Ids

@@ -1,0 +1,4 @@
+pub mod Capability
+pub mod Choice
+pub mod Finding
+pub mod Ids

@@ -1,0 +1,58 @@
+//! The volume that a request names.
+
+ghost use Rattle.std.specs.Prelude.{◌≡◌, Ok, None};
+ghost use Rattle.csi_rules.specs.Finding.{Finds, caps_at, volume_at};
+ghost use Rattle.csi_rules.specs.Ids.{number_of_id};
+
+use crate::ids::number_of_id;
+use csi_keeper::{CapKey, Keeper, StoreFault, Volume};
+use csi_types::{Items, Text};
+use std::alloc::Global;
+
+/// The volume of an id, with its number; `None` where none of that id stands. For a text that is no
+/// volume's id the keeper is not asked.
+///
+/// # Errors
+///
+/// What the keeper answers.
+#[tactic(auto, using(csi_keeper::specs::facts::Reads::quiet_same, csi_keeper::specs::facts::Reads::quiet_then))]
+pub fn volume_of<K: Keeper>(
+    alloc: Global,
+    keeper: &mut K,
+    id: &Text,
+) -> Result<Option<(u64, Volume)>, StoreFault>
+    ensures unasked { number_of_id id.now ≡ None → (keeper.new ≡ keeper.old) × (result ≡ Ok None) }
+    ensures finds { Finds (K.model keeper.old) (K.model keeper.new) result (λ s found. found ≡ volume_at s (number_of_id id.now)) }
+{
+    let Some(number) = number_of_id(id.as_str()) else {
+        return Ok(None);
+    };
+    match keeper.by_number(alloc, number)? {
+        Some(volume) => Ok(Some((number, volume))),
+        None => Ok(None),
+    }
+}
+
+/// The capability keys of the volume of an id, with its number; `None` where none of that id stands.
+/// For a text that is no volume's id the keeper is not asked.
+///
+/// # Errors
+///
+/// What the keeper answers.
+#[tactic(auto, using(csi_keeper::specs::facts::Reads::quiet_same, csi_keeper::specs::facts::Reads::quiet_then))]
+pub fn caps_of<K: Keeper>(
+    alloc: Global,
+    keeper: &mut K,
+    id: &Text,
+) -> Result<Option<(u64, Items<CapKey>)>, StoreFault>
+    ensures unasked { number_of_id id.now ≡ None → (keeper.new ≡ keeper.old) × (result ≡ Ok None) }
+    ensures finds { Finds (K.model keeper.old) (K.model keeper.new) result (λ s found. found ≡ caps_at s (number_of_id id.now)) }
+{
+    let Some(number) = number_of_id(id.as_str()) else {
+        return Ok(None);
+    };
+    match keeper.caps_of(alloc, number)? {
+        Some(caps) => Ok(Some((number, caps))),
+        None => Ok(None),
+    }
+}

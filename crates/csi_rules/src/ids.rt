@@ -1,0 +1,50 @@
+//! Numbers of volumes as texts: volume ids, and tokens of a listing.
+
+ghost use Rattle.std.specs.Prelude.{◌≡◌, IfOk};
+ghost use Rattle.std.specs.Fmt.{decimal};
+ghost use Rattle.csi_types.specs.Maps.{same_text};
+ghost use Rattle.csi_rules.specs.Ids.{number_of, number_of_id};
+
+use csi_types::Text;
+use itoa::Buffer;
+use std::alloc::{AllocError, Global};
+
+/// How the id of a volume begins, before its number in decimal.
+pub const ID_PREFIX: &str = "vol-";
+
+/// The number in decimal, without leading zeros.
+///
+/// # Errors
+///
+/// Where memory was refused.
+pub fn decimal_of(alloc: Global, number: u64) -> Result<Text, AllocError>
+    ensures { IfOk result (λ t. t ≡ decimal number) }
+{
+    Text::from_str(alloc, Buffer::new().format(number))
+}
+
+fn is_decimal_of(number: u64, text: &str) -> bool
+    ensures { result ≡ same_text (decimal number) text.now }
+{
+    Buffer::new().format(number) == text
+}
+
+/// The number whose decimal a text is, byte for byte; `None` where it is no number's, as with a
+/// leading zero, or of 2^64 or more.
+#[tactic(auto, using(crate::specs::facts::Ids::is_decimal, crate::specs::facts::Ids::no_decimal))]
+pub fn number_of(text: &str) -> Option<u64>
+    ensures { result ≡ number_of text.now }
+{
+    let Ok(number) = text.parse::<u64>() else {
+        return None;
+    };
+    is_decimal_of(number, text).then_some(number)
+}
+
+/// The number of the volume that a text is the id of (CSI specification, 'CreateVolume',
+/// `Volume.volume_id`); `None` where the plugin gives no volume that id.
+pub fn number_of_id(text: &str) -> Option<u64>
+    ensures { result ≡ number_of_id text.now }
+{
+    number_of(text.strip_prefix(ID_PREFIX)?)
+}

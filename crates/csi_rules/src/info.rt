@@ -1,0 +1,70 @@
+//! What is answered of a volume.
+
+ghost use Rattle.std.specs.Prelude.{◌≡◌, IfOk, codes};
+ghost use Rattle.std.specs.Option.{option_copied};
+ghost use Rattle.std.specs.FinMap.{empty, insert};
+ghost use Rattle.csi_rules.specs.Info.{signed, topology_of, segments_at};
+ghost use Rattle.csi_keeper.specs.Lookup.{pool_named};
+
+use csi_config::{Config, Pool};
+use csi_types::{Items, Map, Text, copy_map, copy_text};
+use std::alloc::{AllocError, Global};
+
+/// The one key of a volume's context, under which stands the name of its pool.
+pub const CONTEXT_KEY: &str = "pool";
+
+/// The context of a volume.
+///
+/// # Errors
+///
+/// Where memory was refused.
+pub fn context_of(alloc: Global, pool: &Text) -> Result<Map, AllocError>
+    ensures { IfOk result (λ m. m ≡ insert empty (codes "pool") pool.now) }
+{
+    let mut context = Map::new(alloc);
+    context.insert(
+        copy_text(alloc, CONTEXT_KEY)?,
+        copy_text(alloc, pool.as_str())?,
+    )?;
+    Ok(context)
+}
+
+/// The topology of a volume: the segments of its pool, if there are any.
+///
+/// # Errors
+///
+/// Where memory was refused.
+pub fn topology_of(alloc: Global, segments: &Map) -> Result<Items<Map>, AllocError>
+    ensures { IfOk result (λ ms. ms ≡ topology_of segments.now) }
+{
+    let mut terms = Items::new(alloc);
+    if !segments.is_empty() {
+        terms.push(copy_map(alloc, segments)?)?;
+    }
+    Ok(terms)
+}
+
+/// Bytes as an `int64` tells them, up to the greatest.
+pub fn signed(bytes: u64) -> i64
+    ensures { result ≡ signed bytes }
+{
+    bytes.min(i64::MAX as u64) as i64
+}
+
+fn pool_named<'a>(pools: &'a [Pool], name: &Text) -> Option<&'a Pool>
+    ensures { option_copied result ≡ pool_named pools.now name.now }
+{
+    pools.iter().find(|pool| pool.name == *name)
+}
+
+/// The segments of the first pool that has the name; those of `nowhere` where the configuration has
+/// no such pool.
+pub fn segments_at<'a>(config: &'a Config, pool: &Text, nowhere: &'a Map) -> &'a Map
+    requires { nowhere.now ≡ empty }
+    ensures { result.now ≡ segments_at config.now pool.now }
+{
+    match pool_named(config.pools(), pool) {
+        Some(pool) => &pool.segments,
+        None => nowhere,
+    }
+}

@@ -1,0 +1,75 @@
+//! How large a volume is made.
+
+ghost use Rattle.std.specs.Prelude.{◌≡◌, ◌<◌, ◌≤◌, ◌^◌};
+ghost use Rattle.csi_rules.specs.Size.{whole, rounded_down, asked, size_by, size, has_size};
+
+use csi_config::{GRANULE_BYTES, Sizes};
+use csi_types::CapacityRange;
+
+/// A number that is not negative; 0 for one that is.
+fn whole(number: i64) -> u64
+    ensures value { result ≡ whole number }
+    ensures fits { result < 2 ^ 63 }
+{
+    if number < 0 { 0 } else { number as u64 }
+}
+
+fn rounded_down(bytes: u64) -> u64
+    ensures value { result ≡ rounded_down bytes }
+    ensures most { result ≤ bytes }
+{
+    bytes / GRANULE_BYTES * GRANULE_BYTES
+}
+
+fn asked(sizes: &Sizes, required: u64, limit: u64) -> u64
+    requires { required < 2 ^ 63 }
+    ensures { result ≡ asked sizes.now required limit }
+{
+    if required > 0 {
+        rounded_down(required + (GRANULE_BYTES - 1))
+    } else if limit > 0 {
+        sizes.default_bytes.min(rounded_down(limit))
+    } else {
+        sizes.default_bytes
+    }
+}
+
+fn size_by(sizes: &Sizes, required: u64, limit: u64) -> Option<u64>
+    requires { required < 2 ^ 63 }
+    ensures { result ≡ size_by sizes.now required limit }
+{
+    let bytes = asked(sizes, required, limit);
+    // What is required is compared too, and never decides: rounded up it is no smaller.
+    let is_within = bytes > 0
+        && (limit == 0 || bytes <= limit)
+        && bytes <= sizes.greatest_bytes
+        && required <= sizes.greatest_bytes;
+    if is_within { Some(bytes) } else { None }
+}
+
+/// The size of a volume for which a range is asked, in bytes; `None` where it is out of range (CSI
+/// specification, 'CreateVolume', `CapacityRange`).
+///
+/// What is required is rounded up to a multiple of 1 MiB; where nothing is, the size is the default,
+/// or the limit rounded down where that is smaller.
+pub fn size(sizes: &Sizes, range: &Option<CapacityRange>) -> Option<u64>
+    ensures { result ≡ size sizes.now range.now }
+{
+    match range {
+        Some(range) => size_by(sizes, whole(range.required), whole(range.limit)),
+        None => size_by(sizes, 0, 0),
+    }
+}
+
+/// Whether a volume of this size is within a range.
+pub fn has_size(bytes: u64, range: &Option<CapacityRange>) -> bool
+    ensures { result ≡ has_size bytes range.now }
+{
+    match range {
+        Some(range) => {
+            let limit = whole(range.limit);
+            whole(range.required) <= bytes && (limit == 0 || bytes <= limit)
+        }
+        None => true,
+    }
+}

@@ -1,5 +1,0 @@
-mod EachLemmas
-mod JoinLemmas
-mod RisingLemmas
-mod StreamLemmas
-mod TableLemmas

@@ -1,5 +1,0 @@
-pub mod Failing
-pub mod Folds
-pub mod Scans
-pub mod Texts
-pub mod facts

@@ -1,5 +1,0 @@
-pub mod Fronts
-pub mod Joins
-pub mod Keyed
-pub mod Rises
-pub mod Starts

@@ -1,0 +1,7 @@
+-- Rows that statements are lent.
+use Rattle.sqlite.specs.Order.{Row}
+use Rattle.csi_sql.specs.Rows.{volume_row}
+use Rattle.csi_sql.specs.declared.statements.volumes.VolumeRow.{VolumeRow}
+
+abbrev pub lent_row : VolumeRow → Row
+lent_row row = volume_row row.number row.name.now row.bytes row.pool.now row.caps.now row.params.now

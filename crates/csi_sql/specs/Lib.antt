@@ -1,0 +1,17 @@
+pub mod Cells
+pub mod Deletes
+pub mod Effects
+pub mod Failing
+pub mod Lent
+pub mod Making
+pub mod Ours
+pub mod Refusing
+pub mod Rows
+pub mod Selecting
+pub mod Shown
+pub mod Statements
+pub mod Tables
+pub mod Texts
+pub mod Transactions
+pub mod Updates
+pub mod facts

@@ -1,0 +1,68 @@
+//! The tables of a new store.
+
+ghost use Rattle.std.specs.Prelude.{◌≡◌, [], false};
+ghost use Rattle.csi_sql.specs.Failing.{SqlRefuses};
+ghost use Rattle.csi_sql.specs.Making.{MakesTables, RefusesTables, StepMakes, schema_before, step_text};
+ghost use Rattle.csi_sql.specs.Tables.{no_schema};
+ghost use Rattle.csi_sql.specs.Transactions.{CommitsOver, RunsOver};
+
+use sqlite::{Alter, Connection, Error, Transaction};
+
+// The statements that make the tables, each behind those before it.
+#[derive(Clone, Copy)]
+enum Step {
+    Meta,
+    Volumes,
+    Attachments,
+    // The row of meta: the latest format, 2, and the first volume gets number 1.
+    First,
+}
+
+fn text_of(step: Step) -> &'static str
+    ensures { result.now ≡ step_text step }
+{
+    match step {
+        Step::Meta => {
+            "CREATE TABLE meta (k INTEGER PRIMARY KEY CHECK (k = 1), format_no INTEGER NOT NULL, next_number INTEGER NOT NULL)"
+        }
+        Step::Volumes => {
+            "CREATE TABLE volumes (number INTEGER PRIMARY KEY, name TEXT NOT NULL UNIQUE, bytes INTEGER NOT NULL, pool TEXT NOT NULL, caps BLOB NOT NULL, params BLOB NOT NULL)"
+        }
+        Step::Attachments => {
+            "CREATE TABLE attachments (number INTEGER NOT NULL, node TEXT NOT NULL, cap BLOB NOT NULL, readonly INTEGER NOT NULL, PRIMARY KEY (number, node))"
+        }
+        Step::First => "INSERT INTO meta (k, format_no, next_number) VALUES (1, 2, 1)",
+    }
+}
+
+fn make<S: Alter>(tx: &mut Transaction<'_, S>, step: Step) -> Result<usize, Error>
+    ensures same_reference { tx.new.conn.ghost_name ≡ tx.old.conn.ghost_name }
+    ensures runs { RunsOver S.Store tx.old.conn.now tx.new.conn.now (schema_before step) (StepMakes step) (SqlRefuses (step_text step) []) result }
+{
+    tx.execute(text_of(step), &[])
+}
+
+fn create_tables<S: Alter>(tx: &mut Transaction<'_, S>) -> Result<(), Error>
+    ensures same_reference { tx.new.conn.ghost_name ≡ tx.old.conn.ghost_name }
+    ensures runs { RunsOver S.Store tx.old.conn.now tx.new.conn.now no_schema MakesTables RefusesTables result }
+{
+    make(tx, Step::Meta)?;
+    make(tx, Step::Volumes)?;
+    make(tx, Step::Attachments)?;
+    make(tx, Step::First)?;
+    Ok(())
+}
+
+/// Makes the three tables and the first row of meta, in one transaction.
+///
+/// After `Ok` a store that had no table has these three, with no volume, no attachment, the latest
+/// format and 1 as the next number, and all of it is committed. After an error nothing was made. A stop leaves what it
+/// could leave before, or the tables as they were made.
+pub fn make_tables<S: Alter>(conn: &mut Connection<S>) -> Result<(), Error>
+    requires idle { conn.old.in_transaction ≡ false }
+    ensures { CommitsOver S.Store conn.old conn.new no_schema MakesTables RefusesTables result }
+{
+    let mut tx = conn.transaction();
+    create_tables(&mut tx)?;
+    tx.commit()
+}

@@ -1,0 +1,49 @@
+//! Whether a schema is that of our tables, and nothing else.
+
+mod key_check;
+mod parts;
+mod tables;
+
+ghost use Rattle.std.specs.Prelude.{◌≡◌, IsTrue};
+ghost use Rattle.csi_sql.specs.Ours.{our_indexes, our_tables};
+ghost use Rattle.csi_sql.specs.Tables.{schema as our_schema};
+
+use parts::is_index;
+use sqlite_schema::schema::{Index, Schema, Table};
+use tables::{is_attachments, is_meta, is_volumes};
+
+fn are_tables(tables: &[Table]) -> bool
+    ensures is { IsTrue result → tables.now ≡ our_tables }
+    ensures whole { tables.now ≡ our_tables → IsTrue result }
+{
+    let [first, second, third] = tables else {
+        return false;
+    };
+    is_meta(first) & is_volumes(second) & is_attachments(third)
+}
+
+fn are_indexes(indexes: &[Index]) -> bool
+    ensures is { IsTrue result → indexes.now ≡ our_indexes }
+    ensures whole { indexes.now ≡ our_indexes → IsTrue result }
+{
+    let [names, places] = indexes else {
+        return false;
+    };
+    is_index(names, b"sqlite_autoindex_volumes_1", 2, 1, &[2])
+        & is_index(places, b"sqlite_autoindex_attachments_1", 4, 3, &[1, 2])
+}
+
+/// Whether a schema is that of the three tables, as `make_tables` leaves it.
+///
+/// It is exact: each column has its name, kind, default and NOT NULL, each table its keys and its
+/// CHECK, each index its columns, all in the order and in the trees in which they were made, and
+/// there is no further table, index or view.
+#[tactic(auto, using(crate::proofs::OursLemmas::is_ours, crate::proofs::OursLemmas::has_ours))]
+pub fn is_our_schema(schema: &Schema) -> bool
+    ensures is { IsTrue result → schema.now ≡ our_schema }
+    ensures whole { schema.now ≡ our_schema → IsTrue result }
+{
+    are_tables(schema.tables.as_slice())
+        & are_indexes(schema.indexes.as_slice())
+        & schema.views.is_empty()
+}

@@ -1,0 +1,100 @@
+//! The parts of a schema, compared with what they should be.
+
+ghost use Rattle.std.specs.Prelude.{◌≡◌, ◌↔◌, [], ◌∷◌, IsTrue};
+ghost use Rattle.sqlite_value.specs.Keys.{plain};
+ghost use Rattle.csi_sql.specs.Ours.{HasKeys, IsBare, plain_column, unique_index};
+
+use sqlite_items::Items;
+use sqlite_schema::schema::{Column, Index, Kind, Stamps, Table};
+use sqlite_value::keys::{Collation, Order};
+use sqlite_value::value::Value;
+
+fn is_named(name: &[u8], wanted: &[u8]) -> bool
+    ensures { IsTrue result ↔ name.now ≡ wanted.now }
+{
+    name == wanted
+}
+
+pub(super) fn are_places(places: &[usize], wanted: &[usize]) -> bool
+    ensures { IsTrue result ↔ places.now ≡ wanted.now }
+{
+    places == wanted
+}
+
+/// The index that SQL makes for a UNIQUE or a PRIMARY KEY.
+pub(super) fn is_index(index: &Index, name: &[u8], tree: u32, table: u32, columns: &[usize]) -> bool
+    ensures is { IsTrue result → index.now ≡ unique_index name.now tree table columns.now }
+    ensures whole { index.now ≡ unique_index name.now tree table columns.now → IsTrue result }
+{
+    is_named(index.name.as_slice(), name)
+        & are_places(index.columns.as_slice(), columns)
+        & (index.tree == tree)
+        & (index.table == table)
+        & (index.order.digits == 0)
+        & index.is_unique
+}
+
+pub(super) fn is_column(column: &Column, name: &[u8], kind: Kind, not_null: bool) -> bool
+    ensures is { IsTrue result → column.now ≡ plain_column name.now kind not_null }
+    ensures whole { column.now ≡ plain_column name.now kind not_null → IsTrue result }
+{
+    is_named(column.name.as_slice(), name)
+        & (column.kind == kind)
+        & (column.not_null == not_null)
+        & !column.is_strict
+        & matches!(column.default, Value::Null)
+        & (column.collation == Collation::Binary)
+}
+
+// One key, over these columns.
+fn is_one_key(uniques: &Items<Items<usize>>, places: &[usize]) -> bool
+    ensures is { IsTrue result → uniques.now ≡ places.now ∷ [] }
+    ensures whole { uniques.now ≡ places.now ∷ [] → IsTrue result }
+{
+    let [one] = uniques.as_slice() else {
+        return false;
+    };
+    are_places(one.as_slice(), places)
+}
+
+// One index, ascending in each of its columns.
+fn is_one_ascending(orders: &Items<Order>) -> bool
+    ensures is { IsTrue result → orders.now ≡ plain ∷ [] }
+    ensures whole { orders.now ≡ plain ∷ [] → IsTrue result }
+{
+    let [one] = orders.as_slice() else {
+        return false;
+    };
+    one.digits == 0
+}
+
+/// A primary key, one other key, and no CHECK.
+pub(super) fn has_keys(table: &Table, primary: &[usize], unique: &[usize]) -> bool
+    ensures is { IsTrue result → HasKeys primary.now unique.now table.now }
+    ensures whole { HasKeys primary.now unique.now table.now → IsTrue result }
+{
+    are_places(table.primary.as_slice(), primary)
+        & is_one_key(&table.uniques, unique)
+        & is_one_ascending(&table.orders)
+        & table.checks.roots.is_empty()
+}
+
+fn is_no_stamp(stamps: &Stamps) -> bool
+    ensures is { IsTrue result → stamps.now ≡ record { places = []; terms = []; formats = [] } }
+    ensures whole { stamps.now ≡ record { places = []; terms = []; formats = [] } → IsTrue result }
+{
+    stamps.places.is_empty() & stamps.terms.roots.is_empty() & stamps.formats.is_empty()
+}
+
+/// A table of a name over a tree, with no reference, no computed default and no counter.
+pub(super) fn is_bare(table: &Table, name: &[u8], tree: u32) -> bool
+    ensures is { IsTrue result → IsBare name.now tree table.now }
+    ensures whole { IsBare name.now tree table.now → IsTrue result }
+{
+    is_named(table.name.as_slice(), name)
+        & (table.tree == tree)
+        & table.references.is_empty()
+        & table.computed.is_empty()
+        & is_no_stamp(&table.stamps)
+        & !table.is_counted
+}

@@ -1,0 +1,135 @@
+//! The reads, each in a transaction that is undone.
+//!
+//! Each asks that no transaction is open on the connection, and leaves it so. Numbers that are asked
+//! for are below 2^63. A row of a volume has the columns number, name, bytes, pool, caps and params.
+//! An error is the one of the statement that failed.
+
+ghost use Rattle.std.specs.Prelude.{◌≡◌, ◌<◌, ◌^◌, [], ◌∷◌, false};
+ghost use Rattle.sqlite.specs.declared.types.Value.TheVariants.{Text};
+ghost use Rattle.csi_sql.specs.Refusing.{HasNoNext, NothingRefuses};
+ghost use Rattle.csi_sql.specs.Effects.{ReadsOnly};
+ghost use Rattle.csi_sql.specs.Rows.{number_value};
+ghost use Rattle.csi_sql.specs.Selecting.{IsAsked, Tells};
+ghost use Rattle.csi_sql.specs.Shown.{IsFoundBy, IsNext, IsPage, IsPageNodes, IsShownOf, last_number};
+ghost use Rattle.csi_sql.specs.Statements.{attached_query, named_query, nodes_query, sizes_query, volume_query};
+
+use crate::statements::meta::select_next;
+use crate::statements::select::{Select, select_rows};
+use crate::values::{first, number_at};
+use sqlite::{Alter, Connection, Error, Row};
+
+/// The next number, in the one cell of the row, whatever the format is.
+pub fn next_number<S: Alter>(conn: &mut Connection<S>) -> Result<Row, Error>
+    requires idle { conn.old.in_transaction ≡ false }
+    ensures { ReadsOnly S.Store conn.old conn.new IsNext HasNoNext result }
+{
+    let mut tx = conn.transaction();
+    let row = select_next(&mut tx)?;
+    tx.rollback();
+    Ok(row)
+}
+
+fn rows_of<S: Alter>(conn: &mut Connection<S>, read: &Select<'_>) -> Result<Vec<Row>, Error>
+    requires idle { conn.old.in_transaction ≡ false }
+    requires asked { IsAsked read.now }
+    ensures { ReadsOnly S.Store conn.old conn.new (λ db rows. Tells read.now db rows.items) NothingRefuses result }
+{
+    let mut tx = conn.transaction();
+    let rows = select_rows(&mut tx, read)?;
+    tx.rollback();
+    Ok(rows)
+}
+
+/// The volume of a number; `None` where none stands.
+pub fn by_number<S: Alter>(conn: &mut Connection<S>, volume: u64) -> Result<Option<Row>, Error>
+    requires idle { conn.old.in_transaction ≡ false }
+    requires volume { volume < 2 ^ 63 }
+    ensures { ReadsOnly S.Store conn.old conn.new (λ db found. IsFoundBy volume_query (db.trees 1) (number_value volume ∷ []) found) NothingRefuses result }
+{
+    let rows = rows_of(conn, &Select::Numbered(volume))?;
+    Ok(first(rows))
+}
+
+/// The volume of a name, byte for byte; `None` where none stands.
+pub fn by_name<S: Alter>(conn: &mut Connection<S>, name: &str) -> Result<Option<Row>, Error>
+    requires idle { conn.old.in_transaction ≡ false }
+    ensures { ReadsOnly S.Store conn.old conn.new (λ db found. IsFoundBy named_query (db.trees 1) (Text name.now ∷ []) found) NothingRefuses result }
+{
+    let rows = rows_of(conn, &Select::Named(name))?;
+    Ok(first(rows))
+}
+
+/// The node, the capability and the flag readonly of each attachment of a volume, in byte order of
+/// the nodes.
+pub fn attachments<S: Alter>(conn: &mut Connection<S>, volume: u64) -> Result<Vec<Row>, Error>
+    requires idle { conn.old.in_transaction ≡ false }
+    requires volume { volume < 2 ^ 63 }
+    ensures { ReadsOnly S.Store conn.old conn.new
+        (λ db rows. IsShownOf nodes_query (db.trees 3) (number_value volume ∷ []) rows.items) NothingRefuses result }
+{
+    rows_of(conn, &Select::Nodes(volume))
+}
+
+/// The number of each volume that is attached at a node, in rising order.
+pub fn attached_at<S: Alter>(conn: &mut Connection<S>, node: &str) -> Result<Vec<Row>, Error>
+    requires idle { conn.old.in_transaction ≡ false }
+    ensures { ReadsOnly S.Store conn.old conn.new (λ db rows. IsShownOf attached_query (db.trees 3) (Text node.now ∷ []) rows.items) NothingRefuses result }
+{
+    rows_of(conn, &Select::Attached(node))
+}
+
+/// The bytes of each volume of a pool, in rising order of their numbers.
+pub fn sizes_in<S: Alter>(conn: &mut Connection<S>, pool: &str) -> Result<Vec<Row>, Error>
+    requires idle { conn.old.in_transaction ≡ false }
+    ensures { ReadsOnly S.Store conn.old conn.new (λ db rows. IsShownOf sizes_query (db.trees 1) (Text pool.now ∷ []) rows.items) NothingRefuses result }
+{
+    rows_of(conn, &Select::Sizes(pool))
+}
+
+/// The volumes with a number greater than `after`, in rising order, and of these the first `count`.
+pub fn page<S: Alter>(conn: &mut Connection<S>, after: u64, count: u32) -> Result<Vec<Row>, Error>
+    requires idle { conn.old.in_transaction ≡ false }
+    requires after { after < 2 ^ 63 }
+    ensures { ReadsOnly S.Store conn.old conn.new (λ db rows. IsPage after count db rows.items) NothingRefuses result }
+{
+    rows_of(conn, &Select::Page(after, count))
+}
+
+/// A page of volumes, and where they are attached.
+#[derive(Drop)]
+pub struct PageNodes {
+    /// The number of each volume of the page, in rising order.
+    pub numbers: Vec<Row>,
+    /// The number and the node of each of their attachments, in rising order of the numbers, and
+    /// then in byte order of the nodes.
+    pub places: Vec<Row>,
+}
+
+/// The number in the last row, or `after` where there is none.
+fn last_of(numbers: &[Row], after: u64) -> u64
+    requires { after < 2 ^ 63 }
+    ensures value { result ≡ last_number after numbers.now }
+    ensures range { result < 2 ^ 63 }
+{
+    match numbers.last() {
+        Some(row) => number_at(row, 0).unwrap_or(after),
+        None => after,
+    }
+}
+
+/// The numbers of the page of `page`, and the nodes that each of its volumes is attached at.
+pub fn page_nodes<S: Alter>(
+    conn: &mut Connection<S>,
+    after: u64,
+    count: u32,
+) -> Result<PageNodes, Error>
+    requires idle { conn.old.in_transaction ≡ false }
+    requires after { after < 2 ^ 63 }
+    ensures { ReadsOnly S.Store conn.old conn.new (λ db page. IsPageNodes after count db page.numbers.items page.places.items) NothingRefuses result }
+{
+    let mut tx = conn.transaction();
+    let numbers = select_rows(&mut tx, &Select::PageNumbers(after, count))?;
+    let places = select_rows(&mut tx, &Select::Places(after, last_of(&numbers, after)))?;
+    tx.rollback();
+    Ok(PageNodes { numbers, places })
+}
