@@ -124,15 +124,26 @@ impl Wanted<'_> {
         })
     }
 
+    // Whether nobody had opened the files before the call.
+    fn is_new(&self) -> bool {
+        self.files.log.bytes().is_empty() && self.files.db.bytes().is_empty()
+    }
+
+    // What the next start finds where a run of `csi_files` was in trouble.
+    fn find_after_trouble(&self, stop: Stop, files: &Files<Memory>) -> Result<Outcome, RowFault> {
+        self.runs_again(stop, files)?;
+        if !self.is_new() {
+            return outcome_of(self.alloc, self.config, files, self.call);
+        }
+        // The first page of new files may be torn, and only a run of `csi_files` makes it whole.
+        let (_, opened) = self.serve(files, b"", &mut Vec::new(self.alloc))?;
+        outcome_of(self.alloc, self.config, &opened, self.call)
+    }
+
     /// What the next start finds.
     pub(crate) fn find(&self, stop: Stop, files: Files<Memory>) -> Result<Found, RowFault> {
         let outcome = match stop.trouble {
-            Some(_) => {
-                self.runs_again(stop, &files)?;
-                // A first page may be torn, which a run makes whole.
-                let (_, opened) = self.serve(&files, b"", &mut Vec::new(self.alloc))?;
-                outcome_of(self.alloc, self.config, &opened, self.call)
-            }
+            Some(_) => self.find_after_trouble(stop, &files),
             None => outcome_of(self.alloc, self.config, &files, self.call),
         };
         match outcome {
