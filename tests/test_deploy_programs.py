@@ -25,7 +25,7 @@ from tests.support.deploy import (
     value,
     wait,
 )
-from tests.support.logs import KeptLog
+from tests.support.change_stores import KeptChangeStore
 from tests.support.rows import ProgramTest
 
 
@@ -182,7 +182,7 @@ class ProgramsTest(ProgramTest):
         self.row("csid makes its socket without a log", wait(lambda: os.path.exists(backend)), True)
         time.sleep(1.5)
         self.row("the front makes none before csid serves", os.path.exists(endpoint), False)
-        log = KeptLog(path)
+        log = KeptChangeStore(path)
         self.row("the front makes its socket once csid serves", wait(lambda: os.path.exists(endpoint)), True)
         self.row("csid made its first row", log.rows(), ([], [], [(1, 2, 1)]))
         log.end()
@@ -195,7 +195,7 @@ class ProgramsTest(ProgramTest):
             (3, False),
         )
         pod.start("front", shorter)
-        log = KeptLog(path)
+        log = KeptChangeStore(path)
         self.row("and serves again once the log is back", wait(lambda: os.path.exists(endpoint)), True)
         for name in ["front", "csid"]:
             self.row(name + " over a log ends by SIGTERM", pod.ends(name), True)

@@ -19,7 +19,7 @@ import tempfile
 import time
 
 from tests import vectors as v
-from tests.support import logs
+from tests.support import change_stores
 from tests.support.model import Model, Requests, capabilities, entries
 from tests.support.processes import program
 from tests.support.rows import RowTest
@@ -67,9 +67,9 @@ EXPECTED = [
 ]
 # What a log does of a change, by what is told of it.
 FAULTS = {
-    logs.KeptLog.REFUSES: "a change that the log refused",
-    logs.KeptLog.ENDS: "a change that the log did not make",
-    logs.KeptLog.LOSES: "a change that the log made, but did not answer",
+    change_stores.KeptChangeStore.REFUSES: "a change that the log refused",
+    change_stores.KeptChangeStore.ENDS: "a change that the log did not make",
+    change_stores.KeptChangeStore.LOSES: "a change that the log made, but did not answer",
 }
 
 
@@ -107,7 +107,7 @@ class LogServer:
     tables = None
 
     def __init__(self, csid, folder):
-        self.log = logs.KeptLog(os.path.join(folder, "log"))
+        self.log = change_stores.KeptChangeStore(os.path.join(folder, "log"))
         self.path, self.csid = os.path.join(folder, "csid"), csid
         self.refused = 0
         self.start()

@@ -7,7 +7,7 @@ import (
 	"google.golang.org/protobuf/encoding/protowire"
 )
 
-// Paths of the calls that are answered (docs/PROTOCOL.md, "The log").
+// Paths of the calls that are answered (docs/PROTOCOL.md, "The change store").
 const (
 	readPath   = "/fomaheti.log.v1.Log/Read"
 	makePath   = "/fomaheti.log.v1.Log/Make"

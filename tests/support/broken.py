@@ -3,7 +3,7 @@
 """
 import io
 
-from tests.support import logs
+from tests.support import change_stores
 from tests import vectors as v
 
 MIB = 1 << 20
@@ -101,7 +101,7 @@ def calls_of_vectors():
     for line in v.LINES:
         digits = line.split(" ")[1] if line and line[0] != "#" else "-"
         stream = io.BytesIO(b"" if digits == "-" else bytes.fromhex(digits))
-        while frame := logs.next_frame(stream):
+        while frame := change_stores.next_frame(stream):
             calls.append(frame)
     return [it for it in calls if it[0].startswith(b"/csi")]
 

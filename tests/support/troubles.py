@@ -10,7 +10,7 @@ import subprocess
 import threading
 import time
 
-from tests.support import logs
+from tests.support import change_stores
 from tests import vectors as v
 from tests.support.programs import CONFIG, NAME, SECONDS, Etcd, Frames, Grpc, asked, program, wait
 
@@ -23,7 +23,7 @@ NEW_MOUNTS, NEW_TIME = 0x20000, 0x80
 def only(body, *numbers):
     """What stands under a number in a message, and so on in that."""
     for number in numbers:
-        body = dict(logs.fields(body))[number]
+        body = dict(change_stores.fields(body))[number]
     return body
 
 
@@ -67,7 +67,7 @@ def listed(ask):
         body, _ = ask("ListVolumes", v.start(token) if token else b"")
         if body is None:
             return None
-        told = logs.fields(body)
+        told = change_stores.fields(body)
         ids += [only(it, 1, 2).decode() for number, it in told if number == 1]
         token = dict(told).get(2, b"")
         if not token:
@@ -396,7 +396,7 @@ class Stack:
         )
         if not self.keeper.has_ended():
             self.keeper.process.send_signal(signal.SIGCONT)
-            told = asked(self.keeper.socket, v.frame(logs.LEAD))
+            told = asked(self.keeper.socket, v.frame(change_stores.LEAD))
             self.run.check(
                 "it says that it leads, and does not", not told or told[0][0] != 0 or self.etcd.locks()
             )

@@ -12,7 +12,8 @@ use std::io::{self, Write};
 
 // Appends a character. An end of line or another control is escaped, as `\n` or `\u{1b}`.
 fn push_shown(line: &mut String, character: char) -> Result<(), AllocError>
-    ensures ok { OnOk result (string_bytes line.new ≡ string_bytes line.old ++ encode_utf8_all (shown character)) }
+    ensures ok { OnOk result (string_bytes line.new
+        ≡ string_bytes line.old ++ encode_utf8_all (shown character)) }
 {
     if !character.is_control() {
         return line.push(character);
@@ -39,14 +40,16 @@ fn line(alloc: Global, program: &str, text: &str) -> Result<String, AllocError>
     Ok(line)
 }
 
-/// A line for standard error, with its end: the program's name, a colon and a text, which is what is displayed where its type says
-/// that. What in the text would end the line, and every other control, is escaped.
+/// A line for standard error, with its end: the program's name, a colon and a text, which is what is
+/// displayed where its type says that. What in the text would end the line, and every other control, is
+/// escaped.
 ///
 /// # Errors
 ///
 /// Where memory was refused.
 pub fn error_line<T: Display>(alloc: Global, program: &str, what: &T) -> Result<String, AllocError>
-    ensures ok { IfOk result (λ said. (text : List ℕ) × (string_bytes said ≡ line_of program.now text) × IfSome (T.output what.now) (λ displayed. text ≡ displayed)) }
+    ensures ok { IfOk result (λ said. (text : List ℕ) × (string_bytes said ≡ line_of program.now text)
+        × IfSome (T.output what.now) (λ displayed. text ≡ displayed)) }
 {
     let text = format!(in alloc; "{what}")?;
     line(alloc, program, text.as_str())

@@ -21,7 +21,7 @@ fn in_place(rt: &HostRuntime) -> Option<File>
 /// Takes the places of those of the three that are closed, so that no file or connection that is opened
 /// later gets one of them, and with it what is meant for standard output or standard error. Reading and
 /// writing them fails as before. A program calls it first, and keeps what it is given to its end.
-pub fn take_closed(rt: &HostRuntime) -> [Option<File>; 3]
+pub fn occupy_closed(rt: &HostRuntime) -> [Option<File>; 3]
     ensures { All (λ place. IfSome place (λ file. file_raw_fd file <ℤ pos 3)) result }
 {
     [in_place(rt), in_place(rt), in_place(rt)]

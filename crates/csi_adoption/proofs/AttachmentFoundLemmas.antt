@@ -22,7 +22,7 @@ use Rattle.csi_config.specs.declared.nodes.Node.{Node}
 use Rattle.csi_keeper.specs.Capability.{is_supported_key}
 use Rattle.csi_keeper.specs.Coexistence.{coexist}
 use Rattle.csi_keeper.specs.Invariant.{IsAttached, IsVolume}
-use Rattle.csi_keeper.specs.State.{Place, State, place_cmp}
+use Rattle.csi_keeper.specs.State.{AttachmentKey, State, attachment_key_cmp}
 use Rattle.csi_keeper.specs.Texts.{Text as Bytes}
 use Rattle.csi_keeper.specs.declared.capability.CapKey.{CapKey}
 use Rattle.csi_keeper.specs.declared.capability.Kind.TheVariants.{Block}
@@ -70,24 +70,24 @@ spare : CapKey
 spare = record { kind = Block; mode = 0 }
 
 -- the attachment that a row behind its rowid says
-said : Row → Place × Attachment
+said : Row → AttachmentKey × Attachment
 said x = (
   (unwrap_or (as_number (column x 1)) 0, unwrap_or (as_text (column x 2)) []),
   record { node = unwrap_or (as_text (column x 2)) []; cap = unwrap_or (key_at 3 x) spare; readonly = unwrap_or (as_flag (column x 4)) false },
 )
 
 -- a row says an attachment that may stand among the volumes
-record Says (config : Config) (volumes : FinMap nat_cmp Volume) (x : Row) (e : Place × Attachment) : Type 0 where
+record Says (config : Config) (volumes : FinMap nat_cmp Volume) (x : Row) (e : AttachmentKey × Attachment) : Type 0 where
   entry : drop 1 x ≡ attachment_entry e
   placed : IsPlaced e
   stands : StandsAmong config volumes e.0.0 e.0.1 e.1
   supported : is_supported_key e.1.cap ≡ true
 
-module _ (attachment_agrees : (config : Config) (rowid : Value) (e : Place × Attachment) → AttachmentAgrees config rowid e) (owner_agrees : (e : Place × Attachment) (own : List CapKey) → OwnerAgrees e own)
-    (pair_agrees : (e f : Place × Attachment) → PairAgrees e f)
+module _ (attachment_agrees : (config : Config) (rowid : Value) (e : AttachmentKey × Attachment) → AttachmentAgrees config rowid e) (owner_agrees : (e : AttachmentKey × Attachment) (own : List CapKey) → OwnerAgrees e own)
+    (pair_agrees : (e f : AttachmentKey × Attachment) → PairAgrees e f)
     (config : Config) (next : ℕ) (db : Trees) (volumes : FinMap nat_cmp Volume) (rows owned places : List Row)
     (sound : IsSound schema db) (order : IsInOrder (map keyed_attachment (db 3)) rows) (pass : AttachmentsPass config rows) (known : AttachmentsAreKnown rows)
-    (standing : IsPermutation (map volume_entry (entries volumes)) (map seen_volume (db 1))) (stored : AllByRecursion IsStored (entries volumes))
+    (volumes_in_order : IsPermutation (map volume_entry (entries volumes)) (map seen_volume (db 1))) (stored : AllByRecursion IsStored (entries volumes))
     (each : (n : ℕ) (v : Volume) → get volumes n ≡ Some v → IsVolume config next n v)
     (owned_are : IsPermutation (owners (db 3) (db 1)) owned) (owned_pass : list_all is_owned owned ≡ true)
     (places_are : IsPermutation (map seen_attachment (db 3)) places) (none : NoneApart places) where
@@ -110,9 +110,9 @@ module _ (attachment_agrees : (config : Config) (rowid : Value) (e : Place × At
       let text = text_cell (column r 2) both.1 in
       let key = key_cell is_supported_key (column r 3) (test_has has_cap rows (keyed_attachment r) pass.caps shown) in
       let flag = flag_cell (column r 4) (test_has has_flag rows (keyed_attachment r) pass.flags shown) in
-      let own = numbered owner_agrees volumes (db 3) (db 1) standing stored (λ n v some. (each n v some).caps) owned owned_are owned_pass r has both.0 in
+      let own = numbered owner_agrees volumes (db 3) (db 1) volumes_in_order stored (λ n v some. (each n v some).caps) owned owned_are owned_pass r has both.0 in
       let fit : FitCaps (key.0 ∷ []) = subst (λ (o : Option CapKey). IfSome o (λ k. FitCaps (k ∷ []))) key.1 (all_has (λ x. IfSome (key_at 3 x) (λ k. FitCaps (k ∷ []))) rows (keyed_attachment r) known.caps shown) in
-      let e : Place × Attachment = ((own.number, text.0), record { node = text.0; cap = key.0; readonly = flag.0 }) in
+      let e : AttachmentKey × Attachment = ((own.number, text.0), record { node = text.0; cap = key.0; readonly = flag.0 }) in
       let node = ap (λ v. is_some_and (is_node config.nodes) (as_text v)) (sym text.1) ∙ test_has (is_at_node config.nodes) rows (keyed_attachment r) pass.nodes shown in
       let says : Says config volumes (keyed_attachment r) e = record {
         entry = λ i. own.is i ∷ text.1 i ∷ key.2 i ∷ flag.2 i ∷ [];
@@ -137,8 +137,8 @@ module _ (attachment_agrees : (config : Config) (rowid : Value) (e : Place × At
       let q = (says_row b right).entry in
       let integer : (r : Row) → Has (db 3) r → is_int (column r 0) ≡ true = λ r has. all_has (λ x. is_int (column x 0) ≡ true) rows (keyed_attachment r) known.rising.integers (row_shown r has) in
       not_twice db sound a b left right (integer a left) (integer b right) less (said (keyed_attachment a)).0.0 (said (keyed_attachment a)).0.1
-      (ap (λ (x : Row). column x 0) p) (ap (λ (x : Row). column x 0) q ∙ ap (λ (k : Place). number_value k.0) (sym same))
-      (ap (λ (x : Row). column x 1) p) (ap (λ (x : Row). column x 1) q ∙ ap (λ (k : Place). Text k.1) (sym same))
+      (ap (λ (x : Row). column x 0) p) (ap (λ (x : Row). column x 0) q ∙ ap (λ (k : AttachmentKey). number_value k.0) (sym same))
+      (ap (λ (x : Row). column x 1) p) (ap (λ (x : Row). column x 1) q ∙ ap (λ (k : AttachmentKey). Text k.1) (sym same))
 
   apart : AreApart (map said rows)
   apart =
@@ -153,14 +153,14 @@ module _ (attachment_agrees : (config : Config) (rowid : Value) (e : Place × At
 
   -- ---- the attachments
 
-  found : FinMap place_cmp Attachment
+  found : FinMap attachment_key_cmp Attachment
   found = from_entries (map said rows)
 
   found_all : IsPermutation (map said rows) (entries found)
   unfolding found
   found_all = made_of place_total place_exact (map said rows) apart
 
-  each_found : (P : Place × Attachment → Type 0) → ((x : Row) → Has rows x → P (said x)) → AllByRecursion P (entries found)
+  each_found : (P : AttachmentKey × Attachment → Type 0) → ((x : Row) → Has rows x → P (said x)) → AllByRecursion P (entries found)
   each_found P good = all-permutation P (map said rows) (entries found) found_all (all-map P said rows (all_from (λ x. P (said x)) rows good))
 
   listed : IsPermutation (map attachment_entry (entries found)) (map seen_attachment (db 3))
@@ -180,7 +180,7 @@ module _ (attachment_agrees : (config : Config) (rowid : Value) (e : Place × At
   -- ---- any two of one volume
 
   -- each attachment has a row
-  row_of : (e : Place × Attachment) → Has (entries found) e → (r : Row) × Has (db 3) r × (attachment_entry e ≡ seen_attachment r)
+  row_of : (e : AttachmentKey × Attachment) → Has (entries found) e → (r : Row) × Has (db 3) r × (attachment_entry e ≡ seen_attachment r)
   row_of e has = shown_by seen_attachment attachment_entry (db 3) (entries found) (IsPermutation-sym _ _ listed) e has
 
   placed : AllByRecursion IsPlaced (entries found)
@@ -190,15 +190,15 @@ module _ (attachment_agrees : (config : Config) (rowid : Value) (e : Place × At
   supported = each_found _ (λ x has. (says x has).supported)
 
   -- as one of the rows by their numbers
-  place_shown : (e : Place × Attachment) → Has (entries found) e → Has places (attachment_entry e)
+  place_shown : (e : AttachmentKey × Attachment) → Has (entries found) e → Has places (attachment_entry e)
   place_shown e has =
       let r = row_of e has in
       subst (Has places) (sym r.2) (has_permuted places (map seen_attachment (db 3)) (seen_attachment r.0) (IsPermutation-sym _ _ places_are) (mapped_has seen_attachment (db 3) r.0 r.1))
 
-  beside_told : (e f : Place × Attachment) → Has (entries found) e → Has (entries found) f → e.0.0 ≡ f.0.0 → are_apart (attachment_entry e) (attachment_entry f) ≡ false → coexist e.1 f.1 ≡ true
+  beside_told : (e f : AttachmentKey × Attachment) → Has (entries found) e → Has (entries found) f → e.0.0 ≡ f.0.0 → are_apart (attachment_entry e) (attachment_entry f) ≡ false → coexist e.1 f.1 ≡ true
   beside_told e f left right same far =
-      let good = λ (g : Place × Attachment) (has : Has (entries found) g). all_has (λ e. is_supported_key e.1.cap ≡ true) (entries found) g supported has in
-      let small = λ (g : Place × Attachment) (has : Has (entries found) g). all_has IsPlaced (entries found) g placed has in
+      let good = λ (g : AttachmentKey × Attachment) (has : Has (entries found) g). all_has (λ e. is_supported_key e.1.cap ≡ true) (entries found) g supported has in
+      let small = λ (g : AttachmentKey × Attachment) (has : Has (entries found) g). all_has IsPlaced (entries found) g placed has in
       not_not (coexist e.1 f.1) (sym ((pair_agrees e f).beside same (small e left).cap (good e left) (small f right).cap (good f right)) ∙ far)
 
   beside_found : (n : ℕ) (d e : Bytes) (a b : Attachment) → get found (n, d) ≡ Some a → get found (n, e) ≡ Some b → (d ≡ e → ⊥) → coexist a b ≡ true
@@ -234,9 +234,9 @@ module _ (attachment_agrees : (config : Config) (rowid : Value) (e : Place × At
   }
 
 -- the same, over the rows that two scans show
-pub attachments_found : ((config : Config) (rowid : Value) (e : Place × Attachment) → AttachmentAgrees config rowid e) → ((e : Place × Attachment) (own : List CapKey) → OwnerAgrees e own)
-    → ((e f : Place × Attachment) → PairAgrees e f) → AttachmentsAreFound
-attachments_found attachment_agrees owner_agrees pair_agrees config next db volumes standing rows owned places sound shown are stored each order pass known owned_are owned_pass places_are none =
+pub attachments_found : ((config : Config) (rowid : Value) (e : AttachmentKey × Attachment) → AttachmentAgrees config rowid e) → ((e : AttachmentKey × Attachment) (own : List CapKey) → OwnerAgrees e own)
+    → ((e f : AttachmentKey × Attachment) → PairAgrees e f) → AttachmentsAreFound
+attachments_found attachment_agrees owner_agrees pair_agrees config next db volumes volumes_in_order rows owned places sound shown are stored each order pass known owned_are owned_pass places_are none =
     found_attachments attachment_agrees owner_agrees pair_agrees config next db volumes rows owned places sound order pass known
     (subst (λ xs. IsPermutation xs (map seen_volume (db 1))) (sym are) (IsPermutation-sym _ _ shown.same)) stored each owned_are owned_pass places_are none
 

@@ -17,7 +17,7 @@ use Rattle.csi_config.specs.Values as listing
 use Rattle.csi_config.specs.declared.config.Config.{Config}
 use Rattle.csi_keeper.specs.Capability.{has_key, is_supported_key}
 use Rattle.csi_keeper.specs.Invariant.{IsAttached, IsInvariant}
-use Rattle.csi_keeper.specs.State.{Place, State, place_cmp}
+use Rattle.csi_keeper.specs.State.{AttachmentKey, State, attachment_key_cmp}
 use Rattle.csi_keeper.specs.declared.capability.CapKey.{CapKey}
 use Rattle.csi_keeper.specs.declared.volume.Attachment.{Attachment}
 use Rattle.csi_keeper.specs.declared.volume.Volume.{Volume}
@@ -63,7 +63,7 @@ all_or_not test rows none = go (list_all test rows) refl
 module _ (config : Config) (format : ℕ) (s : State) (db : Trees) (rows_are : IsRowsOf format s db) (good : IsInvariant config s) where
   -- ---- what a row stands for
 
-  entry_of : (r : Row) → Has (db 3) r → (e : Place × Attachment) × Has (entries s.attachments) e × (seen_attachment r ≡ attachment_entry e)
+  entry_of : (r : Row) → Has (db 3) r → (e : AttachmentKey × Attachment) × Has (entries s.attachments) e × (seen_attachment r ≡ attachment_entry e)
   entry_of r has = shown_by attachment_entry seen_attachment (entries s.attachments) (db 3) rows_are.attachments r has
 
   volume_of : (v : Row) → Has (db 1) v → (f : ℕ × Volume) × Has (entries s.volumes) f × (seen_volume v ≡ volume_entry f)
@@ -72,33 +72,33 @@ module _ (config : Config) (format : ℕ) (s : State) (db : Trees) (rows_are : I
   row_of : (f : ℕ × Volume) → Has (entries s.volumes) f → (v : Row) × Has (db 1) v × (volume_entry f ≡ seen_volume v)
   row_of f has = shown_by seen_volume volume_entry (db 1) (entries s.volumes) (IsPermutation-sym _ _ rows_are.volumes) f has
 
-  got : (e : Place × Attachment) → Has (entries s.attachments) e → get s.attachments e.0 ≡ Some e.1
+  got : (e : AttachmentKey × Attachment) → Has (entries s.attachments) e → get s.attachments e.0 ≡ Some e.1
   got e has = has_got place_total place_exact s.attachments e has
 
   got_volume : (f : ℕ × Volume) → Has (entries s.volumes) f → get s.volumes f.0 ≡ Some f.1
   got_volume f has = has_got nat_cmp_total nat_cmp-IsAntisymmetric s.volumes f has
 
-  stands : (e : Place × Attachment) → Has (entries s.attachments) e → IsAttached config s e.0.0 e.0.1 e.1
+  stands : (e : AttachmentKey × Attachment) → Has (entries s.attachments) e → IsAttached config s e.0.0 e.0.1 e.1
   stands e has = good.attachments e.0.0 e.0.1 e.1 (got e has)
 
-  placed : (e : Place × Attachment) → Has (entries s.attachments) e → IsPlaced e
+  placed : (e : AttachmentKey × Attachment) → Has (entries s.attachments) e → IsPlaced e
   placed e has = all_has IsPlaced (entries s.attachments) e rows_are.storable.attachments has
 
-  supported : (e : Place × Attachment) → Has (entries s.attachments) e → is_supported_key e.1.cap ≡ true
+  supported : (e : AttachmentKey × Attachment) → Has (entries s.attachments) e → is_supported_key e.1.cap ≡ true
   supported e has =
       let at = stands e has in
       had_supported at.volume.caps e.1.cap at.cap (good.volumes e.0.0 at.volume at.stands).caps.supported
 
   -- ---- the rows of attachments
 
-  module _ (agrees : (config : Config) (rowid : Value) (e : Place × Attachment) → AttachmentAgrees config rowid e) (rows : List Row) (order : IsInOrder (map keyed_attachment (db 3)) rows) where
-    row_is : (x : Row) → Has rows x → (rowid : Value) × (e : Place × Attachment) × Has (entries s.attachments) e × (x ≡ keyed_entry rowid e)
+  module _ (agrees : (config : Config) (rowid : Value) (e : AttachmentKey × Attachment) → AttachmentAgrees config rowid e) (rows : List Row) (order : IsInOrder (map keyed_attachment (db 3)) rows) where
+    row_is : (x : Row) → Has rows x → (rowid : Value) × (e : AttachmentKey × Attachment) × Has (entries s.attachments) e × (x ≡ keyed_entry rowid e)
     row_is x has =
         let r = has_mapped keyed_attachment (db 3) x (has_permuted (map keyed_attachment (db 3)) rows x order.same has) in
         let e = entry_of r.0 r.1 in
         (column r.0 0, e.0, e.1, r.2 ∙ ap (λ (x : Row). column r.0 0 ∷ x) e.2)
 
-    each_row : (test : Row → Bool) → ((rowid : Value) (e : Place × Attachment) → Has (entries s.attachments) e → test (keyed_entry rowid e) ≡ true) → list_all test rows ≡ true
+    each_row : (test : Row → Bool) → ((rowid : Value) (e : AttachmentKey × Attachment) → Has (entries s.attachments) e → test (keyed_entry rowid e) ≡ true) → list_all test rows ≡ true
     each_row test passes = test_from test rows (λ x has. let e = row_is x has in ap test e.3 ∙ passes e.0 e.1 e.2)
 
     pub attachments_pass : AttachmentsPass config rows
@@ -121,7 +121,7 @@ module _ (config : Config) (format : ℕ) (s : State) (db : Trees) (rows_are : I
       let same = ap₂ is_same (ap (λ (x : Row). column x 0) (sym w.2)) (ap (λ (x : Row). column x 0) e.2) ∙ number_itself e.0.0.0 in
       (w.0, has_kept (owns r) (db 1) w.0 w.1 same)
 
-  owner_passes : ((e : Place × Attachment) (own : List CapKey) → OwnerAgrees e own) → (r v : Row) → Has (db 3) r → Has (db 1) v → owns r v ≡ true → is_owned (with_owner r v) ≡ true
+  owner_passes : ((e : AttachmentKey × Attachment) (own : List CapKey) → OwnerAgrees e own) → (r v : Row) → Has (db 3) r → Has (db 1) v → owns r v ≡ true → is_owned (with_owner r v) ≡ true
   owner_passes agrees r v left right same =
       let e = entry_of r left in
       let f = volume_of v right in
@@ -133,7 +133,7 @@ module _ (config : Config) (format : ℕ) (s : State) (db : Trees) (rows_are : I
       owned_is agrees r v e.0.1.cap f.0.1.caps (ap (λ (x : Row). column x 2) e.2) (ap (λ (x : Row). column x 4) f.2) (placed e.0 e.1).cap (supported e.0 e.1) small.caps (good.volumes f.0.0 f.0.1 some).caps
       ∙ ap (λ (v : Volume). has_key v.caps (Some e.0.1.cap)) volume ∙ at.cap
 
-  pub owners_pass : ((e : Place × Attachment) (own : List CapKey) → OwnerAgrees e own) → (owned : List Row) → IsPermutation (owners (db 3) (db 1)) owned → list_all is_owned owned ≡ true
+  pub owners_pass : ((e : AttachmentKey × Attachment) (own : List CapKey) → OwnerAgrees e own) → (owned : List Row) → IsPermutation (owners (db 3) (db 1)) owned → list_all is_owned owned ≡ true
   owners_pass agrees owned same = all_or_not is_owned owned (λ fails.
       let r = some_unowned is_owned (db 3) (db 1) owned same fails in
       let w = owner_row r.0 r.1 in
@@ -142,7 +142,7 @@ module _ (config : Config) (format : ℕ) (s : State) (db : Trees) (rows_are : I
 
   -- ---- any two of one volume
 
-  apart_entries : ((e f : Place × Attachment) → PairAgrees e f) → (e f : Place × Attachment) → Has (entries s.attachments) e → Has (entries s.attachments) f → (e.0 ≡ f.0 → ⊥) → are_apart (attachment_entry e) (attachment_entry f) ≡ false
+  apart_entries : ((e f : AttachmentKey × Attachment) → PairAgrees e f) → (e f : AttachmentKey × Attachment) → Has (entries s.attachments) e → Has (entries s.attachments) f → (e.0 ≡ f.0 → ⊥) → are_apart (attachment_entry e) (attachment_entry f) ≡ false
   apart_entries agrees e f left right far = go (e.0.0 == f.0.0) refl
     where
       go : (b : Bool) → (e.0.0 == f.0.0) ≡ b → are_apart (attachment_entry e) (attachment_entry f) ≡ false
@@ -153,12 +153,12 @@ module _ (config : Config) (format : ℕ) (s : State) (db : Trees) (rows_are : I
           ∙ ap not (good.beside e.0.0 e.0.1 f.0.1 e.1 f.1 (got e left) other (λ node. far (λ i. (same i, node i))))
       go false is = (agrees e f).other (λ same. true≢false (sym (eq-eqb _ _ same) ∙ is))
 
-  pub places_pass : ((e f : Place × Attachment) → PairAgrees e f) → (places : List Row) → IsPermutation (map seen_attachment (db 3)) places → NoneApart places
+  pub places_pass : ((e f : AttachmentKey × Attachment) → PairAgrees e f) → (places : List Row) → IsPermutation (map seen_attachment (db 3)) places → NoneApart places
   places_pass agrees places same =
       apart_permuted (map attachment_entry (entries s.attachments)) places (IsPermutation-trans _ _ _ rows_are.attachments same)
       (ascending-map (λ x y. are_apart x y ≡ false) attachment_entry (entries s.attachments)
-      (ascending_has (λ e f. place_cmp e.0 f.0 ≡ Less) (λ e f. are_apart (attachment_entry e) (attachment_entry f) ≡ false) (entries s.attachments)
-      (λ e f left right less. apart_entries agrees e f left right (λ same. not_less e f less same)) (keys_rise place_cmp (entries s.attachments) (entries_sorted s.attachments))))
+      (ascending_has (λ e f. attachment_key_cmp e.0 f.0 ≡ Less) (λ e f. are_apart (attachment_entry e) (attachment_entry f) ≡ false) (entries s.attachments)
+      (λ e f left right less. apart_entries agrees e f left right (λ same. not_less e f less same)) (keys_rise attachment_key_cmp (entries s.attachments) (entries_sorted s.attachments))))
     where
-      not_less : (e f : Place × Attachment) → place_cmp e.0 f.0 ≡ Less → e.0 ≡ f.0 → ⊥
-      not_less e f less same = less_equal (sym less ∙ ap (place_cmp e.0) (sym same) ∙ tied_itself place_total e.0)
+      not_less : (e f : AttachmentKey × Attachment) → attachment_key_cmp e.0 f.0 ≡ Less → e.0 ≡ f.0 → ⊥
+      not_less e f less same = less_equal (sym less ∙ ap (attachment_key_cmp e.0) (sym same) ∙ tied_itself place_total e.0)

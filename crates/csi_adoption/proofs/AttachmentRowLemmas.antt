@@ -26,7 +26,7 @@ use Rattle.sqlite_value.specs.Keys.{first_key, plain}
 use Rattle.sqlite_value.specs.declared.keys.Collation.TheVariants.{Binary}
 use Rattle.csi_keeper.specs.Capability.{has_key, is_supported_key}
 use Rattle.csi_keeper.specs.Invariant.{AreKeys}
-use Rattle.csi_keeper.specs.State.{Place}
+use Rattle.csi_keeper.specs.State.{AttachmentKey}
 use Rattle.csi_keeper.specs.Texts.{Text as Bytes}
 use Rattle.csi_keeper.specs.declared.capability.CapKey.{CapKey}
 use Rattle.csi_keeper.specs.declared.capability.Kind.TheVariants.{Block}
@@ -62,7 +62,7 @@ pub record OwnedRow (volumes : FinMap nat_cmp Volume) (r : Row) : Type 0 where
   -- the capability that it says is one of the volume's own
   pub cap : (k : CapKey) → column r 3 ≡ Blob (caps_bytes (k ∷ [])) → FitCaps (k ∷ []) → is_supported_key k ≡ true → has_key volume.caps (Some k) ≡ true
 
-with_cap : CapKey → Place × Attachment
+with_cap : CapKey → AttachmentKey × Attachment
 with_cap k = ((0, []), record { node = []; cap = k; readonly = false })
 
 no_cap : CapKey
@@ -76,19 +76,19 @@ owned_cells : (r v : Row) (k : CapKey) (ks : List CapKey) → column r 3 ≡ Blo
 unfolding says_own with_cap
 owned_cells r v k ks cap caps = ap₂ says_own cap caps
 
-pub owned_is : ((e : Place × Attachment) (own : List CapKey) → OwnerAgrees e own) → (r v : Row) (k : CapKey) (ks : List CapKey) → column r 3 ≡ Blob (caps_bytes (k ∷ [])) → column v 5 ≡ Blob (caps_bytes ks)
+pub owned_is : ((e : AttachmentKey × Attachment) (own : List CapKey) → OwnerAgrees e own) → (r v : Row) (k : CapKey) (ks : List CapKey) → column r 3 ≡ Blob (caps_bytes (k ∷ [])) → column v 5 ≡ Blob (caps_bytes ks)
     → FitCaps (k ∷ []) → is_supported_key k ≡ true → FitCaps ks → AreKeys ks → is_owned (with_owner r v) ≡ has_key ks (Some k)
 unfolding with_cap
 owned_is agrees r v k ks cap caps fit good fits all = owned_cells r v k ks cap caps ∙ (agrees (with_cap k) ks).owned fit good fits all
 
-module _ (agrees : (e : Place × Attachment) (own : List CapKey) → OwnerAgrees e own) (volumes : FinMap nat_cmp Volume) (attached standing : List Row)
-    (listed : IsPermutation (map volume_entry (entries volumes)) (map seen_volume standing)) (stored : AllByRecursion IsStored (entries volumes))
+module _ (agrees : (e : AttachmentKey × Attachment) (own : List CapKey) → OwnerAgrees e own) (volumes : FinMap nat_cmp Volume) (attached volumes_in_order : List Row)
+    (listed : IsPermutation (map volume_entry (entries volumes)) (map seen_volume volumes_in_order)) (stored : AllByRecursion IsStored (entries volumes))
     (kept : (n : ℕ) (v : Volume) → get volumes n ≡ Some v → AreKeys v.caps) where
   -- each attachment's number is that of a volume
-  pub numbered : (owned : List Row) → IsPermutation (owners attached standing) owned → list_all is_owned owned ≡ true → (r : Row) → Has attached r → is_integer (column r 1) ≡ true → OwnedRow volumes r
+  pub numbered : (owned : List Row) → IsPermutation (owners attached volumes_in_order) owned → list_all is_owned owned ≡ true → (r : Row) → Has attached r → is_integer (column r 1) ≡ true → OwnedRow volumes r
   numbered owned same all r has kind =
-      let found = each_owned is_owned (agrees (with_cap no_cap) []).unowned attached standing owned same all r has in
-      let e = shown_by volume_entry seen_volume (entries volumes) standing listed found.0 found.1 in
+      let found = each_owned is_owned (agrees (with_cap no_cap) []).unowned attached volumes_in_order owned same all r has in
+      let e = shown_by volume_entry seen_volume (entries volumes) volumes_in_order listed found.0 found.1 in
       let number : column found.0 0 ≡ number_value e.0.0 = ap (λ (x : Row). column x 0) e.2 in
       let caps : column found.0 5 ≡ Blob (caps_bytes e.0.1.caps) = ap (λ (x : Row). column x 4) e.2 in
       let stands = has_got nat_cmp_total nat_cmp-IsAntisymmetric volumes e.0 e.1 in
@@ -139,7 +139,7 @@ same_sums f g h k same (c ∷ cs) =
     let second = sum_by-cons g (k c) (map k cs) in
     omega (arith, here, more, first, second)
 
-at_node : (id : Bytes) (es : List (Place × Attachment)) → sum_by (added_by 1 id One) (map attachment_entry es) ≡ length (map (λ e. e.0.0) (filter (λ e. bytes_eq e.0.1 id) es))
+at_node : (id : Bytes) (es : List (AttachmentKey × Attachment)) → sum_by (added_by 1 id One) (map attachment_entry es) ≡ length (map (λ e. e.0.0) (filter (λ e. bytes_eq e.0.1 id) es))
 at_node id [] = refl
 at_node id (e ∷ es) = sum_by-cons (added_by 1 id One) (attachment_entry e) (map attachment_entry es) ∙ go (is_eq (slice_cmp nat_cmp e.0.1 id)) (bytes_eq e.0.1 id) (texts_ties e.0.1 id) (at_node id es)
   where
@@ -151,7 +151,7 @@ at_node id (e ∷ es) = sum_by-cons (added_by 1 id One) (attachment_entry e) (ma
     go false false same more = omega (arith, more)
 
 -- the rows that a scan shows count what the entries count
-pub counted : (es : List (Place × Attachment)) (table rows : List Row) → IsPermutation (map attachment_entry es) (map seen_attachment table) → IsPermutation (map keyed_attachment table) rows
+pub counted : (es : List (AttachmentKey × Attachment)) (table rows : List Row) → IsPermutation (map attachment_entry es) (map seen_attachment table) → IsPermutation (map keyed_attachment table) rows
     → (id : Bytes) → sum_by (added_by 2 id One) rows ≡ length (map (λ e. e.0.0) (filter (λ e. bytes_eq e.0.1 id) es))
 counted es table rows listed shown id =
     sum_by-IsPermutation (added_by 2 id One) (map keyed_attachment table) rows shown

@@ -36,14 +36,16 @@ pub record FoundState (config : Config) (db : Trees) (seen : VolumesSeen) : Type
   pub state : State
   pub rows : IsRowsIn seen.format state db
   pub invariant : IsInvariant config state
-  pub totals : (pool : List ℕ) → total_in config.pools (sums_of seen.pool_volumes.items) (sums_of seen.pool_bytes.items) pool ≡ the_total (length (sizes state pool)) (sum (sizes state pool))
+  pub totals : (pool : List ℕ) → total_in config.pools (sums_of seen.pool_volumes.items) (sums_of seen.pool_bytes.items) pool
+      ≡ the_total (length (sizes state pool)) (sum (sizes state pool))
 
 -- a State of a database with our tables of a format, which meets every constraint, and its totals
 pub record IsFound (config : Config) (db : Database) (format : ℕ) (totals : Totals) : Type 0 where
   pub schema_is : db.schema ≡ schema
   pub found : IsSound schema db.trees → IsFormat format × (s : State) × IsRowsIn format s db.trees × IsInvariant config s × AreTotals totals s
 
--- Tables that were taken: they stand for the State that they stood for, which meets every constraint, and are of the latest format.
+-- Tables that were taken: they stand for the State that they stood for, which meets every constraint, and are
+-- of the latest format.
 pub record IsTaken (config : Config) (old new : sql.State) (totals : Totals) : Type 0 where
   pub was_open : IsTrue old.is_open
   pub is_open : IsTrue new.is_open
@@ -52,7 +54,8 @@ pub record IsTaken (config : Config) (old new : sql.State) (totals : Totals) : T
   pub settled : old.now ≡ old.committed → new.now ≡ new.committed
   pub found : IsSound schema old.now.trees → (s : State) × IsEitherRows s old.now.trees × IsRows s new.now.trees × IsInvariant config s × AreTotals totals s
 
--- a stop may leave tables of the latest format in place of those of the first one, of the same State, which meets every constraint
+-- a stop may leave tables of the latest format in place of those of the first one, of the same State, which
+-- meets every constraint
 pub record LeavesLatest (config : Config) (old : sql.State) (db : Trees) : Type 0 where
   pub was_open : IsTrue old.is_open
   pub was_ours : old.now.schema ≡ schema
@@ -87,18 +90,23 @@ module _ {S : Type 0} (g : Ghosts S) (config : Config) (conn : Held S) where
     pub clean : conn_doubt g conn ≤ conn_doubt g back
     -- what was committed stays
     pub kept : HasCleanDisk (state g back) → KeepsCommit (state g conn) (state g back)
-    -- a stop leaves what it could leave before; only where there was no table, also the new ones that were to be made, and where there
-    -- were tables of the first format of a State that meets every constraint, and something failed, also those of the latest of the same State
-    pub crash : HasCleanDisk (state g back) → (db : Trees) → (state g back).may_leave db → (state g conn).may_leave db ⊎ ((made : Database) × (committed.schema ≡ no_schema) × MakesTables committed made × (db ≡ made.trees)) ⊎ ((s : State) × (committed.schema ≡ schema) × IsFirstRows s committed.trees × IsRows s db × IsInvariant config s × (is_failure fault ≡ true))
+    -- a stop leaves what it could leave before; only where there was no table, also the new ones that were to
+    -- be made, and where there were tables of the first format of a State that meets every constraint, and
+    -- something failed, also those of the latest of the same State
+    pub crash : HasCleanDisk (state g back) → (db : Trees) → (state g back).may_leave db → (state g conn).may_leave db
+        ⊎ ((made : Database) × (committed.schema ≡ no_schema) × MakesTables committed made × (db ≡ made.trees))
+        ⊎ ((s : State) × (committed.schema ≡ schema) × IsFirstRows s committed.trees × IsRows s db × IsInvariant config s × (is_failure fault ≡ true))
     -- the fault is the first one of what was committed, unless something failed
     pub first : HasCleanDisk (state g back) → IsTrue (state g back).is_open → is_failure fault ≡ false → IsFaultOf config committed fault
     -- other tables are told, whatever fails
-    pub other : HasCleanDisk (state g back) → IsTrue (state g back).is_open → committed.schema ≢ schema → committed.schema ≢ no_schema → fault ≡ Foreign foreign.Schema
+    pub other : HasCleanDisk (state g back) → IsTrue (state g back).is_open → committed.schema ≢ schema → committed.schema ≢ no_schema
+        → fault ≡ Foreign foreign.Schema
     -- where the connection is shut no row is judged; other tables are told there of what it shows
     pub shut : HasCleanDisk (state g back) → (state g back).is_open ≡ false → IsOfShut (state g back).now.schema fault
     -- a database without a table is refused only if something failed
     pub blank : HasCleanDisk (state g back) → IsTrue (state g back).is_open → committed.schema ≡ no_schema → is_failure fault ≡ true
-    -- the database fails for a cause, with an error of that cause: the disk failed once more, the connection is shut, as a fault had shut it or shut it since, or what is asked of what was committed is refused
+    -- the database fails for a cause, with an error of that cause: the disk failed once more, the connection
+    -- is shut, as a fault had shut it or shut it since, or what is asked of what was committed is refused
     pub failed : AdoptionFails g conn back fault
     -- and so are rows of a State that meets every constraint
     pub sound : HasCleanDisk (state g back) → IsTrue (state g back).is_open → IsNotRefused config committed fault

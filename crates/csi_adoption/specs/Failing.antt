@@ -31,7 +31,8 @@ DoNotRise seen = (rows : List Row) × IsInOrder seen rows × (IsRising 0 None ro
 abbrev pub HasUnrisen : Trees → Type 0
 HasUnrisen db = DoNotRise (map seen_volume (db 1)) ⊎ DoNotRise (map keyed_attachment (db 3))
 
--- what the database refuses that is asked for, on an open connection, with this error, though the disk has not failed
+-- what the database refuses that is asked for, on an open connection, with this error, though the disk has
+-- not failed
 pub data Refuses {S : Type 0} (g : Ghosts S) (old : Held S) (e : Error) : Type 0 where
   -- a scan has more rows than are read at most
   too_many : HasTooMany g old e → Refuses g old e

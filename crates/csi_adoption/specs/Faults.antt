@@ -73,14 +73,18 @@ abbrev pub kinds_faults : VolumesFound → AttachmentsFound → Option AdoptFaul
 kinds_faults volumes attachments = first_fault (volume_kinds_fault volumes.kinds ∷ attachment_kinds_fault attachments.kinds ∷ [])
 
 abbrev pub number_faults : ℕ → VolumesFound → Option AdoptFault
-number_faults next volumes = first_fault (next_fault next ∷ volume_fault volume_constraint.Number volumes.number ∷ volume_fault volume_constraint.Name volumes.name ∷ [])
+number_faults next volumes = first_fault (next_fault next ∷ volume_fault volume_constraint.Number volumes.number
+    ∷ volume_fault volume_constraint.Name volumes.name ∷ [])
 
 abbrev pub size_faults : Config → VolumesFound → Option AdoptFault
-size_faults config volumes = first_fault (volume_fault volume_constraint.Pool volumes.pool ∷ volume_fault volume_constraint.Bytes volumes.bytes ∷ pool_fault config.pools volumes.pool_bytes ∷ [])
+size_faults config volumes = first_fault (volume_fault volume_constraint.Pool volumes.pool ∷ volume_fault volume_constraint.Bytes volumes.bytes
+    ∷ pool_fault config.pools volumes.pool_bytes ∷ [])
 
 abbrev pub code_faults : VolumesFound → AttachmentsFound → Option AdoptFault
 code_faults volumes attachments =
-    first_fault (volume_fault volume_constraint.Caps volumes.caps ∷ volume_fault volume_constraint.Params volumes.params ∷ attachment_fault attachment_constraint.Cap attachments.cap ∷ attachment_fault attachment_constraint.Readonly attachments.readonly ∷ attachment_fault attachment_constraint.Node attachments.node ∷ [])
+    first_fault (volume_fault volume_constraint.Caps volumes.caps ∷ volume_fault volume_constraint.Params volumes.params
+    ∷ attachment_fault attachment_constraint.Cap attachments.cap ∷ attachment_fault attachment_constraint.Readonly attachments.readonly
+    ∷ attachment_fault attachment_constraint.Node attachments.node ∷ [])
 
 -- a volume stands and has the capability
 abbrev pub owner_fault : Option RowName → Option AdoptFault
@@ -92,10 +96,12 @@ count_faults config apart attachments volumes =
 
 -- those that the rows of volumes and of attachments tell by themselves
 abbrev pub table_faults : Config → ℕ → VolumesFound → AttachmentsFound → Option AdoptFault
-table_faults config next volumes attachments = first_fault (kinds_faults volumes attachments ∷ number_faults next volumes ∷ size_faults config volumes ∷ code_faults volumes attachments ∷ [])
+table_faults config next volumes attachments = first_fault
+    (kinds_faults volumes attachments ∷ number_faults next volumes ∷ size_faults config volumes ∷ code_faults volumes attachments ∷ [])
 
 abbrev pub all_faults : Config → ℕ → VolumesFound → AttachmentsFound → Option RowName → Option RowName → Option AdoptFault
-all_faults config next volumes attachments unowned apart = first_fault (table_faults config next volumes attachments ∷ owner_fault unowned ∷ count_faults config apart attachments volumes ∷ [])
+all_faults config next volumes attachments unowned apart = first_fault
+    (table_faults config next volumes attachments ∷ owner_fault unowned ∷ count_faults config apart attachments volumes ∷ [])
 
 -- ---- what is answered
 

@@ -13,7 +13,7 @@ use Rattle.csi_keeper.specs.Capability.{has_key}
 use Rattle.csi_keeper.specs.Coexistence.{coexist}
 use Rattle.csi_keeper.specs.Invariant.{IsInvariant, IsVolume}
 use Rattle.csi_keeper.specs.Lookup.{node_of}
-use Rattle.csi_keeper.specs.State.{State, place_cmp}
+use Rattle.csi_keeper.specs.State.{State, attachment_key_cmp}
 use Rattle.csi_keeper.specs.Texts.{Text}
 use Rattle.csi_keeper.specs.declared.volume.Attachment.{Attachment}
 use Rattle.csi_keeper.specs.declared.volume.Volume.{Volume}
@@ -36,7 +36,7 @@ pub record StandsAmong (config : Config) (volumes : FinMap nat_cmp Volume) (n : 
 
 -- attachments that the rows of their table stand for, as a State with the volumes may have them
 pub record FoundAttachments (config : Config) (volumes : FinMap nat_cmp Volume) (db : Trees) : Type 0 where
-  pub attachments : FinMap place_cmp Attachment
+  pub attachments : FinMap attachment_key_cmp Attachment
   pub listed : IsPermutation (map attachment_entry (entries attachments)) (map seen_attachment (db 3))
   pub placed : AllByRecursion IsPlaced (entries attachments)
   pub keyed : AreKeyed seen_attachment (db 3)
@@ -51,9 +51,9 @@ pub record FoundAttachments (config : Config) (volumes : FinMap nat_cmp Volume) 
 -- tables that pass every constraint have attachments, where the rows of volumes stand for these volumes
 abbrev pub AttachmentsAreFound : Type 0
 AttachmentsAreFound =
-    (config : Config) (next : ℕ) (db : Trees) (volumes : FinMap nat_cmp Volume) (standing rows owned places : List Row)
+    (config : Config) (next : ℕ) (db : Trees) (volumes : FinMap nat_cmp Volume) (volumes_in_order rows owned places : List Row)
     → IsSound schema db
-    → IsInOrder (map seen_volume (db 1)) standing → map volume_entry (entries volumes) ≡ standing → AllByRecursion IsStored (entries volumes)
+    → IsInOrder (map seen_volume (db 1)) volumes_in_order → map volume_entry (entries volumes) ≡ volumes_in_order → AllByRecursion IsStored (entries volumes)
     → ((n : ℕ) (v : Volume) → get volumes n ≡ Some v → IsVolume config next n v)
     → IsInOrder (map keyed_attachment (db 3)) rows → AttachmentsPass config rows → AttachmentsAreKnown rows
     → IsPermutation (owners (db 3) (db 1)) owned → list_all is_owned owned ≡ true
@@ -68,8 +68,10 @@ AttachmentsDoPass =
 
 -- each with its volume
 abbrev pub OwnersDoPass : Type 0
-OwnersDoPass = (config : Config) (format : ℕ) (s : State) (db : Trees) (owned : List Row) → IsRowsOf format s db → IsInvariant config s → IsPermutation (owners (db 3) (db 1)) owned → list_all is_owned owned ≡ true
+OwnersDoPass = (config : Config) (format : ℕ) (s : State) (db : Trees) (owned : List Row) → IsRowsOf format s db → IsInvariant config s
+    → IsPermutation (owners (db 3) (db 1)) owned → list_all is_owned owned ≡ true
 
 -- and no two of one volume are apart
 abbrev pub PlacesDoPass : Type 0
-PlacesDoPass = (config : Config) (format : ℕ) (s : State) (db : Trees) (places : List Row) → IsRowsOf format s db → IsInvariant config s → IsPermutation (map seen_attachment (db 3)) places → NoneApart places
+PlacesDoPass = (config : Config) (format : ℕ) (s : State) (db : Trees) (places : List Row) → IsRowsOf format s db → IsInvariant config s
+    → IsPermutation (map seen_attachment (db 3)) places → NoneApart places

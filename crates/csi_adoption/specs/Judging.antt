@@ -1,5 +1,7 @@
--- What scans find in rows, and the fault that they have: of the row of meta, and of the first constraint that is broken.
-use Rattle.std.specs.Prelude.{◌≡◌, ◌≢◌, ◌⊎◌, ℕ, ◌-◌, ◌^◌, min, nat_le, ℤ, pos, negsuc, int_lt, Bool, false, not, ◌||◌, if◌then◌else◌, List, [], ◌∷◌, length, map, Option, Some, None, Result, Ok, Err, IfSome, IsPermutation}
+-- What scans find in rows, and the fault that they have: of the row of meta, and of the first constraint that
+-- is broken.
+use Rattle.std.specs.Prelude.{◌≡◌, ◌≢◌, ◌⊎◌, ℕ, ◌-◌, ◌^◌, min, nat_le, ℤ, pos, negsuc, int_lt, Bool, false, not, ◌||◌, if◌then◌else◌, List, [], ◌∷◌}
+use Rattle.std.specs.Prelude.{length, map, Option, Some, None, Result, Ok, Err, IfSome, IsPermutation}
 use Rattle.std.specs.List.{AllByRecursion}
 use Rattle.std.specs.Ordering.{int_eq}
 use Rattle.sqlite.specs.Effect.{Database}
@@ -149,11 +151,13 @@ pub record AreJudged (config : Config) (db : Trees) (fault : Option AdoptFault) 
   pub place_rows : List Row
   pub seen : Seen db meta_rows volume_rows attachment_rows owner_rows place_rows
   pub meta_is : meta_judged (with_rows meta.None meta_rows) ≡ Ok row
-  pub fault_is : all_faults config row.next (in_volumes config row volume_rows) (in_attachments config attachment_rows) (first_named 0 1 is_owned owner_rows) (apart_named place_rows) ≡ fault
+  pub fault_is : all_faults config row.next (in_volumes config row volume_rows) (in_attachments config attachment_rows)
+      (first_named 0 1 is_owned owner_rows) (apart_named place_rows) ≡ fault
 
 -- the fault is that of a database: it has other tables, or its rows break this constraint first
 abbrev pub IsFaultOf : Config → Database → AdoptFault → Type 0
-IsFaultOf config db fault = ((db.schema ≢ schema) × (fault ≡ Foreign foreign.Schema)) ⊎ ((db.schema ≡ schema) × (IsMetaFault db.trees fault ⊎ AreJudged config db.trees (Some fault)))
+IsFaultOf config db fault = ((db.schema ≢ schema) × (fault ≡ Foreign foreign.Schema))
+    ⊎ ((db.schema ≡ schema) × (IsMetaFault db.trees fault ⊎ AreJudged config db.trees (Some fault)))
 
 -- the rows of volumes and attachments break no constraint
 pub record ArePassed (config : Config) (db : Trees) (seen : VolumesSeen) : Type 0 where
@@ -187,14 +191,18 @@ volumes_unless tables (Err e) = Err e
 
 -- where the rows of each table by themselves break no constraint, and this is what meta tells
 abbrev pub JudgesJoined : Config → Trees → Meta → TablesSeen → Result (Unit {0}) AdoptFault → Type 0
-JudgesJoined config db m tables result = TablesAreSeen config m db tables → table_faults config m.next (told_volumes tables.volumes) (told_attachments tables.attachments) ≡ None
-    → (rows : List Row) → IsPermutation (map seen_meta (db 0)) rows → meta_judged (with_rows meta.None rows) ≡ Ok m → JudgesRows config db (volumes_unless tables result)
+JudgesJoined config db m tables result = TablesAreSeen config m db tables
+    → table_faults config m.next (told_volumes tables.volumes) (told_attachments tables.attachments) ≡ None
+    → (rows : List Row) → IsPermutation (map seen_meta (db 0)) rows → meta_judged (with_rows meta.None rows) ≡ Ok m
+    → JudgesRows config db (volumes_unless tables result)
 
 -- where this was seen of the tables, and this is what meta tells
 abbrev pub JudgesSeen : Config → Trees → Meta → TablesSeen → Result (Unit {0}) AdoptFault → Type 0
 JudgesSeen config db m tables result = TablesAreSeen config m db tables
-    → (rows : List Row) → IsPermutation (map seen_meta (db 0)) rows → meta_judged (with_rows meta.None rows) ≡ Ok m → JudgesRows config db (volumes_unless tables result)
+    → (rows : List Row) → IsPermutation (map seen_meta (db 0)) rows → meta_judged (with_rows meta.None rows) ≡ Ok m
+    → JudgesRows config db (volumes_unless tables result)
 
 -- where this is what meta tells
 abbrev pub JudgesBehind : Config → Trees → Meta → Result VolumesSeen AdoptFault → Type 0
-JudgesBehind config db m result = (rows : List Row) → IsPermutation (map seen_meta (db 0)) rows → meta_judged (with_rows meta.None rows) ≡ Ok m → JudgesRows config db result
+JudgesBehind config db m result = (rows : List Row) → IsPermutation (map seen_meta (db 0)) rows → meta_judged (with_rows meta.None rows) ≡ Ok m
+    → JudgesRows config db result

@@ -59,7 +59,8 @@ abbrev pub FindsTotals : Type 0
 FindsTotals =
     (config : Config) (m : Meta) (rows : List Row) → VolumesPass config m rows → ((p : Pool) → Has config.pools p → p.bytes < 2 ^ 64 - 1)
     → (found : FoundVolumes config m rows) (name : List ℕ)
-    → total_in config.pools (in_volumes config m rows).pool_volumes (in_volumes config m rows).pool_bytes name ≡ the_total (length (sizes_of found.volumes name)) (sum (sizes_of found.volumes name))
+    → total_in config.pools (in_volumes config m rows).pool_volumes (in_volumes config m rows).pool_bytes name
+    ≡ the_total (length (sizes_of found.volumes name)) (sum (sizes_of found.volumes name))
 
 -- a count that is told up to 2^64 - 1 is the count
 abbrev pub TellsCounts : Type 0

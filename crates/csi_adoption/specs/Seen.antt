@@ -5,7 +5,8 @@ use Rattle.csi_constraints.specs.declared.named.RowName.{RowName}
 use Rattle.csi_adoption.specs.declared.seen.AttachmentsSeen.{AttachmentsSeen}
 use Rattle.csi_adoption.specs.declared.seen.VolumesSeen.{VolumesSeen}
 
--- the first volume that breaks each constraint, the bytes and the number of each pool's volumes, and the number of all
+-- the first volume that breaks each constraint, the bytes and the number of each pool's volumes, and the
+-- number of all
 pub record VolumesFound : Type 0 where
   pub kinds : Option RowName
   pub number : Option RowName
@@ -44,4 +45,10 @@ told_volumes seen = record {
 }
 
 abbrev pub told_attachments : AttachmentsSeen → AttachmentsFound
-told_attachments seen = record { kinds = seen.kinds; cap = seen.cap; readonly = seen.readonly; node = seen.node; node_volumes = sums_of seen.node_volumes.items }
+told_attachments seen = record {
+  kinds = seen.kinds;
+  cap = seen.cap;
+  readonly = seen.readonly;
+  node = seen.node;
+  node_volumes = sums_of seen.node_volumes.items;
+}

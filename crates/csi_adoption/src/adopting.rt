@@ -54,8 +54,8 @@ pub struct AdoptError<S: Alter> {
 
 // Whether a database has no table, no index and no view.
 fn is_blank(schema: &Schema) -> bool
-    ensures is { IsTrue result → schema.now ≡ no_schema }
-    ensures whole { schema.now ≡ no_schema → IsTrue result }
+    ensures true_only_if { IsTrue result → schema.now ≡ no_schema }
+    ensures true_if { schema.now ≡ no_schema → IsTrue result }
 {
     schema.tables.is_empty() & schema.indexes.is_empty() & schema.views.is_empty()
 }
@@ -77,7 +77,8 @@ fn see_tables<S: Alter>(
     requires ours { HasCleanDisk (state S.Store conn.old) → conn.old.schema ≡ our_schema }
     ensures scans { Scans S.Store conn.old conn.new result }
     ensures failed { ScanFails S.Store conn.old conn.new result }
-    ensures seen { HasCleanDisk (state S.Store conn.new) → IfOk result (λ tables. TablesAreSeen config.now meta (state S.Store conn.old).now.trees tables) }
+    ensures seen { HasCleanDisk (state S.Store conn.new)
+        → IfOk result (λ tables. TablesAreSeen config.now meta (state S.Store conn.old).now.trees tables) }
 {
     let volumes = see_volumes(alloc, conn, config, meta)?;
     let attachments = see_attachments(alloc, conn, config)?;
@@ -100,7 +101,8 @@ fn judge_joined<S: Alter>(
     ensures scans { Scans S.Store conn.old conn.new result }
     ensures failed { JudgingFails S.Store conn.old conn.new result }
     ensures open { TellsOpen S.Store conn.new result }
-    ensures judged { HasCleanDisk (state S.Store conn.new) → (row : Row) → JudgesJoined config.now (state S.Store conn.old).now.trees row tables.now result }
+    ensures judged { HasCleanDisk (state S.Store conn.new) → (row : Row)
+        → JudgesJoined config.now (state S.Store conn.old).now.trees row tables.now result }
 {
     check_attachment(
         alloc,
@@ -130,7 +132,8 @@ fn judge_seen<S: Alter>(
     ensures scans { Scans S.Store conn.old conn.new result }
     ensures failed { JudgingFails S.Store conn.old conn.new result }
     ensures open { IsTrue (state S.Store conn.old).is_open → TellsOpen S.Store conn.new result }
-    ensures judged { HasCleanDisk (state S.Store conn.new) → JudgesSeen config.now (state S.Store conn.old).now.trees meta tables.now result }
+    ensures judged { HasCleanDisk (state S.Store conn.new)
+        → JudgesSeen config.now (state S.Store conn.old).now.trees meta tables.now result }
 {
     check_tables(
         alloc,
@@ -142,8 +145,8 @@ fn judge_seen<S: Alter>(
     judge_joined(alloc, conn, config, tables)
 }
 
-// Judges the rows behind that of meta by the constraints in their order. What is seen of the tables is large, and
-// so is lent to what may fail.
+// Judges the rows behind that of meta by the constraints in their order. What is seen of the tables is large,
+// and so is lent to what may fail.
 fn judge_behind<S: Alter>(
     alloc: Global,
     conn: &mut Connection<S>,
@@ -155,7 +158,8 @@ fn judge_behind<S: Alter>(
     ensures scans { Scans S.Store conn.old conn.new result }
     ensures failed { JudgingFails S.Store conn.old conn.new result }
     ensures open { TellsOpen S.Store conn.new result }
-    ensures judged { HasCleanDisk (state S.Store conn.new) → JudgesBehind config.now (state S.Store conn.old).now.trees meta result }
+    ensures judged { HasCleanDisk (state S.Store conn.new)
+        → JudgesBehind config.now (state S.Store conn.old).now.trees meta result }
 {
     let tables = see_tables(alloc, conn, config, meta)?;
     judge_seen(alloc, conn, config, meta, &tables)?;
@@ -187,19 +191,23 @@ fn judge_rows<S: Alter>(
     ensures scans { Scans S.Store conn.old conn.new result }
     ensures failed { JudgingFails S.Store conn.old conn.new result }
     ensures open { TellsOpen S.Store conn.new result }
-    ensures judged { HasCleanDisk (state S.Store conn.new) → JudgesRows config.now (state S.Store conn.old).now.trees result }
+    ensures judged { HasCleanDisk (state S.Store conn.new)
+        → JudgesRows config.now (state S.Store conn.old).now.trees result }
 {
     let meta = see_row(conn)?;
     judge_behind(alloc, conn, config, meta)
 }
 
-// What the laws of the rows tell: rows that break no constraint are those of a State that meets every constraint,
-// and the rows of such a State break none.
+// What the laws of the rows tell: rows that break no constraint are those of a State that meets every
+// constraint, and the rows of such a State break none.
 #[inline(always)]
 fn rows_tell(config: &Config)
-    ensures found { (db : Trees) (seen : VolumesSeen) → IsSound our_schema db → ArePassed config.now db seen → FoundState config.now db seen }
-    ensures no_meta_fault { (db : Trees) (s : State) → IsEitherRows s db → IsInvariant config.now s → (fault : AdoptFault) → IsMetaFault db fault → ⊥ }
-    ensures no_fault { (db : Trees) (s : State) → IsEitherRows s db → IsInvariant config.now s → (fault : AdoptFault)
+    ensures found { (db : Trees) (seen : VolumesSeen) → IsSound our_schema db → ArePassed config.now db seen
+        → FoundState config.now db seen }
+    ensures no_meta_fault { (db : Trees) (s : State) → IsEitherRows s db → IsInvariant config.now s
+        → (fault : AdoptFault) → IsMetaFault db fault → ⊥ }
+    ensures no_fault { (db : Trees) (s : State) → IsEitherRows s db → IsInvariant config.now s
+        → (fault : AdoptFault)
         → AreJudged config.now db (Some fault) → ⊥ }
     ensures new { IsInvariant config.now (first_state 1) }
 {
@@ -237,9 +245,11 @@ fn judge<S: Alter>(
         (λ judged. IsFound config.now (state S.Store conn.old).now judged.format judged.totals) }
     ensures first { HasCleanDisk (state S.Store conn.new) → IfErr result
         (λ fault. is_failure fault ≡ false → IsFaultOf config.now (state S.Store conn.old).now fault) }
-    ensures other { HasCleanDisk (state S.Store conn.new) → (state S.Store conn.old).now.schema ≢ our_schema → IfErr result
+    ensures other { HasCleanDisk (state S.Store conn.new) → (state S.Store conn.old).now.schema ≢ our_schema
+        → IfErr result
         (λ fault. fault ≡ AdoptFault.Foreign Foreign.Schema) }
-    ensures sound { HasCleanDisk (state S.Store conn.new) → IfErr result (IsNotRefused config.now (state S.Store conn.old).now) }
+    ensures sound { HasCleanDisk (state S.Store conn.new)
+        → IfErr result (IsNotRefused config.now (state S.Store conn.old).now) }
 {
     rows_tell(config);
     if !is_our_schema(conn.schema()) {
@@ -265,9 +275,12 @@ fn upgrade<S: Alter>(conn: &mut Connection<S>, format: u32) -> Result<(), Error>
     ensures stays { format ≢ FIRST_FORMAT → conn.new ≡ conn.old }
     ensures error_only_if { format ≢ FIRST_FORMAT → OnErr result ⊥ }
     ensures ok { HasCleanDisk (state S.Store conn.new)
-        → OnOk result (format ≡ FIRST_FORMAT → Changes SetsFormat (state S.Store conn.old) (state S.Store conn.new)) }
-    ensures err { HasCleanDisk (state S.Store conn.new) → OnErr result (IsUndone (state S.Store conn.old) (state S.Store conn.new)) }
-    ensures failed { HasCleanDisk (state S.Store conn.new) → FailsOver our_schema RefusesFormat (state S.Store conn.old) (state S.Store conn.new) result }
+        → OnOk result (format ≡ FIRST_FORMAT
+        → Changes SetsFormat (state S.Store conn.old) (state S.Store conn.new)) }
+    ensures err { HasCleanDisk (state S.Store conn.new)
+        → OnErr result (IsUndone (state S.Store conn.old) (state S.Store conn.new)) }
+    ensures failed { HasCleanDisk (state S.Store conn.new)
+        → FailsOver our_schema RefusesFormat (state S.Store conn.old) (state S.Store conn.new) result }
     ensures survives { Survives (state S.Store conn.old) (state S.Store conn.new)
         (λ db. (format ≡ FIRST_FORMAT) × Leaves SetsFormat (state S.Store conn.old) db) }
 {
@@ -277,26 +290,31 @@ fn upgrade<S: Alter>(conn: &mut Connection<S>, format: u32) -> Result<(), Error>
     set_format(conn)
 }
 
-// Takes tables that break no constraint. That they are made ones of the latest format is the last step that can
-// fail.
-fn take<S: Alter>(
+// Takes tables that break no constraint. That they are made ones of the latest format is the last step that
+// can fail.
+fn judge_and_upgrade<S: Alter>(
     alloc: Global,
     conn: &mut Connection<S>,
     config: &Config,
 ) -> Result<Totals, AdoptFault>
     requires idle { conn.old.in_transaction ≡ false }
     ensures idle { conn.new.in_transaction ≡ false }
-    ensures taken { HasCleanDisk (state S.Store conn.new) → IfOk result (IsTaken config.now (state S.Store conn.old) (state S.Store conn.new)) }
+    ensures taken { HasCleanDisk (state S.Store conn.new)
+        → IfOk result (IsTaken config.now (state S.Store conn.old) (state S.Store conn.new)) }
     ensures failed { JudgingFails S.Store conn.old conn.new result }
     ensures shut { TellsShut S.Store conn.new result }
-    ensures kept { HasCleanDisk (state S.Store conn.new) → OnErr result (KeepsCommit (state S.Store conn.old) (state S.Store conn.new)) }
+    ensures kept { HasCleanDisk (state S.Store conn.new)
+        → OnErr result (KeepsCommit (state S.Store conn.old) (state S.Store conn.new)) }
     ensures first { HasCleanDisk (state S.Store conn.new) → IfErr result
         (λ fault. is_failure fault ≡ false → IsFaultOf config.now (state S.Store conn.old).now fault) }
-    ensures other { HasCleanDisk (state S.Store conn.new) → (state S.Store conn.old).now.schema ≢ our_schema → IfErr result
+    ensures other { HasCleanDisk (state S.Store conn.new) → (state S.Store conn.old).now.schema ≢ our_schema
+        → IfErr result
         (λ fault. fault ≡ AdoptFault.Foreign Foreign.Schema) }
-    ensures sound { HasCleanDisk (state S.Store conn.new) → IfErr result (IsNotRefused config.now (state S.Store conn.old).now) }
+    ensures sound { HasCleanDisk (state S.Store conn.new)
+        → IfErr result (IsNotRefused config.now (state S.Store conn.old).now) }
     ensures survives { Survives (state S.Store conn.old) (state S.Store conn.new)
-        (λ db. LeavesLatest config.now (state S.Store conn.old) db × IfErr result (λ fault. is_failure fault ≡ true)) }
+        (λ db. LeavesLatest config.now (state S.Store conn.old) db
+        × IfErr result (λ fault. is_failure fault ≡ true)) }
 {
     latest();
     let judged = judge(alloc, conn, config)?;
@@ -305,10 +323,11 @@ fn take<S: Alter>(
 }
 
 // Undoes nothing, as no transaction is open: what is seen then is what was committed.
-fn settle<S: Alter>(conn: &mut Connection<S>)
+fn roll_back<S: Alter>(conn: &mut Connection<S>)
     requires idle { conn.old.in_transaction ≡ false }
     ensures idle { conn.new.in_transaction ≡ false }
-    ensures undone { HasCleanDisk (state S.Store conn.new) → IsUndone (state S.Store conn.old) (state S.Store conn.new) }
+    ensures undone { HasCleanDisk (state S.Store conn.new)
+        → IsUndone (state S.Store conn.old) (state S.Store conn.new) }
     ensures survives { Survives (state S.Store conn.old) (state S.Store conn.new) (λ _. ⊥) }
 {
     conn.transaction().rollback();
@@ -328,8 +347,9 @@ fn settle<S: Alter>(conn: &mut Connection<S>)
 ///
 /// The first constraint that is broken, with the row that a scan finds first; or that the database or memory
 /// failed, which says nothing of the rows: those of a State that meets every constraint are refused for
-/// nothing else. That the database failed has a cause, of which its error tells: its disk, a fault that shut the
-/// connection, or that it refuses what is asked. What was committed stays, and the connection is given back.
+/// nothing else. That the database failed has a cause, of which its error tells: its disk, a fault that shut
+/// the connection, or that it refuses what is asked. What was committed stays, and the connection is given
+/// back.
 pub fn adopt<S: Alter>(
     alloc: Global,
     mut conn: Connection<S>,
@@ -342,7 +362,7 @@ pub fn adopt<S: Alter>(
     rows_tell(config);
     one_state();
     conn.set_step_limit(None);
-    settle(&mut conn);
+    roll_back(&mut conn);
     if is_blank(conn.schema()) {
         return match Tables::make(alloc, conn) {
             Ok(tables) => Ok(tables),
@@ -352,7 +372,7 @@ pub fn adopt<S: Alter>(
             }),
         };
     }
-    match take(alloc, &mut conn, config) {
+    match judge_and_upgrade(alloc, &mut conn, config) {
         Ok(totals) => Ok(Tables::over(conn, totals)),
         Err(fault) => Err(AdoptError { fault, conn }),
     }

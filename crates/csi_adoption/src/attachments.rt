@@ -19,19 +19,19 @@ use crate::starts::unbroken;
 use crate::sums::node_sums;
 use csi_config::Config;
 use csi_constraints::{
-    Both, Each, FirstApart, FirstBroken, FirstUnowned, HasAttachmentKinds, HasCap, HasFlag,
-    IsAtNode, Rising, RowName, Sure, TextSum, scan_attachments, scan_owners, scan_places,
+    FirstApart, FirstBroken, FirstUnowned, FoldEach, FoldPair, HasAttachmentKinds, HasCap, HasFlag,
+    InfallibleTest, IsAtNode, Rising, RowName, TextSum, scan_attachments, scan_owners, scan_places,
 };
 use sqlite::{Alter, Connection, Error, ErrorCode};
 use std::alloc::{AllocError, Global};
 
-type Kinds = Both<FirstBroken<Sure<HasAttachmentKinds>>, Rising>;
+type Kinds = FoldPair<FirstBroken<InfallibleTest<HasAttachmentKinds>>, Rising>;
 
-type Codes = Both<FirstBroken<HasCap>, FirstBroken<Sure<HasFlag>>>;
+type Codes = FoldPair<FirstBroken<HasCap>, FirstBroken<InfallibleTest<HasFlag>>>;
 
-type Nodes<'a> = Both<FirstBroken<Sure<IsAtNode<'a>>>, Each<TextSum>>;
+type Nodes<'a> = FoldPair<FirstBroken<InfallibleTest<IsAtNode<'a>>>, FoldEach<TextSum>>;
 
-type AttachmentsFold<'a> = Both<Both<Kinds, Codes>, Nodes<'a>>;
+type AttachmentsFold<'a> = FoldPair<FoldPair<Kinds, Codes>, Nodes<'a>>;
 
 fn kinds(alloc: Global) -> Kinds
     ensures number { result.first.number ≡ 0 }
@@ -41,10 +41,10 @@ fn kinds(alloc: Global) -> Kinds
     ensures last { result.second.last ≡ None }
     ensures good { result.second.good ≡ true }
 {
-    let test = Sure {
+    let test = InfallibleTest {
         test: HasAttachmentKinds,
     };
-    Both {
+    FoldPair {
         first: unbroken(alloc, test, 0, 2),
         second: Rising {
             column: 0,
@@ -62,9 +62,9 @@ fn codes(alloc: Global) -> Codes
     ensures text_second { result.second.text ≡ 2 }
     ensures none_second { result.second.found ≡ None }
 {
-    Both {
+    FoldPair {
         first: unbroken(alloc, HasCap { alloc }, 1, 2),
-        second: unbroken(alloc, Sure { test: HasFlag }, 1, 2),
+        second: unbroken(alloc, InfallibleTest { test: HasFlag }, 1, 2),
     }
 }
 
@@ -73,12 +73,13 @@ fn nodes(alloc: Global, config: &Config) -> Result<Nodes<'_>, AllocError>
     ensures number { IfOk result (λ nodes. nodes.first.number ≡ 1) }
     ensures text { IfOk result (λ nodes. nodes.first.text ≡ 2) }
     ensures none { IfOk result (λ nodes. nodes.first.found ≡ None) }
-    ensures sums { IfOk result (λ nodes. AllZip (λ m sum. IsBegun 2 m.id Ones sum) config.now.nodes nodes.second.parts.items) }
+    ensures sums { IfOk result (λ nodes. AllZip
+        (λ m sum. IsBegun 2 m.id Ones sum) config.now.nodes nodes.second.parts.items) }
 {
-    let test = Sure {
+    let test = InfallibleTest {
         test: IsAtNode { config },
     };
-    Ok(Both {
+    Ok(FoldPair {
         first: unbroken(alloc, test, 1, 2),
         second: node_sums(alloc, config.nodes())?,
     })
@@ -94,8 +95,8 @@ fn seen_by(fold: AttachmentsFold<'_>) -> AttachmentsSeen
       node_volumes = fold.entry.second.second.parts;
     } }
 {
-    let Both {
-        first: Both {
+    let FoldPair {
+        first: FoldPair {
             first: kinds,
             second: codes,
         },
@@ -120,12 +121,13 @@ pub(crate) fn see_attachments<S: Alter>(
     requires ours { HasCleanDisk (state S.Store conn.old) → conn.old.schema ≡ our_schema }
     ensures scans { Scans S.Store conn.old conn.new result }
     ensures failed { ScanFails S.Store conn.old conn.new result }
-    ensures seen { SeenBy S.Store conn.old conn.new result (λ db rows. IsInOrder (map keyed_attachment (db 3)) rows)
+    ensures seen { SeenBy S.Store conn.old conn.new result
+        (λ db rows. IsInOrder (map keyed_attachment (db 3)) rows)
         (λ rows seen. SeesAttachments config.now rows seen) }
 {
     let nodes = nodes(alloc, config)?;
-    let mut fold: AttachmentsFold<'_> = Both {
-        first: Both {
+    let mut fold: AttachmentsFold<'_> = FoldPair {
+        first: FoldPair {
             first: kinds(alloc),
             second: codes(alloc),
         },
@@ -171,7 +173,8 @@ pub(crate) fn see_apart<S: Alter>(
     requires ours { HasCleanDisk (state S.Store conn.old) → conn.old.schema ≡ our_schema }
     ensures scans { Scans S.Store conn.old conn.new result }
     ensures failed { ScanFails S.Store conn.old conn.new result }
-    ensures seen { SeenBy S.Store conn.old conn.new result (λ db rows. IsInOrder (map seen_attachment (db 3)) rows)
+    ensures seen { SeenBy S.Store conn.old conn.new result
+        (λ db rows. IsInOrder (map seen_attachment (db 3)) rows)
         (λ rows found. found ≡ apart_named rows) }
 {
     let mut fold = FirstApart {

@@ -65,7 +65,7 @@ impl Fold for MetaFold {
     ghost starts = { λ first. refl };
 
     #[tactic(auto, using(crate::proofs::ScanLemmas::one_more))]
-    fn take(&mut self, row: &Row) -> Result<(), Error> {
+    fn add_row(&mut self, row: &Row) -> Result<(), Error> {
         self.rows = with_row(self.rows, row);
         Ok(())
     }
@@ -129,7 +129,8 @@ pub(crate) fn see_meta<S: Alter>(conn: &mut Connection<S>) -> Result<MetaRows, E
     requires ours { HasCleanDisk (state S.Store conn.old) → conn.old.schema ≡ our_schema }
     ensures scans { Scans S.Store conn.old conn.new result }
     ensures failed { ScanFails S.Store conn.old conn.new result }
-    ensures seen { SeenBy S.Store conn.old conn.new result (λ db rows. IsPermutation (map seen_meta (db 0)) rows)
+    ensures seen { SeenBy S.Store conn.old conn.new result
+        (λ db rows. IsPermutation (map seen_meta (db 0)) rows)
         (λ rows seen. seen ≡ with_rows meta.None rows) }
 {
     let mut fold = MetaFold {

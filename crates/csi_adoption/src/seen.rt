@@ -2,7 +2,8 @@
 
 use csi_constraints::{RowName, TextSum};
 
-/// What a scan over volumes shows, whose numbers rise. Each name is that of the first row that breaks a constraint.
+/// What a scan over volumes shows, whose numbers rise. Each name is that of the first row that breaks a
+/// constraint.
 pub(crate) struct VolumesSeen {
     /// The format of the tables, by which the rows were judged.
     pub format: u32,
@@ -47,7 +48,8 @@ impl Drop for VolumesSeen {
     }
 }
 
-/// What a scan over attachments shows, whose rowids rise. Each name is that of the first row that breaks a constraint.
+/// What a scan over attachments shows, whose rowids rise. Each name is that of the first row that breaks a
+/// constraint.
 pub(crate) struct AttachmentsSeen {
     /// A value is not of the kind of its column; the row is named by its rowid.
     pub kinds: Option<RowName>,

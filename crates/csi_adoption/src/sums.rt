@@ -6,7 +6,7 @@ ghost use Rattle.csi_constraints.specs.declared.sums.Weight.TheVariants.{One as 
 ghost use Rattle.csi_adoption.specs.Scanning.{IsBegun};
 
 use csi_config::{Node, Pool};
-use csi_constraints::{Each, TextSum, Weight};
+use csi_constraints::{FoldEach, TextSum, Weight};
 use std::alloc::{AllocError, Global};
 
 // A sum over no row yet.
@@ -28,23 +28,23 @@ pub(crate) fn pool_sums(
     alloc: Global,
     pools: &[Pool],
     weight: Weight,
-) -> Result<Each<TextSum>, AllocError>
+) -> Result<FoldEach<TextSum>, AllocError>
     ensures { IfOk result (λ each. AllZip (λ p sum. IsBegun 3 p.name weight sum) pools.now each.parts.items) }
 {
     let mut parts = Vec::new(alloc);
     for pool in pools {
         parts.push(sum_of(alloc, 3, pool.name.as_bytes(), weight)?)?;
     }
-    Ok(Each { parts })
+    Ok(FoldEach { parts })
 }
 
 /// The number of rows for each node, of those that have its id in the third column.
-pub(crate) fn node_sums(alloc: Global, nodes: &[Node]) -> Result<Each<TextSum>, AllocError>
+pub(crate) fn node_sums(alloc: Global, nodes: &[Node]) -> Result<FoldEach<TextSum>, AllocError>
     ensures { IfOk result (λ each. AllZip (λ m sum. IsBegun 2 m.id Ones sum) nodes.now each.parts.items) }
 {
     let mut parts = Vec::new(alloc);
     for node in nodes {
         parts.push(sum_of(alloc, 2, node.id.as_bytes(), Weight::One)?)?;
     }
-    Ok(Each { parts })
+    Ok(FoldEach { parts })
 }

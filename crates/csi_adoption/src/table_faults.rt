@@ -40,7 +40,8 @@ fn check_codes(
     check_attachment(alloc, &attachments.node, AttachmentConstraint::Node)
 }
 
-/// The first fault of what was seen of each table alone, by the next number that meta tells (0 where it is none).
+/// The first fault of what was seen of each table alone, by the next number that meta tells (0 where it is
+/// none).
 ///
 /// # Errors
 ///
@@ -52,7 +53,8 @@ pub(crate) fn check_tables(
     volumes: &VolumesSeen,
     attachments: &AttachmentsSeen,
 ) -> Result<(), AdoptFault>
-    ensures { Says (table_faults config.now next (told_volumes volumes.now) (told_attachments attachments.now)) result }
+    ensures { Says (table_faults config.now next (told_volumes volumes.now)
+        (told_attachments attachments.now)) result }
 {
     check_kinds(volumes, attachments)?;
     check_numbers(next, volumes)?;
@@ -69,8 +71,8 @@ fn check_count(rows: u64) -> Result<(), AdoptFault>
     Ok(())
 }
 
-/// The first fault of the attachments of a volume and of a node, and of all volumes, where this attachment was found first
-/// that cannot stand beside another.
+/// The first fault of the attachments of a volume and of a node, and of all volumes, where this attachment
+/// was found first that cannot stand beside another.
 ///
 /// # Errors
 ///
@@ -82,7 +84,8 @@ pub(crate) fn check_counts(
     attachments: &AttachmentsSeen,
     volumes: &VolumesSeen,
 ) -> Result<(), AdoptFault>
-    ensures { Says (count_faults config.now apart.now (told_attachments attachments.now) (told_volumes volumes.now)) result }
+    ensures { Says (count_faults config.now apart.now (told_attachments attachments.now)
+        (told_volumes volumes.now)) result }
 {
     check_attachment(alloc, apart, AttachmentConstraint::Beside)?;
     check_nodes(alloc, config.nodes(), attachments.node_volumes.as_slice())?;

@@ -20,25 +20,31 @@ use crate::starts::unbroken;
 use crate::sums::pool_sums;
 use csi_config::{Config, Pool};
 use csi_constraints::{
-    Both, Each, FirstBroken, HasCaps, HasParams, HasVolumeKinds, IsInPools, IsNamed, IsNumbered,
-    IsSized, Rising, RowCount, Sure, TextSum, Weight, scan_volumes,
+    FirstBroken, FoldEach, FoldPair, HasCaps, HasParams, HasVolumeKinds, InfallibleTest, IsInPools,
+    IsNamed, IsNumbered, IsSized, Rising, RowCount, TextSum, Weight, scan_volumes,
 };
 use csi_keeper::{Total, Totals};
 use csi_types::copy_text;
 use sqlite::{Alter, Connection, Error, ErrorCode};
 use std::alloc::{AllocError, Global};
 
-type Kinds = Both<FirstBroken<Sure<HasVolumeKinds>>, Rising>;
+type Kinds = FoldPair<FirstBroken<InfallibleTest<HasVolumeKinds>>, Rising>;
 
-type Names = Both<FirstBroken<Sure<IsNumbered>>, FirstBroken<Sure<IsNamed>>>;
+type Names = FoldPair<
+    FirstBroken<InfallibleTest<IsNumbered>>,
+    FirstBroken<InfallibleTest<IsNamed>>,
+>;
 
-type Sizes<'a> = Both<FirstBroken<Sure<IsInPools<'a>>>, FirstBroken<Sure<IsSized>>>;
+type Sizes<'a> = FoldPair<
+    FirstBroken<InfallibleTest<IsInPools<'a>>>,
+    FirstBroken<InfallibleTest<IsSized>>,
+>;
 
-type Codes = Both<FirstBroken<HasCaps>, FirstBroken<HasParams>>;
+type Codes = FoldPair<FirstBroken<HasCaps>, FirstBroken<HasParams>>;
 
-type Sums = Both<Both<Each<TextSum>, Each<TextSum>>, RowCount>;
+type Sums = FoldPair<FoldPair<FoldEach<TextSum>, FoldEach<TextSum>>, RowCount>;
 
-type VolumesFold<'a> = Both<Both<Both<Kinds, Names>, Both<Sizes<'a>, Codes>>, Sums>;
+type VolumesFold<'a> = FoldPair<FoldPair<FoldPair<Kinds, Names>, FoldPair<Sizes<'a>, Codes>>, Sums>;
 
 fn kinds(alloc: Global) -> Kinds
     ensures number { result.first.number ≡ 0 }
@@ -48,10 +54,10 @@ fn kinds(alloc: Global) -> Kinds
     ensures last { result.second.last ≡ None }
     ensures good { result.second.good ≡ true }
 {
-    Both {
+    FoldPair {
         first: unbroken(
             alloc,
-            Sure {
+            InfallibleTest {
                 test: HasVolumeKinds,
             },
             0,
@@ -74,16 +80,16 @@ fn names(alloc: Global, next: u64) -> Names
     ensures text_second { result.second.text ≡ 1 }
     ensures none_second { result.second.found ≡ None }
 {
-    Both {
+    FoldPair {
         first: unbroken(
             alloc,
-            Sure {
+            InfallibleTest {
                 test: IsNumbered { next },
             },
             0,
             1,
         ),
-        second: unbroken(alloc, Sure { test: IsNamed }, 0, 1),
+        second: unbroken(alloc, InfallibleTest { test: IsNamed }, 0, 1),
     }
 }
 
@@ -96,16 +102,16 @@ fn sizes(alloc: Global, config: &Config) -> Sizes<'_>
     ensures text_second { result.second.text ≡ 1 }
     ensures none_second { result.second.found ≡ None }
 {
-    Both {
+    FoldPair {
         first: unbroken(
             alloc,
-            Sure {
+            InfallibleTest {
                 test: IsInPools { config },
             },
             0,
             1,
         ),
-        second: unbroken(alloc, Sure { test: IsSized }, 0, 1),
+        second: unbroken(alloc, InfallibleTest { test: IsSized }, 0, 1),
     }
 }
 
@@ -118,19 +124,21 @@ fn codes(alloc: Global, format: u32) -> Codes
     ensures text_second { result.second.text ≡ 1 }
     ensures none_second { result.second.found ≡ None }
 {
-    Both {
+    FoldPair {
         first: unbroken(alloc, HasCaps { alloc }, 0, 1),
         second: unbroken(alloc, HasParams { alloc, format }, 0, 1),
     }
 }
 
 fn sums(alloc: Global, config: &Config) -> Result<Sums, AllocError>
-    ensures bytes { IfOk result (λ sums. AllZip (λ p sum. IsBegun 3 p.name (weight.Number 2) sum) config.now.pools sums.first.first.parts.items) }
-    ensures volumes { IfOk result (λ sums. AllZip (λ p sum. IsBegun 3 p.name weight.One sum) config.now.pools sums.first.second.parts.items) }
+    ensures bytes { IfOk result (λ sums. AllZip
+        (λ p sum. IsBegun 3 p.name (weight.Number 2) sum) config.now.pools sums.first.first.parts.items) }
+    ensures volumes { IfOk result (λ sums. AllZip
+        (λ p sum. IsBegun 3 p.name weight.One sum) config.now.pools sums.first.second.parts.items) }
     ensures rows { IfOk result (λ sums. sums.second.rows ≡ 0) }
 {
-    Ok(Both {
-        first: Both {
+    Ok(FoldPair {
+        first: FoldPair {
             first: pool_sums(alloc, config.pools(), Weight::Number(2))?,
             second: pool_sums(alloc, config.pools(), Weight::One)?,
         },
@@ -154,13 +162,13 @@ fn seen_by(fold: VolumesFold<'_>, format: u32) -> VolumesSeen
       rows = fold.entry.second.second.rows;
     } }
 {
-    let Both {
-        first: Both {
-            first: Both {
+    let FoldPair {
+        first: FoldPair {
+            first: FoldPair {
                 first: kinds,
                 second: names,
             },
-            second: Both {
+            second: FoldPair {
                 first: sizes,
                 second: codes,
             },
@@ -193,17 +201,18 @@ pub(crate) fn see_volumes<S: Alter>(
     requires ours { HasCleanDisk (state S.Store conn.old) → conn.old.schema ≡ our_schema }
     ensures scans { Scans S.Store conn.old conn.new result }
     ensures failed { ScanFails S.Store conn.old conn.new result }
-    ensures seen { SeenBy S.Store conn.old conn.new result (λ db rows. IsInOrder (map seen_volume (db 1)) rows)
+    ensures seen { SeenBy S.Store conn.old conn.new result
+        (λ db rows. IsInOrder (map seen_volume (db 1)) rows)
         (λ rows seen. SeesVolumes config.now meta rows seen) }
 {
     let sums = sums(alloc, config)?;
-    let mut fold: VolumesFold<'_> = Both {
-        first: Both {
-            first: Both {
+    let mut fold: VolumesFold<'_> = FoldPair {
+        first: FoldPair {
+            first: FoldPair {
                 first: kinds(alloc),
                 second: names(alloc, meta.next),
             },
-            second: Both {
+            second: FoldPair {
                 first: sizes(alloc, config),
                 second: codes(alloc, meta.format),
             },
@@ -227,7 +236,8 @@ pub(crate) fn totals_of(
     volumes: &[TextSum],
     bytes: &[TextSum],
 ) -> Result<Totals, AllocError>
-    ensures { IfOk result (λ totals. (pool : List ℕ) → total_of totals pool ≡ total_in pools.now (sums_of volumes.now) (sums_of bytes.now) pool) }
+    ensures { IfOk result (λ totals. (pool : List ℕ)
+        → total_of totals pool ≡ total_in pools.now (sums_of volumes.now) (sums_of bytes.now) pool) }
 {
     let Some((pool, more_pools)) = pools.split_first() else {
         return Ok(Totals::new(alloc));

@@ -117,7 +117,8 @@ fn has_large_map(parts: &Parts<'_>) -> bool
 }
 
 fn has_long_part(parts: &Parts<'_>) -> bool
-    ensures { result ≡ (list_any (longer_than MAX_TEXT_BYTES) (parts.now.volume_ids.now ++ parts.now.tokens.now)
+    ensures { result ≡ (list_any (longer_than MAX_TEXT_BYTES)
+        (parts.now.volume_ids.now ++ parts.now.tokens.now)
         || list_any (longer_than MAX_NODE_ID_BYTES) parts.now.node_ids.now
         || list_any (λ c. is_long_access c.access) parts.now.capabilities.now) }
 {

@@ -16,7 +16,8 @@ const FEW_PAIRS: usize = 64;
 
 /// Whether a topology of a requirement has more than 4,096 bytes.
 pub(crate) fn has_large_term(requirement: &Requirement) -> bool
-    ensures { result ≡ list_any (λ m. nat_lt MAX_MAP_BYTES (map_bytes m)) (requirement.now.requisite ++ requirement.now.preferred) }
+    ensures { result ≡ list_any (λ m. nat_lt MAX_MAP_BYTES (map_bytes m))
+        (requirement.now.requisite ++ requirement.now.preferred) }
 {
     is_any_large(requirement.requisite.as_slice()) || is_any_large(requirement.preferred.as_slice())
 }

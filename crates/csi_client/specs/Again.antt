@@ -14,7 +14,8 @@ is_end why.BadFlag = false
 is_end why.BadBodyLength = false
 is_end why.EndOfInput = true
 
--- An exchange of which it is open whether the server took the call: the connection failed, or ended before its reply was whole.
+-- An exchange of which it is open whether the server took the call: the connection failed, or ended before
+-- its reply was whole.
 abbrev pub is_unanswered : Received → Bool
 is_unanswered (Reply r) = false
 is_unanswered Nothing = true
@@ -39,8 +40,10 @@ AreUnanswered exchanged first now frame zero = now ≡ first
 AreUnanswered {L} exchanged first now frame (suc n) =
     (before : L) × (received : Received) × AreUnanswered exchanged first before frame n × exchanged before now frame received × (is_unanswered received ≡ true)
 
--- The frame is sent at most so often, and all exchanges but the last are unanswered. What the last one gives is the outcome, which is unanswered only after all of them.
-pub record IsSentAgain {L : Type 0} (exchanged : L → L → List ℕ → Received → Type 0) (first now : L) (frame : List ℕ) (tries : ℕ) (outcome : Received) : Type 0 where
+-- The frame is sent at most so often, and all exchanges but the last are unanswered. What the last one gives
+-- is the outcome, which is unanswered only after all of them.
+pub record IsSentAgain {L : Type 0} (exchanged : L → L → List ℕ → Received
+    → Type 0) (first now : L) (frame : List ℕ) (tries : ℕ) (outcome : Received) : Type 0 where
   pub earlier : ℕ
   pub few : earlier < tries
   pub before : L
@@ -52,6 +55,7 @@ pub record IsSentAgain {L : Type 0} (exchanged : L → L → List ℕ → Receiv
 abbrev pub longest_pause : ℕ → ℕ
 longest_pause tried = min (100 * 2 ^ (tried - 1)) 2000
 
--- A pause before a further try, in milliseconds: half of the longest, and of the other half as much as chance chooses.
+-- A pause before a further try, in milliseconds: half of the longest, and of the other half as much as chance
+-- chooses.
 abbrev pub pause : ℕ → ℕ → ℕ
 pause tried chance = longest_pause tried / 2 + chance % (longest_pause tried / 2 + 1)

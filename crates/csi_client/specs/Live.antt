@@ -11,8 +11,8 @@ use Rattle.csi_client.specs.declared.showing.Halt.{Halt}
 use Rattle.csi_client.specs.declared.showing.Halt.TheVariants as halt
 use Rattle.csi_client.specs.declared.showing.ShowEnd.{ShowEnd}
 use Rattle.csi_client.specs.declared.showing.ShowEnd.TheVariants.{Malformed, BadBody, WriteFailed, NoMemory}
-use Rattle.csi_client.specs.declared.showing.Step.{Step}
-use Rattle.csi_client.specs.declared.showing.Step.TheVariants.{Fed, Faulty, Halted}
+use Rattle.csi_client.specs.declared.showing.Shown.{Shown}
+use Rattle.csi_client.specs.declared.showing.Shown.TheVariants.{Fed, Faulty, Halted}
 use Rattle.csi_client.specs.Replies.{first_line}
 use Rattle.csi_client.specs.Showing.{AreLinesOf, IsBad, IsShown, Wrote, Ended, frames, has_refusal}
 
@@ -39,7 +39,7 @@ pub record Live (method : Option Method) (read : List ℕ) (s : ReplyFramerState
   pub unfinished : IsUnfinished s.held
 
 -- one step over bytes that come behind what was read
-abbrev pub Steps : Option Method → List ℕ → List ℕ → ReplyFramerState → Option (List ℕ) → Option (List ℕ) → Bool → Step → Type 0
+abbrev pub Steps : Option Method → List ℕ → List ℕ → ReplyFramerState → Option (List ℕ) → Option (List ℕ) → Bool → Shown → Type 0
 Steps method read rest s held holds refused (Fed n) = Live method (read ++ take n rest) s held holds refused
 Steps method read rest s held holds refused (Faulty f) = Ended method (read ++ rest) ⊥ held holds (Malformed f)
 Steps method read rest s held holds refused (Halted h) = Ended method (read ++ rest) ⊥ held holds (end_of h)
@@ -55,12 +55,12 @@ pub record Advances (old new : ReplyFramerState) (len n : ℕ) : Type 0 where
   pub some : 0 < len → 0 < n
   pub ready : IsReady new
 
-abbrev pub AdvancesBy : ReplyFramerState → ReplyFramerState → ℕ → Step → Type 0
+abbrev pub AdvancesBy : ReplyFramerState → ReplyFramerState → ℕ → Shown → Type 0
 AdvancesBy old new len (Fed n) = Advances old new len n
 AdvancesBy old new len (Faulty f) = Unit {0}
 AdvancesBy old new len (Halted h) = Unit {0}
 
-abbrev pub IsAllFed : ℕ → Step → Type 0
+abbrev pub IsAllFed : ℕ → Shown → Type 0
 IsAllFed len (Fed n) = n ≡ len
 IsAllFed len (Faulty f) = Unit {0}
 IsAllFed len (Halted h) = Unit {0}

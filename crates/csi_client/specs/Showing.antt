@@ -72,7 +72,8 @@ pub record Wrote (method : Option Method) (read : List ℕ) (held holds : Option
   pub shown : Shown method read replies rest lines
   pub written : Appends held holds (lines ++ last)
 
--- No piece is read after the one in which a fault shows: before the last piece there are replies, and then what may yet become one.
+-- No piece is read after the one in which a fault shows: before the last piece there are replies, and then
+-- what may yet become one.
 pub record IsPrompt (read : List ℕ) : Type 0 where
   pub before : List ℕ
   pub piece : List ℕ
@@ -84,20 +85,25 @@ pub record IsPrompt (read : List ℕ) : Type 0 where
   pub parts : before ≡ frames replies ++ rest
   pub unfinished : IsUnfinished rest
 
--- The rest begins with this reply, the last one that is looked at, and no piece is read after the one in which it ends.
+-- The rest begins with this reply, the last one that is looked at, and no piece is read after the one in
+-- which it ends.
 abbrev pub IsLast : List ℕ → ReplyBytes → Type 0
 IsLast rest r = (more : List ℕ) × IsReply r × (rest ≡ reply r ++ more) × (length more < PIECE_BYTES)
 
--- How a run ends that read these bytes, and found the end of the input or not; a writer that fails holds of the lines of the last reply a prefix.
+-- How a run ends that read these bytes, and found the end of the input or not; a writer that fails holds of
+-- the lines of the last reply a prefix.
 abbrev pub Ended : Option Method → List ℕ → Type 0 → Option (List ℕ) → Option (List ℕ) → ShowEnd → Type 0
 Ended method read AtEnd held holds (Done refused) = (rs : List ReplyBytes) × Wrote method read held holds rs [] [] × (refused ≡ has_refusal rs) × AtEnd
 Ended method read AtEnd held holds (Malformed f) =
-    (rs : List ReplyBytes) × (rest : List ℕ) × Wrote method read held holds rs rest [] × IsReplyFaultOf (length (frames rs)) rest f × (f.why ≡ EndOfInput → AtEnd) × IsPrompt read
-Ended method read AtEnd held holds BadBody = (rs : List ReplyBytes) × (r : ReplyBytes) × (rest : List ℕ) × IsLast rest r × IsBad method r × Wrote method read held holds rs rest (first_line code.Ok r)
+    (rs : List ReplyBytes) × (rest : List ℕ) × Wrote method read held holds rs rest [] × IsReplyFaultOf (length (frames rs)) rest f
+    × (f.why ≡ EndOfInput → AtEnd) × IsPrompt read
+Ended method read AtEnd held holds BadBody = (rs : List ReplyBytes) × (r : ReplyBytes) × (rest : List ℕ) × IsLast rest r × IsBad method r
+    × Wrote method read held holds rs rest (first_line code.Ok r)
 Ended method read AtEnd held holds ReadFailed = (rs : List ReplyBytes) × (rest : List ℕ) × Wrote method read held holds rs rest [] × IsUnfinished rest
 Ended method read AtEnd held holds WriteFailed = (rs : List ReplyBytes) × (r : ReplyBytes) × (rest : List ℕ) × (lines : List ℕ) × (part : List ℕ)
     × IsLast rest r × AreLinesOf method r lines × IsPrefix part lines × Wrote method read held holds rs rest part
-Ended method read AtEnd held holds NoMemory = (rs : List ReplyBytes) × (rest : List ℕ) × Wrote method read held holds rs rest [] × ((read ≡ []) ⊎ ((r : ReplyBytes) × IsLast rest r))
+Ended method read AtEnd held holds NoMemory = (rs : List ReplyBytes) × (rest : List ℕ) × Wrote method read held holds rs rest []
+    × ((read ≡ []) ⊎ ((r : ReplyBytes) × IsLast rest r))
 
 -- A run over a reader and a writer.
 abbrev pub Shows : Option Method → Option (List ℕ) → Option (List ℕ) → Option (List ℕ) → Option (List ℕ) → ShowEnd → Type 0

@@ -5,7 +5,7 @@ ghost use Rattle.csi_client.specs.declared.receiving.Received.{Received};
 ghost use Rattle.csi_client.specs.Again.{is_unanswered, unanswered_count, answered_count, IsSentAgain, longest_pause, pause};
 
 use crate::receiving::Received;
-use frames_core::ReplyWhy;
+use envelope::ReplyWhy;
 
 /// Connections to a server, one for each exchange.
 pub trait Line {
@@ -15,7 +15,8 @@ pub trait Line {
     // How many of them were unanswered.
     ghost unanswered: { Self → ℕ };
 
-    // What one exchange does to it: before and after, for a frame and what came. Nothing else says so, so who promises it has sent that frame.
+    // What one exchange does to it: before and after, for a frame and what came. Nothing else says so, so who
+    // promises it has sent that frame.
     ghost exchanged: { Self → Self → List ℕ → Received → Type 0 };
 
     /// Sends the frame of a call on a new connection, and waits for its reply. Where the connection
@@ -88,7 +89,8 @@ pub fn call_again<L: Line>(line: &mut L, frame: &[u8], tries: u32) -> Received
     requires most { tries ≤ 10 }
     ensures made { L.exchanges line.old + 1 ≤ L.exchanges line.new }
     ensures bounded { L.exchanges line.new ≤ L.exchanges line.old + tries }
-    ensures once { L.exchanges line.new + L.unanswered line.old ≡ L.exchanges line.old + L.unanswered line.new + answered_count result }
+    ensures once { L.exchanges line.new + L.unanswered line.old
+        ≡ L.exchanges line.old + L.unanswered line.new + answered_count result }
     ensures sent { IsSentAgain L.exchanged line.old line.new frame.now tries result }
     ensures given_up { is_unanswered result ≡ true → L.exchanges line.new ≡ L.exchanges line.old + tries }
 {

@@ -1,10 +1,12 @@
 //! The client: it sends the frames of calls, and says what the replies to them are.
 //!
-//! `replies.rt` shows a reply, `lines.rt` what its body says, and `escape.rt` writes a text as one word; `specs/Replies.antt`, `specs/Lines.antt` and
-//! `specs/Escape.antt` say the same as functions, which the contracts cite: what is shown is what bytes mean, by the codec's `read_response`.
-//! `calling.rt` makes the frame of a call, which the framer's `send` writes, and `again.rt` sends it again on one connection after another, until it
-//! is answered (`specs/Again.antt` says which outcomes are answers). `receiving.rt` reads the first reply and `showing.rt` shows all replies of a
-//! stream, both over a `ReplyFramer`; `specs/Receiving.antt` and `specs/Showing.antt` say by each end what was read and written, and
+//! `replies.rt` shows a reply, `lines.rt` what its body says, and `escape.rt` writes a text as one word;
+//! `specs/Replies.antt`, `specs/Lines.antt` and `specs/Escape.antt` say the same as functions, which the
+//! contracts cite: what is shown is what bytes mean, by the codec's `read_response`. `calling.rt` makes the
+//! frame of a call, which the framer's `send` writes, and `again.rt` sends it again on one connection after
+//! another, until it is answered (`specs/Again.antt` says which outcomes are answers). `receiving.rt` reads
+//! the first reply and `showing.rt` shows all replies of a stream, both over a `ReplyFramer`;
+//! `specs/Receiving.antt` and `specs/Showing.antt` say by each end what was read and written, and
 //! `specs/Live.antt` what holds between two reads.
 //!
 //! ```rust
@@ -24,7 +26,6 @@ mod showing;
 
 pub use again::{Exchanges, Line, call_again, is_unanswered, pause_millis};
 pub use calling::put_call;
-pub use frames_core::send;
 pub use receiving::{Received, ReceivedReply, receive};
 pub use replies::{put_body_lines, put_reply_line};
 pub use showing::{ShowEnd, show_all};

@@ -6,7 +6,8 @@ ghost use Rattle.frames_core.specs.Framer.{IsReplySettled, reply_start};
 ghost use Rattle.envelope.specs.ReplyStream.{IsUnfinished};
 ghost use Rattle.csi_client.specs.Receiving.{Receives, Gathers, reply_of};
 
-use frames_core::{MAX_REPLY_BYTES, Reply, ReplyFault, ReplyFramer};
+use envelope::{MAX_REPLY_BYTES, Reply, ReplyFault};
+use frames_core::ReplyFramer;
 use std::alloc::{AllocError, Global};
 use std::io::{self, Read};
 

@@ -12,7 +12,7 @@ ghost use Rattle.csi_client.specs.Showing.{IsBad, IsBadAt, IsReadable};
 use crate::lines::put_lines;
 use csi_codec::decode_response;
 use csi_types::{Code, Method, Response};
-use frames_core::Reply;
+use envelope::Reply;
 use itoa::Buffer;
 use pbmessage::DecodeFault;
 use std::alloc::{AllocError, Global};
@@ -42,7 +42,8 @@ fn put_content(alloc: Global, out: &mut Vec<u8>, text: &[u8], body: &[u8]) -> Re
 
 // The line of a reply.
 fn reply_line(alloc: Global, reply: &Reply<'_>) -> Result<Vec<u8>, AllocError>
-    ensures { IfOk result (λ line. (code : Code) → reply.now.status ≡ number_of code → line.items ≡ first_line code (reply_bytes_of reply.now)) }
+    ensures { IfOk result (λ line. (code : Code) → reply.now.status ≡ number_of code
+        → line.items ≡ first_line code (reply_bytes_of reply.now)) }
 {
     let mut line = Vec::new(alloc);
     put_status(&mut line, reply.status)?;
@@ -54,13 +55,14 @@ fn reply_line(alloc: Global, reply: &Reply<'_>) -> Result<Vec<u8>, AllocError>
 
 /// Appends a line that says a reply: its status as a number, the name of the status, and its body
 /// in lower case hexadecimal digits or its text, `-` where there is neither. This is promised of a
-/// reply whose status is one of the ten codes, as [`take_reply`](frames_core::take_reply) gives it.
+/// reply whose status is one of the ten codes, as [`take_reply`](envelope::take_reply) gives it.
 ///
 /// # Errors
 ///
 /// Where memory was refused. The vector is as it was then.
 pub fn put_reply_line(alloc: Global, out: &mut Vec<u8>, reply: &Reply<'_>) -> Result<(), AllocError>
-    ensures line { OnOk result ((code : Code) → reply.now.status ≡ number_of code → out.new.items ≡ out.old.items ++ first_line code (reply_bytes_of reply.now)) }
+    ensures line { OnOk result ((code : Code) → reply.now.status ≡ number_of code
+        → out.new.items ≡ out.old.items ++ first_line code (reply_bytes_of reply.now)) }
     ensures kept { OnErr result (out.new.items ≡ out.old.items) }
 {
     let line = reply_line(alloc, reply)?;
@@ -85,13 +87,15 @@ fn put_response(alloc: Global, out: &mut Vec<u8>, response: &Response) -> Result
     out.extend_from_slice(said.as_slice())
 }
 
-// Appends what a response says that was read. It is lent, so that what owns one does nothing else that may fail.
+// Appends what a response says that was read. It is lent, so that what owns one does nothing else that may
+// fail.
 fn put_decoded(
     alloc: Global,
     out: &mut Vec<u8>,
     decoded: &Result<Response, DecodeFault>,
 ) -> Result<(), DecodeFault>
-    ensures ok { IfOk decoded.now (λ response. OnOk result (out.new.items ≡ out.old.items ++ lines response)) }
+    ensures ok { IfOk decoded.now (λ response. OnOk result
+        (out.new.items ≡ out.old.items ++ lines response)) }
     ensures err { IfErr decoded.now (λ fault. (result ≡ Err fault) × (out.new.items ≡ out.old.items)) }
     ensures malformed { (at : ℕ) → result ≡ Err (Malformed at) → decoded.now ≡ Err (Malformed at) }
     ensures memory { result ≡ Err NoMemory → (at : ℕ) → decoded.now ≢ Err (Malformed at) }
@@ -119,7 +123,8 @@ pub fn put_body_lines(
 ) -> Result<(), DecodeFault>
     ensures ok { OnOk result (out.new.items ≡ out.old.items ++ body_lines method (reply_bytes_of reply.now)) }
     ensures readable { OnOk result (¬ IsBad method (reply_bytes_of reply.now)) }
-    ensures malformed { (at : ℕ) → result ≡ Err (Malformed at) → IsBadAt method (reply_bytes_of reply.now) at × (out.new.items ≡ out.old.items) }
+    ensures malformed { (at : ℕ) → result ≡ Err (Malformed at) → IsBadAt method (reply_bytes_of reply.now) at
+        × (out.new.items ≡ out.old.items) }
     ensures kept { OnErr result (out.new.items ≡ out.old.items) }
     ensures memory { result ≡ Err NoMemory → IsReadable method (reply_bytes_of reply.now) }
 {

@@ -15,7 +15,8 @@ ghost use Rattle.csi_client.specs.Live.{ShowsOne, end_of, IsReady, Live, Steps, 
 use crate::receiving::PIECE_BYTES;
 use crate::replies::{put_body_lines, put_reply_line};
 use csi_types::Method;
-use frames_core::{Reply, ReplyFault, ReplyFramer, send};
+use envelope::{Reply, ReplyFault};
+use frames_core::{ReplyFramer, send};
 use pbmessage::DecodeFault;
 use std::alloc::Global;
 use std::io::{self, Read, Write};
@@ -52,7 +53,7 @@ pub(crate) enum Halt {
 
 // What came of showing some bytes.
 #[derive(Clone, Copy)]
-pub(crate) enum Step {
+pub(crate) enum Shown {
     Fed(usize),
     Faulty(ReplyFault),
     Halted(Halt),
@@ -71,9 +72,13 @@ impl Printer {
     fn make_lines(&mut self, alloc: Global, reply: &Reply<'_>) -> Result<(), DecodeFault>
         ensures method { self.new.method ≡ self.old.method }
         ensures refused { self.new.refused ≡ self.old.refused }
-        ensures ok { OnOk result ((code : Code) → reply.now.status ≡ number_of code → self.new.lines.items ≡ first_line code (reply_bytes_of reply.now) ++ body_lines self.old.method (reply_bytes_of reply.now)) }
+        ensures ok { OnOk result ((code : Code) → reply.now.status ≡ number_of code
+            → self.new.lines.items ≡ first_line code (reply_bytes_of reply.now)
+            ++ body_lines self.old.method (reply_bytes_of reply.now)) }
         ensures readable { OnOk result (¬ IsBad self.old.method (reply_bytes_of reply.now)) }
-        ensures bad { (at : ℕ) → result ≡ Err (Malformed at) → IsBad self.old.method (reply_bytes_of reply.now) × (self.new.lines.items ≡ first_line Code.Ok (reply_bytes_of reply.now)) }
+        ensures bad { (at : ℕ) → result ≡ Err (Malformed at)
+            → IsBad self.old.method (reply_bytes_of reply.now)
+            × (self.new.lines.items ≡ first_line Code.Ok (reply_bytes_of reply.now)) }
     {
         self.lines.clear();
         match put_reply_line(alloc, &mut self.lines, reply) {
@@ -84,7 +89,8 @@ impl Printer {
 
     // Writes the lines that were made.
     fn write_lines<W: Write>(&self, writer: &mut W) -> io::Result<()>
-        ensures all { OnOk result (Appends (W.contents writer.old) (W.contents writer.new) self.now.lines.items) }
+        ensures all { OnOk result (Appends (W.contents writer.old)
+            (W.contents writer.new) self.now.lines.items) }
         ensures part { WrotePrefix (W.contents writer.old) (W.contents writer.new) self.now.lines.items }
     {
         send(writer, &self.lines)
@@ -99,8 +105,10 @@ impl Printer {
     ) -> Result<(), Halt>
         requires { IsReply (reply_bytes_of reply.now) }
         ensures method { self.new.method ≡ self.old.method }
-        ensures refused { OnOk result (self.new.refused ≡ (self.old.refused || is_refusal (reply_bytes_of reply.now))) }
-        ensures shows { ShowsOne self.old.method (reply_bytes_of reply.now) (W.contents writer.old) (W.contents writer.new) result }
+        ensures refused { OnOk result (self.new.refused
+            ≡ (self.old.refused || is_refusal (reply_bytes_of reply.now))) }
+        ensures shows { ShowsOne self.old.method (reply_bytes_of reply.now) (W.contents writer.old)
+            (W.contents writer.new) result }
     {
         match self.make_lines(alloc, reply) {
             Err(DecodeFault::NoMemory) => Err(Halt::NoMemory),
@@ -125,7 +133,7 @@ impl Printer {
         framer: &mut ReplyFramer,
         rest: &[u8],
         writer: &mut W,
-    ) -> Step
+    ) -> Shown
         requires room { framer.old.past + length framer.old.held + length rest.now < 2 ^ 63 }
         requires some { 0 < length rest.now }
         requires one { length rest.now ≤ PIECE_BYTES }
@@ -133,21 +141,22 @@ impl Printer {
         ensures method { self.new.method ≡ self.old.method }
         ensures steps { (read : List ℕ) (held : Option (List ℕ))
             → Live self.old.method read framer.old held (W.contents writer.old) self.old.refused
-            → Steps self.old.method read rest.now framer.new held (W.contents writer.new) self.new.refused result }
+            → Steps self.old.method read rest.now framer.new held
+            (W.contents writer.new) self.new.refused result }
         ensures count { AdvancesBy framer.old framer.new (length rest.now) result }
     {
         let count = framer.feed(rest);
         if let Some(fault) = framer.fault() {
-            return Step::Faulty(fault);
+            return Shown::Faulty(fault);
         }
         let Some(reply) = framer.reply() else {
-            return Step::Fed(count);
+            return Shown::Fed(count);
         };
         match self.show(alloc, &reply, writer) {
-            Err(halt) => Step::Halted(halt),
+            Err(halt) => Shown::Halted(halt),
             Ok(()) => {
                 framer.next_frame();
-                Step::Fed(count)
+                Shown::Fed(count)
             }
         }
     }
@@ -159,14 +168,15 @@ impl Printer {
         framer: &mut ReplyFramer,
         piece: &[u8],
         writer: &mut W,
-    ) -> Step
+    ) -> Shown
         requires room { framer.old.past + length framer.old.held + length piece.now < 2 ^ 63 }
         requires one { length piece.now ≤ PIECE_BYTES }
         requires ready { IsReady framer.old }
         ensures method { self.new.method ≡ self.old.method }
         ensures steps { (read : List ℕ) (held : Option (List ℕ))
             → Live self.old.method read framer.old held (W.contents writer.old) self.old.refused
-            → Steps self.old.method read piece.now framer.new held (W.contents writer.new) self.new.refused result }
+            → Steps self.old.method read piece.now framer.new held
+            (W.contents writer.new) self.new.refused result }
         ensures count { AdvancesBy framer.old framer.new (length piece.now) result }
         ensures all { IsAllFed (length piece.now) result }
     {
@@ -174,18 +184,19 @@ impl Printer {
         while at < piece.len() {
             let (_, rest) = piece.split_at(at);
             match self.show_next(alloc, framer, rest, writer) {
-                Step::Fed(count) => at += count,
-                Step::Faulty(fault) => return Step::Faulty(fault),
-                Step::Halted(halt) => return Step::Halted(halt),
+                Shown::Fed(count) => at += count,
+                Shown::Faulty(fault) => return Shown::Faulty(fault),
+                Shown::Halted(halt) => return Shown::Halted(halt),
             }
         }
-        Step::Fed(at)
+        Shown::Fed(at)
     }
 
     // The input ended.
     fn finish(&self, framer: &mut ReplyFramer) -> ShowEnd
         ensures { (read : List ℕ) (held holds : Option (List ℕ))
-            → Live self.now.method read framer.old held holds self.now.refused → Ended self.now.method read ⊤ held holds result }
+            → Live self.now.method read framer.old held holds self.now.refused
+            → Ended self.now.method read ⊤ held holds result }
     {
         framer.end();
         match framer.fault() {
@@ -218,7 +229,8 @@ pub fn show_all<R: Read, W: Write>(
     reader: &mut R,
     writer: &mut W,
 ) -> ShowEnd
-    ensures { Shows method (R.remaining reader.old) (R.remaining reader.new) (W.contents writer.old) (W.contents writer.new) result }
+    ensures { Shows method (R.remaining reader.old) (R.remaining reader.new) (W.contents writer.old)
+        (W.contents writer.new) result }
 {
     let Ok(mut framer) = ReplyFramer::new(alloc) else {
         return ShowEnd::NoMemory;
@@ -238,9 +250,9 @@ pub fn show_all<R: Read, W: Write>(
         }
         let (bytes, _) = piece.split_at(count);
         match printer.show_piece(alloc, &mut framer, bytes, writer) {
-            Step::Fed(_) => {}
-            Step::Faulty(fault) => return ShowEnd::Malformed(fault),
-            Step::Halted(halt) => return halted(halt),
+            Shown::Fed(_) => {}
+            Shown::Faulty(fault) => return ShowEnd::Malformed(fault),
+            Shown::Halted(halt) => return halted(halt),
         }
     }
     ShowEnd::ReadFailed

@@ -10,4 +10,9 @@ abbrev pub topology_of : TextMap → List TextMap
 topology_of segments = if len segments == 0 then [] else segments ∷ []
 
 abbrev pub created_volume : CreatedVolume → VolumeInfo
-created_volume v = record { bytes = v.bytes; id = v.prefix.now ++ v.suffix.now; context = insert empty v.key.now v.value.now; topology = topology_of v.segments.now }
+created_volume v = record {
+  bytes = v.bytes;
+  id = v.prefix.now ++ v.suffix.now;
+  context = insert empty v.key.now v.value.now;
+  topology = topology_of v.segments.now;
+}

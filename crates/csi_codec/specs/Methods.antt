@@ -12,17 +12,23 @@ use Rattle.pbmessage.specs.declared.message.DecodeFault.TheVariants as fault
 use Rattle.pbmessage.specs.Views.{Views, value_of}
 use Rattle.pbmessage.specs.Schema.{Schema, AnyPayload, Good, GoodField}
 use Rattle.pbmessage.specs.Canon.{Rows, bytes_of, Start, FitsMap, FitsOption}
-use Rattle.csi_codec.specs.messages.Single.{bool_value_in, canon_bool_value, FitsBoolValue, only_schema, only_in, canon_only, types_in, types_schema, canon_types, FitsTypes}
+use Rattle.csi_codec.specs.messages.Single.{bool_value_in, canon_bool_value, FitsBoolValue, only_schema, only_in, canon_only, types_in, types_schema}
+use Rattle.csi_codec.specs.messages.Single.{canon_types, FitsTypes}
 use Rattle.csi_codec.specs.messages.Topology.{map_in, map_schema, canon_map}
 use Rattle.csi_codec.specs.messages.Volume.{volume_in, volume_schema, canon_volume, FitsVolume}
-use Rattle.csi_codec.specs.messages.VolumeRequests.{create_in, create_schema, canon_create, FitsCreate, delete_in, delete_schema, canon_delete, FitsDelete, modify_in, modify_schema, canon_modify, FitsModify}
-use Rattle.csi_codec.specs.messages.PublishRequests.{publish_in, publish_schema, canon_publish, FitsPublish, unpublish_in, unpublish_schema, canon_unpublish, FitsUnpublish}
-use Rattle.csi_codec.specs.messages.QueryRequests.{validate_in, validate_schema, canon_validate, FitsValidate, list_in, list_schema, canon_list, FitsList, capacity_in, capacity_schema, canon_capacity, FitsCapacity}
+use Rattle.csi_codec.specs.messages.VolumeRequests.{create_in, create_schema, canon_create, FitsCreate, delete_in, delete_schema, canon_delete}
+use Rattle.csi_codec.specs.messages.VolumeRequests.{FitsDelete, modify_in, modify_schema, canon_modify, FitsModify}
+use Rattle.csi_codec.specs.messages.PublishRequests.{publish_in, publish_schema, canon_publish, FitsPublish, unpublish_in, unpublish_schema}
+use Rattle.csi_codec.specs.messages.PublishRequests.{canon_unpublish, FitsUnpublish}
+use Rattle.csi_codec.specs.messages.QueryRequests.{validate_in, validate_schema, canon_validate, FitsValidate, list_in, list_schema, canon_list}
+use Rattle.csi_codec.specs.messages.QueryRequests.{FitsList, capacity_in, capacity_schema, canon_capacity, FitsCapacity}
 use Rattle.csi_codec.specs.declared.messages.responses.PluginInfo.{PluginInfo}
 use Rattle.csi_codec.specs.declared.messages.responses.Validation.{Validation}
 use Rattle.csi_codec.specs.declared.messages.responses.Listing.{Listing}
 use Rattle.csi_codec.specs.declared.messages.responses.FreeCapacity.{FreeCapacity}
-use Rattle.csi_codec.specs.messages.ResponseParts.{info_in, info_schema, canon_info, FitsInfo, validation_in, validation_schema, canon_validation, FitsValidation, listing_in, listing_schema, canon_listing, FitsListing, free_in, free_schema, canon_free, FitsFree}
+use Rattle.csi_codec.specs.messages.ResponseParts.{info_in, info_schema, canon_info, FitsInfo, validation_in, validation_schema, canon_validation}
+use Rattle.csi_codec.specs.messages.ResponseParts.{FitsValidation, listing_in, listing_schema, canon_listing, FitsListing, free_in, free_schema}
+use Rattle.csi_codec.specs.messages.ResponseParts.{canon_free, FitsFree}
 
 -- ---- requests
 

@@ -1,5 +1,6 @@
--- What the bytes of a message mean, as a function: its fields are read from the left for as long as they are good. A
--- law ties it to the relations of `Methods`, which speak of what bytes spell and of no order of reading.
+-- What the bytes of a message mean, as a function: its fields are read from the left for as long as they are
+-- good. A law ties it to the relations of `Methods`, which speak of what bytes spell and of no order of
+-- reading.
 use Rattle.std.specs.Prelude.{◌≡◌, ℕ, zero, suc, ◌-◌, Bool, true, List, [], ◌∷◌, length, Result, Ok, Err, MatchResult, ◌==◌, if◌then◌else◌}
 use Rattle.std.specs.Option.{option_map_or}
 use Rattle.std.specs.Result.{IsOk}

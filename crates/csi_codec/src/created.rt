@@ -35,7 +35,8 @@ pub struct CreatedVolume<'a> {
 // Appends the topology of these segments, if there is one.
 #[tactic(auto, unfolding(pbmessage::specs::Canon::row_fields))]
 fn put_topology(out: &mut Vec<u8>, segments: &Map) -> Result<(), AllocError>
-    ensures ok { OnOk result (out.new.items ≡ out.old.items ++ spellings (row_fields (messages_row canon_map 5 (topology_of segments.now)))) }
+    ensures ok { OnOk result (out.new.items
+        ≡ out.old.items ++ spellings (row_fields (messages_row canon_map 5 (topology_of segments.now)))) }
     ensures fitting { OnOk result (FitsTerms (topology_of segments.now)) }
     ensures kept { Keeps out.old.items out.new.items }
 {
@@ -69,7 +70,8 @@ impl Written<Csi> for CreatedVolume<'_> {
 /// Where memory is refused the vector is as it was.
 #[tactic(auto, unfolding(pbmessage::specs::Canon::row_fields, crate::specs::Methods::response_bytes, crate::specs::Methods::FitsResponse))]
 pub fn encode_created(volume: &CreatedVolume, out: &mut Vec<u8>) -> Result<(), AllocError>
-    ensures ok { OnOk result (out.new.items ≡ out.old.items ++ response_bytes (response.Create (Some (created_volume volume.now)))) }
+    ensures ok { OnOk result (out.new.items
+        ≡ out.old.items ++ response_bytes (response.Create (Some (created_volume volume.now)))) }
     ensures fitting { OnOk result (FitsResponse (response.Create (Some (created_volume volume.now)))) }
     ensures err { OnErr result (out.new.items ≡ out.old.items) }
     ensures kept { Keeps out.old.items out.new.items }

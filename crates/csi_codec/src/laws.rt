@@ -24,11 +24,13 @@ ghost use Rattle.csi_codec.specs.Reading.{read_request, IsRead, read_response, I
 use csi_types::laws::map_entries;
 use pbwire::laws::{spelled, written};
 
-/// The spelling of a request or a response means it. An `Ok` of [`encode_request`](crate::encode_request) and of
-/// [`encode_response`](crate::encode_response) says that the value fits, so what they write is read as the value.
+/// The spelling of a request or a response means it. An `Ok` of [`encode_request`](crate::encode_request) and
+/// of [`encode_response`](crate::encode_response) says that the value fits, so what they write is read as the
+/// value.
 pub fn round_trip()
     ensures requests { (r : Request) → FitsRequest r → MeansRequest (request_method r) (request_bytes r) r }
-    ensures responses { (r : Response) → FitsResponse r → MeansResponse (response_method r) (response_bytes r) r }
+    ensures responses { (r : Response) → FitsResponse r
+        → MeansResponse (response_method r) (response_bytes r) r }
 {
     spelled();
     written();
@@ -37,32 +39,40 @@ pub fn round_trip()
 
 /// Bytes mean at most one request of a method, and at most one response.
 pub fn one_meaning()
-    ensures requests { (m : Method) (bytes : List ℕ) (r s : Request) → MeansRequest m bytes r → MeansRequest m bytes s → r ≡ s }
-    ensures responses { (m : Method) (bytes : List ℕ) (r s : Response) → MeansResponse m bytes r → MeansResponse m bytes s → r ≡ s }
+    ensures requests { (m : Method) (bytes : List ℕ) (r s : Request) → MeansRequest m bytes r
+        → MeansRequest m bytes s → r ≡ s }
+    ensures responses { (m : Method) (bytes : List ℕ) (r s : Response) → MeansResponse m bytes r
+        → MeansResponse m bytes s → r ≡ s }
 {
     spelled();
 }
 
 /// Bytes that are good mean a request, and so for responses.
 pub fn a_meaning()
-    ensures requests { (m : Method) (bytes : List ℕ) → IsGoodRequest m bytes → (r : Request) × MeansRequest m bytes r }
-    ensures responses { (m : Method) (bytes : List ℕ) → IsGoodResponse m bytes → (r : Response) × MeansResponse m bytes r }
+    ensures requests { (m : Method) (bytes : List ℕ) → IsGoodRequest m bytes → (r : Request)
+        × MeansRequest m bytes r }
+    ensures responses { (m : Method) (bytes : List ℕ) → IsGoodResponse m bytes → (r : Response)
+        × MeansResponse m bytes r }
 {}
 
 /// Bytes that are refused as malformed mean no request, and so for responses.
 pub fn no_meaning()
-    ensures requests { (m : Method) (bytes : List ℕ) (at : ℕ) → IsNoRequest m bytes at → (r : Request) → MeansRequest m bytes r → ⊥ }
-    ensures responses { (m : Method) (bytes : List ℕ) (at : ℕ) → IsNoResponse m bytes at → (r : Response) → MeansResponse m bytes r → ⊥ }
+    ensures requests { (m : Method) (bytes : List ℕ) (at : ℕ) → IsNoRequest m bytes at → (r : Request)
+        → MeansRequest m bytes r → ⊥ }
+    ensures responses { (m : Method) (bytes : List ℕ) (at : ℕ) → IsNoResponse m bytes at → (r : Response)
+        → MeansResponse m bytes r → ⊥ }
 {}
 
 /// Bytes that mean no request are refused at one offset, and so for responses.
 pub fn one_offset()
-    ensures requests { (m : Method) (bytes : List ℕ) (a b : ℕ) → IsNoRequest m bytes a → IsNoRequest m bytes b → a ≡ b }
-    ensures responses { (m : Method) (bytes : List ℕ) (a b : ℕ) → IsNoResponse m bytes a → IsNoResponse m bytes b → a ≡ b }
+    ensures requests { (m : Method) (bytes : List ℕ) (a b : ℕ) → IsNoRequest m bytes a → IsNoRequest m bytes b
+        → a ≡ b }
+    ensures responses { (m : Method) (bytes : List ℕ) (a b : ℕ) → IsNoResponse m bytes a
+        → IsNoResponse m bytes b → a ≡ b }
 {}
 
-/// What [`decode`](crate::decode) and [`decode_response`](crate::decode_response) find in any bytes, as a function of the
-/// method and the bytes: the value that they mean, or the offset at which they are refused.
+/// What [`decode`](crate::decode) and [`decode_response`](crate::decode_response) find in any bytes, as a
+/// function of the method and the bytes: the value that they mean, or the offset at which they are refused.
 pub fn reading()
     ensures requests { (m : Method) (bytes : List ℕ) → IsRead m bytes (read_request m bytes) }
     ensures responses { (m : Method) (bytes : List ℕ) → IsReadResponse m bytes (read_response m bytes) }
@@ -72,10 +82,14 @@ pub fn reading()
 
 /// The function reads what the bytes mean, and where they are refused it gives that offset.
 pub fn read_as_meant()
-    ensures requests { (m : Method) (bytes : List ℕ) (r : Request) → MeansRequest m bytes r → read_request m bytes ≡ Ok r }
-    ensures no_request { (m : Method) (bytes : List ℕ) (at : ℕ) → IsNoRequest m bytes at → read_request m bytes ≡ Err at }
-    ensures responses { (m : Method) (bytes : List ℕ) (r : Response) → MeansResponse m bytes r → read_response m bytes ≡ Ok r }
-    ensures no_response { (m : Method) (bytes : List ℕ) (at : ℕ) → IsNoResponse m bytes at → read_response m bytes ≡ Err at }
+    ensures requests { (m : Method) (bytes : List ℕ) (r : Request) → MeansRequest m bytes r
+        → read_request m bytes ≡ Ok r }
+    ensures no_request { (m : Method) (bytes : List ℕ) (at : ℕ) → IsNoRequest m bytes at
+        → read_request m bytes ≡ Err at }
+    ensures responses { (m : Method) (bytes : List ℕ) (r : Response) → MeansResponse m bytes r
+        → read_response m bytes ≡ Ok r }
+    ensures no_response { (m : Method) (bytes : List ℕ) (at : ℕ) → IsNoResponse m bytes at
+        → read_response m bytes ≡ Err at }
 {
     reading();
     one_meaning();
@@ -83,8 +97,8 @@ pub fn read_as_meant()
     one_offset();
 }
 
-/// In a spelling the field numbers of the message rise, from 1 to 2^29 - 1 (Protocol Buffers language guide, 'Assigning
-/// Field Numbers').
+/// In a spelling the field numbers of the message rise, from 1 to 2^29 - 1 (Protocol Buffers language guide,
+/// 'Assigning Field Numbers').
 pub fn rising()
     ensures requests { (r : Request) → IsTrue (rises (canon_request r)) }
     ensures responses { (r : Response) → IsTrue (rises (canon_response r)) }

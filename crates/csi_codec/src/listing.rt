@@ -19,7 +19,8 @@ use pbwire::laws::short;
 use pbwire::varint_field;
 use std::alloc::AllocError;
 
-// The entry of a volume of less than this, which is published nowhere, has at most 127 bytes, and each length in it takes one.
+// The entry of a volume of less than this, which is published nowhere, has at most 127 bytes, and each length
+// in it takes one.
 const SHORT_VOLUME: usize = 122;
 
 // A volume of a pool.
@@ -36,7 +37,8 @@ impl Written<Csi> for PlacedVolume<'_> {
     ghost use Rattle.csi_codec.specs.messages.Volume.{canon_volume, FitsVolume};
     ghost use Rattle.csi_codec.specs.Listing.{placed_volume};
 
-    ghost canon = { λ v. canon_volume (placed_volume v.bytes (v.prefix.now ++ v.suffix.now) v.placement.now) };
+    ghost canon = { λ v. canon_volume (placed_volume v.bytes
+        (v.prefix.now ++ v.suffix.now) v.placement.now) };
 
     ghost fits = { λ v. FitsVolume (placed_volume v.bytes (v.prefix.now ++ v.suffix.now) v.placement.now) };
 
@@ -98,7 +100,8 @@ fn size_field(bytes: i64) -> ArrayVec<u8, 20>
 #[inline(always)]
 fn short_len(entry: &ListedEntry, size: &[u8]) -> Option<u8>
     ensures id { IfSome result (λ len. 1 ≤ length entry.now.prefix.now) }
-    ensures is { IfSome result (λ len. len ≡ length size.now + 2 + length entry.now.prefix.now + length entry.now.suffix.now
+    ensures value { IfSome result (λ len. len
+        ≡ length size.now + 2 + length entry.now.prefix.now + length entry.now.suffix.now
         + length (placement_bytes entry.now.placement.now.context entry.now.placement.now.topology)) }
     ensures short { IfSome result (λ len. len < 122) }
 {
@@ -149,7 +152,8 @@ fn put_size(bytes: &mut ArrayVec<u8, 128>, size: &[u8], len: u8)
 #[inline(always)]
 fn put_id(bytes: &mut ArrayVec<u8, 128>, prefix: &str, suffix: &str)
     requires { length bytes.old.items + 2 + length prefix.now + length suffix.now ≤ 128 }
-    ensures is { bytes.new.items ≡ bytes.old.items ++ (18 ∷ (length prefix.now + length suffix.now) ∷ (prefix.now ++ suffix.now)) }
+    ensures appended { bytes.new.items ≡ bytes.old.items
+        ++ (18 ∷ (length prefix.now + length suffix.now) ∷ (prefix.now ++ suffix.now)) }
     ensures fitting { FitsText (prefix.now ++ suffix.now) }
 {
     let len = prefix.len() + suffix.len();
@@ -166,7 +170,7 @@ fn append_short(
     len: u8,
     out: &mut Vec<u8>,
 ) -> Result<(), AllocError>
-    requires is { len ≡ length size.now + 2 + length entry.now.prefix.now + length entry.now.suffix.now
+    requires appended { len ≡ length size.now + 2 + length entry.now.prefix.now + length entry.now.suffix.now
         + length (placement_bytes entry.now.placement.now.context entry.now.placement.now.topology) }
     requires short { len < 122 }
     ensures ok { OnOk result (out.new.items ≡ out.old.items ++ short_entry entry.now size.now len) }
@@ -181,8 +185,8 @@ fn append_short(
     out.extend_from_slice(bytes.as_slice())
 }
 
-/// Appends an entry of a listing: the response of this one entry and of no token. A listing is its entries, each
-/// appended behind the one before it, and then its token.
+/// Appends an entry of a listing: the response of this one entry and of no token. A listing is its entries,
+/// each appended behind the one before it, and then its token.
 ///
 /// # Errors
 ///
@@ -190,7 +194,8 @@ fn append_short(
 #[inline(always)]
 #[tactic(auto, using(crate::specs::facts::Listing::entries_only), unfolding(crate::specs::Methods::FitsResponse))]
 pub fn encode_entry(entry: &ListedEntry, out: &mut Vec<u8>) -> Result<(), AllocError>
-    ensures ok { OnOk result (out.new.items ≡ out.old.items ++ response_bytes (response.List (listed_entry entry.now ∷ []) [])) }
+    ensures ok { OnOk result (out.new.items
+        ≡ out.old.items ++ response_bytes (response.List (listed_entry entry.now ∷ []) [])) }
     ensures fitting { OnOk result (FitsResponse (response.List (listed_entry entry.now ∷ []) [])) }
     ensures err { OnErr result (out.new.items ≡ out.old.items) }
     ensures kept { Keeps out.old.items out.new.items }

@@ -13,8 +13,8 @@ use std::alloc::{AllocError, Global};
 // The status of a volume that is published nowhere: field 2 of its entry, without nodes.
 const NO_NODES: [u8; 2] = [18, 0];
 
-/// What is answered alike of each volume of a pool, with its spelling: a listing of many volumes spells it once (CSI
-/// specification, `Volume`, its fields `volume_context` and `accessible_topology`).
+/// What is answered alike of each volume of a pool, with its spelling: a listing of many volumes spells it
+/// once (CSI specification, `Volume`, its fields `volume_context` and `accessible_topology`).
 #[derive(Drop)]
 pub struct Placement {
     context: Map,
@@ -66,7 +66,8 @@ impl Placement {
 
 /// Appends what a pool gives its volumes.
 pub(crate) fn put_placement(out: &mut Vec<u8>, placement: &Placement) -> Result<(), AllocError>
-    ensures ok { OnOk result (out.new.items ≡ out.old.items ++ placement_bytes placement.now.context placement.now.topology) }
+    ensures ok { OnOk result (out.new.items
+        ≡ out.old.items ++ placement_bytes placement.now.context placement.now.topology) }
     ensures err { OnErr result (out.new.items ≡ out.old.items) }
 {
     out.extend_from_slice(placement.as_bytes())

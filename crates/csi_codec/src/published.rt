@@ -17,7 +17,8 @@ use std::alloc::AllocError;
 /// Where memory is refused the vector is as it was.
 #[tactic(auto, unfolding(pbmessage::specs::Canon::row_fields, crate::specs::Methods::response_bytes, crate::specs::Methods::FitsResponse))]
 pub fn encode_published(key: &str, value: &str, out: &mut Vec<u8>) -> Result<(), AllocError>
-    ensures ok { OnOk result (out.new.items ≡ out.old.items ++ response_bytes (response.Publish (insert empty key.now value.now))) }
+    ensures ok { OnOk result (out.new.items
+        ≡ out.old.items ++ response_bytes (response.Publish (insert empty key.now value.now))) }
     ensures fitting { OnOk result (FitsResponse (response.Publish (insert empty key.now value.now))) }
     ensures err { OnErr result (out.new.items ≡ out.old.items) }
     ensures kept { Keeps out.old.items out.new.items }

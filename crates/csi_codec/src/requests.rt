@@ -14,16 +14,17 @@ use pbmessage::{DecodeFault, Written, decode_boxed, decode_message, whole_or_non
 use pbwire::laws::spelled;
 use std::alloc::{AllocError, Global};
 
-/// The request of this method that the bytes mean (Protocol Buffers encoding guide; CSI specification, csi.proto).
+/// The request of this method that the bytes mean (Protocol Buffers encoding guide; CSI specification,
+/// csi.proto).
 ///
-/// Fields come in any order, and unknown ones are skipped. Of a scalar or a text the last occurrence counts, those
-/// of an embedded message are merged, and those of a repeated field are its elements. Faults are looked for first,
-/// without memory.
+/// Fields come in any order, and unknown ones are skipped. Of a scalar or a text the last occurrence counts,
+/// those of an embedded message are merged, and those of a repeated field are its elements. Faults are looked
+/// for first, without memory.
 ///
 /// # Errors
 ///
-/// [`DecodeFault::Malformed`] exactly where the bytes mean no request; [`DecodeFault::NoMemory`] only where they mean
-/// one.
+/// [`DecodeFault::Malformed`] exactly where the bytes mean no request; [`DecodeFault::NoMemory`] only where
+/// they mean one.
 pub fn decode(alloc: Global, method: Method, bytes: &[u8]) -> Result<Request, DecodeFault>
     ensures ok { IfOk result (MeansRequest method bytes.now) }
     ensures err { IfErr result (RefusesRequest method bytes.now) }
@@ -101,8 +102,9 @@ fn write_request(request: &Request, out: &mut Vec<u8>) -> Result<(), AllocError>
     }
 }
 
-/// Appends the one spelling of the request: rising field numbers, minimal varints, default scalars and empty texts
-/// left out, present messages written even when empty, map entries in byte order of their keys with both parts.
+/// Appends the one spelling of the request: rising field numbers, minimal varints, default scalars and empty
+/// texts left out, present messages written even when empty, map entries in byte order of their keys with
+/// both parts.
 ///
 /// # Errors
 ///

@@ -19,8 +19,8 @@ use std::alloc::{AllocError, Global};
 ///
 /// # Errors
 ///
-/// [`DecodeFault::Malformed`] exactly where the bytes mean no response; [`DecodeFault::NoMemory`] only where they
-/// mean one.
+/// [`DecodeFault::Malformed`] exactly where the bytes mean no response; [`DecodeFault::NoMemory`] only where
+/// they mean one.
 pub fn decode_response(alloc: Global, method: Method, bytes: &[u8]) -> Result<Response, DecodeFault>
     ensures ok { IfOk result (MeansResponse method bytes.now) }
     ensures err { IfErr result (RefusesResponse method bytes.now) }

@@ -1,6 +1,7 @@
 -- What a configuration must not have, as a table of eight lines. The first line that holds is
 -- answered; within a line the first rule, and of that the first pool or node in order.
-use Rattle.std.specs.Prelude.{ℕ, ◌-◌, ◌%◌, ◌==◌, Bool, false, ◌&&◌, ◌||◌, cond, not, nat_lt, nat_le, List, [], ◌∷◌, length, map, take, get_or, sum_by, position, Option, Some, None}
+use Rattle.std.specs.Prelude.{ℕ, ◌-◌, ◌%◌, ◌==◌, Bool, false, ◌&&◌, ◌||◌, cond, not, nat_lt, nat_le, List, [], ◌∷◌, length, map, take, get_or, sum_by}
+use Rattle.std.specs.Prelude.{position, Option, Some, None}
 use Rattle.std.specs.Char.{is_ascii_alphanumeric}
 use Rattle.std.specs.FinMap.{entries, len}
 use Rattle.std.specs.List.{list_any, list_all, enumerate_from}
@@ -67,7 +68,8 @@ is_bad_id id = is_empty id || longer_than MAX_NODE_ID_BYTES id || list_any is_ba
 abbrev pub all_bytes : List Pool → ℕ
 all_bytes pools = sum_by (λ p. p.bytes) pools
 
--- the place of the first item that breaks a rule, of a kind for which it is known when one does behind some earlier ones
+-- the place of the first item that breaks a rule, of a kind for which it is known when one does behind some
+-- earlier ones
 abbrev pub place_broken : {T R : Type 0} → (R → List T → T → Bool) → R → List T → Option ℕ
 place_broken breaks rule items = position (λ e. breaks rule (take e.0 items) e.1) (enumerate_from 0 items)
 

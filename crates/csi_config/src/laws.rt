@@ -38,7 +38,7 @@ pub fn sizes_whole(config: &Config)
 /// There are 1 to 16 pools, each with a name within its limits.
 #[inline(always)]
 pub fn pools_named(config: &Config)
-    ensures some { 0 < length config.now.pools }
+    ensures positive { 0 < length config.now.pools }
     ensures few { length config.now.pools ≤ MAX_POOLS }
     ensures names { (p : Pool) → Has config.now.pools p → is_pool_name p.name ≡ true }
 {}
@@ -54,7 +54,7 @@ pub fn pool_names_differ(config: &Config)
 /// Each pool's bytes are a positive multiple of 1 MiB, and all together at most 2^62.
 #[inline(always)]
 pub fn pool_bytes_whole(config: &Config)
-    ensures whole { (p : Pool) → Has config.now.pools p → is_whole p.bytes ≡ true }
+    ensures in_granules { (p : Pool) → Has config.now.pools p → is_whole p.bytes ≡ true }
     ensures each { (p : Pool) → Has config.now.pools p → p.bytes ≤ 2 ^ 62 }
     ensures all { all_bytes config.now.pools ≤ 2 ^ 62 }
 {}
@@ -78,6 +78,6 @@ pub fn node_ids_differ(config: &Config)
 /// Each node's greatest number of volumes is 1 to 100,000.
 #[inline(always)]
 pub fn node_volumes_few(config: &Config)
-    ensures some { (n : Node) → Has config.now.nodes n → 0 < n.max_volumes }
+    ensures positive { (n : Node) → Has config.now.nodes n → 0 < n.max_volumes }
     ensures few { (n : Node) → Has config.now.nodes n → n.max_volumes ≤ MAX_VOLUMES }
 {}

@@ -70,7 +70,7 @@ impl Ruled for Node {
 /// Gives the nodes back, or the first fault of their number and their ids.
 #[tactic(auto, unfolding(crate::specs::Faults::node_ids_fault))]
 pub(crate) fn check_ids(nodes: Vec<Node>) -> Result<Vec<Node>, ConfigFault>
-    ensures same { IfOk result (λ same. same.items ≡ nodes.items) }
+    ensures unchanged { IfOk result (λ same. same.items ≡ nodes.items) }
     ensures passed { OnOk result (node_ids_fault nodes.items ≡ None) }
     ensures refused { IfErr result (λ fault. node_ids_fault nodes.items ≡ Some fault) }
 {
@@ -84,7 +84,7 @@ pub(crate) fn check_ids(nodes: Vec<Node>) -> Result<Vec<Node>, ConfigFault>
 /// Gives the nodes back, or the first fault of their greatest numbers of volumes.
 #[tactic(auto, unfolding(crate::specs::Faults::node_volumes_fault))]
 pub(crate) fn check_volumes(nodes: Vec<Node>) -> Result<Vec<Node>, ConfigFault>
-    ensures same { IfOk result (λ same. same.items ≡ nodes.items) }
+    ensures unchanged { IfOk result (λ same. same.items ≡ nodes.items) }
     ensures passed { OnOk result (node_volumes_fault nodes.items ≡ None) }
     ensures refused { IfErr result (λ fault. node_volumes_fault nodes.items ≡ Some fault) }
 {

@@ -47,7 +47,7 @@ fn is_plugin_name(name: &[u8]) -> bool
 /// Gives the plugin back, or its first fault.
 #[tactic(auto, unfolding(crate::specs::Faults::plugin_fault))]
 pub(crate) fn check_plugin(plugin: Plugin) -> Result<Plugin, ConfigFault>
-    ensures same { IfOk result (λ same. same ≡ plugin) }
+    ensures unchanged { IfOk result (λ same. same ≡ plugin) }
     ensures passed { OnOk result (plugin_fault plugin ≡ None) }
     ensures refused { IfErr result (λ fault. plugin_fault plugin ≡ Some fault) }
 {

@@ -110,7 +110,7 @@ impl Ruled for Pool {
 /// Gives the pools back, or the first fault of their number and their names.
 #[tactic(auto, unfolding(crate::specs::Faults::pool_names_fault))]
 pub(crate) fn check_names(pools: Vec<Pool>) -> Result<Vec<Pool>, ConfigFault>
-    ensures same { IfOk result (λ same. same.items ≡ pools.items) }
+    ensures unchanged { IfOk result (λ same. same.items ≡ pools.items) }
     ensures passed { OnOk result (pool_names_fault pools.items ≡ None) }
     ensures refused { IfErr result (λ fault. pool_names_fault pools.items ≡ Some fault) }
 {
@@ -138,7 +138,7 @@ fn all_bytes(pools: &[Pool]) -> u64
 /// Gives the pools back, or the first fault of their bytes.
 #[tactic(auto, unfolding(crate::specs::Faults::pool_bytes_fault))]
 pub(crate) fn check_bytes(pools: Vec<Pool>) -> Result<Vec<Pool>, ConfigFault>
-    ensures same { IfOk result (λ same. same.items ≡ pools.items) }
+    ensures unchanged { IfOk result (λ same. same.items ≡ pools.items) }
     ensures passed { OnOk result (pool_bytes_fault pools.items ≡ None) }
     ensures refused { IfErr result (λ fault. pool_bytes_fault pools.items ≡ Some fault) }
 {
@@ -152,7 +152,7 @@ pub(crate) fn check_bytes(pools: Vec<Pool>) -> Result<Vec<Pool>, ConfigFault>
 /// Gives the pools back, or the first fault of their segments.
 #[tactic(auto, unfolding(crate::specs::Faults::segments_fault))]
 pub(crate) fn check_segments(pools: Vec<Pool>) -> Result<Vec<Pool>, ConfigFault>
-    ensures same { IfOk result (λ same. same.items ≡ pools.items) }
+    ensures unchanged { IfOk result (λ same. same.items ≡ pools.items) }
     ensures passed { OnOk result (segments_fault pools.items ≡ None) }
     ensures refused { IfErr result (λ fault. segments_fault pools.items ≡ Some fault) }
 {

@@ -41,9 +41,10 @@ fn place_of<T: Ruled>(rule: T::Rule, items: &[T]) -> Option<usize>
 
 /// Gives the items back, or the fault of the first of them that breaks a rule.
 pub(crate) fn check_rule<T: Ruled>(rule: T::Rule, mut items: Vec<T>) -> Result<Vec<T>, ConfigFault>
-    ensures same { IfOk result (λ same. same.items ≡ items.items) }
+    ensures unchanged { IfOk result (λ same. same.items ≡ items.items) }
     ensures passed { OnOk result (first_broken T.breaks_rule T.name_of T.fault_of rule items.items ≡ None) }
-    ensures refused { IfErr result (λ fault. first_broken T.breaks_rule T.name_of T.fault_of rule items.items ≡ Some fault) }
+    ensures refused { IfErr result (λ fault. first_broken T.breaks_rule T.name_of T.fault_of rule items.items
+        ≡ Some fault) }
 {
     match place_of(rule, items.as_slice()) {
         Some(place) => Err(items.swap_remove(place).fault(rule)),

@@ -1,4 +1,5 @@
--- What the keys of a document give (docs/OPERATING.md, 'Configuration'): the parts of a configuration, or the first key that is missing or of another type.
+-- What the keys of a document give (docs/OPERATING.md, 'Configuration'): the parts of a configuration, or the
+-- first key that is missing or of another type.
 use Rattle.std.specs.Prelude.{codes, ℕ, suc, ℤ, pos, negsuc, List, [], ◌∷◌, Option, None, Some, ok_or, option_and_then, Result, Ok, Err}
 use Rattle.std.specs.FinMap.{empty, insert}
 use Rattle.toml.specs.Data.{Data, Items, no_items, item, Members, no_members, member, get_member, as_str, as_integer, as_array, as_table}

@@ -172,7 +172,8 @@ fn insert_segment(
 
 // Adds the texts of a table, or says that it has something else.
 fn insert_texts(alloc: Global, table: &Table, texts: &mut Map) -> Result<bool, AllocError>
-    ensures { IfOk result (λ all. with_texts texts.old (table_view table.now) ≡ (if all then Some texts.new else None)) }
+    ensures { IfOk result (λ all. with_texts texts.old (table_view table.now)
+        ≡ (if all then Some texts.new else None)) }
 {
     for (key, value) in table {
         let Some(text) = value.as_str() else {
@@ -191,7 +192,7 @@ pub(crate) struct Keys<'a> {
 }
 
 impl<'a> Keys<'a> {
-    pub(crate) fn of_top(table: &'a Table) -> Keys<'a>
+    pub(crate) fn top_table(table: &'a Table) -> Keys<'a>
         ensures section { result.section ≡ section_of.Top }
         ensures table { table_view result.table.now ≡ table_view table.now }
     {
@@ -213,14 +214,16 @@ impl<'a> Keys<'a> {
 
     // The value of a key, if it is there.
     fn find(&self, key: Key) -> Option<&'a Value>
-        ensures { option_map (λ value. view value.now) result ≡ get_member (key_text key) (table_view self.now.table.now) }
+        ensures { option_map (λ value. view value.now) result
+            ≡ get_member (key_text key) (table_view self.now.table.now) }
     {
         self.table.get(key.text())
     }
 
     // The array that a key has, if it has one.
     pub(crate) fn array(&self, key: Key) -> Option<&'a [Value]>
-        ensures { option_map (λ array. items_view array.now) result ≡ option_and_then as_array (get_member (key_text key) (table_view self.now.table.now)) }
+        ensures { option_map (λ array. items_view array.now) result
+            ≡ option_and_then as_array (get_member (key_text key) (table_view self.now.table.now)) }
     {
         match self.find(key)?.as_array() {
             Some(array) => Some(array.as_slice()),
@@ -229,7 +232,8 @@ impl<'a> Keys<'a> {
     }
 
     fn value(&self, key: Key) -> Result<&'a Value, ConfigError>
-        ensures { IsRead (λ value. view value.now) (value_at self.now.section (table_view self.now.table.now) key) result }
+        ensures { IsRead (λ value. view value.now)
+            (value_at self.now.section (table_view self.now.table.now) key) result }
     {
         match self.find(key) {
             Some(value) => Ok(value),
@@ -238,7 +242,8 @@ impl<'a> Keys<'a> {
     }
 
     fn text(&self, alloc: Global, key: Key) -> Result<Text, ConfigError>
-        ensures { IsRead (λ read. read) (text_at self.now.section (table_view self.now.table.now) key) result }
+        ensures { IsRead (λ read. read) (text_at self.now.section
+            (table_view self.now.table.now) key) result }
     {
         match self.value(key)?.as_str() {
             Some(text) => Ok(Text::from_str(alloc, text)?),
@@ -247,7 +252,8 @@ impl<'a> Keys<'a> {
     }
 
     fn count(&self, key: Key) -> Result<u64, ConfigError>
-        ensures { IsRead (λ read. read) (count_at self.now.section (table_view self.now.table.now) key) result }
+        ensures { IsRead (λ read. read) (count_at self.now.section
+            (table_view self.now.table.now) key) result }
     {
         match self.value(key)?.as_integer() {
             Some(number) if number >= 0 => Ok(number as u64),
@@ -257,7 +263,8 @@ impl<'a> Keys<'a> {
 
     // The segments of a pool; none where the key is missing.
     fn segments(&self, alloc: Global) -> Result<Map, ConfigError>
-        ensures { IsRead (λ read. read) (texts_of self.now.section (get_member (key_text key_of.Segments) (table_view self.now.table.now))) result }
+        ensures { IsRead (λ read. read) (texts_of self.now.section
+            (get_member (key_text key_of.Segments) (table_view self.now.table.now))) result }
     {
         let mut segments = Map::new(alloc);
         let Some(value) = self.find(Key::Segments) else {
@@ -324,7 +331,7 @@ fn pools_of(alloc: Global, array: &[Value]) -> Result<Vec<Pool>, ConfigError>
 fn pools(alloc: Global, table: &Table) -> Result<Vec<Pool>, ConfigError>
     ensures { IsRead (λ pools. pools.items) (pools_in (table_view table.now)) result }
 {
-    let top = Keys::of_top(table);
+    let top = Keys::top_table(table);
     match top.value(Key::Pool)?.as_array() {
         Some(array) => pools_of(alloc, array.as_slice()),
         None => Err(top.error(Key::Pool, KeyRule::Tables)),
@@ -350,9 +357,10 @@ fn nodes_of(alloc: Global, array: &[Value]) -> Result<Vec<Node>, ConfigError>
 
 // The nodes; none where the key is missing.
 fn nodes(alloc: Global, table: &Table) -> Result<Vec<Node>, ConfigError>
-    ensures { IsRead (λ nodes. nodes.items) (nodes_in (get_member (key_text key_of.Node) (table_view table.now))) result }
+    ensures { IsRead (λ nodes. nodes.items)
+        (nodes_in (get_member (key_text key_of.Node) (table_view table.now))) result }
 {
-    let top = Keys::of_top(table);
+    let top = Keys::top_table(table);
     let Some(value) = top.find(Key::Node) else {
         return Ok(Vec::new(alloc));
     };
@@ -365,7 +373,7 @@ fn nodes(alloc: Global, table: &Table) -> Result<Vec<Node>, ConfigError>
 fn plugin(alloc: Global, table: &Table) -> Result<Plugin, ConfigError>
     ensures { IsRead (λ read. read) (plugin_in (table_view table.now)) result }
 {
-    let top = Keys::of_top(table);
+    let top = Keys::top_table(table);
     Ok(Plugin {
         name: top.text(alloc, Key::Name)?,
         version: top.text(alloc, Key::VendorVersion)?,
@@ -375,7 +383,7 @@ fn plugin(alloc: Global, table: &Table) -> Result<Plugin, ConfigError>
 fn sizes(table: &Table) -> Result<Sizes, ConfigError>
     ensures { IsRead (λ read. read) (sizes_in (table_view table.now)) result }
 {
-    let top = Keys::of_top(table);
+    let top = Keys::top_table(table);
     Ok(Sizes {
         default_bytes: top.count(Key::DefaultBytes)?,
         greatest_bytes: top.count(Key::GreatestBytes)?,
@@ -401,8 +409,9 @@ fn line_of(before: &[u8]) -> usize {
         .saturating_add(1)
 }
 
-/// The configuration that a text gives: a TOML document with the keys `name`, `vendor_version`, `default_bytes`, `greatest_bytes`, the array
-/// of tables `pool` (`name`, `bytes` and, if it has any, `segments`) and, if there are any, `node` (`id`, `max_volumes`). Other keys are ignored.
+/// The configuration that a text gives: a TOML document with the keys `name`, `vendor_version`,
+/// `default_bytes`, `greatest_bytes`, the array of tables `pool` (`name`, `bytes` and, if it has any,
+/// `segments`) and, if there are any, `node` (`id`, `max_volumes`). Other keys are ignored.
 ///
 /// # Errors
 ///

@@ -1,4 +1,5 @@
-//! A configuration from its text, a TOML document: what it gives, or the first fault of it, and its keys that are not known.
+//! A configuration from its text, a TOML document: what it gives, or the first fault of it, and its keys that
+//! are not known.
 #![tactic(auto)]
 
 mod config_file;

@@ -61,7 +61,8 @@ fn add_unknown(
     table: &Table,
     known: &[Key],
 ) -> Result<(), AllocError>
-    ensures { OnOk result (map place_of found.new.items ≡ map place_of found.old.items ++ unknown_of section known.now (table_view table.now)) }
+    ensures { OnOk result (map place_of found.new.items
+        ≡ map place_of found.old.items ++ unknown_of section known.now (table_view table.now)) }
 {
     for (key, _) in table {
         if !is_known(known, key.as_str()) {
@@ -79,7 +80,8 @@ fn add_of_table(
     section: Section,
     value: &Value,
 ) -> Result<(), AllocError>
-    ensures { OnOk result (map place_of found.new.items ≡ map place_of found.old.items ++ of_table section (as_table (view value.now))) }
+    ensures { OnOk result (map place_of found.new.items
+        ≡ map place_of found.old.items ++ of_table section (as_table (view value.now))) }
 {
     match value.as_table() {
         Some(table) => add_unknown(alloc, found, section, table, known_in(section)),
@@ -93,7 +95,8 @@ fn add_of_pools(
     found: &mut Vec<UnknownKey>,
     array: &[Value],
 ) -> Result<(), AllocError>
-    ensures { OnOk result (map place_of found.new.items ≡ map place_of found.old.items ++ of_tables section_of.Pool 1 (items_view array.now)) }
+    ensures { OnOk result (map place_of found.new.items
+        ≡ map place_of found.old.items ++ of_tables section_of.Pool 1 (items_view array.now)) }
 {
     for (index, value) in array.iter().enumerate() {
         add_of_table(alloc, found, Section::Pool(index.saturating_add(1)), value)?;
@@ -107,7 +110,8 @@ fn add_of_nodes(
     found: &mut Vec<UnknownKey>,
     array: &[Value],
 ) -> Result<(), AllocError>
-    ensures { OnOk result (map place_of found.new.items ≡ map place_of found.old.items ++ of_tables section_of.Node 1 (items_view array.now)) }
+    ensures { OnOk result (map place_of found.new.items
+        ≡ map place_of found.old.items ++ of_tables section_of.Node 1 (items_view array.now)) }
 {
     for (index, value) in array.iter().enumerate() {
         add_of_table(alloc, found, Section::Node(index.saturating_add(1)), value)?;
@@ -116,9 +120,10 @@ fn add_of_nodes(
 }
 
 fn add_all(alloc: Global, found: &mut Vec<UnknownKey>, top: &Table) -> Result<(), AllocError>
-    ensures { OnOk result (map place_of found.new.items ≡ map place_of found.old.items ++ unknown_in (table_view top.now)) }
+    ensures { OnOk result (map place_of found.new.items
+        ≡ map place_of found.old.items ++ unknown_in (table_view top.now)) }
 {
-    let keys = Keys::of_top(top);
+    let keys = Keys::top_table(top);
     add_unknown(alloc, found, Section::Top, top, known_in(Section::Top))?;
     if let Some(array) = keys.array(Key::Pool) {
         add_of_pools(alloc, found, array)?;
@@ -129,14 +134,15 @@ fn add_all(alloc: Global, found: &mut Vec<UnknownKey>, top: &Table) -> Result<()
     Ok(())
 }
 
-/// The keys of a configuration that are not known: those of the top, then those of the pools and of the nodes. A text that is no
-/// document has none.
+/// The keys of a configuration that are not known: those of the top, then those of the pools and of the
+/// nodes. A text that is no document has none.
 ///
 /// # Errors
 ///
 /// Where memory was refused.
 pub fn unknown_keys(alloc: Global, bytes: &[u8]) -> Result<Vec<UnknownKey>, AllocError>
-    ensures found { IfOk result (λ found. IsUtf8 bytes.now → map place_of found.items ≡ unknown_if (parse_document bytes.now)) }
+    ensures found { IfOk result (λ found. IsUtf8 bytes.now
+        → map place_of found.items ≡ unknown_if (parse_document bytes.now)) }
     ensures none { IfOk result (λ found. ¬ IsUtf8 bytes.now → found.items ≡ []) }
 {
     let mut found = Vec::new(alloc);

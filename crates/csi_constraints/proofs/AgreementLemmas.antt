@@ -12,7 +12,7 @@ use Rattle.csi_types.specs.Names.{refused_name}
 use Rattle.csi_types.specs.declared.reason.Reason.{Reason}
 use Rattle.csi_config.specs.declared.config.Config.{Config}
 use Rattle.csi_keeper.specs.Capability.{has_key, is_supported_key}
-use Rattle.csi_keeper.specs.State.{Place}
+use Rattle.csi_keeper.specs.State.{AttachmentKey}
 use Rattle.csi_keeper.specs.declared.capability.CapKey.{CapKey}
 use Rattle.csi_keeper.specs.declared.volume.Attachment.{Attachment}
 use Rattle.csi_keeper.specs.declared.volume.Volume.{Volume}
@@ -73,7 +73,7 @@ volume_agrees back config format next e = record {
   params = params_pass back format e.1.params e.1.mutable;
 }
 
-pub attachment_agrees : ReadsBack → (config : Config) (rowid : Value) (e : Place × Attachment) → AttachmentAgrees config rowid e
+pub attachment_agrees : ReadsBack → (config : Config) (rowid : Value) (e : AttachmentKey × Attachment) → AttachmentAgrees config rowid e
 attachment_agrees back config rowid e = record {
   kinds = λ node. rw (is_utf8-from_IsUtf8 e.0.1 node) refl;
   readonly = some_flag e.1.readonly;
@@ -85,7 +85,7 @@ no_owner : {A B : Type 0} (test : A → B → Bool) (a : Option A) → are_some_
 no_owner test None = refl
 no_owner test (Some x) = refl
 
-pub owner_agrees : ReadsBack → (e : Place × Attachment) (ks : List CapKey) → OwnerAgrees e ks
+pub owner_agrees : ReadsBack → (e : AttachmentKey × Attachment) (ks : List CapKey) → OwnerAgrees e ks
 owner_agrees back e ks = record {
   owned = λ fit good fits all. ap (λ o. are_some_and (λ k js. has_key js (Some k)) o (keys_in (caps_bytes ks))) (key_in-caps_bytes back e.1.cap fit good)
       ∙ ap (is_some_and (λ js. has_key js (Some e.1.cap))) (keys_in-caps_bytes back ks fits ∙ each_back ks all.supported);
@@ -106,7 +106,7 @@ not_equal m n far = go (int_eq (pos m) (pos n)) refl
     go true is = absurd (far (let same : pos m ≡ pos n = (Decides-int_eq (pos m) (pos n)).0 is in cc))
     go false is = is
 
-pub pair_agrees : ReadsBack → (e f : Place × Attachment) → PairAgrees e f
+pub pair_agrees : ReadsBack → (e f : AttachmentKey × Attachment) → PairAgrees e f
 pair_agrees back e f = record {
   beside = λ same fit good other fine.
       ap (λ b. b && not (are_beside (attached_at 2 3 (attachment_entry e)) (attached_at 2 3 (attachment_entry f)))) ((Decides-int_eq (pos e.0.0) (pos f.0.0)).1 (ap pos same))

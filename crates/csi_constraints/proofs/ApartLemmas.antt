@@ -15,11 +15,11 @@ use Rattle.csi_keeper.specs.Coexistence.{coexist, is_shared}
 use Rattle.csi_keeper.specs.declared.volume.Attachment.{Attachment}
 use Rattle.csi_constraints.specs.Folds.{as_integer}
 use Rattle.csi_constraints.specs.facts.Fronts.{ascending_front}
-use Rattle.csi_constraints.specs.Apart.{admits, apart_named, are_apart, are_beside, falls, first_apart, is_written, led_at, stays, AreLed, DoNotFall, IsLed, Leads}
+use Rattle.csi_constraints.specs.Apart.{admits, apart_named, are_apart, are_beside, falls, first_apart, is_written, last_attachment_at, covers, AreCovered, DoNotFall, IsLed, Leads}
 use Rattle.csi_constraints.specs.Joins.{attached_at}
 use Rattle.csi_constraints.specs.Named.{name_of}
 use Rattle.csi_constraints.specs.Values.{are_some_and, is_some_and}
-use Rattle.csi_constraints.specs.declared.apart.Led.{Led}
+use Rattle.csi_constraints.specs.declared.apart.LastAttachment.{LastAttachment}
 use Rattle.csi_constraints.specs.declared.named.RowName.{RowName}
 use Rattle.csi_constraints.specs.facts.Aparts.{none_of}
 
@@ -143,19 +143,19 @@ fall_front rows r up = ascending_front (λ a b. falls a b ≡ false) rows r up
 
 -- ---- one row more
 
-pub led_is : (r : Row) (next : Led) → led_at r ≡ Some next → (as_integer (column r 0) ≡ Some next.number) × (attached_at 2 3 r ≡ next.attachment)
+pub led_is : (r : Row) (next : LastAttachment) → last_attachment_at r ≡ Some next → (as_integer (column r 0) ≡ Some next.number) × (attached_at 2 3 r ≡ next.attachment)
 led_is r next is = go (as_integer (column r 0)) refl is
   where
-    go : (o : Option ℤ) → as_integer (column r 0) ≡ o → Path (Option Led) (option_map (λ n. record { number = n; attachment = attached_at 2 3 r }) o) (Some next) → (as_integer (column r 0) ≡ Some next.number) × (attached_at 2 3 r ≡ next.attachment)
+    go : (o : Option ℤ) → as_integer (column r 0) ≡ o → Path (Option LastAttachment) (option_map (λ n. record { number = n; attachment = attached_at 2 3 r }) o) (Some next) → (as_integer (column r 0) ≡ Some next.number) × (attached_at 2 3 r ≡ next.attachment)
     go None e is = absurd (cc)
     go (Some n) e is =
-        let same : Path Led (record { number = n; attachment = attached_at 2 3 r }) next = cc in
-        (e ∙ ap (λ (l : Led). Some l.number) same, ap (λ (l : Led). l.attachment) same)
+        let same : Path LastAttachment (record { number = n; attachment = attached_at 2 3 r }) next = cc in
+        (e ∙ ap (λ (l : LastAttachment). Some l.number) same, ap (λ (l : LastAttachment). l.attachment) same)
 
-pub not_led : (r : Row) → led_at r ≡ None → as_integer (column r 0) ≡ None
+pub not_led : (r : Row) → last_attachment_at r ≡ None → as_integer (column r 0) ≡ None
 not_led r is = go (as_integer (column r 0)) is
   where
-    go : (o : Option ℤ) → Path (Option Led) (option_map (λ n. record { number = n; attachment = attached_at 2 3 r }) o) None → o ≡ None
+    go : (o : Option ℤ) → Path (Option LastAttachment) (option_map (λ n. record { number = n; attachment = attached_at 2 3 r }) o) None → o ≡ None
     go None is = refl
     go (Some n) is = absurd (cc)
 
@@ -170,7 +170,7 @@ no_number rows r none = none_of (λ e. are_apart e r) rows (all_from (λ e. are_
     ∙ ap (λ b. b && not (are_beside (attached_at 2 3 e) (attached_at 2 3 r))) (none_given int_eq (as_integer (column e 0)))))
 
 -- and what stands for those so far does
-pub led_without : (last : Option Led) (rows : List Row) (r : Row) → as_integer (column r 0) ≡ None → AreLed last rows → AreLed last (rows ++ r ∷ [])
+pub led_without : (last : Option LastAttachment) (rows : List Row) (r : Row) → as_integer (column r 0) ≡ None → AreCovered last rows → AreCovered last (rows ++ r ∷ [])
 led_without None rows r none led = all-append (λ x. as_integer (column x 0) ≡ None) rows (r ∷ []) led (none, tt)
 led_without (Some l) rows r none led = record {
   last = all-append _ rows (r ∷ []) led.last (ap (is_some_and (int_lt l.number)) none, tt);
@@ -184,9 +184,9 @@ led_without (Some l) rows r none led = record {
     no_some : (n : ℤ) → Path (Option ℤ) None (Some n) → ⊥
     no_some n e = absurd (cc)
 
-module _ (rows : List Row) (r : Row) (next : Led) (number : as_integer (column r 0) ≡ Some next.number) (says : attached_at 2 3 r ≡ next.attachment) (order : AllByRecursion (λ e. falls e r ≡ false) rows) where
+module _ (rows : List Row) (r : Row) (next : LastAttachment) (number : as_integer (column r 0) ≡ Some next.number) (says : attached_at 2 3 r ≡ next.attachment) (order : AllByRecursion (λ e. falls e r ≡ false) rows) where
   -- where the last volume is not that of the row, none before it is
-  earlier : (l : Led) → IsLed l rows → int_eq l.number next.number ≡ false → (e : Row) → Has rows e → as_integer (column e 0) ≡ Some next.number → ⊥
+  earlier : (l : LastAttachment) → IsLed l rows → int_eq l.number next.number ≡ false → (e : Row) → Has rows e → as_integer (column e 0) ≡ Some next.number → ⊥
   earlier l led other e has is =
       let high : int_lt next.number l.number ≡ false =
       ap₂ (λ x y. are_some_and (λ m n. int_lt n m) x y) (sym led.of) (sym number) ∙ all_has (λ e. falls e r ≡ false) rows led.row order led.has in
@@ -199,7 +199,7 @@ module _ (rows : List Row) (r : Row) (next : Led) (number : as_integer (column r
       ap₂ (λ x y. are_some_and int_eq x y && not (are_beside (attached_at 2 3 e) (attached_at 2 3 r))) is number
       ∙ ap₂ (λ x y. x && not (are_beside (attached_at 2 3 e) y)) test says
 
-  far_each : (last : Option Led) → AreLed last rows → admits last next ≡ true → (e : Row) → Has rows e → are_apart e r ≡ false
+  far_each : (last : Option LastAttachment) → AreCovered last rows → admits last next ≡ true → (e : Row) → Has rows e → are_apart e r ≡ false
   far_each None led fine e has = apart_by e None false (all_has (λ x. as_integer (column x 0) ≡ None) rows e led has) refl
   far_each (Some l) led fine e has = go (as_integer (column e 0)) refl (int_eq l.number next.number) refl
     where
@@ -220,7 +220,7 @@ module _ (rows : List Row) (r : Row) (next : Led) (number : as_integer (column r
       go (Some k) is b one = by_number k is b one (int_eq k next.number) refl
 
   -- what is admitted is apart from none
-  pub far_from_all : (last : Option Led) → AreLed last rows → admits last next ≡ true → list_any (λ e. are_apart e r) rows ≡ false
+  pub far_from_all : (last : Option LastAttachment) → AreCovered last rows → admits last next ≡ true → list_any (λ e. are_apart e r) rows ≡ false
   far_from_all last led fine = none_of (λ e. are_apart e r) rows (all_from (λ e. are_apart e r ≡ false) rows (far_each last led fine))
 
   neither_is : (a b : Bool) → (not a || b) ≡ false → (a ≡ true) × (b ≡ false)
@@ -228,7 +228,7 @@ module _ (rows : List Row) (r : Row) (next : Led) (number : as_integer (column r
   neither_is false b e = absurd (true≢false e)
 
   -- and what is not is apart from one
-  pub apart_from_one : (last : Option Led) → AreLed last rows → admits last next ≡ false → list_any (λ e. are_apart e r) rows ≡ true
+  pub apart_from_one : (last : Option LastAttachment) → AreCovered last rows → admits last next ≡ false → list_any (λ e. are_apart e r) rows ≡ true
   apart_from_one None led not_fine = absurd (true≢false not_fine)
   apart_from_one (Some l) led not_fine =
       let parts = neither_is (int_eq l.number next.number) (are_beside l.attachment next.attachment) not_fine in
@@ -262,7 +262,7 @@ module _ (rows : List Row) (r : Row) (next : Led) (number : as_integer (column r
   }
 
   -- the row itself, where what stood for those so far does not stay
-  pub led_next : (last : Option Led) → AreLed last rows → admits last next ≡ true → stays last next ≡ false → IsLed next (rows ++ r ∷ [])
+  pub led_next : (last : Option LastAttachment) → AreCovered last rows → admits last next ≡ true → covers last next ≡ false → IsLed next (rows ++ r ∷ [])
   led_next None led fine ends = leading (all_weaker (λ e. as_integer (column e 0) ≡ None) _ (λ e none is. absurd (no_some next.number (sym none ∙ is))) rows led)
     where
       no_some : (n : ℤ) → Path (Option ℤ) None (Some n) → ⊥
@@ -278,7 +278,7 @@ module _ (rows : List Row) (r : Row) (next : Led) (number : as_integer (column r
           leads c (read_led l.attachment next.attachment beside read c h)
 
   -- or what stood for those so far
-  pub led_still : (last : Option Led) → AreLed last rows → admits last next ≡ true → stays last next ≡ true → AreLed last (rows ++ r ∷ [])
+  pub led_still : (last : Option LastAttachment) → AreCovered last rows → admits last next ≡ true → covers last next ≡ true → AreCovered last (rows ++ r ∷ [])
   led_still None led fine ends = absurd (true≢false (sym ends))
   led_still (Some l) led fine ends =
       let parts = and_parts (int_eq l.number next.number) (is_written l.attachment) ends in
@@ -293,14 +293,14 @@ module _ (rows : List Row) (r : Row) (next : Led) (number : as_integer (column r
       }
 
 -- a row that is led and admitted is apart from none, and it or what stood so far stands on
-pub goes_on : (rows : List Row) (r : Row) (next : Led) (found : Option RowName) (last : Option Led) → DoNotFall (rows ++ r ∷ []) → (DoNotFall rows → (found ≡ apart_named rows) × (found ≡ None → AreLed last rows))
-    → led_at r ≡ Some next → found ≡ None → admits last next ≡ true → (b : Bool) → stays last next ≡ b → (found ≡ apart_named (rows ++ r ∷ [])) × (found ≡ None → AreLed (cond b last (Some next)) (rows ++ r ∷ []))
+pub goes_on : (rows : List Row) (r : Row) (next : LastAttachment) (found : Option RowName) (last : Option LastAttachment) → DoNotFall (rows ++ r ∷ []) → (DoNotFall rows → (found ≡ apart_named rows) × (found ≡ None → AreCovered last rows))
+    → last_attachment_at r ≡ Some next → found ≡ None → admits last next ≡ true → (b : Bool) → covers last next ≡ b → (found ≡ apart_named (rows ++ r ∷ [])) × (found ≡ None → AreCovered (cond b last (Some next)) (rows ++ r ∷ []))
 goes_on rows r next found last order so led none fine b stands =
     let falls = fall_front rows r order in
     let was = so falls.0 in
     let is = led_is r next led in
     (none ∙ now_apart rows r false (sym none ∙ was.0) (far_from_all rows r next is.0 is.1 falls.1 last (was.1 none) fine), λ _. go b stands falls.1 is (was.1 none))
   where
-    go : (b : Bool) → stays last next ≡ b → AllByRecursion (λ e. falls e r ≡ false) rows → (as_integer (column r 0) ≡ Some next.number) × (attached_at 2 3 r ≡ next.attachment) → AreLed last rows → AreLed (cond b last (Some next)) (rows ++ r ∷ [])
+    go : (b : Bool) → covers last next ≡ b → AllByRecursion (λ e. falls e r ≡ false) rows → (as_integer (column r 0) ≡ Some next.number) × (attached_at 2 3 r ≡ next.attachment) → AreCovered last rows → AreCovered (cond b last (Some next)) (rows ++ r ∷ [])
     go true stands low is were = led_still rows r next is.0 is.1 low last were fine stands
     go false stands low is were = led_next rows r next is.0 is.1 low last were fine stands

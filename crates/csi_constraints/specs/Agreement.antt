@@ -1,4 +1,5 @@
--- A row that stands for a volume or for an attachment passes a constraint exactly where the State may have it.
+-- A row that stands for a volume or for an attachment passes a constraint exactly where the State may have
+-- it.
 use Rattle.std.specs.Prelude.{◌≡◌, ℕ, ◌≤◌, ◌<◌, true, false, not, List, [], ◌∷◌, ◌++◌, None, Some, IsSome, IsUtf8}
 use Rattle.std.specs.Bool.{Decides}
 use Rattle.std.specs.FinMap.{empty}
@@ -14,7 +15,7 @@ use Rattle.csi_keeper.specs.Capability.{has_key, is_supported_key}
 use Rattle.csi_keeper.specs.Coexistence.{coexist}
 use Rattle.csi_keeper.specs.Invariant.{AreKeys}
 use Rattle.csi_keeper.specs.Lookup.{node_of, pool_named}
-use Rattle.csi_keeper.specs.State.{Place}
+use Rattle.csi_keeper.specs.State.{AttachmentKey}
 use Rattle.csi_keeper.specs.declared.capability.CapKey.{CapKey}
 use Rattle.csi_keeper.specs.declared.volume.Attachment.{Attachment}
 use Rattle.csi_keeper.specs.declared.volume.Volume.{Volume}
@@ -30,7 +31,7 @@ use Rattle.csi_constraints.specs.Kinds.{has_attachment_kinds, has_volume_kinds}
 use Rattle.csi_constraints.specs.Volumes.{is_in_pools, is_named, is_numbered, is_sized}
 
 -- an attachment's row behind its rowid
-abbrev pub keyed_entry : Value → Place × Attachment → Row
+abbrev pub keyed_entry : Value → AttachmentKey × Attachment → Row
 keyed_entry rowid e = rowid ∷ attachment_entry e
 
 -- the row of a volume, whose name and pool are texts, in tables of a format
@@ -41,26 +42,29 @@ pub record VolumeAgrees (config : Config) (format next : ℕ) (e : ℕ × Volume
   pub pool : Decides (is_in_pools config.pools (volume_entry e)) (IsSome (pool_named config.pools e.1.pool))
   pub bytes : Decides (is_sized (volume_entry e)) (is_whole e.1.bytes ≡ true)
   pub caps : FitCaps e.1.caps → Decides (has_caps (volume_entry e)) (AreKeys e.1.caps)
-  pub params : FitParams e.1.params e.1.mutable → Decides (has_params format (volume_entry e)) ((map_bytes e.1.params ≤ MAX_MAP_BYTES) × (map_bytes e.1.mutable ≤ MAX_MAP_BYTES) × (format ≡ FIRST_FORMAT → e.1.mutable ≡ empty))
+  pub params : FitParams e.1.params e.1.mutable
+      → Decides (has_params format (volume_entry e)) ((map_bytes e.1.params ≤ MAX_MAP_BYTES) × (map_bytes e.1.mutable ≤ MAX_MAP_BYTES)
+      × (format ≡ FIRST_FORMAT → e.1.mutable ≡ empty))
 
 -- the row of an attachment, whose node is a text
-pub record AttachmentAgrees (config : Config) (rowid : Value) (e : Place × Attachment) : Type 0 where
+pub record AttachmentAgrees (config : Config) (rowid : Value) (e : AttachmentKey × Attachment) : Type 0 where
   pub kinds : IsUtf8 e.0.1 → has_attachment_kinds (keyed_entry rowid e) ≡ true
   pub readonly : has_flag (keyed_entry rowid e) ≡ true
   pub node : Decides (is_at_node config.nodes (keyed_entry rowid e)) (IsSome (node_of config e.0.1))
   pub cap : FitCaps (e.1.cap ∷ []) → Decides (has_cap (keyed_entry rowid e)) (is_supported_key e.1.cap ≡ true)
 
 -- an attachment's row with the caps of a volume behind it
-abbrev pub owned_entry : Place × Attachment → List CapKey → Row
+abbrev pub owned_entry : AttachmentKey × Attachment → List CapKey → Row
 owned_entry e «keys» = attachment_entry e ++ Blob (caps_bytes «keys») ∷ []
 
 -- an attachment with a volume, both of which have capabilities that pass; and one with none
-pub record OwnerAgrees (e : Place × Attachment) («keys» : List CapKey) : Type 0 where
-  pub owned : FitCaps (e.1.cap ∷ []) → is_supported_key e.1.cap ≡ true → FitCaps «keys» → AreKeys «keys» → is_owned (owned_entry e «keys») ≡ has_key «keys» (Some e.1.cap)
+pub record OwnerAgrees (e : AttachmentKey × Attachment) («keys» : List CapKey) : Type 0 where
+  pub owned : FitCaps (e.1.cap ∷ []) → is_supported_key e.1.cap ≡ true → FitCaps «keys» → AreKeys «keys»
+      → is_owned (owned_entry e «keys») ≡ has_key «keys» (Some e.1.cap)
   pub unowned : (row : Row) → is_owned (with_owner row []) ≡ false
 
 -- the rows of two attachments, both of which have a capability that passes
-pub record PairAgrees (e f : Place × Attachment) : Type 0 where
+pub record PairAgrees (e f : AttachmentKey × Attachment) : Type 0 where
   -- of one volume
   pub beside : e.0.0 ≡ f.0.0 → FitCaps (e.1.cap ∷ []) → is_supported_key e.1.cap ≡ true → FitCaps (f.1.cap ∷ []) → is_supported_key f.1.cap ≡ true
       → are_apart (attachment_entry e) (attachment_entry f) ≡ not (coexist e.1 f.1)

@@ -1,4 +1,5 @@
--- Which attachments of one volume cannot stand at two nodes, over rows of attachments: number, node, cap and readonly.
+-- Which attachments of one volume cannot stand at two nodes, over rows of attachments: number, node, cap and
+-- readonly.
 use Rattle.std.specs.Prelude.{◌≡◌, int_lt, Bool, true, false, ◌&&◌, ◌||◌, not, if◌then◌else◌, List, [], ◌∷◌, ◌++◌, Option, None, Some}
 use Rattle.std.specs.List.{AllByRecursion, list_any}
 use Rattle.std.specs.Option.{option_map}
@@ -12,7 +13,7 @@ use Rattle.csi_constraints.specs.Folds.{as_integer}
 use Rattle.csi_constraints.specs.Joins.{attached_at}
 use Rattle.csi_constraints.specs.Named.{name_of}
 use Rattle.csi_constraints.specs.Values.{are_some_and, is_some_and}
-use Rattle.csi_constraints.specs.declared.apart.Led.{Led}
+use Rattle.csi_constraints.specs.declared.apart.LastAttachment.{LastAttachment}
 use Rattle.csi_constraints.specs.declared.named.RowName.{RowName}
 
 -- ---- the constraint
@@ -53,11 +54,11 @@ abbrev pub DoNotFall : List Row → Type 0
 DoNotFall rows = IsAscending (λ a b. falls a b ≡ false) rows
 
 -- the attachment of a row that has a number
-abbrev pub led_at : Row → Option Led
-led_at r = option_map (λ n. record { number = n; attachment = attached_at 2 3 r }) (as_integer (column r 0))
+abbrev pub last_attachment_at : Row → Option LastAttachment
+last_attachment_at r = option_map (λ n. record { number = n; attachment = attached_at 2 3 r }) (as_integer (column r 0))
 
 -- the next one can stand beside all of its volume
-abbrev pub admits : Option Led → Led → Bool
+abbrev pub admits : Option LastAttachment → LastAttachment → Bool
 admits None next = true
 admits (Some led) next = not (int_eq led.number next.number) || are_beside led.attachment next.attachment
 
@@ -65,16 +66,16 @@ abbrev pub is_written : Option Attachment → Bool
 is_written a = is_some_and (λ x. not x.readonly) a
 
 -- it stands for the next one too: one that is written does, of the same volume
-abbrev pub stays : Option Led → Led → Bool
-stays None next = false
-stays (Some led) next = int_eq led.number next.number && is_written led.attachment
+abbrev pub covers : Option LastAttachment → LastAttachment → Bool
+covers None next = false
+covers (Some led) next = int_eq led.number next.number && is_written led.attachment
 
 -- what can stand beside the one can stand beside the other
 abbrev pub Leads : Option Attachment → Option Attachment → Type 0
 Leads a b = (c : Option Attachment) → are_beside a c ≡ true → are_beside b c ≡ true
 
 -- it is of the last volume of the rows, is that of a row, and stands for each of its volume
-pub record IsLed (led : Led) (rows : List Row) : Type 0 where
+pub record IsLed (led : LastAttachment) (rows : List Row) : Type 0 where
   pub last : AllByRecursion (λ r. is_some_and (int_lt led.number) (as_integer (column r 0)) ≡ false) rows
   pub leads : AllByRecursion (λ r. as_integer (column r 0) ≡ Some led.number → Leads led.attachment (attached_at 2 3 r)) rows
   pub row : Row
@@ -83,6 +84,6 @@ pub record IsLed (led : Led) (rows : List Row) : Type 0 where
   pub is : attached_at 2 3 row ≡ led.attachment
 
 -- and there is none only where no row has a number
-abbrev pub AreLed : Option Led → List Row → Type 0
-AreLed None rows = AllByRecursion (λ r. as_integer (column r 0) ≡ None) rows
-AreLed (Some led) rows = IsLed led rows
+abbrev pub AreCovered : Option LastAttachment → List Row → Type 0
+AreCovered None rows = AllByRecursion (λ r. as_integer (column r 0) ≡ None) rows
+AreCovered (Some led) rows = IsLed led rows

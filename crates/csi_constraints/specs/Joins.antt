@@ -8,7 +8,8 @@ use Rattle.csi_sql.specs.Cells.{as_flag}
 use Rattle.csi_constraints.specs.Coded.{key_at, keys_at}
 use Rattle.csi_constraints.specs.Values.{are_some_and}
 
--- number, node, cap and readonly, and the caps of the volume: the volume stands, and the capability is one of its own
+-- number, node, cap and readonly, and the caps of the volume: the volume stands, and the capability is one of
+-- its own
 abbrev pub is_owned : Row → Bool
 is_owned row = are_some_and (λ key ks. has_key ks (Some key)) (key_at 2 row) (keys_at 4 row)
 

@@ -21,7 +21,8 @@ is_blob _ = false
 -- the number and the bytes are integers, the name and the pool are texts, and caps and params are bytes
 abbrev pub has_volume_kinds : Row → Bool
 has_volume_kinds row =
-    is_integer (column row 0) && is_text (column row 1) && is_integer (column row 2) && is_text (column row 3) && is_blob (column row 4) && is_blob (column row 5)
+    is_integer (column row 0) && is_text (column row 1) && is_integer (column row 2) && is_text (column row 3) && is_blob (column row 4)
+    && is_blob (column row 5)
 
 -- behind the rowid the number is an integer, the node is a text, the cap is bytes, and readonly is an integer
 abbrev pub has_attachment_kinds : Row → Bool

@@ -17,7 +17,8 @@ use Rattle.csi_sql.specs.Deletes.{is_same}
 abbrev pub HasFolded : {F : Type 0} → (F → List Row → F → Type 0) → F → F → (List Row → Type 0) → Type 0
 HasFolded folds old new What = (rows : List Row) × What rows × folds old rows new
 
--- A call that folds the rows that a query gives: what the rows are, and why it fails. The database stays, and a stop leaves what it could leave before.
+-- A call that folds the rows that a query gives: what the rows are, and why it fails. The database stays, and
+-- a stop leaves what it could leave before.
 module _ {S F : Type 0} (g : Ghosts S) (old new : Held S) (folds : F → List Row → F → Type 0) (before after : F) where
   pub record FoldsOver {X : Type 0} (What : List Row → Type 0) (Refuses : Error → Type 0) (r : Result X Error) : Type 0 where
     pub idle : new.in_transaction ≡ false

@@ -1,4 +1,5 @@
--- The constraints of a row of volumes that its numbers and texts tell: number, name, bytes, pool, caps, params.
+-- The constraints of a row of volumes that its numbers and texts tell: number, name, bytes, pool, caps,
+-- params.
 use Rattle.std.specs.Prelude.{ℕ, nat_lt, nat_le, ◌&&◌, Bool, List}
 use Rattle.std.specs.List.{list_any}
 use Rattle.std.specs.Option.{is_none}

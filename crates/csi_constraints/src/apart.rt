@@ -4,8 +4,8 @@ ghost use Rattle.std.specs.Prelude.{◌≡◌, None, IfOk, IsSome, OnErr};
 ghost use Rattle.sqlite.specs.Order.{column};
 ghost use Rattle.csi_constraints.specs.Folds.{as_integer};
 ghost use Rattle.csi_constraints.specs.ScanFailing.{FailsForMemory};
-ghost use Rattle.csi_constraints.specs.Apart.{AreLed, DoNotFall, admits, apart_named, are_beside, is_written, led_at, stays};
-ghost use Rattle.csi_constraints.specs.facts.Starts.{none_led};
+ghost use Rattle.csi_constraints.specs.Apart.{AreCovered, DoNotFall, admits, apart_named, are_beside, is_written, last_attachment_at, covers};
+ghost use Rattle.csi_constraints.specs.facts.Starts.{none_covered};
 
 use crate::cells::integer_at;
 use crate::fold::Fold;
@@ -18,7 +18,7 @@ use std::alloc::Global;
 /// An attachment that stands for those of its volume so far: what can stand beside it can stand beside
 /// each of them.
 #[derive(Drop)]
-pub struct Led {
+pub struct LastAttachment {
     /// The number of the volume.
     pub number: i64,
     /// The attachment; `None` where the row says none.
@@ -26,8 +26,8 @@ pub struct Led {
 }
 
 // The attachment of a row that has a number.
-fn led_at(alloc: Global, row: &Row) -> Result<Option<Led>, Error>
-    ensures value { IfOk result (λ led. led ≡ led_at row.now) }
+fn last_attachment_at(alloc: Global, row: &Row) -> Result<Option<LastAttachment>, Error>
+    ensures value { IfOk result (λ led. led ≡ last_attachment_at row.now) }
     ensures memory { FailsForMemory result }
     ensures error_only_if { OnErr result (IsSome (as_integer (column row.now 0))) }
 {
@@ -35,7 +35,7 @@ fn led_at(alloc: Global, row: &Row) -> Result<Option<Led>, Error>
         return Ok(None);
     };
     let attachment = attached_at(alloc, row, 2, 3)?;
-    Ok(Some(Led { number, attachment }))
+    Ok(Some(LastAttachment { number, attachment }))
 }
 
 fn are_beside(one: &Option<Attachment>, other: &Option<Attachment>) -> bool
@@ -57,7 +57,7 @@ fn is_written(attachment: &Option<Attachment>) -> bool
 }
 
 // Whether an attachment can stand beside all of its volume so far.
-fn admits(last: &Option<Led>, next: &Led) -> bool
+fn admits(last: &Option<LastAttachment>, next: &LastAttachment) -> bool
     ensures { result ≡ admits last.now next.now }
 {
     match last {
@@ -67,8 +67,8 @@ fn admits(last: &Option<Led>, next: &Led) -> bool
 }
 
 // Whether the one that stands for those so far stands for the next one too, which it admits.
-fn stays(last: &Option<Led>, next: &Led) -> bool
-    ensures { result ≡ stays last.now next.now }
+fn covers(last: &Option<LastAttachment>, next: &LastAttachment) -> bool
+    ensures { result ≡ covers last.now next.now }
 {
     match last {
         Some(led) => led.number == next.number && is_written(&led.attachment),
@@ -86,31 +86,31 @@ pub struct FirstApart {
     /// What holds the capabilities while they are looked at, and the text of the row.
     pub alloc: Global,
     /// What stands for the last volume; `None` where no row had a number so far. It begins as `None`.
-    pub last: Option<Led>,
+    pub last: Option<LastAttachment>,
     /// The first row that breaks the constraint; `None` where none has so far. It begins as `None`.
     pub found: Option<RowName>,
 }
 
 impl Fold for FirstApart {
     ghost folds = { λ first rows now.
-        first.found ≡ None → first.last ≡ None → DoNotFall rows → (now.found ≡ apart_named rows) × (now.found ≡ None → AreLed now.last rows) };
+        first.found ≡ None → first.last ≡ None → DoNotFall rows → (now.found ≡ apart_named rows) × (now.found ≡ None → AreCovered now.last rows) };
 
     ghost takes_memory = { λ fold row. (fold.found ≡ None) × IsSome (as_integer (column row 0)) };
 
-    ghost starts = { λ first found last falls. (found, λ none. none_led first.last last) };
+    ghost starts = { λ first found last falls. (found, λ none. none_covered first.last last) };
 
-    fn take(&mut self, row: &Row) -> Result<(), Error> {
+    fn add_row(&mut self, row: &Row) -> Result<(), Error> {
         if self.found.is_some() {
             return Ok(());
         }
-        let Some(next) = led_at(self.alloc, row)? else {
+        let Some(next) = last_attachment_at(self.alloc, row)? else {
             return Ok(());
         };
         if !admits(&self.last, &next) {
             self.found = Some(name_at(self.alloc, row, 0, 1)?);
             return Ok(());
         }
-        if !stays(&self.last, &next) {
+        if !covers(&self.last, &next) {
             self.last = Some(next);
         }
         Ok(())

@@ -52,7 +52,7 @@ fn each_key(alloc: Global, capabilities: &[Capability]) -> Result<Option<Items<C
 // ---- what is written
 
 fn are_caps(alloc: Global, keys: &[CapKey], bytes: &[u8]) -> Result<bool, AllocError>
-    ensures same { IfOk result (λ same. same ≡ bytes_eq (caps_bytes keys.now) bytes.now) }
+    ensures value { IfOk result (λ same. same ≡ bytes_eq (caps_bytes keys.now) bytes.now) }
     ensures fits { OnOk result (FitCaps keys.now) }
 {
     Ok(write_caps(alloc, keys)?.as_slice() == bytes)
@@ -64,7 +64,7 @@ fn are_params_of(
     mutable: &Map,
     bytes: &[u8],
 ) -> Result<bool, AllocError>
-    ensures same { IfOk result (λ same. same ≡ bytes_eq (params_bytes params.now mutable.now) bytes.now) }
+    ensures value { IfOk result (λ same. same ≡ bytes_eq (params_bytes params.now mutable.now) bytes.now) }
     ensures fits { OnOk result (FitParams params.now mutable.now) }
 {
     Ok(write_params(alloc, params, mutable)?.as_slice() == bytes)
@@ -91,7 +91,8 @@ fn keys_of(
     capabilities: &[Capability],
     bytes: &[u8],
 ) -> Result<Option<Items<CapKey>>, Error>
-    ensures value { IfOk result (λ keys. keys ≡ if_passes (λ ks. bytes_eq (caps_bytes ks) bytes.now) (each_key capabilities.now)) }
+    ensures value { IfOk result (λ keys. keys
+        ≡ if_passes (λ ks. bytes_eq (caps_bytes ks) bytes.now) (each_key capabilities.now)) }
     ensures fits { IfOk result (λ keys. IfSome keys FitCaps) }
     ensures memory { FailsForMemory result }
 {

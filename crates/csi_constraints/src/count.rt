@@ -14,13 +14,14 @@ pub struct RowCount {
 }
 
 impl Fold for RowCount {
-    ghost folds = { λ first rows now. first.rows < 2 ^ 64 → now.rows ≡ min (first.rows + length rows) (2 ^ 64 - 1) };
+    ghost folds = { λ first rows now. first.rows < 2 ^ 64
+        → now.rows ≡ min (first.rows + length rows) (2 ^ 64 - 1) };
 
     ghost takes_memory = { λ _ _. ⊥ };
 
     ghost starts = { λ first. still_sum first.rows };
 
-    fn take(&mut self, _row: &Row) -> Result<(), Error> {
+    fn add_row(&mut self, _row: &Row) -> Result<(), Error> {
         self.rows = self.rows.saturating_add(1);
         Ok(())
     }

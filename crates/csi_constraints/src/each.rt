@@ -10,21 +10,21 @@ use sqlite::{Error, Row};
 
 /// Folds of one type over the same rows, as one for each pool or for each node.
 #[derive(Drop)]
-pub struct Each<F> {
+pub struct FoldEach<F> {
     /// The folds. Each takes each row, in their order.
     pub parts: Vec<F>,
 }
 
-impl<F: Fold> Fold for Each<F> {
+impl<F: Fold> Fold for FoldEach<F> {
     ghost folds = { λ first rows now. AllZip (λ a b. F.folds a rows b) first.parts.items now.parts.items };
 
     ghost takes_memory = { λ fold row. HasSome (λ part. F.takes_memory part row) fold.parts.items };
 
     ghost starts = { λ first. each_itself (λ a b. F.folds a [] b) F.starts first.parts.items };
 
-    fn take(&mut self, row: &Row) -> Result<(), Error> {
+    fn add_row(&mut self, row: &Row) -> Result<(), Error> {
         for part in self.parts.iter_mut() {
-            part.take(row)?;
+            part.add_row(row)?;
         }
         Ok(())
     }

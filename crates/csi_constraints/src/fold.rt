@@ -24,8 +24,9 @@ pub trait Fold {
     /// # Errors
     ///
     /// Where memory was refused.
-    fn take(&mut self, row: &Row) -> Result<(), Error>
-        ensures folded { OnOk result ((first : Self) (rows : List Values) → folds first rows self.old → folds first (rows ++ row.now ∷ []) self.new) }
+    fn add_row(&mut self, row: &Row) -> Result<(), Error>
+        ensures folded { OnOk result ((first : Self) (rows : List Values) → folds first rows self.old
+            → folds first (rows ++ row.now ∷ []) self.new) }
         ensures memory { FailsForMemory result }
         ensures error_only_if { OnErr result (takes_memory self.old row.now) };
 
@@ -39,7 +40,7 @@ pub trait Fold {
 ///
 /// # Errors
 ///
-/// Where the query is refused or its rows cannot be read, and what `take` answers.
+/// Where the query is refused or its rows cannot be read, and what `add_row` answers.
 pub fn each_row<S: Alter, F: Fold>(
     conn: &mut Connection<S>,
     sql: &str,
@@ -48,14 +49,15 @@ pub fn each_row<S: Alter, F: Fold>(
     requires idle { conn.old.in_transaction ≡ false }
     requires plain { HasCleanDisk (state S.Store conn.old) → IsPlain (understood conn.old.schema sql.now) }
     ensures { FoldsOver S.Store conn.old conn.new F.folds fold.old fold.new
-        (Shown sql.now [] (state S.Store conn.old) (state S.Store conn.new)) (RefusesRows S.Store sql.now conn.old) result }
+        (Shown sql.now [] (state S.Store conn.old) (state S.Store conn.new))
+        (RefusesRows S.Store sql.now conn.old) result }
 {
     let mut rows = conn.query(sql, &[])?;
     'rows: for _ in 0..u64::MAX {
         let Some(row) = rows.next()? else {
             return Ok(());
         };
-        fold.take(row)?;
+        fold.add_row(row)?;
     }
     Err(Error::SqliteFailure(ErrorCode::OperationInterrupted))
 }

@@ -18,22 +18,23 @@ pub trait RowTest {
 
 /// Two folds over the same rows.
 #[derive(Drop)]
-pub struct Both<F, G> {
+pub struct FoldPair<F, G> {
     /// The fold that takes a row first.
     pub first: F,
     /// The fold that takes it then.
     pub second: G,
 }
 
-impl<F: Fold, G: Fold> Fold for Both<F, G> {
-    ghost folds = { λ first rows now. F.folds first.first rows now.first × G.folds first.second rows now.second };
+impl<F: Fold, G: Fold> Fold for FoldPair<F, G> {
+    ghost folds = { λ first rows now. F.folds first.first rows now.first
+        × G.folds first.second rows now.second };
 
     ghost takes_memory = { λ fold row. F.takes_memory fold.first row ⊎ G.takes_memory fold.second row };
 
     ghost starts = { λ first. (F.starts first.first, G.starts first.second) };
 
-    fn take(&mut self, row: &Row) -> Result<(), Error> {
-        self.first.take(row)?;
-        self.second.take(row)
+    fn add_row(&mut self, row: &Row) -> Result<(), Error> {
+        self.first.add_row(row)?;
+        self.second.add_row(row)
     }
 }

@@ -1,9 +1,10 @@
-//! Laws of the constraints: a row that stands for a value passes a constraint exactly where a State may have the value.
+//! Laws of the constraints: a row that stands for a value passes a constraint exactly where a State may have
+//! the value.
 
 ghost use Rattle.std.specs.Prelude.{ℕ, List};
 ghost use Rattle.sqlite.specs.declared.types.Value.{Value};
 ghost use Rattle.csi_config.specs.declared.config.Config.{Config};
-ghost use Rattle.csi_keeper.specs.State.{Place};
+ghost use Rattle.csi_keeper.specs.State.{AttachmentKey};
 ghost use Rattle.csi_keeper.specs.declared.capability.CapKey.{CapKey};
 ghost use Rattle.csi_keeper.specs.declared.volume.Attachment.{Attachment};
 ghost use Rattle.csi_keeper.specs.declared.volume.Volume.{Volume};
@@ -28,9 +29,11 @@ pub fn volumes()
     read_back();
 }
 
-/// The constraints of a row of attachments are those of the attachment that stands at the number and the node.
+/// The constraints of a row of attachments are those of the attachment that stands at the number and the
+/// node.
 pub fn attachments()
-    ensures { (config : Config) (rowid : Value) (e : Place × Attachment) → AttachmentAgrees config rowid e }
+    ensures { (config : Config) (rowid : Value) (e : AttachmentKey × Attachment)
+        → AttachmentAgrees config rowid e }
 {
     read_back();
 }
@@ -38,14 +41,14 @@ pub fn attachments()
 /// The constraint of an attachment with its volume is that its capability is one of the volume's own, and
 /// with no volume it is broken.
 pub fn owners()
-    ensures { (e : Place × Attachment) (own : List CapKey) → OwnerAgrees e own }
+    ensures { (e : AttachmentKey × Attachment) (own : List CapKey) → OwnerAgrees e own }
 {
     read_back();
 }
 
 /// Two attachments are apart exactly where they are of one volume and cannot stand at two nodes.
 pub fn pairs()
-    ensures { (e f : Place × Attachment) → PairAgrees e f }
+    ensures { (e f : AttachmentKey × Attachment) → PairAgrees e f }
 {
     read_back();
 }

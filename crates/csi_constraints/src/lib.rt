@@ -1,26 +1,35 @@
-//! The constraints that stored rows must meet, and the scans that test each row by them, in memory that does not grow with the number of rows.
+//! The constraints that stored rows must meet, and the scans that test each row by them, in memory that does
+//! not grow with the number of rows.
 //!
-//! A scan is a query with a fixed text, and [`each_row`] hands the rows of its answer to a [`Fold`], one after the other. A fold is a relation between
-//! what it was, rows, and what it became (`folds`), which a row more extends and no row leaves as it is. So folds are put together by types:
-//! [`Both`] and [`Each`] take the same rows side by side, [`TextSum`] adds up over the rows of a text, [`RowCount`] counts them, [`Rising`] finds whether the
-//! integers of a column rise. So one scan judges a table by many constraints. `scans.rt` has the five scans: meta, volumes by number, attachments by rowid, the
-//! attachments by their numbers, and each with the caps of its volume. SQL joins two tables, so a constraint over a row of each is a test of one;
-//! `specs/Scans.antt` says which rows are shown, and `specs/facts/` what follows from a test of each.
+//! A scan is a query with a fixed text, and [`each_row`] hands the rows of its answer to a [`Fold`], one
+//! after the other. A fold is a relation between what it was, rows, and what it became (`folds`), which a row
+//! more extends and no row leaves as it is. So folds are put together by types: [`FoldPair`] and [`FoldEach`]
+//! take the same rows side by side, [`TextSum`] adds up over the rows of a text, [`RowCount`] counts them,
+//! [`Rising`] finds whether the integers of a column rise. So one scan judges a table by many constraints.
+//! `scans.rt` has the five scans: meta, volumes by number, attachments by rowid, the attachments by their
+//! numbers, and each with the caps of its volume. SQL joins two tables, so a constraint over a row of each is
+//! a test of one; `specs/Scans.antt` says which rows are shown, and `specs/facts/` what follows from a test
+//! of each.
 //!
-//! A constraint is a Bool function of a row in `specs/`: kinds (`Kinds`), numbers and texts of a volume (`Volumes`) and of an attachment (`Attachments`),
-//! bytes (`Coded`), and an attachment with the caps of its volume (`Joins`). Those that need no memory are a `RowTest`; those that read
-//! capabilities or parameters of bytes are a [`RowTrial`], which can be refused memory and also finds that what a passing row says can be read again; [`Sure`]
-//! makes a trial of a test. Two keep something of the rows before, and so are folds: [`FirstUnowned`] the capabilities of the last volume (`Known`), and
-//! [`FirstApart`] one attachment that stands for all of the last volume (`Apart`): one that is written, if there is one, as what can stand beside it can
-//! stand beside those that are only read. [`FirstBroken`] finds the first row that breaks a constraint, with the number and the text that name it, and
-//! [`BrokenConstraint`] displays it.
+//! A constraint is a Bool function of a row in `specs/`: kinds (`Kinds`), numbers and texts of a volume
+//! (`Volumes`) and of an attachment (`Attachments`), bytes (`Coded`), and an attachment with the caps of its
+//! volume (`Joins`). Those that need no memory are a `RowTest`; those that read capabilities or parameters of
+//! bytes are a [`RowTrial`], which can be refused memory and also finds that what a passing row says can be
+//! read again; [`InfallibleTest`] makes a trial of a test. Two keep something of the rows before, and so are
+//! folds: [`FirstUnowned`] the capabilities of the last volume (`Known`), and [`FirstApart`] one attachment
+//! that stands for all of the last volume (`Apart`): one that is written, if there is one, as what can stand
+//! beside it can stand beside those that are only read. [`FirstBroken`] finds the first row that breaks a
+//! constraint, with the number and the text that name it, and [`BrokenConstraint`] displays it.
 //!
-//! `specs/Coding.antt` says what bytes say: those keys or parameters whose canonical bytes they are, so `coding.rt` reads them, writes what it read, and
-//! compares. [`laws`] ties each constraint to what is so of a State (`specs/Agreement.antt`): a row that stands for a volume or an attachment passes
-//! exactly where the State may have it. Sums over rows, as of a pool's bytes or a node's attachments, are folds and no tests of one row.
+//! `specs/Coding.antt` says what bytes say: those keys or parameters whose canonical bytes they are, so
+//! `coding.rt` reads them, writes what it read, and compares. [`laws`] ties each constraint to what is so of
+//! a State (`specs/Agreement.antt`): a row that stands for a volume or an attachment passes exactly where the
+//! State may have it. Sums over rows, as of a pool's bytes or a node's attachments, are folds and no tests of
+//! one row.
 //!
-//! What is promised of the rows is promised while the connection is clean as the call ends (`HasCleanDisk`), and under the schema that
-//! `csi_sql::make_tables` makes. A scan leaves the tables, and adds nothing to what a stop may leave.
+//! What is promised of the rows is promised while the connection is clean as the call ends (`HasCleanDisk`),
+//! and under the schema that `csi_sql::make_tables` makes. A scan leaves the tables, and adds nothing to what
+//! a stop may leave.
 //!
 //! ```rust
 //! let mut unsized_volume = FirstBroken {
@@ -55,17 +64,17 @@ mod sums;
 mod trial;
 mod volumes;
 
-pub use apart::{FirstApart, Led};
+pub use apart::{FirstApart, LastAttachment};
 pub use attachments::{HasFlag, IsAtNode};
 pub use broken::{AttachmentConstraint, BrokenConstraint, VolumeConstraint};
 pub use cells::integer_at;
 pub use coded::{HasCap, HasCaps, HasParams};
 pub use count::RowCount;
-pub use each::Each;
+pub use each::FoldEach;
 pub use fold::{Fold, each_row};
-pub use folds::{Both, RowTest};
+pub use folds::{FoldPair, RowTest};
 pub use kinds::{HasAttachmentKinds, HasVolumeKinds};
-pub use named::{FirstBroken, RowName, Sure};
+pub use named::{FirstBroken, InfallibleTest, RowName};
 pub use owners::{FirstUnowned, KnownCaps};
 pub use rising::Rising;
 pub use scans::{scan_attachments, scan_meta, scan_owners, scan_places, scan_volumes};

@@ -75,10 +75,12 @@ impl<T: RowTrial> FirstBroken<T> {
 
     // The name of the row, if it breaks the constraint.
     fn name_if_broken(&self, row: &Row) -> Result<Option<RowName>, Error>
-        ensures value { IfOk result (λ name. name ≡ name_if self.now.number self.now.text (T.accepts self.now.test) row.now) }
+        ensures value { IfOk result (λ name. name
+            ≡ name_if self.now.number self.now.text (T.accepts self.now.test) row.now) }
         ensures known { IfOk result (λ name. name ≡ None → T.knows self.now.test row.now) }
         ensures memory { FailsForMemory result }
-        ensures error_only_if { OnErr result (T.takes_memory self.now.test row.now ⊎ (T.accepts self.now.test row.now ≡ false)) }
+        ensures error_only_if { OnErr result (T.takes_memory self.now.test row.now
+            ⊎ (T.accepts self.now.test row.now ≡ false)) }
     {
         if self.test.try_test(row)? {
             return Ok(None);
@@ -95,11 +97,12 @@ impl<T: RowTrial> Fold for FirstBroken<T> {
         × (now.found ≡ named_out first.number first.text (T.accepts first.test) first.found rows)
         × (now.found ≡ None → AllByRecursion (T.knows first.test) rows) };
 
-    ghost takes_memory = { λ fold row. (fold.found ≡ None) × (T.takes_memory fold.test row ⊎ (T.accepts fold.test row ≡ false)) };
+    ghost takes_memory = { λ fold row. (fold.found ≡ None)
+        × (T.takes_memory fold.test row ⊎ (T.accepts fold.test row ≡ false)) };
 
     ghost starts = { λ first. (refl, refl, refl, still_found first.found, λ none. tt) };
 
-    fn take(&mut self, row: &Row) -> Result<(), Error> {
+    fn add_row(&mut self, row: &Row) -> Result<(), Error> {
         if self.found.is_none() {
             self.found = self.name_if_broken(row)?;
         }
@@ -109,12 +112,12 @@ impl<T: RowTrial> Fold for FirstBroken<T> {
 
 /// A test that takes no memory, as one that may.
 #[derive(Drop)]
-pub struct Sure<T> {
+pub struct InfallibleTest<T> {
     /// The test.
     pub test: T,
 }
 
-impl<T: RowTest> RowTrial for Sure<T> {
+impl<T: RowTest> RowTrial for InfallibleTest<T> {
     ghost accepts = { λ sure row. T.accepts sure.test row };
 
     ghost knows = { λ _ _. Unit {0} };

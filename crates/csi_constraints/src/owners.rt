@@ -1,4 +1,5 @@
-//! The constraint of an attachment with its volume, whose capabilities are read once for all of its attachments.
+//! The constraint of an attachment with its volume, whose capabilities are read once for all of its
+//! attachments.
 
 ghost use Rattle.std.specs.Prelude.{◌≡◌, None, Some, IfOk, OnOk};
 ghost use Rattle.csi_keeper.specs.Capability.{has_key};
@@ -106,13 +107,14 @@ fn is_owned(alloc: Global, last: &mut Option<KnownCaps>, row: &Row) -> Result<bo
 }
 
 impl Fold for FirstUnowned {
-    ghost folds = { λ first rows now. AreCached first.last → AreCached now.last × (now.found ≡ named_out 0 1 is_owned first.found rows) };
+    ghost folds = { λ first rows now. AreCached first.last → AreCached now.last
+        × (now.found ≡ named_out 0 1 is_owned first.found rows) };
 
     ghost takes_memory = { λ fold _. fold.found ≡ None };
 
     ghost starts = { λ first known. (known, still_found first.found) };
 
-    fn take(&mut self, row: &Row) -> Result<(), Error> {
+    fn add_row(&mut self, row: &Row) -> Result<(), Error> {
         if self.found.is_some() {
             return Ok(());
         }

@@ -29,13 +29,14 @@ pub struct Rising {
 }
 
 impl Fold for Rising {
-    ghost folds = { λ first rows now. (now.column ≡ first.column) × Rises first.column first.good first.last rows now.good now.last };
+    ghost folds = { λ first rows now. (now.column ≡ first.column)
+        × Rises first.column first.good first.last rows now.good now.last };
 
     ghost takes_memory = { λ _ _. ⊥ };
 
     ghost starts = { λ first. (refl, rises_none first.column first.good first.last) };
 
-    fn take(&mut self, row: &Row) -> Result<(), Error> {
+    fn add_row(&mut self, row: &Row) -> Result<(), Error> {
         match integer_at(row, self.column) {
             Some(integer) if is_above_last(self.last, integer) => self.last = Some(integer),
             _ => self.good = false,

@@ -20,7 +20,8 @@ pub fn scan_meta<S: Alter, F: Fold>(conn: &mut Connection<S>, fold: &mut F) -> R
     requires idle { conn.old.in_transaction ≡ false }
     requires ours { HasCleanDisk (state S.Store conn.old) → conn.old.schema ≡ our_schema }
     ensures { FoldsOver S.Store conn.old conn.new F.folds fold.old fold.new
-        (IsPermutation (map seen_meta ((state S.Store conn.old).now.trees 0))) (HasTooMany S.Store conn.old) result }
+        (IsPermutation (map seen_meta ((state S.Store conn.old).now.trees 0)))
+        (HasTooMany S.Store conn.old) result }
 {
     each_row(conn, "SELECT k, format_no, next_number FROM meta", fold)
 }
@@ -34,7 +35,8 @@ pub fn scan_volumes<S: Alter, F: Fold>(conn: &mut Connection<S>, fold: &mut F) -
     requires idle { conn.old.in_transaction ≡ false }
     requires ours { HasCleanDisk (state S.Store conn.old) → conn.old.schema ≡ our_schema }
     ensures { FoldsOver S.Store conn.old conn.new F.folds fold.old fold.new
-        (IsInOrder (map seen_volume ((state S.Store conn.old).now.trees 1))) (HasTooMany S.Store conn.old) result }
+        (IsInOrder (map seen_volume ((state S.Store conn.old).now.trees 1)))
+        (HasTooMany S.Store conn.old) result }
 {
     each_row(
         conn,
@@ -56,7 +58,8 @@ pub fn scan_attachments<S: Alter, F: Fold>(
     requires idle { conn.old.in_transaction ≡ false }
     requires ours { HasCleanDisk (state S.Store conn.old) → conn.old.schema ≡ our_schema }
     ensures { FoldsOver S.Store conn.old conn.new F.folds fold.old fold.new
-        (IsInOrder (map keyed_attachment ((state S.Store conn.old).now.trees 3))) (HasTooMany S.Store conn.old) result }
+        (IsInOrder (map keyed_attachment ((state S.Store conn.old).now.trees 3)))
+        (HasTooMany S.Store conn.old) result }
 {
     each_row(
         conn,
@@ -75,7 +78,8 @@ pub fn scan_owners<S: Alter, F: Fold>(conn: &mut Connection<S>, fold: &mut F) ->
     requires idle { conn.old.in_transaction ≡ false }
     requires ours { HasCleanDisk (state S.Store conn.old) → conn.old.schema ≡ our_schema }
     ensures { FoldsOver S.Store conn.old conn.new F.folds fold.old fold.new
-        (IsInOrder (owners ((state S.Store conn.old).now.trees 3) ((state S.Store conn.old).now.trees 1))) (HasTooMany S.Store conn.old) result }
+        (IsInOrder (owners ((state S.Store conn.old).now.trees 3) ((state S.Store conn.old).now.trees 1)))
+        (HasTooMany S.Store conn.old) result }
 {
     each_row(
         conn,
@@ -94,7 +98,8 @@ pub fn scan_places<S: Alter, F: Fold>(conn: &mut Connection<S>, fold: &mut F) ->
     requires idle { conn.old.in_transaction ≡ false }
     requires ours { HasCleanDisk (state S.Store conn.old) → conn.old.schema ≡ our_schema }
     ensures { FoldsOver S.Store conn.old conn.new F.folds fold.old fold.new
-        (IsInOrder (map seen_attachment ((state S.Store conn.old).now.trees 3))) (HasTooMany S.Store conn.old) result }
+        (IsInOrder (map seen_attachment ((state S.Store conn.old).now.trees 3)))
+        (HasTooMany S.Store conn.old) result }
 {
     each_row(
         conn,

@@ -67,7 +67,7 @@ impl Fold for TextSum {
 
     ghost starts = { λ first. (refl, refl, refl, still_sum first.sum) };
 
-    fn take(&mut self, row: &Row) -> Result<(), Error> {
+    fn add_row(&mut self, row: &Row) -> Result<(), Error> {
         if has_text(row, self.column, self.text.as_slice()) {
             self.sum = self.sum.saturating_add(weight_in(row, self.weight));
         }

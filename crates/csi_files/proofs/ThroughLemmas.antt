@@ -6,7 +6,7 @@ use Rattle.csi_keeper.specs.State.{State}
 use Rattle.csi_memory.specs.Holding.{mem_model}
 use Rattle.csi_memory.specs.declared.mem.MemKeeper.{MemKeeper}
 use Rattle.csi_through.specs.Through.{Opens, through_model}
-use Rattle.csi_through.specs.declared.log.Logged.{Logged}
+use Rattle.csi_through.specs.declared.change_store.KeeperChanges.{KeeperChanges}
 use Rattle.csi_through.specs.declared.through.Through.{Through}
 use Rattle.csi_server.specs.Volumes.{seen, volumes}
 use Rattle.csi_files.specs.declared.over.Served.{Served}
@@ -14,12 +14,12 @@ use Rattle.csi_files.specs.Over.{ServesFrom, ServesWith, with_counts}
 use Rattle.csi_files.proofs.RunLemmas.{Carries, ends}
 
 module _ {K : Type 0} (model : K → Model State) where
-  abbrev over_copy : Through MemKeeper (Logged K) → Model State
+  abbrev over_copy : Through MemKeeper (KeeperChanges K) → Model State
   over_copy t = through_model mem_model (λ logged. model logged.keeper) t
 
-  module _ (config : Config) (keeper : K) (first last : Through MemKeeper (Logged K)) (served : Served) (unread left held holds : Option (List ℕ)) where
+  module _ (config : Config) (keeper : K) (first last : Through MemKeeper (KeeperChanges K)) (served : Served) (unread left held holds : Option (List ℕ)) where
     pub copy_serves : Opens (model keeper) (over_copy first) → ServesWith config (over_copy first) (over_copy last) served unread left held holds
-        → ServesFrom config (model keeper) (model last.log.keeper) served unread left held holds
+        → ServesFrom config (model keeper) (model last.change_store.keeper) served unread left held holds
     copy_serves opens it = record {
       clean = omega (arith, opens.clean, it.clean);
       serves = (
@@ -28,7 +28,7 @@ module _ {K : Type 0} (model : K → Model State) where
         λ z s has.
             let late : (over_copy last).doubt ≡ 0 = omega (arith, z) in
             let early : (over_copy first).doubt ≡ 0 = omega (arith, it.clean, late) in
-            let carries : Carries (seen config (over_copy first)) (seen config (over_copy last)) (seen config (with_counts 0 false (model keeper))) (seen config (with_counts served.refusals served.is_down (model last.log.keeper))) s = record {
+            let carries : Carries (seen config (over_copy first)) (seen config (over_copy last)) (seen config (with_counts 0 false (model keeper))) (seen config (with_counts served.refusals served.is_down (model last.change_store.keeper))) s = record {
               refused = (sym opens.fresh, it.counted);
               down = (sym opens.up, it.down);
               held = λ t has. (has.0.0, has.1);

@@ -13,4 +13,5 @@ use Rattle.csi_files.specs.Serving.{Opens}
 
 -- a connection to files with these contents is adopted as their State, unless the disk or memory fails
 abbrev pub AreFoundAgain : {D : Type 0} → disk.Ghosts D → Config → Type 0
-AreFoundAgain {D} g config = (was : Image) (conn : Held (FileStore D g)) (s : State) → HasState was s → IsInvariant config s → Opens g was conn → IsTakenAs over_files config conn s
+AreFoundAgain {D} g config = (was : Image) (conn : Held (FileStore D g)) (s : State) → HasState was s → IsInvariant config s → Opens g was conn
+    → IsTakenAs over_files config conn s

@@ -22,25 +22,36 @@ use Rattle.csi_adoption.specs.Adopting.{IsStateOf}
 abbrev pub IsStateIn : Trees → State → Type 0
 IsStateIn db s = IsEitherRows s db ⊎ (IsSound no_schema db × (s ≡ first_state 1))
 
--- The contents of two files are a database of the State. Such files are not opened only for want of memory, for a failure of the disk or for a limit.
+-- The contents of two files are a database of the State. Such files are not opened only for want of memory,
+-- for a failure of the disk or for a limit.
 pub record HasState (image : Image) (s : State) : Type 0 where
   pub db : Trees
   pub holds : ∥ HoldsDatabase image db ∥₁
   pub state : IsStateIn db s
 
--- What contracts see of two files by their contents, from which calls are served. Where no table was found in them, their State is the first one.
+-- What contracts see of two files by their contents, from which calls are served. Where no table was found in
+-- them, their State is the first one.
 abbrev pub image_model : Image → Bool → Model State
-image_model image is_new = record { holds = λ s. HasState image s ⊎ (IsTrue is_new × (s ≡ first_state 1)); doubt = 0; refusals = 0; survivors = λ _. ⊥; tied = ⊤; is_down = false }
+image_model image is_new = record {
+  holds = λ s. HasState image s ⊎ (IsTrue is_new × (s ≡ first_state 1));
+  doubt = 0;
+  refusals = 0;
+  survivors = λ _. ⊥;
+  tied = ⊤;
+  is_down = false;
+}
 
 module _ {D : Type 0} (g : disk.Ghosts D) where
-  -- an opening of files with these contents, over a disk that returns what they hold, may find a database of the State
+  -- an opening of files with these contents, over a disk that returns what they hold, may find a database of
+  -- the State
   pub record MayFind (image : Image) (s : State) : Type 0 where
     pub conn : Held (FileStore D g)
     pub opened : IsOpened conn
     pub found : FindsIn image (file_state conn)
     pub state : IsStateOf (file_state conn).committed s
 
-  -- What contracts see of two files that nobody has open. The States that a stop leaves are those that may be found in what it leaves of the files.
+  -- What contracts see of two files that nobody has open. The States that a stop leaves are those that may be
+  -- found in what it leaves of the files.
   abbrev pub files_model : Files D → ℕ → Bool → Model State
   files_model files refusals is_down = record {
     holds = HasState (image_of g files);

@@ -31,10 +31,12 @@ module _ {D : Type 0} {g : disk.Ghosts D} where
   files_of (NotClosed served error store) = files store
 
 module _ {D : Type 0} (g : disk.Ghosts D) where
-  -- Files of which each outcome of a crash, and so what they read as, is a database that the connection may have left.
+  -- Files of which each outcome of a crash, and so what they read as, is a database that the connection may
+  -- have left.
   pub record IsLeft (conn : Held (FileStore D g)) (files : Files D) : Type 0 where
     pub clean : AreClean g files.log files.db → HasCleanDisk (file_state conn)
-    pub each : AreClean g files.log files.db → (image : Image) → outcomes g files.log files.db image → ∥ ((db : Trees) × (file_state conn).may_leave db × HoldsDatabase image db) ∥₁
+    pub each : AreClean g files.log files.db → (image : Image) → outcomes g files.log files.db image
+        → ∥ ((db : Trees) × (file_state conn).may_leave db × HoldsDatabase image db) ∥₁
 
   -- a connection over which no call was served is given up
   abbrev pub GivesUp : Unserved (FileStore D g) → NotServed D g → Type 0

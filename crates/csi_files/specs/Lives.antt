@@ -28,34 +28,42 @@ use Rattle.csi_files.specs.declared.serving.Closed.{Closed}
 use Rattle.csi_files.specs.declared.serving.NotServed.{NotServed}
 use Rattle.csi_files.specs.declared.serving.NotServed.TheVariants.{NotOpened, Blank, NotAdopted, NotCopied, Left, NotClosed}
 
--- A run over the second contents may start as the State `t`, where one over the first might have started as `s`. Where the first have a database of `s`, the second have one of `t`.
+-- A run over the second contents may start as the State `t`, where one over the first might have started as
+-- `s`. Where the first have a database of `s`, the second have one of `t`.
 pub record GoesOn (was next : Image) (s t : State) : Type 0 where
   pub may : MayStart next t
   pub has : HasState was s → HasState next t
 
--- A run answered the calls of this session, from the State that a run over files with these contents starts as, and left files with those.
+-- A run answered the calls of this session, from the State that a run over files with these contents starts
+-- as, and left files with those.
 abbrev pub IsRunOver : Config → Image → List Exchange → Image → Type 0
-IsRunOver config was session next = (s : State) → MayStart was s → IsInvariant config s → ∥ ((t : State) × GoesOn was next s t × IsStateAfter config s (events_of session) t) ∥₁
+IsRunOver config was session next = (s : State) → MayStart was s → IsInvariant config s
+    → ∥ ((t : State) × GoesOn was next s t × IsStateAfter config s (events_of session) t) ∥₁
 
 -- Runs with these sessions, each over what the one before it left, and the contents after the last one.
 abbrev pub IsLifeOfFiles : Config → Image → List (List Exchange) → Image → Type 0
 IsLifeOfFiles config was [] last = was ≡ last
 IsLifeOfFiles config was (session ∷ sessions) last = (next : Image) × IsRunOver config was session next × IsLifeOfFiles config next sessions last
 
--- A lone client that repeats each of its calls until it hears the reply: what it hears, and the State of the files in the end, are those of its requests taken once each.
+-- A lone client that repeats each of its calls until it hears the reply: what it hears, and the State of the
+-- files in the end, are those of its requests taken once each.
 abbrev pub LivesOnce : Config → Type 0
 LivesOnce config =
-    (was last : Image) (s : State) (requests : List Request) (sessions : List (List Exchange)) → MayStart was s → IsInvariant config s → AreTriesOf requests (all_tries (map tries_of sessions))
+    (was last : Image) (s : State) (requests : List Request) (sessions : List (List Exchange)) → MayStart was s → IsInvariant config s
+    → AreTriesOf requests (all_tries (map tries_of sessions))
     → IsLifeOfFiles config was sessions last
-    → ∥ (GoesOn was last s (after_once config s requests) × IsLifeOfCalls config s sessions (map told (told_once config s requests)) (after_once config s requests)) ∥₁
+    → ∥ (GoesOn was last s (after_once config s requests)
+    × IsLifeOfCalls config s sessions (map told (told_once config s requests)) (after_once config s requests)) ∥₁
 
 -- ---- what `serve_made` says of a run makes it a run of such a life
 
-module _ {config : Config} {unread left held holds : Option (List ℕ)} {Starts : State → Type 0} {served : Served} {Clean New : Type 0} {Leaves : State → List Event → Type 0} where
+module _ {config : Config} {unread left held holds : Option (List ℕ)} {Starts : State → Type 0} {served : Served} {Clean New : Type 0} {Leaves : State
+    → List Event → Type 0} where
   -- the run answered the calls of this session
   abbrev pub Answers : RunsThen config unread left held holds Starts served Clean New Leaves → Clean → List Exchange → Type 0
   Answers it clean session = (s : State) (starts : Starts s)
-      → events_of session ≡ answered (volumes config) (counts_model 0 false) (counts_model served.refusals served.is_down) s it.read (IsAtEnd left) held holds served.end (it.ended clean s starts).0
+      → events_of session ≡ answered (volumes config) (counts_model 0 false) (counts_model served.refusals served.is_down) s it.read
+      (IsAtEnd left) held holds served.end (it.ended clean s starts).0
 
 module _ {D : Type 0} (g : disk.Ghosts D) where
   -- a crash leaves of these files what they read as
@@ -73,14 +81,17 @@ module _ {D : Type 0} {g : disk.Ghosts D} where
   IsUnread (NotClosed served error store) = ⊥
 
 module _ {D : Type 0} (g : disk.Ghosts D) (config : Config) (before : Files D) (unread left held holds : Option (List ℕ)) where
-  -- What the clauses `after` and `not_served` of `serve_made` say, of a disk that told the truth: each outcome of a crash is one that a run leaves. Of files that were not opened it is
-  -- said where no database was made in files that were at rest.
+  -- What the clauses `after` and `not_served` of `serve_made` say, of a disk that told the truth: each
+  -- outcome of a crash is one that a run leaves. Of files that were not opened it is said where no database
+  -- was made in files that were at rest.
   pub record AreRuns : Type 0 where
     pub closed : (closed : Closed D)
-        (it : StartsThen config (image_of g before) unread left held holds closed.served (AreClean g closed.files.log closed.files.db) (LeavesAfter g config closed.files))
+        (it : StartsThen config (image_of g before) unread left held holds closed.served (AreClean g closed.files.log closed.files.db)
+        (LeavesAfter g config closed.files))
         (clean : AreClean g closed.files.log closed.files.db) (session : List Exchange) → Answers it clean session
         → (next : Image) → outcomes g closed.files.log closed.files.db next → IsRunOver config (image_of g before) session next
-    pub refused : (served : Served) (now : Files D) (it : IsNotStarted g config before unread left held holds (Left served now)) (clean : AreClean g now.log now.db)
+    pub refused : (served : Served) (now : Files D) (it : IsNotStarted g config before unread left held holds (Left served now))
+        (clean : AreClean g now.log now.db)
         (session : List Exchange) → Answers it.why.1 clean session
         → (next : Image) → outcomes g now.log now.db next → IsRunOver config (image_of g before) session next
     pub unserved : (e : NotServed D g) → IsNotStarted g config before unread left held holds e → EndsClean e → IsUnread e

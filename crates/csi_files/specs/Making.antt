@@ -10,15 +10,16 @@ use Rattle.sqlite_wal.specs.Files.{outcomes}
 use Rattle.sqlite_wal.specs.Reads.{AreClean}
 use Rattle.sqlite_wal.specs.Recovery.{Image}
 use Rattle.sqlite.specs.Files.{image_of}
-use Rattle.csi_files.specs.declared.making.TheConstants.{HEAD, LOG_WITH_FRAME_BYTES, PAGE_BYTES}
+use Rattle.csi_files.specs.declared.making.TheConstants.{HEAD, WAL_WITH_FRAME_BYTES, PAGE_BYTES}
 
--- no database is made yet: the database file is empty, or has what a stop left of its first page, of which the log then tells
+-- no database is made yet: the database file is empty, or has what a stop left of its first page, of which
+-- the log then tells
 abbrev pub IsUnmade : Image → Type 0
 IsUnmade = IsBlankFile PAGE_BYTES
 
 -- the database file is empty, and its log is long enough for a change
 abbrev pub IsLost : Image → Type 0
-IsLost image = (length image.db ≡ 0) × (LOG_WITH_FRAME_BYTES ≤ length image.log)
+IsLost image = (length image.db ≡ 0) × (WAL_WITH_FRAME_BYTES ≤ length image.log)
 
 -- the database file is longer than a page
 abbrev pub IsLarger : Image → Type 0

@@ -30,7 +30,8 @@ pub record ServesWith (config : Config) (first last : Model State) (served : Ser
 
 -- Calls were served over a keeper. The counts begin with the run, whoever counted.
 pub record ServesFrom (config : Config) (first last : Model State) (served : Served) (unread left held holds : Option (List ℕ)) : Type 0 where
-  pub serves : Serves (volumes config) (seen config (with_counts 0 false first)) (seen config (with_counts served.refusals served.is_down last)) unread left held holds served.end
+  pub serves : Serves (volumes config) (seen config (with_counts 0 false first))
+      (seen config (with_counts served.refusals served.is_down last)) unread left held holds served.end
   pub clean : first.doubt ≤ last.doubt
 
 module _ {S : Type 0} (g : Ghosts S) (config : Config) (conn : Held S) where

@@ -45,5 +45,6 @@ module _ {S : Type 0} {g : calls.Ghosts Host} (first : start.Ghosts S) (config :
   abbrev pub IsNotServedAt : NotServedAt (Modelled Host S g first) over_calls → Type 0
   IsNotServedAt (NoFiles error) = AreUntouched unread left held holds × IsNoFile error
   IsNotServedAt (NotServed e) =
-      ((files : Files (Modelled Host S g first)) × IsFresh true files.log × IsFresh false files.db × IsNotStarted over_calls config files unread left held holds e)
+      ((files : Files (Modelled Host S g first)) × IsFresh true files.log × IsFresh false files.db
+      × IsNotStarted over_calls config files unread left held holds e)
       × IsAsked over_calls is_existing (Err e)

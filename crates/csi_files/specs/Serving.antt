@@ -59,8 +59,8 @@ HasRefused served = IsTrue served.is_down ⊎ (0 < served.refusals)
 abbrev pub counts_model : ℕ → Bool → Model State
 counts_model refusals is_down = record { holds = λ _. ⊤; doubt = 0; refusals = refusals; survivors = λ _. ⊥; tied = ⊤; is_down = is_down }
 
--- The State after these calls, or the one that a refused call among them would have made, whose request was read and passed the checks and after which no call moved the State.
--- It meets the invariant.
+-- The State after these calls, or the one that a refused call among them would have made, whose request was
+-- read and passed the checks and after which no call moved the State. It meets the invariant.
 pub record IsStateAfter (config : Config) (s : State) (events : List Event) (t : State) : Type 0 where
   pub is : (t ≡ state_after (volumes config) s events) ⊎ IsPending config s events t
   pub invariant : IsInvariant config t
@@ -76,7 +76,8 @@ module _ {D : Type 0} (g : disk.Ghosts D) where
 
   -- the database that the files had is in each outcome of a crash, or the State that it had
   abbrev pub KeepsDatabase : Image → Files D → Type 0
-  KeepsDatabase was now = AreClean g now.log now.db → (db : Database) → ∥ HoldsDatabase was db.trees ∥₁ → IsDatabase db → (image : Image) → outcomes g now.log now.db image
+  KeepsDatabase was now = AreClean g now.log now.db → (db : Database) → ∥ HoldsDatabase was db.trees ∥₁ → IsDatabase db → (image : Image)
+      → outcomes g now.log now.db image
       → ∥ (HoldsDatabase image db.trees ⊎ ((s : State) × IsStateIn db.trees s × HasState image s)) ∥₁
 
   -- No table exists. The files keep what they had: the first State alone.
@@ -84,13 +85,15 @@ module _ {D : Type 0} (g : disk.Ghosts D) where
     pub state : Keeps was now
     pub first : AreClean g now.log now.db → (s : State) → HasState was s → s ≡ first_state 1
 
-  -- Tables that are not adopted. The files keep what they had. Rows of a State that meets every constraint are refused only where the disk or memory failed; otherwise the fault is the first one
-  -- of the database. Where the store shut itself, no row is judged, and `Foreign::Schema` may be answered.
+  -- Tables that are not adopted. The files keep what they had. Rows of a State that meets every constraint
+  -- are refused only where the disk or memory failed; otherwise the fault is the first one of the database.
+  -- Where the store shut itself, no row is judged, and `Foreign::Schema` may be answered.
   pub record Refuses (config : Config) (was : Image) (fault : AdoptFault) (now : Files D) : Type 0 where
     pub state : Keeps was now
     pub database : KeepsDatabase was now
     pub sound : AreClean g now.log now.db → (s : State) → HasState was s → IsInvariant config s → (is_failure fault ≡ true) ⊎ (fault ≡ Foreign foreign.Schema)
-    pub first : AreClean g now.log now.db → (db : Database) → ∥ HoldsDatabase was db.trees ∥₁ → IsDatabase db → is_failure fault ≡ false → IsFaultOf config db fault ⊎ (fault ≡ Foreign foreign.Schema)
+    pub first : AreClean g now.log now.db → (db : Database) → ∥ HoldsDatabase was db.trees ∥₁ → IsDatabase db → is_failure fault ≡ false
+        → IsFaultOf config db fault ⊎ (fault ≡ Foreign foreign.Schema)
 
   -- each outcome of a crash has the State after the calls, or one that a refused call would have made
   abbrev pub LeavesAfter : Config → Files D → State → List Event → Type 0
@@ -102,7 +105,8 @@ module _ {D : Type 0} {g : disk.Ghosts D} where
   ReadsAfter config store s events = (db : Trees) → recovers store db → (t : State) × IsRows t db × IsStateAfter config s events t
 
 module _ (config : Config) (unread left held holds : Option (List ℕ)) where
-  -- Calls were served from each of these States, and this is so of the database before them and of what they left.
+  -- Calls were served from each of these States, and this is so of the database before them and of what they
+  -- left.
   pub record RunsThen (Starts : State → Type 0) (served : Served) (Clean New : Type 0) (Leaves : State → List Event → Type 0) : Type 0 where
     pub read : List ℕ
     pub consumed : Consumes unread left read
@@ -110,25 +114,32 @@ module _ (config : Config) (unread left held holds : Option (List ℕ)) where
     pub ended : Clean → (s : State) → Starts s
         → (run : Ended (volumes config) (counts_model 0 false) (counts_model served.refusals served.is_down) s read (IsAtEnd left) held holds served.end)
         × IsInvariant config s
-        × Leaves s (events_of (volumes config) (counts_model 0 false) (counts_model served.refusals served.is_down) s read (IsAtEnd left) held holds served.end run)
+        × Leaves s (events_of (volumes config) (counts_model 0 false) (counts_model served.refusals served.is_down) s read
+        (IsAtEnd left) held holds served.end run)
 
 -- calls were served from the State of files with these contents
-abbrev pub ServesThen : Config → Image → Option (List ℕ) → Option (List ℕ) → Option (List ℕ) → Option (List ℕ) → Served → Type 0 → (State → List Event → Type 0) → Type 0
-ServesThen config was unread left held holds served Clean Leaves = RunsThen config unread left held holds (image_model was served.is_new).holds served Clean (SaysNew was served) Leaves
+abbrev pub ServesThen : Config → Image → Option (List ℕ) → Option (List ℕ) → Option (List ℕ) → Option (List ℕ) → Served → Type 0
+    → (State → List Event → Type 0) → Type 0
+ServesThen config was unread left held holds served Clean Leaves = RunsThen config unread left held holds
+    (image_model was served.is_new).holds served Clean (SaysNew was served) Leaves
 
 -- nothing was read or written
 abbrev pub AreUntouched : Option (List ℕ) → Option (List ℕ) → Option (List ℕ) → Option (List ℕ) → Type 0
 AreUntouched unread left held holds = (left ≡ unread) × (holds ≡ held)
 
 module _ {D : Type 0} (g : disk.Ghosts D) where
-  -- why files that had these contents were not closed after calls, and what is left of them; a clause of its own says what is so where they were not opened
-  abbrev pub IsNotServed : Config → Image → Option (List ℕ) → Option (List ℕ) → Option (List ℕ) → Option (List ℕ) → (Error → Leftover D g → Type 0) → NotServed D g → Type 0
+  -- why files that had these contents were not closed after calls, and what is left of them; a clause of its
+  -- own says what is so where they were not opened
+  abbrev pub IsNotServed : Config → Image → Option (List ℕ) → Option (List ℕ) → Option (List ℕ) → Option (List ℕ) → (Error → Leftover D g → Type 0)
+      → NotServed D g → Type 0
   IsNotServed config was unread left held holds Unopened (NotOpened error rest) = Unopened error rest
   IsNotServed config was unread left held holds Unopened (Blank now) = AreUntouched unread left held holds × HasNone g was now
   IsNotServed config was unread left held holds Unopened (NotAdopted fault now) = AreUntouched unread left held holds × Refuses g config was fault now
   IsNotServed config was unread left held holds Unopened (NotCopied fault now) = AreUntouched unread left held holds × Keeps g was now × (fault ≡ Refused)
-  IsNotServed config was unread left held holds Unopened (Left served now) = HasRefused served × ServesThen config was unread left held holds served (AreClean g now.log now.db) (LeavesAfter g config now)
-  IsNotServed config was unread left held holds Unopened (NotClosed served error store) = ((cause : StoreError) × (error ≡ store_error cause)) × ServesThen config was unread left held holds served (IsClean (view store)) (ReadsAfter config store)
+  IsNotServed config was unread left held holds Unopened (Left served now) = HasRefused served
+      × ServesThen config was unread left held holds served (AreClean g now.log now.db) (LeavesAfter g config now)
+  IsNotServed config was unread left held holds Unopened (NotClosed served error store) = ((cause : StoreError) × (error ≡ store_error cause))
+      × ServesThen config was unread left held holds served (IsClean (view store)) (ReadsAfter config store)
 
   -- why files were not opened, and what is left of them
   abbrev pub IsNotOpened : Files D → Error → Leftover D g → Type 0

@@ -25,7 +25,8 @@ use Rattle.csi_files.specs.declared.over.Served.{Served}
 use Rattle.csi_files.specs.declared.serving.NotServed.{NotServed}
 use Rattle.csi_files.specs.declared.serving.NotServed.TheVariants.{NotOpened, Blank, NotAdopted, NotCopied, Left, NotClosed}
 
--- Contents of two files from which a run may start as this State: they hold a database of it, or none yet, and it is the first State.
+-- Contents of two files from which a run may start as this State: they hold a database of it, or none yet,
+-- and it is the first State.
 abbrev pub MayStart : Image → State → Type 0
 MayStart image s = HasState image s ⊎ (IsUnmade image × (s ≡ first_state 1))
 
@@ -33,7 +34,8 @@ MayStart image s = HasState image s ⊎ (IsUnmade image × (s ≡ first_state 1)
 abbrev pub start_model : Image → Bool → Model State
 start_model image is_new = record (image_model image is_new) { holds = λ s. MayStart image s ⊎ (IsTrue is_new × (s ≡ first_state 1)) }
 
--- What files that had the first contents have once a database is made where there was none: a new one, or what they had. They have the State that a run would have started as.
+-- What files that had the first contents have once a database is made where there was none: a new one, or
+-- what they had. They have the State that a run would have started as.
 pub record ShowsLaidOut (before after : Image) : Type 0 where
   pub made : IsToMake before → IsMade after
   pub kept : ¬ IsToMake before → after ≡ before
@@ -45,8 +47,10 @@ pub record SaysStart (was : Image) (served : Served) : Type 0 where
   pub made : IsToMake was → IsTrue served.is_new
 
 -- calls were served from the State that a run over files with these contents starts as
-abbrev pub StartsThen : Config → Image → Option (List ℕ) → Option (List ℕ) → Option (List ℕ) → Option (List ℕ) → Served → Type 0 → (State → List Event → Type 0) → Type 0
-StartsThen config was unread left held holds served Clean Leaves = RunsThen config unread left held holds (start_model was served.is_new).holds served Clean (SaysStart was served) Leaves
+abbrev pub StartsThen : Config → Image → Option (List ℕ) → Option (List ℕ) → Option (List ℕ) → Option (List ℕ) → Served → Type 0
+    → (State → List Event → Type 0) → Type 0
+StartsThen config was unread left held holds served Clean Leaves = RunsThen config unread left held holds
+    (start_model was served.is_new).holds served Clean (SaysStart was served) Leaves
 
 module _ {D : Type 0} (g : disk.Ghosts D) where
   -- a run may start as this State from each outcome of a crash
@@ -82,13 +86,15 @@ module _ {D : Type 0} (g : disk.Ghosts D) where
   abbrev pub IsNotMade : Files D → Error → Leftover D g → Type 0
   IsNotMade before error rest = IsLeftUnmade before rest ⊎ ((laid : Files D) × IsLaidOut g before laid × IsNotOpened g laid error rest)
 
-  -- why files are not closed after a database was made where there was none: what is said of their contents then
+  -- why files are not closed after a database was made where there was none: what is said of their contents
+  -- then
   pub record IsNotStarted (config : Config) (before : Files D) (unread left held holds : Option (List ℕ)) (e : NotServed D g) : Type 0 where
     pub was : Image
     pub shows : EndsClean e → ShowsLaidOut (image_of g before) was
     pub why : IsNotServed g config was unread left held holds (λ error rest. AreUntouched unread left held holds × IsNotMade before error rest) e
 
-  -- a connection to files with these contents, which an opening gives after a database was made where there was none
+  -- a connection to files with these contents, which an opening gives after a database was made where there
+  -- was none
   pub record OpensMade (before : Image) (conn : Held (FileStore D g)) : Type 0 where
     pub was : Image
     pub shows : HasCleanDisk (file_state conn) → ShowsLaidOut before was

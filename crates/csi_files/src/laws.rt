@@ -8,26 +8,31 @@ use csi_server::laws::retry;
 use csi_tables::laws::one_state;
 use sqlite_disk::Disk;
 
-/// Files that have a State of the invariant are adopted as that State over each connection that an opening of them gives, unless the disk or memory fails.
+/// Files that have a State of the invariant are adopted as that State over each connection that an opening of
+/// them gives, unless the disk or memory fails.
 pub fn found_again<D: Disk>(config: &Config)
     ensures { AreFoundAgain D.Disk config.now }
 {
     one_state();
 }
 
-/// A run of [`serve_made`](crate::serve_made) over two files, whichever of its ends it comes to, is a run of a life of these files: a first one too, over files that
-/// hold no database yet. What is said is of each outcome of a crash after the run.
+/// A run of [`serve_made`](crate::serve_made) over two files, whichever of its ends it comes to, is a run of
+/// a life of these files: a first one too, over files that hold no database yet. What is said is of each
+/// outcome of a crash after the run.
 ///
-/// Two ends are left out: files that could not be opened once a database was in them, and files whose close failed.
+/// Two ends are left out: files that could not be opened once a database was in them, and files whose close
+/// failed.
 pub fn went_on<D: Disk>(config: &Config)
     ensures { RunsGoOn D.Disk config.now }
 {}
 
-/// Run after run over two files, with a stop after each: a lone client that repeats each of its calls until it hears the reply hears the replies to its requests taken once each, and the
-/// files have the State after them.
+/// Run after run over two files, with a stop after each: a lone client that repeats each of its calls until
+/// it hears the reply hears the replies to its requests taken once each, and the files have the State after
+/// them.
 ///
-/// The first run may be over files that hold no database yet. A run may end in any way, its calls may be refused inside and its replies be lost, and the next run is over any contents that a
-/// crash leaves of the files.
+/// The first run may be over files that hold no database yet. A run may end in any way, its calls may be
+/// refused inside and its replies be lost, and the next run is over any contents that a crash leaves of the
+/// files.
 pub fn lived(config: &Config)
     ensures { LivesOnce config.now }
 {

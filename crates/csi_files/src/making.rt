@@ -18,14 +18,16 @@ use sqlite_wal::PageSize;
 use std::alloc::{AllocFailed, Global};
 use std::io::{self, ErrorKind};
 
-// The bytes of a page of a file that is made. A change writes each page whole that it touches, some five of them, and most rows have a few hundred
-// bytes: SQLite's own choice, 4,096, is four times as much to write.
+// The bytes of a page of a file that is made. A change writes each page whole that it touches, some five of
+// them, and most rows have a few hundred bytes: SQLite's own choice, 4,096, is four times as much to write.
 const PAGE_BYTES: usize = 1024;
 
-/// How many bytes a log has at least that has a change: its header, and the least frame, which is a header of its own and a page of 512 bytes.
-pub const LOG_WITH_FRAME_BYTES: usize = 32 + 24 + 512;
+/// How many bytes a log has at least that has a change: its header, and the least frame, which is a header of
+/// its own and a page of 512 bytes.
+pub const WAL_WITH_FRAME_BYTES: usize = 32 + 24 + 512;
 
-// How the first page began that earlier releases wrote, which a stop could tear: its header, and a leaf of no cells. All else of it is 0.
+// How the first page began that earlier releases wrote, which a stop could tear: its header, and a leaf of no
+// cells. All else of it is 0.
 const HEAD: [u8; 108] = *b"SQLite format 3\0\
     \x04\x00\x02\x02\x00\x40\x20\x20\0\0\0\0\0\0\0\x01\
     \0\0\0\0\0\0\0\0\0\0\0\0\0\0\0\x04\
@@ -72,7 +74,8 @@ fn pages_of<D: Disk>(alloc: Global, pair: Files<D>, seed: u64) -> Result<Pool<D>
 
 // Files that are given back, unless a sync of one has failed.
 fn given_back<D: Disk>(pool: Pool<D>) -> Result<Files<D>, (Error, Files<D>)>
-    ensures ok { IfOk result (λ pair. ((pair.log, pair.db) ≡ files pool) × IsTrue (D.Disk.is_usable pair.log) × IsTrue (D.Disk.is_usable pair.db)) }
+    ensures ok { IfOk result (λ pair. ((pair.log, pair.db) ≡ files pool) × IsTrue (D.Disk.is_usable pair.log)
+        × IsTrue (D.Disk.is_usable pair.db)) }
     ensures err { IfErr result (λ e. (e.1.log, e.1.db) ≡ files pool) }
 {
     let pair = pool.close();
@@ -115,8 +118,10 @@ enum Lengths {
 fn lengths_of<D: Disk>(pair: &mut Files<D>) -> io::Result<Lengths>
     requires log { IsTrue (D.Disk.is_usable pair.old.log) }
     requires db { IsTrue (D.Disk.is_usable pair.old.db) }
-    ensures larger { IfOk result (λ is. AreClean D.Disk pair.new.log pair.new.db → (is ≡ Lengths.Larger) ↔ IsLarger (image_of D.Disk pair.old)) }
-    ensures emptied { IfOk result (λ is. AreClean D.Disk pair.new.log pair.new.db → (is ≡ Lengths.Emptied) ↔ IsLost (image_of D.Disk pair.old)) }
+    ensures larger { IfOk result (λ is. AreClean D.Disk pair.new.log pair.new.db → (is ≡ Lengths.Larger)
+        ↔ IsLarger (image_of D.Disk pair.old)) }
+    ensures emptied { IfOk result (λ is. AreClean D.Disk pair.new.log pair.new.db → (is ≡ Lengths.Emptied)
+        ↔ IsLost (image_of D.Disk pair.old)) }
     ensures log { OnlyReads D.Disk pair.old.log pair.new.log }
     ensures db { OnlyReads D.Disk pair.old.db pair.new.db }
 {
@@ -125,7 +130,7 @@ fn lengths_of<D: Disk>(pair: &mut Files<D>) -> io::Result<Lengths>
     if len > PAGE_BYTES {
         return Ok(Lengths::Larger);
     }
-    if len == 0 && log >= LOG_WITH_FRAME_BYTES {
+    if len == 0 && log >= WAL_WITH_FRAME_BYTES {
         return Ok(Lengths::Emptied);
     }
     Ok(Lengths::Short)
@@ -170,7 +175,9 @@ fn is_torn(bytes: &[u8]) -> bool
 // Whether a file has no more than that. There is room for all of it.
 fn reads_torn<D: Disk>(file: &mut D, room: &mut [u8]) -> io::Result<bool>
     requires { IsTrue (D.Disk.is_usable file.old) }
-    ensures is { IfOk result (λ is. IsTrue (D.Disk.is_clean file.new) → length room.old ≡ length (D.Disk.seen file.old) → 0 < length room.old → (IsTrue is ↔ IsPart (D.Disk.seen file.old))) }
+    ensures value { IfOk result (λ is. IsTrue (D.Disk.is_clean file.new)
+        → length room.old ≡ length (D.Disk.seen file.old) → 0 < length room.old
+        → (IsTrue is ↔ IsPart (D.Disk.seen file.old))) }
     ensures read { OnlyReads D.Disk file.old file.new }
 {
     file.read_at(0, room)?;
@@ -180,7 +187,8 @@ fn reads_torn<D: Disk>(file: &mut D, room: &mut [u8]) -> io::Result<bool>
 // The same of so many bytes.
 fn has_torn<D: Disk>(alloc: Global, file: &mut D, len: usize) -> io::Result<bool>
     requires { IsTrue (D.Disk.is_usable file.old) }
-    ensures is { IfOk result (λ is. IsTrue (D.Disk.is_clean file.new) → len ≡ length (D.Disk.seen file.old) → 0 < len → (IsTrue is ↔ IsPart (D.Disk.seen file.old))) }
+    ensures value { IfOk result (λ is. IsTrue (D.Disk.is_clean file.new) → len ≡ length (D.Disk.seen file.old)
+        → 0 < len → (IsTrue is ↔ IsPart (D.Disk.seen file.old))) }
     ensures read { OnlyReads D.Disk file.old file.new }
 {
     let mut bytes = vec![in alloc; 0; len]?;
@@ -191,7 +199,8 @@ fn has_torn<D: Disk>(alloc: Global, file: &mut D, len: usize) -> io::Result<bool
 fn holds_torn<D: Disk>(alloc: Global, pair: &mut Files<D>) -> io::Result<bool>
     requires log { IsTrue (D.Disk.is_usable pair.old.log) }
     requires db { IsTrue (D.Disk.is_usable pair.old.db) }
-    ensures is { IfOk result (λ is. AreClean D.Disk pair.new.log pair.new.db → (IsTrue is ↔ IsTorn (image_of D.Disk pair.old))) }
+    ensures value { IfOk result (λ is. AreClean D.Disk pair.new.log pair.new.db
+        → (IsTrue is ↔ IsTorn (image_of D.Disk pair.old))) }
     ensures log { OnlyReads D.Disk pair.old.log pair.new.log }
     ensures db { OnlyReads D.Disk pair.old.db pair.new.db }
 {
@@ -219,9 +228,12 @@ fn clear_torn<D: Disk>(alloc: Global, pair: &mut Files<D>) -> io::Result<()>
     requires log { IsTrue (D.Disk.is_usable pair.old.log) }
     requires db { IsTrue (D.Disk.is_usable pair.old.db) }
     ensures clean { AreClean D.Disk pair.new.log pair.new.db → AreClean D.Disk pair.old.log pair.old.db }
-    ensures kept { AreClean D.Disk pair.new.log pair.new.db → ¬ IsTorn (image_of D.Disk pair.old) → AreAsBefore D.Disk pair.old pair.new }
-    ensures cleared { OnOk result (AreClean D.Disk pair.new.log pair.new.db → IsTorn (image_of D.Disk pair.old) → IsUnmade (image_of D.Disk pair.new)) }
-    ensures usable { OnOk result (IsTrue (D.Disk.is_usable pair.new.log) × IsTrue (D.Disk.is_usable pair.new.db)) }
+    ensures kept { AreClean D.Disk pair.new.log pair.new.db → ¬ IsTorn (image_of D.Disk pair.old)
+        → AreAsBefore D.Disk pair.old pair.new }
+    ensures cleared { OnOk result (AreClean D.Disk pair.new.log pair.new.db
+        → IsTorn (image_of D.Disk pair.old) → IsUnmade (image_of D.Disk pair.new)) }
+    ensures usable { OnOk result (IsTrue (D.Disk.is_usable pair.new.log)
+        × IsTrue (D.Disk.is_usable pair.new.db)) }
 {
     if holds_torn(alloc, pair)? {
         return clear(&mut pair.db);
@@ -240,15 +252,16 @@ fn failed(error: io::Error) -> NotLaidOut
     }
 }
 
-/// Makes an empty database of files that hold none yet: new files, and what a stop left of an earlier call. Other files stay as they are. Wherever it
-/// stops, the next call makes it.
+/// Makes an empty database of files that hold none yet: new files, and what a stop left of an earlier call.
+/// Other files stay as they are. Wherever it stops, the next call makes it.
 ///
-/// A first page that an earlier release was stopped in, bytes of 0 or its beginning without a log, is cleared first.
+/// A first page that an earlier release was stopped in, bytes of 0 or its beginning without a log, is cleared
+/// first.
 ///
 /// # Errors
 ///
-/// Where the log of an empty file may have changes, the files cannot be read or written, or memory is refused. The files come back: unchanged in the first
-/// case, otherwise with what a stop might have left.
+/// Where the log of an empty file may have changes, the files cannot be read or written, or memory is
+/// refused. The files come back: unchanged in the first case, otherwise with what a stop might have left.
 pub fn lay_out<D: Disk>(
     alloc: Global,
     mut pair: Files<D>,
@@ -257,11 +270,13 @@ pub fn lay_out<D: Disk>(
     requires log { IsTrue (D.Disk.is_usable pair.log) }
     requires db { IsTrue (D.Disk.is_usable pair.db) }
     ensures laid_out { IfOk result (IsLaidOut D.Disk pair) }
-    ensures not_lost { IfOk result (λ after. AreClean D.Disk after.log after.db → ¬ IsLost (image_of D.Disk pair)) }
+    ensures not_lost { IfOk result (λ after. AreClean D.Disk after.log after.db
+        → ¬ IsLost (image_of D.Disk pair)) }
     ensures not_laid_out { IfErr result (λ e. IsNotLaidOut D.Disk pair e.1) }
     ensures starts { IfOk result (λ after. StartsAs D.Disk pair after × KeepsStart D.Disk pair after) }
     ensures kept { IfErr result (λ e. KeepsStart D.Disk pair e.1) }
-    ensures emptied { IfErr result (λ e. e.0 ≡ NotLaidOut.Emptied → AreAsBefore D.Disk pair e.1 × (AreClean D.Disk e.1.log e.1.db → IsLost (image_of D.Disk pair))) }
+    ensures emptied { IfErr result (λ e. e.0 ≡ NotLaidOut.Emptied → AreAsBefore D.Disk pair e.1
+        × (AreClean D.Disk e.1.log e.1.db → IsLost (image_of D.Disk pair))) }
 {
     match lengths_of(&mut pair) {
         Ok(Lengths::Larger) => return Ok(pair),

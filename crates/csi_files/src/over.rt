@@ -9,14 +9,14 @@ ghost use Rattle.csi_through.specs.Copying.{IsWhy};
 ghost use Rattle.csi_through.specs.Through.{through_model};
 ghost use Rattle.csi_files.specs.Over.{IsUnserved, ServesFrom, ServesOver, ServesWith};
 
-use crate::reserve::{ROOM_BYTES, Reserved, held};
+use crate::reserve::{Reserved, room};
 use csi_adoption::{AdoptError, AdoptFault, adopt};
 use csi_config::Config;
 use csi_keeper::{Keeper, StoreFault};
 use csi_memory::MemKeeper;
 use csi_server::{RunEnd, serve};
 use csi_tables::Tables;
-use csi_through::{Logged, NotCopied, Through};
+use csi_through::{KeeperChanges, NotCopied, Through};
 use sqlite::{Alter, Connection};
 use sqlite_schema::schema::Schema;
 use std::alloc::Global;
@@ -36,10 +36,12 @@ pub trait Observer {
 pub struct ServeOptions {
     /// Whether a database without a table is refused. Otherwise it gets new ones.
     pub is_existing: bool,
-    /// Whether each read is answered from the file. Otherwise the volumes are copied into memory, and reads are answered from there.
+    /// Whether each read is answered from the file. Otherwise the volumes are copied into memory, and reads
+    /// are answered from there.
     pub is_low_memory: bool,
-    /// How many bytes of memory are kept for the next opening while reads are answered from the file, as far as there is memory: an opening reads each table
-    /// whole. What a call adds is kept in addition, and the call is refused for want of memory where there is none for that.
+    /// How many bytes of memory are kept for the next opening while reads are answered from the file, as far
+    /// as there is memory: an opening reads each table whole. What a call adds is kept in addition, and the
+    /// call is refused for want of memory where there is none for that.
     pub reserve: usize,
 }
 
@@ -85,7 +87,8 @@ fn serve_file<S: Alter + Drop, R: Read, W: Write>(
     reader: &mut R,
     writer: &mut W,
 ) -> (Served, Tables<S>)
-    ensures serves { ServesWith config.now (tables_model S.Store tables) (tables_model S.Store result.1) result.0
+    ensures serves { ServesWith config.now (tables_model S.Store tables)
+        (tables_model S.Store result.1) result.0
         (R.remaining reader.old) (R.remaining reader.new) (W.contents writer.old) (W.contents writer.new) }
     ensures uncopied { result.0.is_copied ≡ false }
     ensures new { result.0.is_new ≡ is_new }
@@ -106,12 +109,13 @@ fn serve_file<S: Alter + Drop, R: Read, W: Write>(
 fn serve_through<K: Keeper, R: Read, W: Write>(
     alloc: Global,
     config: &Config,
-    through: &mut Through<MemKeeper, Logged<K>>,
+    through: &mut Through<MemKeeper, KeeperChanges<K>>,
     is_new: bool,
     reader: &mut R,
     writer: &mut W,
 ) -> Served
-    ensures serves { ServesWith config.now (through_model mem_model (λ logged. K.model logged.keeper) through.old)
+    ensures serves { ServesWith config.now
+        (through_model mem_model (λ logged. K.model logged.keeper) through.old)
         (through_model mem_model (λ logged. K.model logged.keeper) through.new) result
         (R.remaining reader.old) (R.remaining reader.new) (W.contents writer.old) (W.contents writer.new) }
     ensures new { result.is_new ≡ is_new }
@@ -126,13 +130,13 @@ fn serve_through<K: Keeper, R: Read, W: Write>(
     }
 }
 
-// Copies what a keeper has into memory, and serves calls over the copy. The keeper makes each change first. The room is held until the copy is made: so there is memory
-// for calls.
+// Copies what a keeper has into memory, and serves calls over the copy. The keeper makes each change first.
+// The room is held until the copy is made: so there is memory for calls.
 fn serve_copy<K: Keeper + Drop, R: Read, W: Write>(
     alloc: Global,
     config: &Config,
     keeper: K,
-    room: Vec<u8>,
+    room: Vec<Vec<u8>>,
     is_new: bool,
     reader: &mut R,
     writer: &mut W,
@@ -152,10 +156,11 @@ fn serve_copy<K: Keeper + Drop, R: Read, W: Write>(
         Err(error) => return Err(error),
     };
     let served = serve_through(alloc, config, &mut through, is_new, reader, writer);
-    Ok((served, through.into_log().into_keeper()))
+    Ok((served, through.into_change_store().into_keeper()))
 }
 
-// Serves calls over tables, and answers reads from a copy in memory if they are to be and memory has room for one, otherwise from the file.
+// Serves calls over tables, and answers reads from a copy in memory if they are to be and memory has room for
+// one, otherwise from the file.
 fn serve_tables<S: Alter + Drop, O: Observer, R: Read, W: Write>(
     alloc: Global,
     config: &Config,
@@ -167,11 +172,13 @@ fn serve_tables<S: Alter + Drop, O: Observer, R: Read, W: Write>(
     writer: &mut W,
 ) -> Result<(Served, Tables<S>), NotCopied<Tables<S>>>
     requires fresh { (refusals S.Store tables ≡ 0) × (is_down S.Store tables ≡ false) }
-    ensures served { IfOk result (λ r. ServesFrom config.now (tables_model S.Store tables) (tables_model S.Store r.1) r.0
+    ensures served { IfOk result (λ r. ServesFrom config.now (tables_model S.Store tables)
+        (tables_model S.Store r.1) r.0
         (R.remaining reader.old) (R.remaining reader.new) (W.contents writer.old) (W.contents writer.new)) }
     ensures uncopied { IfOk result (λ r. IsTrue options.now.is_low_memory → r.0.is_copied ≡ false) }
     ensures new { IfOk result (λ r. r.0.is_new ≡ is_new) }
-    ensures quiet { IfErr result (λ e. IsQuiet (tables_model S.Store tables) (tables_model S.Store e.keeper)) }
+    ensures quiet { IfErr result (λ e. IsQuiet (tables_model S.Store tables)
+        (tables_model S.Store e.keeper)) }
     ensures refused { IfErr result (λ e. e.fault ≡ StoreFault.Refused) }
     ensures unread { OnErr result (reader.new ≡ reader.old) }
     ensures unwritten { OnErr result (writer.new ≡ writer.old) }
@@ -184,7 +191,7 @@ fn serve_tables<S: Alter + Drop, O: Observer, R: Read, W: Write>(
     if is_low_memory {
         return Ok(serve_file(alloc, config, tables, reserve, is_new, reader, writer));
     }
-    let Ok(room) = held(alloc, ROOM_BYTES) else {
+    let Ok(room) = room(alloc) else {
         observer.uncopied();
         return Ok(serve_file(alloc, config, tables, reserve, is_new, reader, writer));
     };

@@ -36,9 +36,11 @@ pub enum NotServedAt<D: Disk> {
     NotServed(NotServed<D>),
 }
 
-// The files at a path, which are made where they are missing. SQLite takes `:memory:` and a URI for something else than a file.
+// The files at a path, which are made where they are missing. SQLite takes `:memory:` and a URI for something
+// else than a file.
 fn files_at<S: Start>(rt: &HostRuntime, path: &str, start: S) -> Result<Files<FileFrom<S>>, Error>
-    ensures usable { IfOk result (λ files. IsTrue (file_is_usable S.Start files.log) × IsTrue (file_is_usable S.Start files.db)) }
+    ensures usable { IfOk result (λ files. IsTrue (file_is_usable S.Start files.log)
+        × IsTrue (file_is_usable S.Start files.db)) }
     ensures fresh { IfOk result (λ files. IsFresh true files.log × IsFresh false files.db) }
     ensures failed { IfErr result IsNoFile }
 {
@@ -54,7 +56,8 @@ fn files_at<S: Start>(rt: &HostRuntime, path: &str, start: S) -> Result<Files<Fi
     }
 }
 
-// How files are opened: with a seed drawn at random, by which the frames of a new log are told from those of an old one.
+// How files are opened: with a seed drawn at random, by which the frames of a new log are told from those of
+// an old one.
 fn opening(rt: &HostRuntime) -> Result<Options, Error>
     ensures { IfErr result IsNoFile }
 {
@@ -64,10 +67,11 @@ fn opening(rt: &HostRuntime) -> Result<Options, Error>
     }
 }
 
-/// Serves the volume machine over the database file at a path and its log, as [`serve_made`] does over files. `start` stands for what the files held; the clauses
-/// hold for whatever that was.
+/// Serves the volume machine over the database file at a path and its log, as [`serve_made`] does over files.
+/// `start` stands for what the files held; the clauses hold for whatever that was.
 ///
-/// That these are the files at the path, and that nobody else writes to them, is trusted, as in `sqlite_std_file::open`.
+/// That these are the files at the path, and that nobody else writes to them, is trusted, as in
+/// `sqlite_std_file::open`.
 ///
 /// # Errors
 ///
@@ -82,11 +86,14 @@ pub fn serve_path<S: Start, O: Observer, R: Read, W: Write>(
     reader: &mut R,
     writer: &mut W,
 ) -> Result<Closed<FileFrom<S>>, NotServedAt<FileFrom<S>>>
-    ensures served { IfOk result (λ r. Serves (volumes config.now) (start_model (image_at S.Start) r.served.is_new)
+    ensures served { IfOk result (λ r. Serves (volumes config.now)
+        (start_model (image_at S.Start) r.served.is_new)
         (seen config.now (files_model over_calls r.files r.served.refusals r.served.is_down))
-        (R.remaining reader.old) (R.remaining reader.new) (W.contents writer.old) (W.contents writer.new) r.served.end) }
+        (R.remaining reader.old) (R.remaining reader.new) (W.contents writer.old)
+        (W.contents writer.new) r.served.end) }
     ensures after { IfOk result (λ r. StartsThen config.now (image_at S.Start)
-        (R.remaining reader.old) (R.remaining reader.new) (W.contents writer.old) (W.contents writer.new) r.served
+        (R.remaining reader.old) (R.remaining reader.new) (W.contents writer.old)
+        (W.contents writer.new) r.served
         (AreClean over_calls r.files.log r.files.db) (LeavesAfter over_calls config.now r.files)) }
     ensures uncopied { IfOk result (λ r. IsTrue options.now.is_low_memory → r.served.is_copied ≡ false) }
     ensures existing { IfOk result (λ r. IsTrue options.now.is_existing → r.served.is_new ≡ false) }
@@ -116,7 +123,8 @@ pub fn serve_path<S: Start, O: Observer, R: Read, W: Write>(
     }
 }
 
-/// Opens the database file at a path and its log; where they hold no database yet, an empty one is made first.
+/// Opens the database file at a path and its log; where they hold no database yet, an empty one is made
+/// first.
 ///
 /// # Errors
 ///

@@ -1,7 +1,7 @@
 //! Memory that is kept for the next opening of tables.
 //!
-//! An opening reads each table whole, where calls over a file take a few pages. So tables could grow, call by call, until no opening of them has enough memory,
-//! and nobody could delete a volume any more.
+//! An opening reads each table whole, where calls over a file take a few pages. So tables could grow, call by
+//! call, until no opening of them has enough memory, and nobody could delete a volume any more.
 
 ghost use Rattle.std.specs.Prelude.{◌≡◌, false, IfErr};
 ghost use Rattle.csi_keeper.specs.declared.change.StoreFault.TheVariants.{NoMemory};
@@ -24,13 +24,29 @@ const CAP_BYTES: usize = 4;
 // Memory is kept in blocks of so many bytes.
 const BLOCK_BYTES: usize = 1 << 20;
 
-/// So many bytes are left for calls where no more memory can be kept: for the pages that they read and write, for their frames and for their replies.
-pub(crate) const ROOM_BYTES: usize = 4 << 20;
+// So many blocks are left for calls where no more memory can be kept: for the pages that they read and write,
+// for their frames and for their replies.
+const ROOM_BLOCKS: usize = 4;
 
-/// Memory that is only held. The call is not inlined: otherwise a compiler may see that nobody uses it, and take none.
+// Memory that is only held. The call is not inlined: otherwise a compiler may see that nobody uses it, and
+// take none.
 #[inline(never)]
-pub(crate) fn held(alloc: Global, bytes: usize) -> Result<Vec<u8>, AllocError> {
+fn held(alloc: Global, bytes: usize) -> Result<Vec<u8>, AllocError> {
     Vec::with_capacity(alloc, bytes)
+}
+
+/// Memory for calls, 4 MiB, which is there once this is dropped. It is held in blocks as long as the longest
+/// message, since memory that is free is seldom in one piece.
+///
+/// # Errors
+///
+/// Where there is no memory.
+pub(crate) fn room(alloc: Global) -> Result<Vec<Vec<u8>>, AllocError> {
+    let mut blocks = Vec::with_capacity(alloc, ROOM_BLOCKS)?;
+    for _ in 0..ROOM_BLOCKS {
+        blocks.push(held(alloc, BLOCK_BYTES)?)?;
+    }
+    Ok(blocks)
 }
 
 // Memory that is kept.
@@ -66,7 +82,7 @@ impl Reserve {
     // Keeps what is to be kept.
     fn fill(&mut self) -> Result<(), AllocError> {
         for _ in self.blocks.len()..self.wanted.div_ceil(BLOCK_BYTES) {
-            let _room = held(self.alloc, ROOM_BYTES)?;
+            let _room = room(self.alloc)?;
             self.blocks.push(held(self.alloc, BLOCK_BYTES)?)?;
         }
         Ok(())
@@ -117,8 +133,9 @@ fn bytes_of(change: &Change) -> usize {
     }
 }
 
-/// Tables, and memory for their next opening. A change that adds to them keeps memory for what it adds first, and is answered `NoMemory` where there is none, and
-/// not made; the tables are not down then. One that takes away keeps no memory.
+/// Tables, and memory for their next opening. A change that adds to them keeps memory for what it adds first,
+/// and is answered `NoMemory` where there is none, and not made; the tables are not down then. One that takes
+/// away keeps no memory.
 #[derive(Drop)]
 pub(crate) struct Reserved<S: Alter> {
     tables: Tables<S>,
@@ -151,9 +168,10 @@ impl<S: Alter> Reserved<S> {
     }
 
     // Keeps memory for what a change adds. One that takes away is made also where less is kept than is to be.
-    fn keep_for(&mut self, change: &Change) -> Result<(), StoreFault>
-        ensures same { self.new.tables ≡ self.old.tables }
-        ensures refused { IfErr result (λ fault. (fault ≡ NoMemory) × (is_down S.Store self.old.tables ≡ false)) }
+    fn reserve_for(&mut self, change: &Change) -> Result<(), StoreFault>
+        ensures unchanged { self.new.tables ≡ self.old.tables }
+        ensures refused { IfErr result (λ fault. (fault ≡ NoMemory)
+            × (is_down S.Store self.old.tables ≡ false)) }
     {
         let bytes = bytes_of(change);
         if bytes == 0 || self.tables.is_down() {
@@ -199,6 +217,10 @@ impl<S: Alter> Keeper for Reserved<S> {
         self.tables.attached_at(alloc, node)
     }
 
+    fn count_at(&mut self, alloc: Global, node: &Text) -> Result<u64, StoreFault> {
+        self.tables.count_at(alloc, node)
+    }
+
     fn sizes_in(&mut self, alloc: Global, pool: &str) -> Result<Items<u64>, StoreFault> {
         self.tables.sizes_in(alloc, pool)
     }
@@ -230,7 +252,7 @@ impl<S: Alter> Keeper for Reserved<S> {
     }
 
     fn apply(&mut self, alloc: Global, change: &Change) -> Result<(), StoreFault> {
-        match self.keep_for(change) {
+        match self.reserve_for(change) {
             Ok(()) => self.tables.apply(alloc, change),
             Err(fault) => Err(fault),
         }

@@ -43,12 +43,14 @@ pub enum NotServed<D: Disk> {
     Blank(Files<D>),
     /// Their tables were not adopted: why, and the files, which keep what they had. No call was read.
     NotAdopted(AdoptFault, Files<D>),
-    /// The database refused a read while the volumes were copied into memory: that fault, and the files, which keep what they had. No call was read.
+    /// The database refused a read while the volumes were copied into memory: that fault, and the files,
+    /// which keep what they had. No call was read.
     NotCopied(StoreFault, Files<D>),
-    /// Calls were served, and the store refused some: what the run came to, and the files as they were left then. What was committed may be in the log alone.
+    /// Calls were served, and the store refused some: what the run came to, and the files as they were left
+    /// then. What was committed may be in the log alone.
     Left(Served, Files<D>),
-    /// Calls were served, and the files were not closed: what the run came to, why, and what is left of the files. What was committed is in the log, in the
-    /// database file or in both.
+    /// Calls were served, and the files were not closed: what the run came to, why, and what is left of the
+    /// files. What was committed is in the log, in the database file or in both.
     NotClosed(Served, Error, FileStore<D>),
 }
 
@@ -93,7 +95,8 @@ fn not_served<D: Disk + Drop>(unserved: Unserved<FileStore<D>>) -> NotServed<D>
     }
 }
 
-// Closes the connection to files over which calls were served. Where the store refused some, the files are left as a stop would leave them.
+// Closes the connection to files over which calls were served. Where the store refused some, the files are
+// left as a stop would leave them.
 fn finish<D: Disk + Drop>(
     served: Served,
     conn: Connection<FileStore<D>>,
@@ -110,10 +113,12 @@ fn finish<D: Disk + Drop>(
     }
 }
 
-/// Serves the volume machine over the database of two files that are open: adopts their tables, serves calls, and closes the files.
+/// Serves the volume machine over the database of two files that are open: adopts their tables, serves calls,
+/// and closes the files.
 ///
-/// A database without a table gets new ones, unless the options refuse it. Where memory has no room for a copy of the volumes, reads are answered from the file. A
-/// change is committed to the file before it is answered.
+/// A database without a table gets new ones, unless the options refuse it. Where memory has no room for a
+/// copy of the volumes, reads are answered from the file. A change is committed to the file before it is
+/// answered.
 ///
 /// The clauses hold for whatever the files held as they were opened (`Opens`).
 ///
@@ -131,19 +136,26 @@ pub fn serve_open<D: Disk + Drop, O: Observer, R: Read, W: Write>(
 ) -> Result<Closed<D>, NotServed<D>>
     requires { conn.in_transaction ≡ false }
     ensures served { IfOk result (λ r. (was : Image) → Opens D.Disk was conn
-        → Serves (volumes config.now) (image_model was r.served.is_new) (seen config.now (files_model D.Disk r.files r.served.refusals r.served.is_down))
-        (R.remaining reader.old) (R.remaining reader.new) (W.contents writer.old) (W.contents writer.new) r.served.end) }
-    ensures usable { IfOk result (λ r. IsTrue (D.Disk.is_usable r.files.log) × IsTrue (D.Disk.is_usable r.files.db)) }
-    ensures uncopied { AllServed D.Disk (λ served. IsTrue options.now.is_low_memory → served.is_copied ≡ false) result }
+        → Serves (volumes config.now) (image_model was r.served.is_new)
+        (seen config.now (files_model D.Disk r.files r.served.refusals r.served.is_down))
+        (R.remaining reader.old) (R.remaining reader.new) (W.contents writer.old)
+        (W.contents writer.new) r.served.end) }
+    ensures usable { IfOk result (λ r. IsTrue (D.Disk.is_usable r.files.log)
+        × IsTrue (D.Disk.is_usable r.files.db)) }
+    ensures uncopied { AllServed D.Disk (λ served. IsTrue options.now.is_low_memory
+        → served.is_copied ≡ false) result }
     ensures existing { IsAsked D.Disk options.now.is_existing result }
     ensures blank { AllServed D.Disk (λ served. IsTrue served.is_new ↔ (conn.schema ≡ no_schema)) result }
     ensures after { IfOk result (λ r. (was : Image) → Opens D.Disk was conn → ServesThen config.now was
-        (R.remaining reader.old) (R.remaining reader.new) (W.contents writer.old) (W.contents writer.new) r.served
+        (R.remaining reader.old) (R.remaining reader.new) (W.contents writer.old)
+        (W.contents writer.new) r.served
         (AreClean D.Disk r.files.log r.files.db) (LeavesAfter D.Disk config.now r.files)) }
-    ensures clean { IfOk result (λ r. AreClean D.Disk r.files.log r.files.db → HasCleanDisk (file_state conn)) }
+    ensures clean { IfOk result (λ r. AreClean D.Disk r.files.log r.files.db
+        → HasCleanDisk (file_state conn)) }
     ensures not_served_clean { IfErr result (λ e. EndsClean e → HasCleanDisk (file_state conn)) }
     ensures not_served { IfErr result (λ e. (was : Image) → Opens D.Disk was conn
-        → IsNotServed D.Disk config.now was (R.remaining reader.old) (R.remaining reader.new) (W.contents writer.old) (W.contents writer.new) (λ _ _. ⊥) e) }
+        → IsNotServed D.Disk config.now was (R.remaining reader.old) (R.remaining reader.new)
+        (W.contents writer.old) (W.contents writer.new) (λ _ _. ⊥) e) }
 {
     one_state();
     kept(config);

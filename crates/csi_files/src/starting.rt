@@ -75,18 +75,23 @@ pub(crate) fn open_made<D: Disk + Drop>(
     }
 }
 
-/// Serves the volume machine over a database file and its log: makes a database where they hold none yet, opens them, adopts their tables, serves calls, and closes the files.
+/// Serves the volume machine over a database file and its log: makes a database where they hold none yet,
+/// opens them, adopts their tables, serves calls, and closes the files.
 ///
-/// For each State that the files have before (`HasState`), what is read and written, how the run ends and what it counts is said by the table of ends of `csi_server::serve`, and the
-/// files have the State after the calls. A first run starts from the first State, also after a stop in the middle of the making (`MayStart`). Files without a table get new ones, and
-/// the first State, unless the options refuse them. Where memory has no room for a copy of the volumes, reads are answered from the file.
+/// For each State that the files have before (`HasState`), what is read and written, how the run ends and
+/// what it counts is said by the table of ends of `csi_server::serve`, and the files have the State after the
+/// calls. A first run starts from the first State, also after a stop in the middle of the making
+/// (`MayStart`). Files without a table get new ones, and the first State, unless the options refuse them.
+/// Where memory has no room for a copy of the volumes, reads are answered from the file.
 ///
 /// All of that is promised while the disks return what was written to them (`AreClean`).
 ///
 /// # Errors
 ///
-/// `NotOpened`, `Blank`, `NotAdopted` and `NotCopied`: the next run starts as this one would have, and nothing is read or written. `Left`, where the store refused a call, and
-/// `NotClosed`, where the close failed: the run is as said above, and what is left has the State after the calls, or the one that a refused call would have made.
+/// `NotOpened`, `Blank`, `NotAdopted` and `NotCopied`: the next run starts as this one would have, and
+/// nothing is read or written. `Left`, where the store refused a call, and `NotClosed`, where the close
+/// failed: the run is as said above, and what is left has the State after the calls, or the one that a
+/// refused call would have made.
 pub fn serve_made<D: Disk + Drop, O: Observer, R: Read, W: Write>(
     alloc: Global,
     config: &Config,
@@ -99,15 +104,22 @@ pub fn serve_made<D: Disk + Drop, O: Observer, R: Read, W: Write>(
 ) -> Result<Closed<D>, NotServed<D>>
     requires log { IsTrue (D.Disk.is_usable files.log) }
     requires db { IsTrue (D.Disk.is_usable files.db) }
-    ensures served { IfOk result (λ r. Serves (volumes config.now) (start_model (image_of D.Disk files) r.served.is_new) (seen config.now (files_model D.Disk r.files r.served.refusals r.served.is_down))
-        (R.remaining reader.old) (R.remaining reader.new) (W.contents writer.old) (W.contents writer.new) r.served.end) }
+    ensures served { IfOk result (λ r. Serves (volumes config.now)
+        (start_model (image_of D.Disk files) r.served.is_new)
+        (seen config.now (files_model D.Disk r.files r.served.refusals r.served.is_down))
+        (R.remaining reader.old) (R.remaining reader.new) (W.contents writer.old)
+        (W.contents writer.new) r.served.end) }
     ensures after { IfOk result (λ r. StartsThen config.now (image_of D.Disk files)
-        (R.remaining reader.old) (R.remaining reader.new) (W.contents writer.old) (W.contents writer.new) r.served
+        (R.remaining reader.old) (R.remaining reader.new) (W.contents writer.old)
+        (W.contents writer.new) r.served
         (AreClean D.Disk r.files.log r.files.db) (LeavesAfter D.Disk config.now r.files)) }
-    ensures usable { IfOk result (λ r. IsTrue (D.Disk.is_usable r.files.log) × IsTrue (D.Disk.is_usable r.files.db)) }
-    ensures uncopied { AllServed D.Disk (λ served. IsTrue options.now.is_low_memory → served.is_copied ≡ false) result }
+    ensures usable { IfOk result (λ r. IsTrue (D.Disk.is_usable r.files.log)
+        × IsTrue (D.Disk.is_usable r.files.db)) }
+    ensures uncopied { AllServed D.Disk (λ served. IsTrue options.now.is_low_memory
+        → served.is_copied ≡ false) result }
     ensures existing { IsAsked D.Disk options.now.is_existing result }
-    ensures not_served { IfErr result (IsNotStarted D.Disk config.now files (R.remaining reader.old) (R.remaining reader.new) (W.contents writer.old) (W.contents writer.new)) }
+    ensures not_served { IfErr result (IsNotStarted D.Disk config.now files (R.remaining reader.old)
+        (R.remaining reader.new) (W.contents writer.old) (W.contents writer.new)) }
 {
     let laid = match made(alloc, files, opening.seed) {
         Ok(laid) => laid,

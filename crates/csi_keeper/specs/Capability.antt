@@ -75,7 +75,8 @@ same_kind (Mount t) (Mount u) = same_text t u
 abbrev pub same_key : CapKey → CapKey → Bool
 same_key a b = same_kind a.kind b.kind && (a.mode == b.mode)
 
--- SINGLE_NODE_WRITER 1 is wider than SINGLE_NODE_SINGLE_WRITER 6 and SINGLE_NODE_MULTI_WRITER 7, into which it was split
+-- SINGLE_NODE_WRITER 1 is wider than SINGLE_NODE_SINGLE_WRITER 6 and SINGLE_NODE_MULTI_WRITER 7, into which
+-- it was split
 abbrev pub wider_mode : ℕ → Option ℕ
 wider_mode mode = if mode == 6 || mode == 7 then Some 1 else None
 

@@ -1,8 +1,10 @@
--- Which attachments of one volume can stand at two nodes (CSI specification, 'CreateVolume', VolumeCapability.AccessMode).
+-- Which attachments of one volume can stand at two nodes (CSI specification, 'CreateVolume',
+-- VolumeCapability.AccessMode).
 use Rattle.std.specs.Prelude.{ℕ, ◌==◌, ◌&&◌, ◌||◌, Bool}
 use Rattle.csi_keeper.specs.declared.volume.Attachment.{Attachment}
 
--- MULTI_NODE_READER_ONLY 3, MULTI_NODE_SINGLE_WRITER 4 where one of the two is only read, MULTI_NODE_MULTI_WRITER 5
+-- MULTI_NODE_READER_ONLY 3, MULTI_NODE_SINGLE_WRITER 4 where one of the two is only read,
+-- MULTI_NODE_MULTI_WRITER 5
 abbrev pub is_shared : ℕ → Bool → Bool
 is_shared mode readonly = mode == 3 || mode == 5 || (mode == 4 && readonly)
 

@@ -52,7 +52,8 @@ pub record IsInvariant (config : Config) (s : State) : Type 0 where
   pub rooms : (p : Pool) → Has config.pools p → sum (sizes s p.name) ≤ p.bytes
   pub attachments : (n : ℕ) (node : Text) (a : Attachment) → get s.attachments (n, node) ≡ Some a → IsAttached config s n node a
   -- any two attachments of a volume coexist
-  pub beside : (n : ℕ) (d e : Text) (a b : Attachment) → get s.attachments (n, d) ≡ Some a → get s.attachments (n, e) ≡ Some b → (d ≡ e → ⊥) → coexist a b ≡ true
+  pub beside : (n : ℕ) (d e : Text) (a b : Attachment) → get s.attachments (n, d) ≡ Some a → get s.attachments (n, e) ≡ Some b → (d ≡ e → ⊥)
+      → coexist a b ≡ true
   -- no node holds more volumes than it can
   pub nodes : (m : Node) → Has config.nodes m → length (attached_at s m.id) ≤ m.max_volumes
   pub few : len s.volumes ≤ MAX_VOLUMES

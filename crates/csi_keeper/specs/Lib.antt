@@ -1,5 +1,6 @@
 pub mod Capability
 pub mod Coexistence
+pub mod Health
 pub mod Invariant
 pub mod Keeper
 pub mod Listing

@@ -1,5 +1,6 @@
 -- The State of the volume machine, what is read of it, and what a change makes of it.
-use Rattle.std.specs.Prelude.{◌≡◌, ℕ, ◌+◌, ◌-◌, ◌^◌, ◌<◌, ◌≤◌, ◌==◌, not, min, nat_lt, List, [], Option, None, Some, IsSome, map, filter, find, take, sum, length, bytes_eq, ⊤}
+use Rattle.std.specs.Prelude.{◌≡◌, ℕ, ◌+◌, ◌-◌, ◌^◌, ◌<◌, ◌≤◌, ◌==◌, not, min, nat_lt, List, [], Option, None, Some, IsSome, map, filter, find, take}
+use Rattle.std.specs.Prelude.{sum, length, bytes_eq, ⊤}
 use Rattle.std.specs.declared.cmp.Ordering.{Ordering}
 use Rattle.std.specs.Ordering.{nat_cmp, ordering_then}
 use Rattle.std.specs.FinMap.{FinMap, get, empty, insert, remove, entries, values, retain_keys}
@@ -15,33 +16,33 @@ use Rattle.csi_keeper.specs.declared.change.Change.{Change}
 use Rattle.csi_keeper.specs.declared.change.Change.TheVariants.{AddVolume, RemoveVolume, Attach, Detach, DetachAll, SetMutable}
 
 -- a volume's number, and a node's id
-abbrev pub Place : Type 0
-Place = ℕ × Text
+abbrev pub AttachmentKey : Type 0
+AttachmentKey = ℕ × Text
 
 -- by number, and then by the bytes of the node's id
-abbrev pub place_cmp : Place → Place → Ordering
-place_cmp a b = ordering_then (nat_cmp a.0 b.0) (text_cmp a.1 b.1)
+abbrev pub attachment_key_cmp : AttachmentKey → AttachmentKey → Ordering
+attachment_key_cmp a b = ordering_then (nat_cmp a.0 b.0) (text_cmp a.1 b.1)
 
 pub record State : Type 0 where
   pub next : ℕ
   pub volumes : FinMap nat_cmp Volume
-  pub attachments : FinMap place_cmp Attachment
+  pub attachments : FinMap attachment_key_cmp Attachment
 
 -- no volumes, and the first number
 abbrev pub first_state : ℕ → State
 first_state first = record { next = first; volumes = empty; attachments = empty }
 
 -- the volumes, in rising order of their numbers
-abbrev pub standing : State → List Volume
-standing s = values s.volumes
+abbrev pub volumes_in_order : State → List Volume
+volumes_in_order s = values s.volumes
 
 -- the volume of a name
 abbrev pub named : State → Text → Option Volume
-named s name = find (λ v. bytes_eq v.name name) (standing s)
+named s name = find (λ v. bytes_eq v.name name) (volumes_in_order s)
 
 -- the bytes of a pool's volumes
 abbrev pub sizes : State → Text → List ℕ
-sizes s pool = map (λ v. v.bytes) (filter (λ v. bytes_eq v.pool pool) (standing s))
+sizes s pool = map (λ v. v.bytes) (filter (λ v. bytes_eq v.pool pool) (volumes_in_order s))
 
 -- as a u64 tells it
 abbrev pub up_to_u64 : ℕ → ℕ
@@ -58,6 +59,10 @@ attached s number = map (λ e. e.1) (filter (λ e. e.0.0 == number) (entries s.a
 -- the numbers of the volumes that are attached at a node, in rising order
 abbrev pub attached_at : State → Text → List ℕ
 attached_at s node = map (λ e. e.0.0) (filter (λ e. bytes_eq e.0.1 node) (entries s.attachments))
+
+-- how many they are
+abbrev pub count_at : State → Text → ℕ
+count_at s node = length (attached_at s node)
 
 -- the volumes with a greater number
 abbrev pub beyond : State → ℕ → List Volume

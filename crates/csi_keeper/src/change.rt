@@ -52,7 +52,8 @@ impl Change {
     /// Any other change, as it was.
     pub fn into_added(self) -> Result<Volume, Change>
         ensures added { IfOk result (λ volume. self ≡ AddVolume volume) }
-        ensures other { IfErr result (λ change. (change ≡ self) × ((volume : AnyVolume) → self ≢ AddVolume volume)) }
+        ensures other { IfErr result (λ change. (change ≡ self)
+            × ((volume : AnyVolume) → self ≢ AddVolume volume)) }
     {
         match self {
             Change::AddVolume(volume) => Ok(volume),

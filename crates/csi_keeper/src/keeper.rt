@@ -3,7 +3,7 @@
 ghost use Rattle.std.specs.Prelude.{◌≡◌};
 ghost use Rattle.std.specs.FinMap.{get};
 ghost use Rattle.std.specs.Option.{option_map};
-ghost use Rattle.csi_keeper.specs.State.{State, IsBounded, named, used, sizes, attached, attached_at, page, published_of_page};
+ghost use Rattle.csi_keeper.specs.State.{State, IsBounded, named, used, sizes, attached, attached_at, count_at, page, published_of_page};
 ghost use Rattle.csi_keeper.specs.Listing.{listing};
 ghost use Rattle.csi_keeper.specs.Keeper.{Applies, Reads};
 ghost use Rattle.csi_keeper.specs.Model.{Model};
@@ -52,10 +52,11 @@ pub trait Keeper {
     fn by_number(&mut self, alloc: Global, number: u64) -> Result<Option<Volume>, StoreFault>
         ensures { Reads (model self.old) (model self.new) result (λ s v. v ≡ get s.volumes number) };
 
-    /// The capability keys of the volume of a number; `None` where none stands. It costs no more than `by_number`, and less where a
-    /// keeper need not copy the rest of the volume.
+    /// The capability keys of the volume of a number; `None` where none stands. It costs no more than
+    /// `by_number`, and less where a keeper need not copy the rest of the volume.
     fn caps_of(&mut self, alloc: Global, number: u64) -> Result<Option<Items<CapKey>>, StoreFault>
-        ensures { Reads (model self.old) (model self.new) result (λ s keys. keys ≡ option_map (λ v. v.caps) (get s.volumes number)) }
+        ensures { Reads (model self.old) (model self.new) result
+            (λ s keys. keys ≡ option_map (λ v. v.caps) (get s.volumes number)) }
     {
         match self.by_number(alloc, number)? {
             Some(volume) => Ok(Some(volume.caps)),
@@ -71,6 +72,15 @@ pub trait Keeper {
     /// all attachments.
     fn attached_at(&mut self, alloc: Global, node: &str) -> Result<Items<u64>, StoreFault>
         ensures { Reads (model self.old) (model self.new) result (λ s xs. xs ≡ attached_at s node.now) };
+
+    /// How many volumes are attached at a node: the count of what `attached_at` lists. It costs no more than
+    /// `attached_at`, and less where a keeper has the count at hand.
+    fn count_at(&mut self, alloc: Global, node: &Text) -> Result<u64, StoreFault>
+        ensures { Reads (model self.old) (model self.new) result (λ s n. n ≡ count_at s node.now) }
+    {
+        let numbers = self.attached_at(alloc, node.as_str())?;
+        Ok(numbers.len() as u64)
+    }
 
     /// The sizes in bytes of a pool's volumes, in rising order of their numbers. It may look through
     /// all volumes; `used_in` tells their count and sum without that.
@@ -98,7 +108,8 @@ pub trait Keeper {
         after: u64,
         count: u32,
     ) -> Result<Items<Items<Text>>, StoreFault>
-        ensures { Reads (model self.old) (model self.new) result (λ s xs. xs ≡ published_of_page s after count) };
+        ensures { Reads (model self.old) (model self.new) result
+            (λ s xs. xs ≡ published_of_page s after count) };
 
     /// What a listing tells of the volumes of a page: of `page` and of `published_nodes` what is
     /// answered of them. It costs no more than both, and less where a keeper has the parts at hand.
@@ -115,7 +126,8 @@ pub trait Keeper {
         Ok(listed_each(alloc, volumes.as_slice(), nodes)?)
     }
 
-    /// Folds what `listing` tells, volume by volume. It costs no more, and less where a keeper has no need of the list.
+    /// Folds what `listing` tells, volume by volume. It costs no more, and less where a keeper has no need of
+    /// the list.
     ///
     /// After an error the fold has taken some of the volumes.
     fn fold_page<F: PageFold>(
@@ -125,7 +137,8 @@ pub trait Keeper {
         count: u32,
         fold: &mut F,
     ) -> Result<(), StoreFault>
-        ensures folded { Reads (model self.old) (model self.new) result (λ s _. F.folds fold.old (listing s after count) fold.new) }
+        ensures folded { Reads (model self.old) (model self.new) result
+            (λ s _. F.folds fold.old (listing s after count) fold.new) }
         ensures kept { F.keeps fold.old fold.new }
     {
         let listed = self.listing(alloc, after, count)?;
@@ -144,8 +157,8 @@ pub trait Keeper {
         requires { IsBounded change.now }
         ensures { Applies (model self.old) (model self.new) change.now result };
 
-    /// Makes a change as `apply` does. It costs no more, and less where a keeper has a use for what the change owns, as
-    /// one in memory has for a volume that is added.
+    /// Makes a change as `apply` does. It costs no more, and less where a keeper has a use for what the
+    /// change owns, as one in memory has for a volume that is added.
     fn apply_owned(&mut self, alloc: Global, change: Change) -> Result<(), StoreFault>
         requires { IsBounded change }
         ensures { Applies (model self.old) (model self.new) change result }

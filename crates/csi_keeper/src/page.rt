@@ -20,8 +20,9 @@ pub trait PageFold {
     /// # Errors
     ///
     /// Where memory was refused.
-    fn take(&mut self, row: &ListedRow<'_>) -> Result<(), AllocError>
-        ensures folded { OnOk result ((first : Self) (rows : List Told) → folds first rows self.old → folds first (rows ++ row_told row.now ∷ []) self.new) }
+    fn add(&mut self, row: &ListedRow<'_>) -> Result<(), AllocError>
+        ensures folded { OnOk result ((first : Self) (rows : List Told) → folds first rows self.old
+            → folds first (rows ++ row_told row.now ∷ []) self.new) }
         ensures kept { (first : Self) → keeps first self.old → keeps first self.new };
 
     /// Over no volume a fold stays what it is.
@@ -35,13 +36,13 @@ pub trait PageFold {
 ///
 /// # Errors
 ///
-/// What `take` answers. The fold has taken some of the volumes then.
+/// What `add` answers. The fold has taken some of the volumes then.
 pub fn fold_listed<F: PageFold>(listed: &[Listed], fold: &mut F) -> Result<(), AllocError>
     ensures folded { OnOk result (F.folds fold.old listed.now fold.new) }
     ensures kept { F.keeps fold.old fold.new }
 {
     for row in listed {
-        fold.take(&row.lent())?;
+        fold.add(&row.lent())?;
     }
     Ok(())
 }

@@ -67,8 +67,9 @@ impl Totals {
     /// Where memory was refused; each total stays.
     #[tactic(auto, using(crate::proofs::TotalsLemmas::total_set))]
     pub fn set(&mut self, pool: Text, total: Total) -> Result<(), AllocError>
-        ensures set { OnOk result ((q : List ℕ) → total_of self.new q ≡ (if same_text pool q then total else total_of self.old q)) }
-        ensures same { OnErr result ((q : List ℕ) → total_of self.new q ≡ total_of self.old q) }
+        ensures set { OnOk result ((q : List ℕ)
+            → total_of self.new q ≡ (if same_text pool q then total else total_of self.old q)) }
+        ensures unchanged { OnErr result ((q : List ℕ) → total_of self.new q ≡ total_of self.old q) }
     {
         self.tree.insert(pool, total)?;
         Ok(())
@@ -83,9 +84,11 @@ impl Totals {
     #[tactic(auto, using(crate::proofs::TotalsLemmas::total_set, crate::proofs::TotalsLemmas::total_other))]
     pub fn add(&mut self, pool: Text, bytes: u64) -> Result<(), AllocError>
         ensures counted { OnOk result (HasRoom (total_of self.old pool) bytes → (q : List ℕ)
-            → total_of self.new q ≡ (if same_text pool q then more (total_of self.old pool) bytes else total_of self.old q)) }
-        ensures others { OnOk result ((q : List ℕ) → same_text pool q ≡ false → total_of self.new q ≡ total_of self.old q) }
-        ensures same { OnErr result ((q : List ℕ) → total_of self.new q ≡ total_of self.old q) }
+            → total_of self.new q ≡ (if same_text pool q then more
+            (total_of self.old pool) bytes else total_of self.old q)) }
+        ensures others { OnOk result ((q : List ℕ) → same_text pool q ≡ false
+            → total_of self.new q ≡ total_of self.old q) }
+        ensures unchanged { OnErr result ((q : List ℕ) → total_of self.new q ≡ total_of self.old q) }
     {
         let total = more_total(self.get(&pool), bytes);
         self.tree.insert(pool, total)?;
@@ -109,7 +112,7 @@ impl Totals {
     #[tactic(auto, using(crate::proofs::TotalsLemmas::same_set, crate::proofs::TotalsLemmas::is_set))]
     pub fn reserve(&mut self, pool: Text) -> Result<(), AllocError>
         ensures reserved { OnOk result (IsReserved self.new pool) }
-        ensures same { (q : List ℕ) → total_of self.new q ≡ total_of self.old q }
+        ensures unchanged { (q : List ℕ) → total_of self.new q ≡ total_of self.old q }
     {
         let total = self.get(&pool);
         self.tree.insert(pool, total)?;
@@ -122,8 +125,10 @@ impl Totals {
     pub fn count(&mut self, pool: &Text, bytes: u64)
         requires { IsReserved self.old pool.now }
         ensures counted { HasRoom (total_of self.old pool.now) bytes → (q : List ℕ)
-            → total_of self.new q ≡ (if same_text pool.now q then more (total_of self.old pool.now) bytes else total_of self.old q) }
-        ensures others { (q : List ℕ) → same_text pool.now q ≡ false → total_of self.new q ≡ total_of self.old q }
+            → total_of self.new q ≡ (if same_text pool.now q then more
+            (total_of self.old pool.now) bytes else total_of self.old q) }
+        ensures others { (q : List ℕ) → same_text pool.now q ≡ false
+            → total_of self.new q ≡ total_of self.old q }
     {
         if let Some(total) = self.tree.get_mut(pool) {
             *total = more_total(*total, bytes);
@@ -134,7 +139,9 @@ impl Totals {
     /// memory. Neither part goes below 0.
     #[tactic(auto, using(crate::proofs::TotalsLemmas::total_set))]
     pub fn remove(&mut self, pool: &Text, bytes: u64)
-        ensures { (q : List ℕ) → total_of self.new q ≡ (if same_text pool.now q then less (total_of self.old pool.now) bytes else total_of self.old q) }
+        ensures { (q : List ℕ) → total_of self.new q
+            ≡ (if same_text pool.now q then less
+            (total_of self.old pool.now) bytes else total_of self.old q) }
     {
         if let Some(total) = self.tree.get_mut(pool) {
             *total = less_total(*total, bytes);

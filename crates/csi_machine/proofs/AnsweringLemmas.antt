@@ -34,7 +34,7 @@ use Rattle.csi_machine.specs.Plan.{after, refuse}
 use Rattle.csi_rules.specs.Size.{whole}
 use Rattle.csi_keeper.specs.State.{State, Allows}
 use Rattle.csi_machine.specs.Step.{is_of_plugin, NamesNone, plan, limited, limited_by, settled_plan, moved, step}
-use Rattle.csi_machine.specs.Verdicts.{Told, Says, Denies, told_of, Appended, IsTold, verdict_of}
+use Rattle.csi_machine.specs.Verdicts.{Told, Says, Denies, reported_of, Appended, IsReported, verdict_of}
 use Rattle.csi_machine.specs.calls.Capacity.{capacity_of, served, greatest_size, tell_capacity}
 use Rattle.csi_machine.specs.calls.Listing.{list_after, start_of}
 use Rattle.csi_machine.specs.Modify.{modify}
@@ -145,7 +145,7 @@ limited_sound config plan sound = sound_by config (λ s. limited (plan s)) (λ s
     (subst (λ (o : Option Change). IfSome o (Allows s)) is (sound.allows s inv), subst (λ (o : Option Change). IsInvariant config (after s o)) is (sound.keeps s inv)))
 
 -- the State after a reply is the one after the step
-moved_by : (s : State) (p : Plan) (o : Result Response Reason) → after s (limited_by p o).change ≡ moved s (after s p.change) (told_of o)
+moved_by : (s : State) (p : Plan) (o : Result Response Reason) → after s (limited_by p o).change ≡ moved s (after s p.change) (reported_of o)
 moved_by s p (Err q) = refl
 moved_by s p (Ok r) = go (nat_le (length (response_bytes r)) MAX_BODY_BYTES)
   where
@@ -160,7 +160,7 @@ said : Result Response Reason → Told
 said (Ok r) = Says (response_bytes r)
 said (Err q) = Denies q
 
-said_by : (p : Plan) (o : Result Response Reason) → p.outcome ≡ o → told_of o ≡ said (limited_by p o).outcome
+said_by : (p : Plan) (o : Result Response Reason) → p.outcome ≡ o → reported_of o ≡ said (limited_by p o).outcome
 unfolding said
 said_by p (Err q) e = refl
 said_by p (Ok r) e = go (nat_le (length (response_bytes r)) MAX_BODY_BYTES)
@@ -172,7 +172,7 @@ said_by p (Ok r) e = go (nat_le (length (response_bytes r)) MAX_BODY_BYTES)
 said_is : (config : Config) (s : State) (r : Request) → (step config s r).0 ≡ said (settled_plan config s r).outcome
 said_is config s r = said_by (plan config s r) (plan config s r).outcome refl
 
-told_by : (o : Result Response Reason) (w : Told) (v : Verdict) (x y : List ℕ) → w ≡ said o → v ≡ verdict_of o → y ≡ x ++ body_of o → IsTold {E = StoreFault} w x y (Ok v)
+told_by : (o : Result Response Reason) (w : Told) (v : Verdict) (x y : List ℕ) → w ≡ said o → v ≡ verdict_of o → y ≡ x ++ body_of o → IsReported {E = StoreFault} w x y (Ok v)
 unfolding said
 told_by (Ok r) w verdict.Done x y e f b = (response_bytes r, e, b)
 told_by (Ok r) w (verdict.Refused q) x y e f b = absurd (cc)
@@ -188,7 +188,7 @@ leaves_by old new s None crash settled = inl (refl, λ u k. elim (crash u k) as 
 leaves_by old new s (Some c) crash settled = inr (settled refl)
 
 tells : (config : Config) (r : Request) (a b : Model State) (x y : List ℕ) (result : Result Verdict StoreFault) → Answered config (λ s. settled_plan config s r) a b x y result
-    → Promises config a b (λ s. IsTold (step config s r).0 x y result)
+    → Promises config a b (λ s. IsReported (step config s r).0 x y result)
 tells config r a b x y (Err e) did d s h inv = tt
 tells config r a b x y (Ok v) did d s h inv = let is = did.verdict d s h inv in told_by (settled_plan config s r).outcome (step config s r).0 v x y (said_is config s r) is.0 is.1
 
@@ -246,7 +246,7 @@ still_moved s (Says body) = refl
 still_moved s (Denies reason) = refl
 
 still_step : (config : Config) (s : State) (r : Request) → (plan config s r).change ≡ None → (step config s r).1 ≡ s
-still_step config s r still = ap (λ (o : Option Change). moved s (after s o) (told_of (plan config s r).outcome)) still ∙ still_moved s (told_of (plan config s r).outcome)
+still_step config s r still = ap (λ (o : Option Change). moved s (after s o) (reported_of (plan config s r).outcome)) still ∙ still_moved s (reported_of (plan config s r).outcome)
 
 -- a fault of reads performs a request
 pub fault_performed : {X : Type 0} {IsSo : State → X → Type 0} (config : Config) (r : Request) (a b : Model State) (x y : List ℕ) (e : StoreFault) → (IsTrue (is_of_plugin r) → ⊥) → (NamesNone r → ⊥)
@@ -276,7 +276,7 @@ fault_performed config r a b x y e asks names found appended = record {
 
 pub still_performed : (config : Config) (r : Request) (a b : Model State) (x y : List ℕ) (result : Result Verdict StoreFault) → (IsTrue (is_of_plugin r) → ⊥) → (NamesNone r → ⊥)
     → ((s : State) → (plan config s r).change ≡ None)
-    → Finds a b result (λ s v. IsTold {E = StoreFault} (told_of (plan config s r).outcome) x y (Ok v)) → Appended x y result → Performs config r a b x y result
+    → Finds a b result (λ s v. IsReported {E = StoreFault} (reported_of (plan config s r).outcome) x y (Ok v)) → Appended x y result → Performs config r a b x y result
 still_performed config r a b x y (Err e) asks names still found appended = fault_performed config r a b x y e asks names found appended
 still_performed config r a b x y (Ok v) asks names still found appended = record {
   clean = found.quiet.clean;

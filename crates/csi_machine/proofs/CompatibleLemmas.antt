@@ -26,7 +26,7 @@ use Rattle.csi_keeper.specs.declared.capability.CapKey.{CapKey}
 use Rattle.csi_keeper.specs.declared.change.Change.{Change}
 use Rattle.csi_keeper.specs.facts.Finite.{none_some, same_some}
 use Rattle.csi_rules.specs.Choice.{Room, rooms, fits, pairs, choice}
-use Rattle.csi_rules.specs.Size.{size, within, asked, whole, rounded_up, rounded_down, has_size}
+use Rattle.csi_rules.specs.Size.{size, within, requested_bytes, whole, rounded_up, rounded_down, has_size}
 use Rattle.csi_rules.specs.Topology.{serves, terms}
 use Rattle.csi_machine.specs.calls.Create.{made, is_compatible}
 use Rattle.csi_rules.specs.facts.Capability.{has_one, have_ordered}
@@ -39,7 +39,7 @@ use Rattle.csi_machine.proofs.ReachLemmas.{AreServedAlike, or_later, reachable}
 rounded_above : (n : ℕ) → n ≤ rounded_up n
 rounded_above n = let parts = div-add-mod' (n + (GRANULE_BYTES - 1)) GRANULE_BYTES in omega (arith, parts)
 
-asked_above : (z : Sizes) (required limit : ℕ) → required ≤ asked z required limit
+asked_above : (z : Sizes) (required limit : ℕ) → required ≤ requested_bytes z required limit
 asked_above z required limit = go (nat_lt 0 required) refl
   where
     go : (b : Bool) → nat_lt 0 required ≡ b → required ≤ cond b (rounded_up required) (cond (nat_lt 0 limit) (min z.default_bytes (rounded_down limit)) z.default_bytes)
@@ -59,7 +59,7 @@ within_limit z required limit n b e = go (nat_lt 0 n) ((limit == 0) || nat_le n 
 sized : (z : Sizes) (o : Option CapacityRange) (b : ℕ) → size z o ≡ Some b → has_size b o ≡ true
 sized z None b e = refl
 sized z (Some r) b e =
-    let is = within_limit z (whole r.required) (whole r.limit) (asked z (whole r.required) (whole r.limit)) b e in
+    let is = within_limit z (whole r.required) (whole r.limit) (requested_bytes z (whole r.required) (whole r.limit)) b e in
     let least = asked_above z (whole r.required) (whole r.limit) in
     and_from _ _ (le-leb (whole r.required) b (subst (λ (n : ℕ). whole r.required ≤ n) is.0 least))
     (subst (λ (n : ℕ). ((whole r.limit == 0) || nat_le n (whole r.limit)) ≡ true) is.0 is.1)

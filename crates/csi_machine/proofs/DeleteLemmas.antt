@@ -13,7 +13,7 @@ use Rattle.csi_machine.specs.calls.Delete.{delete, delete_found, delete_volume}
 use Rattle.csi_rules.specs.Finding.{volume_at}
 use Rattle.csi_rules.specs.Ids.{number_of_id}
 use Rattle.csi_keeper.specs.Invariant.{IsInvariant}
-use Rattle.csi_keeper.specs.State.{State, Place, place_cmp, attached, changed, sizes}
+use Rattle.csi_keeper.specs.State.{State, AttachmentKey, attachment_key_cmp, attached, changed, sizes}
 use Rattle.csi_keeper.specs.Texts.{Text}
 use Rattle.csi_keeper.specs.facts.Finite.{none_some, same_some, tied, removed, not_there}
 use Rattle.csi_keeper.specs.facts.Orders.{place_exact}
@@ -21,18 +21,18 @@ use Rattle.csi_machine.proofs.PlanLemmas.{IsFit, IsSound, sound_by}
 use Rattle.csi_keeper.specs.facts.Sums.{taken_sum}
 
 abbrev Row : Type 0
-Row = Place × Attachment
+Row = AttachmentKey × Attachment
 
 -- an attachment that stands is among those of its volume
-among : (es : List Row) (n : ℕ) (node : Text) (a : Attachment) → fin.find place_cmp (n, node) es ≡ Some a → map (λ e. e.1) (filter (λ e. e.0.0 == n) es) ≡ [] → ⊥
+among : (es : List Row) (n : ℕ) (node : Text) (a : Attachment) → fin.find attachment_key_cmp (n, node) es ≡ Some a → map (λ e. e.1) (filter (λ e. e.0.0 == n) es) ≡ [] → ⊥
 among [] n node a f e = none_some a f
-among (r ∷ es) n node a f e = go (eq_by_cmp place_cmp (n, node) r.0) refl (r.0.0 == n) refl f e (among es n node a)
+among (r ∷ es) n node a f e = go (eq_by_cmp attachment_key_cmp (n, node) r.0) refl (r.0.0 == n) refl f e (among es n node a)
   where
-    go : (b : Bool) → eq_by_cmp place_cmp (n, node) r.0 ≡ b → (d : Bool) → (r.0.0 == n) ≡ d → cond b (Some r.1) (fin.find place_cmp (n, node) es) ≡ Some a
+    go : (b : Bool) → eq_by_cmp attachment_key_cmp (n, node) r.0 ≡ b → (d : Bool) → (r.0.0 == n) ≡ d → cond b (Some r.1) (fin.find attachment_key_cmp (n, node) es) ≡ Some a
         → map (λ e. e.1) (cond d (r ∷ filter (λ e. e.0.0 == n) es) (filter (λ e. e.0.0 == n) es)) ≡ []
-        → (fin.find place_cmp (n, node) es ≡ Some a → map (λ e. e.1) (filter (λ e. e.0.0 == n) es) ≡ [] → ⊥) → ⊥
+        → (fin.find attachment_key_cmp (n, node) es ≡ Some a → map (λ e. e.1) (filter (λ e. e.0.0 == n) es) ≡ [] → ⊥) → ⊥
     go b t true u f e more = absurd (cc)
-    go true t false u f e more = let here : (n, node) ≡ r.0 = place_exact (n, node) r.0 (tied _ t) in let y : r.0.0 ≡ n = sym (ap (λ (p : Place). p.0) here) in absurd (cc (eq-eqb r.0.0 n y, u))
+    go true t false u f e more = let here : (n, node) ≡ r.0 = place_exact (n, node) r.0 (tied _ t) in let y : r.0.0 ≡ n = sym (ap (λ (p : AttachmentKey). p.0) here) in absurd (cc (eq-eqb r.0.0 n y, u))
     go false t false u f e more = more f e
 
 unattached : (s : State) (n : ℕ) (node : Text) (a : Attachment) → attached s n ≡ [] → fin.get s.attachments (n, node) ≡ Some a → ⊥

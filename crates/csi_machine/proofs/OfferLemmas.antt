@@ -32,9 +32,9 @@ use Rattle.csi_machine.specs.Offer.{term_of, exactly, AsksFor, IsNew}
 use Rattle.csi_rules.specs.Info.{info_at}
 use Rattle.csi_machine.specs.Plan.{after, refuse}
 use Rattle.csi_machine.specs.declared.plan.Plan.{Plan}
-use Rattle.csi_machine.specs.Verdicts.{Told, Says, Denies, told_of}
+use Rattle.csi_machine.specs.Verdicts.{Told, Says, Denies, reported_of}
 use Rattle.envelope.specs.declared.limits.TheConstants.{MAX_BODY_BYTES}
-use Rattle.csi_rules.specs.Size.{size, within, asked, rounded_up, rounded_down}
+use Rattle.csi_rules.specs.Size.{size, within, requested_bytes, rounded_up, rounded_down}
 use Rattle.csi_keeper.specs.State.{State, changed, used, sizes}
 use Rattle.csi_keeper.specs.declared.change.Change.TheVariants.{AddVolume}
 use Rattle.csi_keeper.specs.Texts.{Text}
@@ -106,7 +106,7 @@ size_exact z n h i most =
     let some : nat_lt 0 n ≡ true = le-leb 1 n h in
     let limit : ((n == 0) || nat_le n n) ≡ true = elim (n == 0) as (λ b. (b || nat_le n n) ≡ true) [ true ↦ refl | false ↦ le-leb n n (omega arith) ] in
     let great : nat_le n z.greatest_bytes ≡ true = le-leb n z.greatest_bytes most in
-    let is : asked z n n ≡ n = ap (λ b. cond b (rounded_up n) (cond b (min z.default_bytes (rounded_down n)) z.default_bytes)) some ∙ rounded n i in
+    let is : requested_bytes z n n ≡ n = ap (λ b. cond b (rounded_up n) (cond b (min z.default_bytes (rounded_down n)) z.default_bytes)) some ∙ rounded n i in
     subst (λ (m : ℕ). within z n n m ≡ Some n) (sym is) (ap (λ b. cond b (Some n) None) (and_from _ _ (and_from _ _ (and_from _ _ some limit) great) great))
 
 -- And there is a pool for it.
@@ -240,7 +240,7 @@ stepped config s r n pool is fits =
     let v = made r s.next n pool in
     let body = response_bytes (response.Create (Some (info_at pool.segments v))) in
     let held : nat_le (length body) MAX_BODY_BYTES ≡ true = le-leb (length body) MAX_BODY_BYTES fits in
-    ap (λ (p : Plan). told_after s (after s p.change) (told_of p.outcome)) is
+    ap (λ (p : Plan). told_after s (after s p.change) (reported_of p.outcome)) is
     ∙ ap (λ b. told_after s (changed s (AddVolume v)) (cond b (Says body) (Denies ReplyTooLarge))) held
 
 -- and so what GetCapacity offers is answered

@@ -23,11 +23,11 @@ use Rattle.csi_rules.specs.Size.{whole}
 use Rattle.csi_rules.specs.facts.Finding.{found_then, read_found}
 use Rattle.csi_machine.specs.declared.body.Verdict.{Verdict}
 use Rattle.csi_machine.specs.declared.body.Verdict.TheVariants as verdict
-use Rattle.csi_machine.specs.declared.places.Place.{Place}
+use Rattle.csi_machine.specs.declared.places.PoolPlacement.{PoolPlacement}
 use Rattle.csi_machine.specs.Places.{ArePlaced, IsPlaced, entry_at, last_row}
 use Rattle.csi_machine.specs.Pages.{HasWritten, IsPage, is_any, token_when}
 use Rattle.csi_machine.specs.declared.page.Page.{Page}
-use Rattle.csi_machine.specs.Verdicts.{IsTold, Told, told_of, within}
+use Rattle.csi_machine.specs.Verdicts.{IsReported, Told, reported_of, within}
 use Rattle.csi_machine.specs.calls.Listing.{entries_for, last_of, list_after, list_volumes, listed, start_of, token_for, entry_of}
 
 last_push : (after : ℕ) (rows : List Listed) (row : Listed) → last_row after (rows ++ row ∷ []) ≡ row.number
@@ -48,13 +48,13 @@ entries_listed config s [] = refl
 entries_listed config s (v ∷ vs) = ap (λ es. entry_of config s v ∷ es) (entries_listed config s vs)
 
 -- one of the places that were kept
-pub placed_at : (config : Config) (places : List Place) (i : ℕ) (d : Place) → i < length places → ArePlaced config places → IsPlaced config (get_or places i d)
+pub placed_at : (config : Config) (places : List PoolPlacement) (i : ℕ) (d : PoolPlacement) → i < length places → ArePlaced config places → IsPlaced config (get_or places i d)
 placed_at config [] i d low all = absurd (omega (arith, low))
 placed_at config (p ∷ places) zero d low all = all.0
 placed_at config (p ∷ places) (suc i) d low all = placed_at config places i d (omega (arith, low)) all.1
 
 -- places that were looked through, one more
-pub looked_past : (name : Text) (places : List Place) (i : ℕ) (d : Place) → i < length places → ((get_or places i d).pool ≡ name → ⊥) → find (λ p. same_text p.pool name) (drop i places) ≡ find (λ p. same_text p.pool name) (drop (i + 1) places)
+pub looked_past : (name : Text) (places : List PoolPlacement) (i : ℕ) (d : PoolPlacement) → i < length places → ((get_or places i d).pool ≡ name → ⊥) → find (λ p. same_text p.pool name) (drop i places) ≡ find (λ p. same_text p.pool name) (drop (i + 1) places)
 looked_past name [] i d low far = absurd (omega (arith, low))
 looked_past name (p ∷ places) zero d low far = go (same_text p.pool name) refl
   where
@@ -63,7 +63,7 @@ looked_past name (p ∷ places) zero d low far = go (same_text p.pool name) refl
     go false t = refl
 looked_past name (p ∷ places) (suc i) d low far = rw add-one (rw add-one at (looked_past name places i d (omega (arith, low)) far))
 
-pub found_here : (name : Text) (places : List Place) (i : ℕ) (d : Place) → i < length places → (get_or places i d).pool ≡ name → find (λ p. same_text p.pool name) (drop i places) ≡ Some (get_or places i d)
+pub found_here : (name : Text) (places : List PoolPlacement) (i : ℕ) (d : PoolPlacement) → i < length places → (get_or places i d).pool ≡ name → find (λ p. same_text p.pool name) (drop i places) ≡ Some (get_or places i d)
 found_here name [] i d low is = absurd (omega (arith, low))
 found_here name (p ∷ places) zero d low is = ap (λ b. cond b (Some p) (find (λ p. same_text p.pool name) places)) ((bytes_decides p.pool name).1 is)
 found_here name (p ∷ places) (suc i) d low is = found_here name places i d (omega (arith, low)) is
@@ -124,24 +124,24 @@ page_finds most count a b c first now is_more new many one two is =
     found_then (read_found one) (read_found two) (λ s wrote x more none. page_written s most count first now is_more new many (wrote (subst (ArePlaced first.config.now) (sym none) tt)) more is)
 
 -- what is told does not stand on how a call may fail
-told_as : (E F : Type 0) (told : Told) (x y : List ℕ) (v : Verdict) → IsTold {E = E} told x y (Ok v) → IsTold {E = F} told x y (Ok v)
+told_as : (E F : Type 0) (told : Told) (x y : List ℕ) (v : Verdict) → IsReported {E = E} told x y (Ok v) → IsReported {E = F} told x y (Ok v)
 told_as E F told x y verdict.Done h = h
 told_as E F told x y (verdict.Refused reason) h = h
 
 -- what is told by the body of a page, behind what stood before it
 pub page_told : (config : Config) (s : State) (most after from : ℕ) (old body new : List ℕ) (v : Verdict) → from ≡ length old → IsPage config s after most old body
-    → IsTold {E = AllocError} (within (drop from body)) (take from body) new (Ok v) → IsTold {E = StoreFault} (told_of (list_after config s most (Some after)).outcome) old new (Ok v)
+    → IsReported {E = AllocError} (within (drop from body)) (take from body) new (Ok v) → IsReported {E = StoreFault} (reported_of (list_after config s most (Some after)).outcome) old new (Ok v)
 page_told config s most after from old body new v at is told =
     let page = response_bytes (response.List (map (entry_of config s) (listed s after most)) (token_for (last_of after (listed s after most)) (beyond s (last_of after (listed s after most))))) in
     let front : take from body ≡ old = ap₂ (λ (n : ℕ) (bs : List ℕ). take n bs) at is ∙ take-append_seam old page in
     let back : drop from body ≡ page = ap₂ (λ (n : ℕ) (bs : List ℕ). drop n bs) at is ∙ drop-append_seam old page in
-    told_as AllocError StoreFault _ _ _ v (subst (λ (bs : List ℕ). IsTold {E = AllocError} (within bs) old new (Ok v)) back (subst (λ (bs : List ℕ). IsTold {E = AllocError} (within (drop from body)) bs new (Ok v)) front told))
+    told_as AllocError StoreFault _ _ _ v (subst (λ (bs : List ℕ). IsReported {E = AllocError} (within bs) old new (Ok v)) back (subst (λ (bs : List ℕ). IsReported {E = AllocError} (within (drop from body)) bs new (Ok v)) front told))
 
 -- a page, behind the read of the next number
 pub page_then : (config : Config) (r : ListVolumes) (most after next : ℕ) (a b c : Model State) (x y : List ℕ) (result : Result Verdict StoreFault)
     → Reads a b (Ok next) (λ s n. n ≡ s.next) → Some after ≡ start_of next r.token → most ≡ whole r.max_entries
-    → Finds b c result (λ s v. IsTold {E = StoreFault} (told_of (list_after config s most (Some after)).outcome) x y (Ok v))
-    → Finds a c result (λ s v. IsTold {E = StoreFault} (told_of (list_volumes config s r).outcome) x y (Ok v))
+    → Finds b c result (λ s v. IsReported {E = StoreFault} (reported_of (list_after config s most (Some after)).outcome) x y (Ok v))
+    → Finds a c result (λ s v. IsReported {E = StoreFault} (reported_of (list_volumes config s r).outcome) x y (Ok v))
 page_then config r most after next a b c x y result read from most_is found =
     found_then (read_found read) found (λ s is v told.
-    subst (λ (w : Told). IsTold {E = StoreFault} w x y (Ok v)) (ap₂ (λ m o. told_of (list_after config s m o).outcome) most_is (from ∙ ap (λ n. start_of n r.token) is)) told)
+    subst (λ (w : Told). IsReported {E = StoreFault} w x y (Ok v)) (ap₂ (λ m o. reported_of (list_after config s m o).outcome) most_is (from ∙ ap (λ n. start_of n r.token) is)) told)

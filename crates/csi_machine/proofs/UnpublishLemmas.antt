@@ -11,7 +11,7 @@ use Rattle.csi_keeper.specs.declared.change.Change.TheVariants.{Detach, DetachAl
 use Rattle.csi_keeper.specs.declared.volume.Attachment.{Attachment}
 use Rattle.csi_rules.specs.Ids.{number_of_id}
 use Rattle.csi_keeper.specs.Invariant.{IsInvariant}
-use Rattle.csi_keeper.specs.State.{State, Place, place_cmp, attached, changed, Allows}
+use Rattle.csi_keeper.specs.State.{State, AttachmentKey, attachment_key_cmp, attached, changed, Allows}
 use Rattle.csi_keeper.specs.Texts.{Text}
 use Rattle.csi_machine.specs.calls.Publish.{is_at}
 use Rattle.csi_machine.specs.calls.Unpublish.{unpublish, unpublish_number, detach_all, detach_one}
@@ -21,10 +21,10 @@ use Rattle.csi_keeper.specs.facts.Orders.{place_total, place_exact}
 use Rattle.csi_machine.proofs.PublishLemmas.{moved_on}
 
 abbrev Row : Type 0
-Row = Place × Attachment
+Row = AttachmentKey × Attachment
 
 -- fewer attachments
-less_keeps : (config : Config) (s : State) (m : fin.FinMap place_cmp Attachment) → IsInvariant config s → ((q : Place) (a : Attachment) → fin.get m q ≡ Some a → fin.get s.attachments q ≡ Some a)
+less_keeps : (config : Config) (s : State) (m : fin.FinMap attachment_key_cmp Attachment) → IsInvariant config s → ((q : AttachmentKey) (a : Attachment) → fin.get m q ≡ Some a → fin.get s.attachments q ≡ Some a)
     → ((p : Row → Bool) → length (filter p (fin.entries m)) ≤ length (filter p (fin.entries s.attachments))) → IsInvariant config (record s { attachments = m })
 less_keeps config s m inv old fewer_rows = record {
   next = inv.next;
@@ -47,7 +47,7 @@ detach_keeps config s n node inv = less_keeps config s (fin.remove s.attachments
     (λ q a e. (removed place_total place_exact s.attachments (n, node) q a e).1)
     (λ p. subst (λ (es : List Row). length (filter p es) ≤ length (filter p (fin.entries s.attachments))) (sym (entries_left place_total place_exact s.attachments (n, node))) (length_both p _ (fin.entries s.attachments)))
 
-retained : (m : fin.FinMap place_cmp Attachment) (keep : Place → Bool) (q : Place) (a : Attachment) → fin.get (fin.retain_keys m keep) q ≡ Some a → fin.get m q ≡ Some a
+retained : (m : fin.FinMap attachment_key_cmp Attachment) (keep : AttachmentKey → Bool) (q : AttachmentKey) (a : Attachment) → fin.get (fin.retain_keys m keep) q ≡ Some a → fin.get m q ≡ Some a
 retained m keep q a e = go (keep q) (sym (fin.get-retain_keys m keep q (λ x t. sym (ap keep (place_exact q x t)))) ∙ e)
   where
     go : (b : Bool) → cond b (fin.get m q) None ≡ Some a → fin.get m q ≡ Some a
@@ -56,7 +56,7 @@ retained m keep q a e = go (keep q) (sym (fin.get-retain_keys m keep q (λ x t. 
 
 detach_all_keeps : (config : Config) (s : State) (n : ℕ) → IsInvariant config s → IsInvariant config (changed s (DetachAll n))
 detach_all_keeps config s n inv =
-    let keep : Place → Bool = λ p. not (p.0 == n) in
+    let keep : AttachmentKey → Bool = λ p. not (p.0 == n) in
     less_keeps config s (fin.retain_keys s.attachments keep) inv
     (λ q a e. retained s.attachments keep q a e)
     (λ p. subst (λ (es : List Row). length (filter p es) ≤ length (filter p (fin.entries s.attachments))) (sym (entries_retained place_total place_exact s.attachments keep)) (length_both p _ (fin.entries s.attachments)))

@@ -27,7 +27,7 @@ use Rattle.csi_machine.specs.Plan.{after}
 use Rattle.csi_keeper.specs.State.{State, beyond}
 use Rattle.csi_machine.specs.Step.{plan, step, moved}
 use Rattle.csi_keeper.specs.Texts.{Text}
-use Rattle.csi_machine.specs.Verdicts.{Told, Says, Denies, told_of}
+use Rattle.csi_machine.specs.Verdicts.{Told, Says, Denies, reported_of}
 use Rattle.csi_machine.specs.Walk.{Call, Next, Other, Page, asked_with, shown, listing_told, with_page, next_token, pages, AreRead, AreChecked, GoOn, End, AreOfVolumes, Stood, id_in, listed_ids, AreApart}
 use Rattle.csi_machine.specs.calls.Listing.{given, start_of, entries_for, listed, last_of, token_for, entry_of, list_after}
 use Rattle.csi_keeper.specs.facts.Finite.{all_entries}
@@ -107,25 +107,25 @@ module _ (config : Config) where
   given_numbers s inv = all_each (λ e h. let a = h.0 in let b = h.1 in let d = h.2 in (omega (arith, a, b), omega (arith, a, d))) (fin.entries s.volumes) (numbers s inv)
 
   -- where something stands beyond a number, the number is one that was given
-  abbrev IsTold : State → ℕ → Type 0
-  IsTold s last = (beyond s last ≡ []) ⊎ ((token_for last (beyond s last) ≡ decimal last) × (1 ≤ last) × (last < s.next))
+  abbrev IsReported : State → ℕ → Type 0
+  IsReported s last = (beyond s last ≡ []) ⊎ ((token_for last (beyond s last) ≡ decimal last) × (1 ≤ last) × (last < s.next))
 
   -- so the token of a page is one that is read
-  token_at : (s : State) (after most : ℕ) → IsInvariant config s → IsTold s (last_after s after most)
+  token_at : (s : State) (after most : ℕ) → IsInvariant config s → IsReported s (last_after s after most)
   token_at s after most inv = by_page (listed s after most) refl
     where
       by_rest : (last : ℕ) → (1 ≤ last) × (last < s.next) → (rest : List Volume) → (rest ≡ []) ⊎ ((token_for last rest ≡ decimal last) × (1 ≤ last) × (last < s.next))
       by_rest last h [] = inl refl
       by_rest last h (v ∷ vs) = inr (refl, h.0, h.1)
 
-      by_page : (vs : List Volume) → listed s after most ≡ vs → IsTold s (last_after s after most)
+      by_page : (vs : List Volume) → listed s after most ≡ vs → IsReported s (last_after s after most)
       by_page [] e =
           let none : beyond s after ≡ [] = take_none (entries_for most) (beyond s after) (some_asked most) e in
-          subst (λ (vs : List Volume). IsTold s (last_of after vs)) (sym e) (inl none)
+          subst (λ (vs : List Volume). IsReported s (last_of after vs)) (sym e) (inl none)
       by_page (w ∷ ws) e =
           let all = all_listed (λ v. (1 ≤ v.number) × (v.number < s.next)) s after most (given_numbers s inv) in
           let here = last_in (λ n. (1 ≤ n) × (n < s.next)) after w ws (subst (λ (vs : List Volume). AllByRecursion (λ v. (1 ≤ v.number) × (v.number < s.next)) vs) e all) in
-          subst (λ (vs : List Volume). IsTold s (last_of after vs)) (sym e) (by_rest (last_of after (w ∷ ws)) here (beyond s (last_of after (w ∷ ws))))
+          subst (λ (vs : List Volume). IsReported s (last_of after vs)) (sym e) (by_rest (last_of after (w ∷ ws)) here (beyond s (last_of after (w ∷ ws))))
 
   -- a token that is read as a number
   abbrev IsAt : ℕ → Text → ℕ → Type 0
@@ -168,14 +168,14 @@ module _ (config : Config) where
 
   shown_is : (s : State) (token : Text) (after most : ℕ) → start_of s.next token ≡ Some after → shown config s (asked_with token most) ≡ page_shown s after most (fits s after most)
   shown_is s token after most e =
-      ap (λ o. listing_told (list_after config s most o).outcome (told_of (list_after config s most o).outcome)) e ∙ by (fits s after most)
+      ap (λ o. listing_told (list_after config s most o).outcome (reported_of (list_after config s most o).outcome)) e ∙ by (fits s after most)
     where
       by : (b : Bool) → listing_told (Ok (reply_after s after most)) (cond b (Says (response_bytes (reply_after s after most))) (Denies ReplyTooLarge)) ≡ page_shown s after most b
       by true = refl
       by false = refl
 
   read : (s : State) (token : Text) (after most : ℕ) → start_of s.next token ≡ Some after → (step config s (asked_with token most)).0 ≡ Denies BadToken → ⊥
-  read s token after most e h = by (fits s after most) (sym (ap (λ o. told_of (list_after config s most o).outcome) e) ∙ h)
+  read s token after most e h = by (fits s after most) (sym (ap (λ o. reported_of (list_after config s most o).outcome) e) ∙ h)
     where
       by : (b : Bool) → cond b (Says (response_bytes (reply_after s after most))) (Denies ReplyTooLarge) ≡ Denies BadToken → ⊥
       by true h = cc
@@ -197,7 +197,7 @@ module _ (config : Config) where
   next_moved s t (Denies reason) h = omega arith
 
   next_step : (s : State) (r : Request) → s.next ≤ (step config s r).1.next
-  next_step s r = next_moved s (after s (plan config s r).change) (told_of (plan config s r).outcome) (next_after s (plan config s r).change)
+  next_step s r = next_moved s (after s (plan config s r).change) (reported_of (plan config s r).outcome) (next_after s (plan config s r).change)
 
   -- requests that pass the checks of their arguments keep the invariant
   abbrev pub Keep : Type 0
@@ -277,7 +277,7 @@ module _ (config : Config) where
       shows n false = inl refl
 
       by : (o : Option ℕ) → start_of s.next token ≡ o → (shown config s (asked_with token most) ≡ None) ⊎ ((n : ℕ) × (shown config s (asked_with token most) ≡ Some (entries_after s n most, token_after s n most)))
-      by None e = inl (ap (λ o. listing_told (list_after config s most o).outcome (told_of (list_after config s most o).outcome)) e)
+      by None e = inl (ap (λ o. listing_told (list_after config s most o).outcome (reported_of (list_after config s most o).outcome)) e)
       by (Some n) e = elim (shows n (fits s n most)) as (λ _. (shown config s (asked_with token most) ≡ None) ⊎ ((n : ℕ) × (shown config s (asked_with token most) ≡ Some (entries_after s n most, token_after s n most)))) [
         | inl x ↦ inl (shown_is s token n most e ∙ x)
         | inr x ↦ inr (n, shown_is s token n most e ∙ x)

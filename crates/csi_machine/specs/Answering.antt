@@ -16,7 +16,7 @@ use Rattle.csi_rules.specs.Down.{TellsDown}
 use Rattle.csi_machine.specs.Plan.{after}
 use Rattle.csi_keeper.specs.State.{State, Allows}
 use Rattle.csi_machine.specs.Step.{step, settled_plan, is_of_plugin, NamesNone}
-use Rattle.csi_machine.specs.Verdicts.{Appended, IsTold, verdict_of}
+use Rattle.csi_machine.specs.Verdicts.{Appended, IsReported, verdict_of}
 
 -- the body of an outcome that is written
 abbrev pub body_of : Result Response Reason → List ℕ
@@ -28,8 +28,8 @@ abbrev pub state_after : State → State → Result Verdict StoreFault → State
 state_after s t (Ok v) = t
 state_after s t (Err e) = s
 
--- What a stop may leave: after an answer that moved the State only the new one, after one that did not only what it might before; where memory or
--- the store refused, also the State that the request would have made.
+-- What a stop may leave: after an answer that moved the State only the new one, after one that did not only
+-- what it might before; where memory or the store refused, also the State that the request would have made.
 abbrev pub Leaves : (State → Type 0) → (State → Type 0) → State → State → Result Verdict StoreFault → Type 0
 Leaves old new s t (Ok v) = ((t ≡ s) × ((u : State) → new u → old u)) ⊎ ((u : State) → new u → u ≡ t)
 Leaves old new s t (Err NoMemory) = (u : State) → new u → old u ⊎ (u ≡ t)
@@ -38,7 +38,7 @@ Leaves old new s t (Err Down) = (u : State) → new u → old u
 
 -- every State is answered so, and stays
 abbrev pub IsOfAll : Config → Request → List ℕ → List ℕ → Verdict → Type 0
-IsOfAll config r out now v = (s : State) → IsTold {E = StoreFault} (step config s r).0 out now (Ok v) × ((step config s r).1 ≡ s)
+IsOfAll config r out now v = (s : State) → IsReported {E = StoreFault} (step config s r).0 out now (Ok v) × ((step config s r).1 ≡ s)
 
 -- it is so from each State of the invariant that the keeper may have had, where nothing is in doubt
 abbrev pub Promises : Config → Model State → Model State → (State → Type 0) → Type 0
@@ -62,10 +62,12 @@ pub record Answered (config : Config) (plan : State → Plan) (old new : Model S
   pub quiet : Promises config old new (λ s. (plan s).change ≡ None → IsQuiet old new)
   pub ties : Promises config old new (λ s. old.tied → new.tied)
   -- over a keeper that is down nothing is answered but what is so of each State
-  pub down : TellsDown old.is_down (λ v. (s : State) → (v ≡ verdict_of (plan s).outcome) × (now ≡ out ++ body_of (plan s).outcome) × ((plan s).change ≡ None)) result
+  pub down : TellsDown old.is_down (λ v. (s : State) → (v ≡ verdict_of (plan s).outcome) × (now ≡ out ++ body_of (plan s).outcome)
+      × ((plan s).change ≡ None)) result
   pub stays : old.is_down ≡ true → new.is_down ≡ true
 
--- it is so of each State that allows the plan's change and that the keeper may have had, where nothing is in doubt
+-- it is so of each State that allows the plan's change and that the keeper may have had, where nothing is in
+-- doubt
 abbrev pub Allowed : Plan → Model State → Model State → (State → Type 0) → Type 0
 Allowed plan old new P = new.doubt ≡ 0 → (s : State) → old.holds s → IfSome plan.change (Allows s) → P s
 
@@ -86,12 +88,12 @@ pub record Carries (plan : Plan) (old new : Model State) (result : Result Verdic
   pub down : TellsDown old.is_down (λ v. plan.change ≡ None) result
   pub stays : old.is_down ≡ true → new.is_down ≡ true
 
--- A request is performed: its body is appended, what is told and the State behind it are those of one step of the machine, and a fault of the keeper is counted
--- and leaves the State.
+-- A request is performed: its body is appended, what is told and the State behind it are those of one step of
+-- the machine, and a fault of the keeper is counted and leaves the State.
 pub record Performs (config : Config) (request : Request) (old new : Model State) (out now : List ℕ) (result : Result Verdict StoreFault) : Type 0 where
   pub clean : old.doubt ≤ new.doubt
   pub appended : Appended out now result
-  pub told : Promises config old new (λ s. IsTold (step config s request).0 out now result)
+  pub told : Promises config old new (λ s. IsReported (step config s request).0 out now result)
   pub state : Promises config old new (λ s. new.holds (state_after s (step config s request).1 result))
   pub counted : new.refusals ≡ count_after old.refusals result
   pub left : Promises config old new (λ s. Leaves old.survivors new.survivors s (step config s request).1 result)

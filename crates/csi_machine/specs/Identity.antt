@@ -1,5 +1,5 @@
--- What the plugin is and can do: GetPluginInfo, GetPluginCapabilities, Probe and ControllerGetCapabilities (CSI specification, the
--- sections of these names).
+-- What the plugin is and can do: GetPluginInfo, GetPluginCapabilities, Probe and ControllerGetCapabilities
+-- (CSI specification, the sections of these names).
 use Rattle.std.specs.Prelude.{pos, true, [], ◌∷◌, Some}
 use Rattle.csi_types.specs.declared.responses.Response.TheVariants as response
 use Rattle.csi_config.specs.declared.config.Config.{Config}
@@ -21,4 +21,5 @@ probe = respond (response.Probe (Some true))
 -- LIST_VOLUMES_PUBLISHED_NODES 10, SINGLE_NODE_MULTI_WRITER 13, MODIFY_VOLUME 14
 abbrev pub controller_capabilities : Plan
 controller_capabilities =
-    respond (response.ControllerCapabilities (Some (pos 1) ∷ Some (pos 2) ∷ Some (pos 3) ∷ Some (pos 4) ∷ Some (pos 8) ∷ Some (pos 10) ∷ Some (pos 13) ∷ Some (pos 14) ∷ []))
+    respond (response.ControllerCapabilities
+    (Some (pos 1) ∷ Some (pos 2) ∷ Some (pos 3) ∷ Some (pos 4) ∷ Some (pos 8) ∷ Some (pos 10) ∷ Some (pos 13) ∷ Some (pos 14) ∷ []))

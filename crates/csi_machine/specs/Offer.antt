@@ -1,4 +1,5 @@
--- What a create has to ask for to be given what GetCapacity offers (CSI specification, 'GetCapacity', maximum_volume_size).
+-- What a create has to ask for to be given what GetCapacity offers (CSI specification, 'GetCapacity',
+-- maximum_volume_size).
 use Rattle.std.specs.Prelude.{◌≡◌, ℕ, pos, ◌<◌, Option, Some, None}
 use Rattle.std.specs.FinMap.{empty}
 use Rattle.csi_types.specs.Maps.{TextMap}
@@ -22,7 +23,8 @@ term_of (Some t) = t
 abbrev pub exactly : ℕ → CapacityRange
 exactly n = record { required = pos n; limit = pos n }
 
--- the size of the range that is asked for is this one, as that of `exactly` it is, and the topology is one of the terms
+-- the size of the range that is asked for is this one, as that of `exactly` it is, and the topology is one of
+-- the terms
 pub record AsksFor (config : Config) (r : CreateVolume) (topology : Option TextMap) (n : ℕ) : Type 0 where
   pub sized : size config.sizes r.range ≡ Some n
   pub term : Has (terms r.topology) (term_of topology)

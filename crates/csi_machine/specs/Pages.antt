@@ -30,4 +30,5 @@ token_when last is_more = if is_more then decimal last else []
 -- the body of the page behind a number, of at most so many volumes, stands behind other bytes
 abbrev pub IsPage : Config → State → ℕ → ℕ → List ℕ → List ℕ → Type 0
 IsPage config s after most old new =
-    new ≡ old ++ response_bytes (response.List (map (entry_of config s) (listed s after most)) (token_for (last_of after (listed s after most)) (beyond s (last_of after (listed s after most)))))
+    new ≡ old ++ response_bytes (response.List (map (entry_of config s) (listed s after most))
+    (token_for (last_of after (listed s after most)) (beyond s (last_of after (listed s after most)))))

@@ -7,20 +7,25 @@ use Rattle.csi_config.specs.declared.config.Config.{Config}
 use Rattle.csi_keeper.specs.declared.listed.Listed.{Listed}
 use Rattle.csi_rules.specs.Ids.{id}
 use Rattle.csi_rules.specs.Info.{signed, segments_at, topology_of}
-use Rattle.csi_machine.specs.declared.places.Place.{Place}
+use Rattle.csi_machine.specs.declared.places.PoolPlacement.{PoolPlacement}
 
 -- what a configuration gives the volumes of the pool
-pub record IsPlaced (config : Config) (place : Place) : Type 0 where
+pub record IsPlaced (config : Config) (place : PoolPlacement) : Type 0 where
   pub context : place.placement.context ≡ insert empty (codes "pool") place.pool
   pub topology : place.placement.topology ≡ topology_of (segments_at config place.pool)
 
-abbrev pub ArePlaced : Config → List Place → Type 0
+abbrev pub ArePlaced : Config → List PoolPlacement → Type 0
 ArePlaced config places = AllByRecursion (IsPlaced config) places
 
 -- what is answered of a volume, by what a listing tells of it
 abbrev pub entry_at : Config → Listed → Entry
 entry_at config row = record {
-  volume = Some (record { bytes = signed row.bytes; id = id row.number; context = insert empty (codes "pool") row.pool; topology = topology_of (segments_at config row.pool) });
+  volume = Some (record {
+    bytes = signed row.bytes;
+    id = id row.number;
+    context = insert empty (codes "pool") row.pool;
+    topology = topology_of (segments_at config row.pool);
+  });
   nodes = Some row.nodes;
 }
 

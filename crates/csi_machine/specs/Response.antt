@@ -5,8 +5,8 @@ use Rattle.csi_types.specs.Maps.{TextMap}
 use Rattle.csi_keeper.specs.Texts.{Text}
 use Rattle.csi_types.specs.declared.responses.Response.{Response}
 use Rattle.csi_types.specs.declared.responses.Response.TheVariants as response
-use Rattle.csi_machine.specs.declared.response.Kept.{Kept}
-use Rattle.csi_machine.specs.declared.response.Kept.TheVariants as kept
+use Rattle.csi_machine.specs.declared.response.ResponseForm.{ResponseForm}
+use Rattle.csi_machine.specs.declared.response.ResponseForm.TheVariants as kept
 
 -- ---- a publication (CSI specification, 'ControllerPublishVolume')
 
@@ -20,9 +20,9 @@ publication readonly = insert empty (codes "readonly") (flag_text readonly)
 
 -- ---- where a response stands
 
-abbrev pub kept_response : Kept → Response
-kept_response (kept.Made r) = r
-kept_response kept.Delete = response.Delete
-kept_response kept.Unpublish = response.Unpublish
-kept_response kept.Modify = response.Modify
-kept_response (kept.Published readonly) = response.Publish (publication readonly)
+abbrev pub form_response : ResponseForm → Response
+form_response (kept.Made r) = r
+form_response kept.Delete = response.Delete
+form_response kept.Unpublish = response.Unpublish
+form_response kept.Modify = response.Modify
+form_response (kept.Published readonly) = response.Publish (publication readonly)

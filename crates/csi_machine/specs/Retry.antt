@@ -1,4 +1,5 @@
--- Requests that are tried again until they are answered, over stops between the tries (CSI specification, 'Timeouts').
+-- Requests that are tried again until they are answered, over stops between the tries (CSI specification,
+-- 'Timeouts').
 use Rattle.std.specs.Prelude.{◌≡◌, ◌⊎◌, List, [], ◌∷◌, ◌++◌}
 use Rattle.std.specs.List.{AllByRecursion, flat_map}
 use Rattle.csi_types.specs.declared.requests.Request.{Request}
@@ -7,8 +8,8 @@ use Rattle.csi_keeper.specs.State.{State}
 use Rattle.csi_machine.specs.Step.{step}
 use Rattle.csi_machine.specs.Verdicts.{Told}
 
--- how a try ends: marked, that is refused inside, for memory or by the store; refused since the store is down, which does nothing; or done, and the client
--- is answered or is not
+-- how a try ends: marked, that is refused inside, for memory or by the store; refused since the store is
+-- down, which does nothing; or done, and the client is answered or is not
 pub data Ending : Type 0 where
   Marked : Ending
   Down : Ending
@@ -44,11 +45,12 @@ told_by config s r Unanswered = []
 told_by config s r Answered = (step config s r).0 ∷ []
 
 -- what the client is answered, in order
-abbrev pub told_of : Config → State → List Try → List Told
-told_of config s [] = []
-told_of config s (t ∷ ts) = told_by config s t.request t.end ++ told_of config (after_try config s t) ts
+abbrev pub reported_of : Config → State → List Try → List Told
+reported_of config s [] = []
+reported_of config s (t ∷ ts) = told_by config s t.request t.end ++ reported_of config (after_try config s t) ts
 
--- What a stop may leave of a session in which a try was marked: what that try would have made, if no later try moved the State.
+-- What a stop may leave of a session in which a try was marked: what that try would have made, if no later
+-- try moved the State.
 pub record IsDue (config : Config) (s : State) (tries : List Try) (t : State) : Type 0 where
   pub before : List Try
   pub refused : Try
@@ -62,11 +64,12 @@ pub record IsDue (config : Config) (s : State) (tries : List Try) (t : State) : 
 abbrev pub Leaves : Config → State → List Try → State → Type 0
 Leaves config s tries t = (t ≡ state_after config s tries) ⊎ IsDue config s tries t
 
--- A life: sessions, each begun from what the one before it left; what the client was answered in all of them, and what the last one left.
+-- A life: sessions, each begun from what the one before it left; what the client was answered in all of them,
+-- and what the last one left.
 abbrev pub IsLife : Config → State → List (List Try) → List Told → State → Type 0
 IsLife config s [] told t = (told ≡ []) × (t ≡ s)
 IsLife config s (tries ∷ sessions) told t =
-    (u : State) × (rest : List Told) × Leaves config s tries u × (told ≡ told_of config s tries ++ rest) × IsLife config u sessions rest t
+    (u : State) × (rest : List Told) × Leaves config s tries u × (told ≡ reported_of config s tries ++ rest) × IsLife config u sessions rest t
 
 -- ---- a lone client
 
@@ -113,7 +116,8 @@ after_once config s (r ∷ rs) = after_once config (step config s r).1 rs
 abbrev pub twice : Request → Ending → List (List Try)
 twice r end = (record { request = r; end = end } ∷ []) ∷ (record { request = r; end = Answered } ∷ []) ∷ []
 
--- These are tries of the request, and a life from the State: the first session leaves what the request makes of it, and the second answers the request there.
+-- These are tries of the request, and a life from the State: the first session leaves what the request makes
+-- of it, and the second answers the request there.
 abbrev pub IsLifeOfTwo : Config → State → Request → Ending → Type 0
 IsLifeOfTwo config s r end =
     AreTriesOf (r ∷ []) (all_tries (twice r end))

@@ -23,7 +23,7 @@ use Rattle.csi_machine.specs.calls.Unpublish.{unpublish}
 use Rattle.csi_machine.specs.Validate.{validate}
 use Rattle.csi_machine.specs.Plan.{refuse, after}
 use Rattle.csi_keeper.specs.State.{State}
-use Rattle.csi_machine.specs.Verdicts.{Told, Says, Denies, told_of}
+use Rattle.csi_machine.specs.Verdicts.{Told, Says, Denies, reported_of}
 
 -- by the request's method
 abbrev pub plan : Config → State → Request → Plan
@@ -90,9 +90,10 @@ abbrev pub moved : {S : Type 0} → S → S → Told → S
 moved s t (Says body) = t
 moved s t (Denies reason) = s
 
--- one request: the body of its response, or the reason of its refusal, and the State after it; a body that no reply holds is refused
+-- one request: the body of its response, or the reason of its refusal, and the State after it; a body that no
+-- reply holds is refused
 abbrev pub step : Config → State → Request → Told × State
-step config s r = (told_of (plan config s r).outcome, moved s (after s (plan config s r).change) (told_of (plan config s r).outcome))
+step config s r = (reported_of (plan config s r).outcome, moved s (after s (plan config s r).change) (reported_of (plan config s r).outcome))
 
 -- The same as a plan: one whose body no reply holds is a refusal.
 

@@ -17,9 +17,9 @@ pub data Told : Type 0 where
 abbrev pub within : List ℕ → Told
 within body = if nat_le (length body) MAX_BODY_BYTES then Says body else Denies ReplyTooLarge
 
-abbrev pub told_of : Result Response Reason → Told
-told_of (Ok r) = within (response_bytes r)
-told_of (Err reason) = Denies reason
+abbrev pub reported_of : Result Response Reason → Told
+reported_of (Ok r) = within (response_bytes r)
+reported_of (Err reason) = Denies reason
 
 -- the verdict of an outcome whose body is written
 abbrev pub verdict_of : Result Response Reason → Verdict
@@ -33,7 +33,7 @@ Appended old new (Ok (verdict.Refused reason)) = new ≡ old
 Appended old new (Err e) = new ≡ old
 
 -- what is answered is what is to be told; where the call fails nothing is
-abbrev pub IsTold : {E : Type 0} → Told → List ℕ → List ℕ → Result Verdict E → Type 0
-IsTold told old new (Ok verdict.Done) = (body : List ℕ) × (told ≡ Says body) × (new ≡ old ++ body)
-IsTold told old new (Ok (verdict.Refused reason)) = told ≡ Denies reason
-IsTold told old new (Err e) = Unit {0}
+abbrev pub IsReported : {E : Type 0} → Told → List ℕ → List ℕ → Result Verdict E → Type 0
+IsReported told old new (Ok verdict.Done) = (body : List ℕ) × (told ≡ Says body) × (new ≡ old ++ body)
+IsReported told old new (Ok (verdict.Refused reason)) = told ≡ Denies reason
+IsReported told old new (Err e) = Unit {0}

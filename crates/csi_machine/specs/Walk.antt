@@ -46,7 +46,8 @@ asked_with token most = request.List (record { max_entries = pos most; token = t
 abbrev pub shown : Config → State → Request → Option (List Entry × Text)
 shown config s r = listing_told (plan config s r).outcome (step config s r).0
 
--- a page of a walk: the State at it, its entries, and the token of the next one, which is empty where there is none
+-- a page of a walk: the State at it, its entries, and the token of the next one, which is empty where there
+-- is none
 pub record Page : Type 0 where
   pub at : State
   pub entries : List Entry

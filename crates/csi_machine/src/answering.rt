@@ -9,7 +9,7 @@ ghost use Rattle.csi_keeper.specs.Invariant.{IsInvariant};
 ghost use Rattle.csi_keeper.specs.State.{State, IsBounded};
 ghost use Rattle.csi_machine.specs.Configured.{IsConfigured};
 ghost use Rattle.csi_machine.specs.Step.{is_planned, limited, step};
-ghost use Rattle.csi_machine.specs.Verdicts.{Appended, IsTold, told_of};
+ghost use Rattle.csi_machine.specs.Verdicts.{Appended, IsReported, reported_of};
 
 use crate::body::Verdict;
 use crate::calls::{append_page, create, plan_of};
@@ -60,7 +60,8 @@ fn append_planned<K: Keeper>(
     requires planned { IsTrue (is_planned request.now) }
     requires configured { IsConfigured config.now }
     requires checked { checked request.now ≡ None }
-    ensures { Performs config.now request.now (K.model keeper.old) (K.model keeper.new) out.old.items out.new.items result }
+    ensures { Performs config.now request.now (K.model keeper.old)
+        (K.model keeper.new) out.old.items out.new.items result }
 {
     let plan = plan_of(alloc, config, keeper, request)?;
     finish(alloc, keeper, plan, out)
@@ -76,7 +77,8 @@ fn append_creation<K: Keeper>(
 ) -> Result<Verdict, StoreFault>
     requires configured { IsConfigured config.now }
     requires checked { checked (Create request.now) ≡ None }
-    ensures { Performs config.now (Create request.now) (K.model keeper.old) (K.model keeper.new) out.old.items out.new.items result }
+    ensures { Performs config.now (Create request.now) (K.model keeper.old)
+        (K.model keeper.new) out.old.items out.new.items result }
 {
     let nowhere = Map::new(alloc);
     let creation = create(alloc, config, &nowhere, keeper, request)?;
@@ -102,8 +104,10 @@ pub fn append_answer<K: Keeper>(
     out: &mut Vec<u8>,
 ) -> Result<Verdict, StoreFault>
     requires { checked request.now ≡ None }
-    ensures performs { Performs config.now request.now (K.model keeper.old) (K.model keeper.new) out.old.items out.new.items result }
-    ensures invariant { (s : State) → IsInvariant config.now s → IsInvariant config.now (step config.now s request.now).1 }
+    ensures performs { Performs config.now request.now (K.model keeper.old)
+        (K.model keeper.new) out.old.items out.new.items result }
+    ensures invariant { (s : State) → IsInvariant config.now s
+        → IsInvariant config.now (step config.now s request.now).1 }
 {
     configured(config);
     match request {
@@ -127,8 +131,10 @@ pub fn answer<K: Keeper>(
     out: &mut Vec<u8>,
 ) -> Result<Verdict, StoreFault>
     requires { checked request.now ≡ None }
-    ensures performs { Performs config.now request.now (K.model keeper.old) (K.model keeper.new) [] out.new.items result }
-    ensures invariant { (s : State) → IsInvariant config.now s → IsInvariant config.now (step config.now s request.now).1 }
+    ensures performs { Performs config.now request.now (K.model keeper.old)
+        (K.model keeper.new) [] out.new.items result }
+    ensures invariant { (s : State) → IsInvariant config.now s
+        → IsInvariant config.now (step config.now s request.now).1 }
 {
     out.clear();
     append_answer(alloc, config, keeper, request, out)

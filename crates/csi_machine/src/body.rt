@@ -3,7 +3,7 @@
 ghost use Rattle.std.specs.Prelude.{◌≤◌, drop, length, take, Ok};
 ghost use Rattle.std.specs.declared.alloc.AllocError.{AllocError as AnyError};
 ghost use Rattle.csi_codec.specs.Methods.{response_bytes};
-ghost use Rattle.csi_machine.specs.Verdicts.{within, Appended, IsTold};
+ghost use Rattle.csi_machine.specs.Verdicts.{within, Appended, IsReported};
 
 use csi_codec::encode_response;
 use csi_types::{Reason, Response};
@@ -19,11 +19,13 @@ pub enum Verdict {
     Refused(Reason),
 }
 
-/// Takes the body that begins at `from` back where it has more than [`MAX_BODY_BYTES`], and refuses it with [`Reason::ReplyTooLarge`].
+/// Takes the body that begins at `from` back where it has more than [`MAX_BODY_BYTES`], and refuses it with
+/// [`Reason::ReplyTooLarge`].
 pub(crate) fn limit_body(out: &mut Vec<u8>, from: usize) -> Verdict
     requires { from ≤ length out.old.items }
     ensures appended { Appended {E = AnyError} (take from out.old.items) out.new.items (Ok result) }
-    ensures told { IsTold {E = AnyError} (within (drop from out.old.items)) (take from out.old.items) out.new.items (Ok result) }
+    ensures told { IsReported {E = AnyError} (within (drop from out.old.items))
+        (take from out.old.items) out.new.items (Ok result) }
 {
     if out.len() - from > MAX_BODY_BYTES {
         out.truncate(from);
@@ -40,7 +42,7 @@ pub(crate) fn limit_body(out: &mut Vec<u8>, from: usize) -> Verdict
 /// Where memory is refused the vector is as it was.
 pub fn append_body(response: &Response, out: &mut Vec<u8>) -> Result<Verdict, AllocError>
     ensures appended { Appended out.old.items out.new.items result }
-    ensures told { IsTold (within (response_bytes response.now)) out.old.items out.new.items result }
+    ensures told { IsReported (within (response_bytes response.now)) out.old.items out.new.items result }
 {
     let from = out.len();
     encode_response(response, out)?;

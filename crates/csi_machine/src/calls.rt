@@ -1,5 +1,5 @@
-//! The plan of each request: what it is answered, and the one change that it makes, by reads alone; and pages, which
-//! are answered as they are read.
+//! The plan of each request: what it is answered, and the one change that it makes, by reads alone; and
+//! pages, which are answered as they are read.
 #![tactic(auto, using(csi_keeper::specs::facts::Reads::quiet_same, csi_keeper::specs::facts::Reads::quiet_then))]
 
 ghost use Rattle.std.specs.Prelude.{◌≡◌, None, IfErr, IfOk, IfSome, IsTrue};
@@ -36,7 +36,8 @@ pub(crate) fn plan_of<K: Keeper>(
 ) -> Planning
     requires { IsTrue (is_planned request.now) }
     ensures bounded { IfOk result (λ p. IfSome p.change IsBounded) }
-    ensures finds { Finds (K.model keeper.old) (K.model keeper.new) result (λ s p. p ≡ plan config.now s request.now) }
+    ensures finds { Finds (K.model keeper.old) (K.model keeper.new) result
+        (λ s p. p ≡ plan config.now s request.now) }
     ensures unnamed { NamesNone request.now → IfErr result (λ e. e ≡ NoMemory) }
     ensures done { NamesNone request.now → IfOk result (λ p. p.change ≡ None) }
     ensures unasked { IsTrue (is_of_plugin request.now) → IfErr result (λ e. e ≡ NoMemory) }

@@ -5,7 +5,7 @@ ghost use Rattle.csi_types.specs.declared.responses.Response.TheVariants as resp
 ghost use Rattle.csi_codec.specs.Methods.{response_bytes};
 ghost use Rattle.csi_machine.specs.Creation.{plan_of};
 ghost use Rattle.csi_rules.specs.Info.{info_at};
-ghost use Rattle.csi_machine.specs.Verdicts.{within, Appended, IsTold};
+ghost use Rattle.csi_machine.specs.Verdicts.{within, Appended, IsReported};
 
 use crate::body::{Verdict, limit_body};
 use crate::outcome::Outcome;
@@ -27,10 +27,12 @@ pub(crate) enum Creation<'a> {
     Made(Volume, &'a Map),
 }
 
-// Appends the response that has this volume, whose pool has these segments, or refuses it where no reply holds it.
+// Appends the response that has this volume, whose pool has these segments, or refuses it where no reply
+// holds it.
 fn append_created(volume: &Volume, segments: &Map, out: &mut Vec<u8>) -> Result<Verdict, AllocError>
     ensures appended { Appended out.old.items out.new.items result }
-    ensures told { IsTold (within (response_bytes (response.Create (Some (info_at segments.now volume.now))))) out.old.items out.new.items result }
+    ensures told { IsReported (within (response_bytes
+        (response.Create (Some (info_at segments.now volume.now))))) out.old.items out.new.items result }
 {
     let from = out.len();
     let mut buffer = Buffer::new();

@@ -3,11 +3,11 @@
 
 ghost use Rattle.std.specs.Prelude.{◌≡◌, None, IfOk};
 ghost use Rattle.csi_machine.specs.Identity.{plugin_info, plugin_capabilities, probe, controller_capabilities};
-ghost use Rattle.csi_machine.specs.Verdicts.{Appended, IsTold, told_of};
+ghost use Rattle.csi_machine.specs.Verdicts.{Appended, IsReported, reported_of};
 
 use crate::body::{Verdict, append_body};
 use crate::plan::{Plan, respond};
-use crate::response::Answer;
+use crate::response::PlannedResponse;
 use csi_config::Config;
 use csi_types::{Items, Response, copy_text};
 use std::alloc::{AllocError, Global};
@@ -24,7 +24,7 @@ pub(crate) fn plan_plugin_info(alloc: Global, config: &Config) -> Result<Plan, A
     let plugin = config.plugin();
     let name = copy_text(alloc, plugin.name.as_str())?;
     let version = copy_text(alloc, plugin.version.as_str())?;
-    Ok(respond(Answer::of(alloc, Response::PluginInfo { name, version })?))
+    Ok(respond(PlannedResponse::of(alloc, Response::PluginInfo { name, version })?))
 }
 
 fn items_of(alloc: Global, types: &[Option<i32>]) -> Result<Items<Option<i32>>, AllocError>
@@ -45,7 +45,7 @@ pub(crate) fn plan_plugin_capabilities(alloc: Global) -> Result<Plan, AllocError
     ensures value { IfOk result (λ p. p ≡ plugin_capabilities) }
 {
     let types = items_of(alloc, &[Some(1), Some(2)])?;
-    Ok(respond(Answer::of(alloc, Response::PluginCapabilities(types))?))
+    Ok(respond(PlannedResponse::of(alloc, Response::PluginCapabilities(types))?))
 }
 
 /// Answers Probe: ready. It is asked so often that its response is not kept as one of a plan.
@@ -55,7 +55,7 @@ pub(crate) fn plan_plugin_capabilities(alloc: Global) -> Result<Plan, AllocError
 /// Where memory was refused; the vector is as it was.
 pub(crate) fn append_ready(out: &mut Vec<u8>) -> Result<Verdict, AllocError>
     ensures appended { Appended out.old.items out.new.items result }
-    ensures told { IsTold (told_of probe.outcome) out.old.items out.new.items result }
+    ensures told { IsReported (reported_of probe.outcome) out.old.items out.new.items result }
 {
     append_body(&Response::Probe(Some(true)), out)
 }
@@ -82,5 +82,5 @@ pub(crate) fn plan_controller_capabilities(alloc: Global) -> Result<Plan, AllocE
         Some(14),
     ];
     let types = items_of(alloc, &types)?;
-    Ok(respond(Answer::of(alloc, Response::ControllerCapabilities(types))?))
+    Ok(respond(PlannedResponse::of(alloc, Response::ControllerCapabilities(types))?))
 }

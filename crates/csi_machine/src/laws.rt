@@ -46,7 +46,8 @@ pub fn ids()
 /// the checks of its arguments. What is answered does not matter.
 #[inline(always)]
 pub fn kept(config: &Config)
-    ensures { (s : State) (r : Request) → IsInvariant config.now s → checked r ≡ None → IsInvariant config.now (step config.now s r).1 }
+    ensures { (s : State) (r : Request) → IsInvariant config.now s → checked r ≡ None
+        → IsInvariant config.now (step config.now s r).1 }
 {
     configured(config);
 }
@@ -60,12 +61,17 @@ pub fn kept(config: &Config)
 /// that came to its end is listed.
 #[inline(always)]
 pub fn walk(config: &Config)
-    ensures read { (s : State) (calls : List Call) → IsInvariant config.now s → AreChecked calls → AreRead config.now s [] calls }
-    ensures stood { (s : State) (calls : List Call) → AllByRecursion (AreOfVolumes config.now) (pages config.now s [] calls) }
-    ensures once { (s : State) (calls : List Call) → IsInvariant config.now s → AreChecked calls → GoOn (pages config.now s [] calls)
+    ensures read { (s : State) (calls : List Call) → IsInvariant config.now s → AreChecked calls
+        → AreRead config.now s [] calls }
+    ensures stood { (s : State) (calls : List Call)
+        → AllByRecursion (AreOfVolumes config.now) (pages config.now s [] calls) }
+    ensures once { (s : State) (calls : List Call) → IsInvariant config.now s → AreChecked calls
+        → GoOn (pages config.now s [] calls)
         → AreApart (listed_ids (pages config.now s [] calls)) }
-    ensures each { (s : State) (calls : List Call) (n : ℕ) → IsInvariant config.now s → AreChecked calls → GoOn (pages config.now s [] calls)
-        → End (pages config.now s [] calls) → Stood n (pages config.now s [] calls) → Has (listed_ids (pages config.now s [] calls)) (id n) }
+    ensures each { (s : State) (calls : List Call) (n : ℕ) → IsInvariant config.now s → AreChecked calls
+        → GoOn (pages config.now s [] calls)
+        → End (pages config.now s [] calls) → Stood n (pages config.now s [] calls)
+        → Has (listed_ids (pages config.now s [] calls)) (id n) }
 {
     configured(config);
 }
@@ -80,17 +86,29 @@ pub fn walk(config: &Config)
 /// size as both of its limits is such a range.
 #[inline(always)]
 pub fn room(config: &Config)
-    ensures chosen { (s : State) (g : GetCapacity) (available n : ℕ) → IsInvariant config.now s → capacity config.now s g ≡ tell_capacity available n → 0 < n
-        → (pool : Pool) × Has config.now.pools pool × (choice (rooms config.now s) (term_of g.topology ∷ []) n ≡ Some pool) }
-    ensures made { (s : State) (g : GetCapacity) (available n : ℕ) (r : CreateVolume) → IsInvariant config.now s
-        → capacity config.now s g ≡ tell_capacity available n → 0 < n → AsksFor config.now r g.topology n → IsNew config.now s r.name → (pool : Pool)
+    ensures chosen { (s : State) (g : GetCapacity) (available n : ℕ) → IsInvariant config.now s
+        → capacity config.now s g ≡ tell_capacity available n → 0 < n
+        → (pool : Pool) × Has config.now.pools pool
+        × (choice (rooms config.now s) (term_of g.topology ∷ []) n ≡ Some pool) }
+    ensures made { (s : State) (g : GetCapacity) (available n : ℕ) (r : CreateVolume)
+        → IsInvariant config.now s
+        → capacity config.now s g ≡ tell_capacity available n → 0 < n → AsksFor config.now r g.topology n
+        → IsNew config.now s r.name → (pool : Pool)
         × Has config.now.pools pool × (create config.now s r ≡ place_in r s.next n (Some pool)) }
-    ensures exact { (s : State) (g : GetCapacity) (available n : ℕ) → IsInvariant config.now s → capacity config.now s g ≡ tell_capacity available n → 0 < n
+    ensures exact { (s : State) (g : GetCapacity) (available n : ℕ) → IsInvariant config.now s
+        → capacity config.now s g ≡ tell_capacity available n → 0 < n
         → size config.now.sizes (Some (exactly n)) ≡ Some n }
-    ensures answered { (s : State) (g : GetCapacity) (available n : ℕ) (r : CreateVolume) → IsInvariant config.now s
-        → capacity config.now s g ≡ tell_capacity available n → 0 < n → AsksFor config.now r g.topology n → IsNew config.now s r.name → (pool : Pool)
+    ensures answered { (s : State) (g : GetCapacity) (available n : ℕ) (r : CreateVolume)
+        → IsInvariant config.now s
+        → capacity config.now s g ≡ tell_capacity available n → 0 < n → AsksFor config.now r g.topology n
+        → IsNew config.now s r.name → (pool : Pool)
         × Has config.now.pools pool × (step config.now s (Create r)
-        ≡ (Says (response_bytes (response.Create (Some (info_at pool.segments (made r s.next n pool))))), changed s (AddVolume (made r s.next n pool)))) }
+        ≡ (
+          Says (response_bytes (response.Create
+              (Some (info_at pool.segments (made r s.next n pool))))),
+          changed s
+              (AddVolume (made r s.next n pool)),
+        )) }
 {
     configured(config);
     pools_named(config);
@@ -103,7 +121,8 @@ pub fn room(config: &Config)
 /// once, is answered the same and leaves the same State.
 #[inline(always)]
 pub fn repeat(config: &Config)
-    ensures { (s : State) (r : Request) → IsInvariant config.now s → checked r ≡ None → step config.now (step config.now s r).1 r ≡ step config.now s r }
+    ensures { (s : State) (r : Request) → IsInvariant config.now s → checked r ≡ None
+        → step config.now (step config.now s r).1 r ≡ step config.now s r }
 {
     configured(config);
     equal_topologies();
@@ -121,8 +140,10 @@ pub fn repeat(config: &Config)
 /// requests taken once each.
 #[inline(always)]
 pub fn retry(config: &Config)
-    ensures { (s t : State) (requests : List Request) (sessions : List (List Try)) (told : List Told) → IsInvariant config.now s
-        → AllByRecursion (λ r. checked r ≡ None) requests → AreTriesOf requests (all_tries sessions) → IsLife config.now s sessions told t
+    ensures { (s t : State) (requests : List Request) (sessions : List (List Try)) (told : List Told)
+        → IsInvariant config.now s
+        → AllByRecursion (λ r. checked r ≡ None) requests → AreTriesOf requests (all_tries sessions)
+        → IsLife config.now s sessions told t
         → (told ≡ told_once config.now s requests) × (t ≡ after_once config.now s requests) }
 {
     configured(config);
@@ -133,8 +154,8 @@ pub fn retry(config: &Config)
 
 /// There are such lives, of each request and from each State, so [`retry`] does not speak of nothing.
 ///
-/// A request is made and its answer is lost; or it is refused inside, and a stop leaves its change all the same. In the
-/// next session it is tried again, and answered.
+/// A request is made and its answer is lost; or it is refused inside, and a stop leaves its change all the
+/// same. In the next session it is tried again, and answered.
 #[inline(always)]
 pub fn tried_twice(config: &Config)
     ensures lost { (s : State) (r : Request) → IsLifeOfTwo config.now s r Unanswered }

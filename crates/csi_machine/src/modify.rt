@@ -10,7 +10,7 @@ ghost use Rattle.csi_machine.specs.Modify.{modify_own, modify};
 ghost use Rattle.csi_machine.specs.Plan.{refuse};
 
 use crate::plan::{Plan, Planning, make, refuse, respond};
-use crate::response::Answer;
+use crate::response::PlannedResponse;
 use csi_keeper::{Change, Keeper};
 use csi_rules::volume_of;
 use csi_types::{MAX_MAP_BYTES, Map, Modify, Reason, has_each, laid_over, map_bytes};
@@ -32,9 +32,13 @@ fn modify_own(alloc: Global, number: u64, own: &Map, given: &Map) -> Result<Plan
         return Ok(refuse(Reason::MutableTooLarge));
     }
     if has_each(own, given) {
-        return Ok(respond(Answer::modified()));
+        return Ok(respond(PlannedResponse::modified()));
     }
-    make(alloc, Answer::modified(), Change::SetMutable(number, laid))
+    make(
+        alloc,
+        PlannedResponse::modified(),
+        Change::SetMutable(number, laid),
+    )
 }
 
 /// The plan of ControllerModifyVolume, by reads of the keeper alone.
@@ -50,7 +54,8 @@ fn modify_own(alloc: Global, number: u64, own: &Map, given: &Map) -> Result<Plan
 pub(crate) fn plan_modify<K: Keeper>(alloc: Global, keeper: &mut K, request: &Modify) -> Planning
     ensures bounded { IfOk result (λ p. IfSome p.change IsBounded) }
     ensures finds { Finds (K.model keeper.old) (K.model keeper.new) result (λ s p. p ≡ modify s request.now) }
-    ensures unasked { number_of_id request.now.volume_id ≡ None → (keeper.new ≡ keeper.old) × (result ≡ Ok (refuse VolumeNotFound)) }
+    ensures unasked { number_of_id request.now.volume_id ≡ None → (keeper.new ≡ keeper.old)
+        × (result ≡ Ok (refuse VolumeNotFound)) }
 {
     let Some((number, volume)) = volume_of(alloc, keeper, &request.volume_id)? else {
         return Ok(refuse(Reason::VolumeNotFound));

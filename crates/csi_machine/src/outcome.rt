@@ -17,10 +17,12 @@ pub(crate) trait Outcome: Drop {
     /// The plan.
     ghost plan: { Self → AnyPlan };
 
-    /// Appends the body of the plan's response. A body that no reply holds is a refusal, and then the plan makes no change.
+    /// Appends the body of the plan's response. A body that no reply holds is a refusal, and then the plan
+    /// makes no change.
     fn append(&self, out: &mut Vec<u8>) -> Result<Verdict, AllocError>
         ensures value { IfOk result (λ v. limited (plan self.now) ≡ by_verdict (plan self.now) v) }
-        ensures body { OnOk result (out.new.items ≡ out.old.items ++ body_of (limited (plan self.now)).outcome) }
+        ensures body { OnOk result (out.new.items
+            ≡ out.old.items ++ body_of (limited (plan self.now)).outcome) }
         ensures small { OnOk result (length (body_of (limited (plan self.now)).outcome) ≤ MAX_BODY_BYTES) }
         ensures err { OnErr result (out.new.items ≡ out.old.items) };
 

@@ -8,7 +8,7 @@ ghost use Rattle.csi_config.specs.declared.config.Config.{Config as AnyConfig};
 ghost use Rattle.csi_keeper.specs.Listing.{row_told};
 ghost use Rattle.csi_machine.specs.Places.{ArePlaced, IsPlaced, entry_at};
 
-use crate::places::{Place, place_named, place_of};
+use crate::places::{PoolPlacement, placement_named, placement_of};
 use csi_codec::{ListedEntry, encode_entry};
 use csi_config::Config;
 use csi_keeper::{ListedRow, PageFold};
@@ -17,9 +17,15 @@ use itoa::Buffer;
 use std::alloc::{AllocError, Global};
 
 // Appends the entry of a volume of this place.
-fn put_placed(row: &ListedRow<'_>, place: &Place, out: &mut Vec<u8>) -> Result<(), AllocError>
-    ensures ok { OnOk result ((config : AnyConfig) → IsPlaced config place.now → place.now.pool ≡ row.now.pool.now
-        → out.new.items ≡ out.old.items ++ response_bytes (response.List (entry_at config (row_told row.now) ∷ []) [])) }
+fn put_placed(
+    row: &ListedRow<'_>,
+    place: &PoolPlacement,
+    out: &mut Vec<u8>,
+) -> Result<(), AllocError>
+    ensures ok { OnOk result ((config : AnyConfig) → IsPlaced config place.now
+        → place.now.pool ≡ row.now.pool.now
+        → out.new.items ≡ out.old.items ++ response_bytes
+        (response.List (entry_at config (row_told row.now) ∷ []) [])) }
     ensures kept { Keeps out.old.items out.new.items }
 {
     let mut buffer = Buffer::new();
@@ -38,15 +44,17 @@ fn put_placed(row: &ListedRow<'_>, place: &Place, out: &mut Vec<u8>) -> Result<(
 fn put_first(
     alloc: Global,
     config: &Config,
-    places: &mut Vec<Place>,
+    places: &mut Vec<PoolPlacement>,
     row: &ListedRow<'_>,
     out: &mut Vec<u8>,
 ) -> Result<(), AllocError>
-    ensures ok { OnOk result (out.new.items ≡ out.old.items ++ response_bytes (response.List (entry_at config.now (row_told row.now) ∷ []) [])) }
-    ensures placed { ArePlaced config.now places.old.items → OnOk result (ArePlaced config.now places.new.items) }
+    ensures ok { OnOk result (out.new.items
+        ≡ out.old.items ++ response_bytes (response.List (entry_at config.now (row_told row.now) ∷ []) [])) }
+    ensures placed { ArePlaced config.now places.old.items
+        → OnOk result (ArePlaced config.now places.new.items) }
     ensures kept { Keeps out.old.items out.new.items }
 {
-    let place = place_of(alloc, config, row.pool)?;
+    let place = placement_of(alloc, config, row.pool)?;
     put_placed(row, &place, out)?;
     places.push(place)?;
     Ok(())
@@ -57,15 +65,18 @@ fn put_first(
 fn put_row(
     alloc: Global,
     config: &Config,
-    places: &mut Vec<Place>,
+    places: &mut Vec<PoolPlacement>,
     row: &ListedRow<'_>,
     out: &mut Vec<u8>,
 ) -> Result<(), AllocError>
-    ensures ok { ArePlaced config.now places.old.items → OnOk result (out.new.items ≡ out.old.items ++ response_bytes (response.List (entry_at config.now (row_told row.now) ∷ []) [])) }
-    ensures placed { ArePlaced config.now places.old.items → OnOk result (ArePlaced config.now places.new.items) }
+    ensures ok { ArePlaced config.now places.old.items
+        → OnOk result (out.new.items ≡ out.old.items
+        ++ response_bytes (response.List (entry_at config.now (row_told row.now) ∷ []) [])) }
+    ensures placed { ArePlaced config.now places.old.items
+        → OnOk result (ArePlaced config.now places.new.items) }
     ensures kept { Keeps out.old.items out.new.items }
 {
-    match place_named(places, row.pool) {
+    match placement_named(places, row.pool) {
         Some(place) => put_placed(row, place, out),
         None => put_first(alloc, config, places, row, out),
     }
@@ -77,7 +88,7 @@ pub(crate) struct Page<'a> {
     pub(crate) alloc: Global,
     pub(crate) config: &'a Config,
     /// What the pools of its volumes give them.
-    pub(crate) places: Vec<Place>,
+    pub(crate) places: Vec<PoolPlacement>,
     /// The number of its last volume, or the one after which it begins.
     pub(crate) last: u64,
     /// Where its entries are appended.
@@ -88,7 +99,8 @@ impl PageFold for Page<'_> {
     ghost use Rattle.csi_machine.specs.Pages.{HasWritten};
     ghost use Rattle.csi_machine.specs.facts.Pages.{written_none, body_stays};
 
-    ghost folds = { λ first rows now. ArePlaced first.config.now first.places.items → HasWritten first rows now };
+    ghost folds = { λ first rows now. ArePlaced first.config.now first.places.items
+        → HasWritten first rows now };
 
     ghost keeps = { λ first now. Keeps first.body.items now.body.items };
 
@@ -97,7 +109,7 @@ impl PageFold for Page<'_> {
     ghost stays = { λ page. body_stays page };
 
     #[inline(always)]
-    fn take(&mut self, row: &ListedRow<'_>) -> Result<(), AllocError> {
+    fn add(&mut self, row: &ListedRow<'_>) -> Result<(), AllocError> {
         put_row(
             self.alloc,
             self.config,
@@ -129,7 +141,7 @@ impl PageFold for Presence {
 
     ghost stays = { λ first. tt };
 
-    fn take(&mut self, _row: &ListedRow<'_>) -> Result<(), AllocError> {
+    fn add(&mut self, _row: &ListedRow<'_>) -> Result<(), AllocError> {
         self.is_any = true;
         Ok(())
     }

@@ -13,27 +13,31 @@ use std::alloc::{AllocError, Global};
 
 /// What is answered alike of each volume of a pool.
 #[derive(Drop)]
-pub(crate) struct Place {
+pub(crate) struct PoolPlacement {
     pub(crate) pool: Text,
     pub(crate) placement: Placement,
 }
 
 /// What the configuration has answered alike of each volume of a pool.
-pub(crate) fn place_of(alloc: Global, config: &Config, pool: &Text) -> Result<Place, AllocError>
+pub(crate) fn placement_of(
+    alloc: Global,
+    config: &Config,
+    pool: &Text,
+) -> Result<PoolPlacement, AllocError>
     ensures pool { IfOk result (λ place. place.pool ≡ pool.now) }
     ensures placed { IfOk result (λ place. IsPlaced config.now place) }
 {
     let nowhere = Map::new(alloc);
     let context = context_of(alloc, pool)?;
     let topology = topology_of(alloc, segments_at(config, pool, &nowhere))?;
-    Ok(Place {
+    Ok(PoolPlacement {
         pool: copy_text(alloc, pool.as_str())?,
         placement: Placement::new(alloc, context, topology)?,
     })
 }
 
 #[inline(always)]
-fn is_of(place: &Place, pool: &str) -> bool
+fn is_of(place: &PoolPlacement, pool: &str) -> bool
     ensures { IsTrue result ↔ (place.now.pool ≡ pool.now) }
 {
     place.pool.as_str() == pool
@@ -41,10 +45,14 @@ fn is_of(place: &Place, pool: &str) -> bool
 
 /// The first place of a pool; `None` only where there is none yet.
 #[inline(always)]
-pub(crate) fn place_named<'a>(places: &'a [Place], pool: &Text) -> Option<&'a Place>
+pub(crate) fn placement_named<'a>(
+    places: &'a [PoolPlacement],
+    pool: &Text,
+) -> Option<&'a PoolPlacement>
     ensures exact { option_copied result ≡ find (λ place. same_text place.pool pool.now) places.now }
     ensures pool { IfSome result (λ place. place.now.pool ≡ pool.now) }
-    ensures placed { (config : AnyConfig) → ArePlaced config places.now → IfSome result (λ place. IsPlaced config place.now) }
+    ensures placed { (config : AnyConfig) → ArePlaced config places.now
+        → IfSome result (λ place. IsPlaced config place.now) }
 {
     let pool = pool.as_str();
     for place in places {

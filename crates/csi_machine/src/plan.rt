@@ -5,7 +5,7 @@ ghost use Rattle.csi_machine.specs.Plan.{make, refuse, respond};
 ghost use Rattle.csi_machine.specs.Verdicts.{verdict_of};
 
 use crate::body::Verdict;
-use crate::response::Answer;
+use crate::response::PlannedResponse;
 use csi_keeper::{Change, StoreFault};
 use csi_types::{Boxed, Reason};
 use std::alloc::{AllocError, Global};
@@ -16,7 +16,7 @@ pub(crate) type Planning = Result<Plan, StoreFault>;
 /// What a request is answered, and the change that is made before it is.
 pub struct Plan {
     /// The response, or the reason for which the request is refused and changes nothing.
-    pub outcome: Result<Answer, Reason>,
+    pub outcome: Result<PlannedResponse, Reason>,
     /// What changes, if anything.
     pub change: Option<Boxed<Change>>,
 }
@@ -32,7 +32,7 @@ impl Drop for Plan {
     }
 }
 
-fn verdict_of(outcome: &Result<Answer, Reason>) -> Verdict
+fn verdict_of(outcome: &Result<PlannedResponse, Reason>) -> Verdict
     ensures { result ≡ verdict_of outcome.now }
 {
     match outcome {
@@ -67,7 +67,11 @@ pub(crate) fn refuse(reason: Reason) -> Plan
 ///
 /// Where memory was refused.
 #[inline(always)]
-pub(crate) fn make(alloc: Global, answer: Answer, change: Change) -> Result<Plan, AllocError>
+pub(crate) fn make(
+    alloc: Global,
+    answer: PlannedResponse,
+    change: Change,
+) -> Result<Plan, AllocError>
     ensures { IfOk result (λ plan. plan ≡ make answer change) }
 {
     let change = Boxed::new(alloc, change)?;
@@ -78,7 +82,7 @@ pub(crate) fn make(alloc: Global, answer: Answer, change: Change) -> Result<Plan
 }
 
 /// A response that changes nothing.
-pub(crate) fn respond(answer: Answer) -> Plan
+pub(crate) fn respond(answer: PlannedResponse) -> Plan
     ensures { result ≡ respond answer }
 {
     Plan {

@@ -26,7 +26,8 @@ pub(crate) trait Planned {
         ensures bounded { IfOk result (λ p. IfSome p.change IsBounded) }
         ensures unasked { names_none self.now → (keeper.new ≡ keeper.old) × IfErr result (λ e. e ≡ NoMemory) }
         ensures still { names_none self.now → IfOk result (λ p. p.change ≡ None) }
-        ensures finds { Finds (K.model keeper.old) (K.model keeper.new) result (λ s p. p ≡ planned config.now s self.now) };
+        ensures finds { Finds (K.model keeper.old) (K.model keeper.new) result
+            (λ s p. p ≡ planned config.now s self.now) };
 }
 
 // As the request that is kept.

@@ -4,7 +4,7 @@ ghost use Rattle.std.specs.Prelude.{◌≡◌, IfOk};
 ghost use Rattle.csi_types.specs.declared.responses.Response.TheVariants as response;
 ghost use Rattle.csi_codec.specs.Methods.{response_bytes};
 ghost use Rattle.csi_machine.specs.Response.{flag_text, publication};
-ghost use Rattle.csi_machine.specs.Verdicts.{within, Appended, IsTold};
+ghost use Rattle.csi_machine.specs.Verdicts.{within, Appended, IsReported};
 
 use crate::body::{Verdict, append_body, limit_body};
 use csi_codec::encode_published;
@@ -14,7 +14,7 @@ use std::marker::Model;
 
 // Where a response stands.
 #[derive(Drop)]
-enum Kept {
+enum ResponseForm {
     // In memory of its own.
     Made(Boxed<Response>),
     // Nowhere, since it has no field.
@@ -37,7 +37,8 @@ fn flag_text(flag: bool) -> &'static str
 // Appends the response of a publication, or refuses it where no reply holds it.
 fn append_published(readonly: bool, out: &mut Vec<u8>) -> Result<Verdict, AllocError>
     ensures appended { Appended out.old.items out.new.items result }
-    ensures told { IsTold (within (response_bytes (response.Publish (publication readonly)))) out.old.items out.new.items result }
+    ensures told { IsReported (within (response_bytes
+        (response.Publish (publication readonly)))) out.old.items out.new.items result }
 {
     let from = out.len();
     if let Err(refused) = encode_published(READONLY, flag_text(readonly), out) {
@@ -47,15 +48,16 @@ fn append_published(readonly: bool, out: &mut Vec<u8>) -> Result<Verdict, AllocE
     Ok(limit_body(out, from))
 }
 
-/// A response. Those of DeleteVolume, ControllerPublishVolume, ControllerUnpublishVolume and ControllerModifyVolume take no memory.
+/// A response. Those of DeleteVolume, ControllerPublishVolume, ControllerUnpublishVolume and
+/// ControllerModifyVolume take no memory.
 #[derive(Drop)]
-pub struct Answer {
-    kept: Kept,
+pub struct PlannedResponse {
+    kept: ResponseForm,
 }
 
-impl Model for Answer {
+impl Model for PlannedResponse {
     ghost use Rattle.csi_types.specs.declared.responses.Response.{Response as AnyResponse};
-    ghost use Rattle.csi_machine.specs.Response.{kept_response};
+    ghost use Rattle.csi_machine.specs.Response.{form_response};
     ghost use Rattle.csi_types.specs.contracts.responses.Response as response;
     ghost use Rattle.std.specs.Coded.{codes};
 
@@ -63,53 +65,57 @@ impl Model for Answer {
 
     ghost coded = { Prim.hlevel (codes, response.the_row.coded) };
 
-    ghost view = { λ a. kept_response a.kept };
+    ghost view = { λ a. form_response a.kept };
 }
 
-impl Answer {
+impl PlannedResponse {
     /// This response, in memory of its own.
     ///
     /// # Errors
     ///
     /// Where memory was refused.
     #[inline(always)]
-    pub fn of(alloc: Global, response: Response) -> Result<Answer, AllocError>
+    pub fn of(alloc: Global, response: Response) -> Result<PlannedResponse, AllocError>
         ensures { IfOk result (λ answer. answer ≡ response) }
     {
-        Ok(Answer {
-            kept: Kept::Made(Boxed::new(alloc, response)?),
+        Ok(PlannedResponse {
+            kept: ResponseForm::Made(Boxed::new(alloc, response)?),
         })
     }
 
     /// The response of a deletion.
-    pub fn deleted() -> Answer
+    pub fn deleted() -> PlannedResponse
         ensures { result ≡ response.Delete }
     {
-        Answer { kept: Kept::Delete }
+        PlannedResponse {
+            kept: ResponseForm::Delete,
+        }
     }
 
     /// The response of a modification.
-    pub fn modified() -> Answer
+    pub fn modified() -> PlannedResponse
         ensures { result ≡ response.Modify }
     {
-        Answer { kept: Kept::Modify }
+        PlannedResponse {
+            kept: ResponseForm::Modify,
+        }
     }
 
     /// The response where a volume is not published any more.
-    pub fn unpublished() -> Answer
+    pub fn unpublished() -> PlannedResponse
         ensures { result ≡ response.Unpublish }
     {
-        Answer {
-            kept: Kept::Unpublish,
+        PlannedResponse {
+            kept: ResponseForm::Unpublish,
         }
     }
 
     /// The response of a publication.
-    pub fn published(readonly: bool) -> Answer
+    pub fn published(readonly: bool) -> PlannedResponse
         ensures { result ≡ response.Publish (publication readonly) }
     {
-        Answer {
-            kept: Kept::Published(readonly),
+        PlannedResponse {
+            kept: ResponseForm::Published(readonly),
         }
     }
 
@@ -120,14 +126,14 @@ impl Answer {
     /// As of [`append_body`].
     pub fn append(&self, out: &mut Vec<u8>) -> Result<Verdict, AllocError>
         ensures appended { Appended out.old.items out.new.items result }
-        ensures told { IsTold (within (response_bytes self.now)) out.old.items out.new.items result }
+        ensures told { IsReported (within (response_bytes self.now)) out.old.items out.new.items result }
     {
         match &self.kept {
-            Kept::Made(response) => append_body(response.get(), out),
-            Kept::Delete => append_body(&Response::Delete, out),
-            Kept::Unpublish => append_body(&Response::Unpublish, out),
-            Kept::Modify => append_body(&Response::Modify, out),
-            Kept::Published(readonly) => append_published(*readonly, out),
+            ResponseForm::Made(response) => append_body(response.get(), out),
+            ResponseForm::Delete => append_body(&Response::Delete, out),
+            ResponseForm::Unpublish => append_body(&Response::Unpublish, out),
+            ResponseForm::Modify => append_body(&Response::Modify, out),
+            ResponseForm::Published(readonly) => append_published(*readonly, out),
         }
     }
 }

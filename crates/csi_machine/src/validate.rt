@@ -12,7 +12,7 @@ ghost use Rattle.csi_machine.specs.Plan.{refuse};
 ghost use Rattle.csi_machine.specs.Validate.{confirm, deny, validate_volume, validate};
 
 use crate::plan::{Plan, Planning, refuse, respond};
-use crate::response::Answer;
+use crate::response::PlannedResponse;
 use csi_keeper::{Keeper, Volume};
 use csi_rules::{have_keys, volume_of};
 use csi_types::{
@@ -43,7 +43,7 @@ fn confirm(alloc: Global, request: &Validate) -> Result<Plan, AllocError>
         capabilities: copy_capabilities(alloc, &request.capabilities)?,
         parameters: copy_map(alloc, &request.parameters)?,
     };
-    Ok(respond(Answer::of(
+    Ok(respond(PlannedResponse::of(
         alloc,
         Response::Validate {
             confirmed: Some(confirmed),
@@ -57,7 +57,7 @@ fn deny(alloc: Global) -> Result<Plan, AllocError>
     ensures value { IfOk result (λ p. p ≡ deny) }
 {
     let message = copy_text(alloc, "capabilities or parameters are not supported")?;
-    Ok(respond(Answer::of(
+    Ok(respond(PlannedResponse::of(
         alloc,
         Response::Validate {
             confirmed: None,
@@ -91,8 +91,9 @@ fn validate_volume(alloc: Global, request: &Validate, volume: &Volume) -> Result
 
 /// The plan of ValidateVolumeCapabilities, by reads of the keeper alone.
 ///
-/// The request's capabilities and parameters are confirmed where the volume has the key of each capability, and the parameters, if any are given,
-/// are the volume's. Nothing changes. For a text that is no volume's id the keeper is not asked.
+/// The request's capabilities and parameters are confirmed where the volume has the key of each capability,
+/// and the parameters, if any are given, are the volume's. Nothing changes. For a text that is no volume's id
+/// the keeper is not asked.
 ///
 /// # Errors
 ///
@@ -105,8 +106,10 @@ pub(crate) fn plan_validate<K: Keeper>(
 ) -> Planning
     ensures none { IfOk result (λ p. p.change ≡ None) }
     ensures bounded { IfOk result (λ p. IfSome p.change IsBounded) }
-    ensures finds { Finds (K.model keeper.old) (K.model keeper.new) result (λ s p. p ≡ validate s request.now) }
-    ensures unasked { number_of_id request.now.volume_id ≡ None → (keeper.new ≡ keeper.old) × (result ≡ Ok (refuse VolumeNotFound)) }
+    ensures finds { Finds (K.model keeper.old) (K.model keeper.new) result
+        (λ s p. p ≡ validate s request.now) }
+    ensures unasked { number_of_id request.now.volume_id ≡ None → (keeper.new ≡ keeper.old)
+        × (result ≡ Ok (refuse VolumeNotFound)) }
 {
     let Some((_, volume)) = volume_of(alloc, keeper, &request.volume_id)? else {
         return Ok(refuse(Reason::VolumeNotFound));

@@ -12,10 +12,10 @@ use Rattle.csi_keeper.specs.declared.change.Change.TheVariants.{AddVolume, Remov
 use Rattle.csi_keeper.specs.declared.volume.Volume.{Volume}
 use Rattle.csi_keeper.specs.declared.totals.Total.{Total}
 use Rattle.csi_keeper.specs.declared.totals.Totals.{Totals}
-use Rattle.csi_memory.specs.Memory.{Spot, IsSetAt, volumes_of, name_key}
+use Rattle.csi_memory.specs.Memory.{Nodes, IsSetAt, volumes_of, name_key}
 use Rattle.csi_memory.specs.Kept.{IsKept}
 use Rattle.csi_keeper.specs.Totals.{total_of, more, less, HasRoom}
-use Rattle.csi_keeper.specs.State.{State, Place, changed, Allows, mutable_set, place_cmp}
+use Rattle.csi_keeper.specs.State.{State, AttachmentKey, changed, Allows, mutable_set, attachment_key_cmp}
 use Rattle.csi_keeper.specs.Texts.{Text}
 use Rattle.csi_keeper.specs.facts.Finite.{none_some, not_there, all_entries, put_there, tied}
 use Rattle.csi_memory.proofs.KeptLemmas.{kept_add, kept_remove, same_key}
@@ -24,8 +24,8 @@ use Rattle.csi_keeper.specs.facts.Names.{nobody}
 use Rattle.csi_keeper.specs.facts.Sums.{in_order, total_cons, count_cons}
 
 -- a name is taken out under another spelling of itself
-pub dropped_as : (index back : List (Place × ℕ)) (name other : Text) → other ≡ name → IsSetAt place_cmp (name_key other) None index back → IsSetAt place_cmp (name_key name) None index back
-dropped_as index back name other is h = subst (λ (t : Text). IsSetAt place_cmp (name_key t) None index back) is h
+pub dropped_as : (index back : List (AttachmentKey × ℕ)) (name other : Text) → other ≡ name → IsSetAt attachment_key_cmp (name_key other) None index back → IsSetAt attachment_key_cmp (name_key name) None index back
+dropped_as index back name other is h = subst (λ (t : Text). IsSetAt attachment_key_cmp (name_key t) None index back) is h
 
 -- the volume that was put into the rows stands there
 pub stands_now : (es rows : List (ℕ × Volume)) (v : Volume) → volumes_of rows ≡ fin.insert (volumes_of es) v.number v → fin.get (volumes_of rows) v.number ≡ Some v
@@ -53,7 +53,7 @@ sum_most (e ∷ es) pool a =
       | false ↦ λ o t. omega (arith, o, t, more)
     ] one two
 
-module _ (next : ℕ) (volumes : List (ℕ × Volume)) (names : List (Place × ℕ)) (pools : Totals) (attachments : List (Place × Attachment)) (spots : List (Spot × Unit {0})) (s : State) where
+module _ (next : ℕ) (volumes : List (ℕ × Volume)) (names : List (AttachmentKey × ℕ)) (pools : Totals) (attachments : List (AttachmentKey × Attachment)) (spots : Nodes) (s : State) where
   -- the totals have room for one more
   pub room : (v : Volume) → IsKept next volumes names pools attachments spots s → Allows s (AddVolume v) → v.number < 2 ^ 62 → v.bytes ≤ 2 ^ 62
       → HasRoom (total_of pools v.pool) v.bytes
@@ -103,44 +103,44 @@ module _ (next : ℕ) (volumes : List (ℕ × Volume)) (names : List (Place × �
       subst (λ (m : fin.FinMap nat_cmp Volume). IsKept next rows names pools attachments spots (record s { volumes = m })) (sym same_state) (kept_rows rows k (is_rows ∙ same))
 
   -- the name was set, a refused growth left the rows, and the name was taken out
-  pub refused_rows : (rows : List (ℕ × Volume)) (index back : List (Place × ℕ)) (v : Volume) (name : Text) → name ≡ v.name → IsKept next volumes names pools attachments spots s → Allows s (AddVolume v)
-      → IsSetAt place_cmp (name_key name) (Some v.number) names index
-      → IsSetAt place_cmp (name_key v.name) None index back
+  pub refused_rows : (rows : List (ℕ × Volume)) (index back : List (AttachmentKey × ℕ)) (v : Volume) (name : Text) → name ≡ v.name → IsKept next volumes names pools attachments spots s → Allows s (AddVolume v)
+      → IsSetAt attachment_key_cmp (name_key name) (Some v.number) names index
+      → IsSetAt attachment_key_cmp (name_key v.name) None index back
       → volumes_of rows ≡ volumes_of volumes → IsKept next rows back pools attachments spots s
   refused_rows rows index back v name is k allows is_index is_back same = record {
     next_is = k.next_is;
     volumes_are = k.volumes_are ∙ sym same;
     attachments_are = k.attachments_are;
-    named = λ n w e. again (name_key w.name) ∙ other n w e (is_at (place_cmp (name_key v.name)) (name_key w.name)) refl;
-    names_stand = λ p n e. whose p n (is_at (place_cmp (name_key v.name)) p) (sym (again p) ∙ e);
+    named = λ n w e. again (name_key w.name) ∙ other n w e (is_at (attachment_key_cmp (name_key v.name)) (name_key w.name)) refl;
+    names_stand = λ p n e. whose p n (is_at (attachment_key_cmp (name_key v.name)) p) (sym (again p) ∙ e);
     totals = k.totals;
     few = k.few;
     small = k.small;
     spotted = k.spotted;
   }
     where
-      again : (p : Place) → lookup (is_at (place_cmp p)) back ≡ cond (is_at (place_cmp (name_key v.name)) p) None (lookup (is_at (place_cmp p)) names)
+      again : (p : AttachmentKey) → lookup (is_at (attachment_key_cmp p)) back ≡ cond (is_at (attachment_key_cmp (name_key v.name)) p) None (lookup (is_at (attachment_key_cmp p)) names)
       again p =
           is_back p
-          ∙ ap (cond (is_at (place_cmp (name_key v.name)) p) None) (is_index p ∙ ap (λ (t : Text). cond (is_at (place_cmp (name_key t)) p) (Some v.number) (lookup (is_at (place_cmp p)) names)) is)
-          ∙ by (is_at (place_cmp (name_key v.name)) p)
+          ∙ ap (cond (is_at (attachment_key_cmp (name_key v.name)) p) None) (is_index p ∙ ap (λ (t : Text). cond (is_at (attachment_key_cmp (name_key t)) p) (Some v.number) (lookup (is_at (attachment_key_cmp p)) names)) is)
+          ∙ by (is_at (attachment_key_cmp (name_key v.name)) p)
         where
-          by : (b : Bool) → cond b None (cond b (Some v.number) (lookup (is_at (place_cmp p)) names)) ≡ cond b None (lookup (is_at (place_cmp p)) names)
+          by : (b : Bool) → cond b None (cond b (Some v.number) (lookup (is_at (attachment_key_cmp p)) names)) ≡ cond b None (lookup (is_at (attachment_key_cmp p)) names)
           by true = refl
           by false = refl
 
-      other : (n : ℕ) (w : Volume) → fin.get s.volumes n ≡ Some w → (b : Bool) → is_at (place_cmp (name_key v.name)) (name_key w.name) ≡ b → cond b None (lookup (is_at (place_cmp (name_key w.name))) names) ≡ Some n
+      other : (n : ℕ) (w : Volume) → fin.get s.volumes n ≡ Some w → (b : Bool) → is_at (attachment_key_cmp (name_key v.name)) (name_key w.name) ≡ b → cond b None (lookup (is_at (attachment_key_cmp (name_key w.name))) names) ≡ Some n
       other n w e true t = absurd (nobody s v.name n w allows.2 e (sym (same_key v.name w.name t)))
       other n w e false t = k.named n w e
 
-      whose : (p : Place) (n : ℕ) (b : Bool) → cond b None (lookup (is_at (place_cmp p)) names) ≡ Some n → (w : Volume) × (fin.get s.volumes n ≡ Some w) × (name_key w.name ≡ p)
+      whose : (p : AttachmentKey) (n : ℕ) (b : Bool) → cond b None (lookup (is_at (attachment_key_cmp p)) names) ≡ Some n → (w : Volume) × (fin.get s.volumes n ≡ Some w) × (name_key w.name ≡ p)
       whose p n true h = absurd (none_some n h)
       whose p n false h = k.names_stand p n h
 
   -- the volume was added, and taken back with its name
-  pub refused_total : (taken rows : List (ℕ × Volume)) (index back : List (Place × ℕ)) (kept : Totals) (v copy : Volume) (name : Text) → copy ≡ v → name ≡ v.name → IsKept next volumes names pools attachments spots s → Allows s (AddVolume v)
-      → IsSetAt place_cmp (name_key name) (Some v.number) names index
-      → IsSetAt place_cmp (name_key v.name) None index back
+  pub refused_total : (taken rows : List (ℕ × Volume)) (index back : List (AttachmentKey × ℕ)) (kept : Totals) (v copy : Volume) (name : Text) → copy ≡ v → name ≡ v.name → IsKept next volumes names pools attachments spots s → Allows s (AddVolume v)
+      → IsSetAt attachment_key_cmp (name_key name) (Some v.number) names index
+      → IsSetAt attachment_key_cmp (name_key v.name) None index back
       → volumes_of rows ≡ fin.insert (volumes_of volumes) copy.number copy
       → volumes_of taken ≡ fin.remove (volumes_of rows) v.number
       → ((q : Text) → total_of kept q ≡ total_of pools q) → IsKept next taken back kept attachments spots s
@@ -161,9 +161,9 @@ module _ (next : ℕ) (volumes : List (ℕ × Volume)) (names : List (Place × �
       }
 
   -- the volume was added
-  pub added : (rows : List (ℕ × Volume)) (index : List (Place × ℕ)) (kept : Totals) (v copy : Volume) (name pool : Text) → copy ≡ v → name ≡ v.name → pool ≡ v.pool → IsKept next volumes names pools attachments spots s → Allows s (AddVolume v)
+  pub added : (rows : List (ℕ × Volume)) (index : List (AttachmentKey × ℕ)) (kept : Totals) (v copy : Volume) (name pool : Text) → copy ≡ v → name ≡ v.name → pool ≡ v.pool → IsKept next volumes names pools attachments spots s → Allows s (AddVolume v)
       → v.number < 2 ^ 62 → v.bytes ≤ 2 ^ 62
-      → IsSetAt place_cmp (name_key name) (Some v.number) names index
+      → IsSetAt attachment_key_cmp (name_key name) (Some v.number) names index
       → volumes_of rows ≡ fin.insert (volumes_of volumes) copy.number copy
       → (HasRoom (total_of pools pool) v.bytes → (q : Text) → total_of kept q ≡ cond (same_text pool q) (more (total_of pools pool) v.bytes) (total_of pools q))
       → IsKept (v.number + 1) rows index kept attachments spots (changed s (AddVolume v))
@@ -172,15 +172,15 @@ module _ (next : ℕ) (volumes : List (ℕ × Volume)) (names : List (Place × �
       subst (λ (n : ℕ). IsKept (n + 1) rows index kept attachments spots (changed s (AddVolume v))) (sym k.next_is ∙ sym allows.0)
       (kept_add next volumes rows names pools kept attachments spots s index v k allows bytes
       (add ∙ ap (λ (w : Volume). fin.insert (volumes_of volumes) w.number w) one)
-      (subst (λ (t : Text). IsSetAt place_cmp (name_key t) (Some v.number) names index) is is_index)
+      (subst (λ (t : Text). IsSetAt attachment_key_cmp (name_key t) (Some v.number) names index) is is_index)
       (λ q. counted fits q ∙ ap (λ (p : Text). cond (same_text p q) (more (total_of pools p) v.bytes) (total_of pools q)) in_pool))
 
   -- the volume was taken away, out of its pool's total, and its name out of the index
-  pub taken : (rows : List (ℕ × Volume)) (index : List (Place × ℕ)) (kept : Totals) (n : ℕ) (v : Volume) → IsKept next volumes names pools attachments spots s
+  pub taken : (rows : List (ℕ × Volume)) (index : List (AttachmentKey × ℕ)) (kept : Totals) (n : ℕ) (v : Volume) → IsKept next volumes names pools attachments spots s
       → fin.get (volumes_of volumes) n ≡ Some v
       → volumes_of rows ≡ fin.remove (volumes_of volumes) n
       → ((q : Text) → total_of kept q ≡ cond (same_text v.pool q) (less (total_of pools v.pool) v.bytes) (total_of pools q))
-      → IsSetAt place_cmp (name_key v.name) None names index
+      → IsSetAt attachment_key_cmp (name_key v.name) None names index
       → IsKept next rows index kept attachments spots (changed s (RemoveVolume n))
   taken rows index kept n v k some is_rows is_totals is_index =
       kept_remove next volumes rows names pools kept attachments spots s index n v k (ap (λ (m : fin.FinMap nat_cmp Volume). fin.get m n) k.volumes_are ∙ some) is_rows is_totals is_index
@@ -193,9 +193,9 @@ module _ (next : ℕ) (volumes : List (ℕ × Volume)) (names : List (Place × �
     next_is = k.next_is;
     volumes_are = sym (subst (λ (vs : fin.FinMap nat_cmp Volume). volumes_of rows ≡ mutable_set vs n m (fin.get vs n)) (sym k.volumes_are) is);
     attachments_are = k.attachments_are;
-    named = λ q w e. let old = stood s.volumes n m q w e in elim old.2 as (λ _. lookup (is_at (place_cmp (name_key w.name))) names ≡ Some q) [
-      | inl a ↦ ap (λ (x : Volume). lookup (is_at (place_cmp (name_key x.name))) names) a ∙ k.named q old.0 old.1
-      | inr b ↦ ap (λ (x : Volume). lookup (is_at (place_cmp (name_key x.name))) names) b.1 ∙ k.named q old.0 old.1
+    named = λ q w e. let old = stood s.volumes n m q w e in elim old.2 as (λ _. lookup (is_at (attachment_key_cmp (name_key w.name))) names ≡ Some q) [
+      | inl a ↦ ap (λ (x : Volume). lookup (is_at (attachment_key_cmp (name_key x.name))) names) a ∙ k.named q old.0 old.1
+      | inr b ↦ ap (λ (x : Volume). lookup (is_at (attachment_key_cmp (name_key x.name))) names) b.1 ∙ k.named q old.0 old.1
     ];
     names_stand = λ p q e. let old = k.names_stand p q e in let new = stands s.volumes n m q old.0 old.1 in (
       new.0,

@@ -2,6 +2,7 @@ mod ChangeLemmas
 mod DetachLemmas
 mod KeptLemmas
 mod NamesLemmas
+mod NodesLemmas
 mod ReadLemmas
 mod RowChangeLemmas
 mod WalkLemmas

@@ -1,8 +1,9 @@
 -- What rows tell of a State that they are kept for.
-use Rattle.std.proofs.Common.{◌≡◌, ◌∙◌, ap, sym, arith, refl, ℕ, ◌==◌, ◌≤◌, nat_lt, zero, suc, List, [], ◌∷◌, map, filter, take, length, sum}
+use Rattle.std.proofs.Common.{◌≡◌, ◌∙◌, ap, sym, subst, is_some, arith, refl, ℕ, ◌==◌, ◌≤◌, nat_lt, zero, suc, List, [], ◌∷◌, map, filter, take, length, sum}
 use Rattle.std.specs.BTreeMap.{is_at}
 use Rattle.std.specs.BTreeMap.Range.{entries_between}
 use Rattle.std.specs.FinMap as fin
+use Rattle.std.specs.List.Sorted.{IsStrictlySortedBy}
 use Rattle.std.specs.Map.{lookup}
 use Rattle.std.specs.Option.{option_map}
 use Rattle.std.specs.Ordering.{nat_cmp}
@@ -12,9 +13,9 @@ use Rattle.csi_keeper.specs.declared.volume.Attachment.{Attachment}
 use Rattle.csi_keeper.specs.declared.volume.Volume.{Volume}
 use Rattle.csi_keeper.specs.declared.totals.Totals.{Totals}
 use Rattle.csi_keeper.specs.Totals.{total_of, zero_total, the_total, told}
-use Rattle.csi_memory.specs.Memory.{Spot, spot_cmp, spots_of, mark, numbers_by, volumes_of, places_of, place_end, nodes_in, listed_in}
+use Rattle.csi_memory.specs.Memory.{Nodes, HasNoEmpty, has_spot, numbers_by, volumes_of, places_of, place_end, nodes_in, listed_in}
 use Rattle.csi_memory.specs.Kept.{IsKept}
-use Rattle.csi_keeper.specs.State.{State, Place, place_cmp, sizes, page, attached, attached_at, published_of_page, used, first_state}
+use Rattle.csi_keeper.specs.State.{State, AttachmentKey, attachment_key_cmp, sizes, page, attached, attached_at, count_at, published_of_page, used, first_state}
 use Rattle.csi_keeper.specs.Listing.{listed_at, listing}
 use Rattle.csi_keeper.specs.Texts.{Text}
 use Rattle.csi_memory.specs.facts.Listing.{page_rows, place_rows}
@@ -27,7 +28,7 @@ mapped_page f zero es = refl
 mapped_page f (suc count) [] = refl
 mapped_page f (suc count) (e ∷ es) = ap (λ xs. f e.1 ∷ xs) (mapped_page f count es)
 
-module _ (next : ℕ) (volumes : List (ℕ × Volume)) (names : List (Place × ℕ)) (pools : Totals) (attachments : List (Place × Attachment)) (spots : List (Spot × Unit {0})) (s : State) where
+module _ (next : ℕ) (volumes : List (ℕ × Volume)) (names : List (AttachmentKey × ℕ)) (pools : Totals) (attachments : List (AttachmentKey × Attachment)) (spots : Nodes) (s : State) where
   pub held_next : IsKept next volumes names pools attachments spots s → next ≡ s.next
   held_next k = sym k.next_is
 
@@ -41,7 +42,7 @@ module _ (next : ℕ) (volumes : List (ℕ × Volume)) (names : List (Place × �
   rows k o = sym o ∙ ap (λ (m : fin.FinMap nat_cmp Volume). fin.entries m) (sym k.volumes_are)
 
   places : IsKept next volumes names pools attachments spots s → fin.entries (places_of attachments) ≡ attachments → attachments ≡ fin.entries s.attachments
-  places k o = sym o ∙ ap (λ (m : fin.FinMap place_cmp Attachment). fin.entries m) (sym k.attachments_are)
+  places k o = sym o ∙ ap (λ (m : fin.FinMap attachment_key_cmp Attachment). fin.entries m) (sym k.attachments_are)
 
   pub held_sizes : (pool : Text) → fin.entries (volumes_of volumes) ≡ volumes → IsKept next volumes names pools attachments spots s → map (λ v. v.bytes) (filter (λ v. same_text v.pool pool) (map (λ e. e.1) volumes)) ≡ sizes s pool
   held_sizes pool o k = ap (λ (es : List (ℕ × Volume)). map (λ v. v.bytes) (filter (λ v. same_text v.pool pool) (map (λ e. e.1) es))) (rows k o)
@@ -57,7 +58,7 @@ module _ (next : ℕ) (volumes : List (ℕ × Volume)) (names : List (Place × �
   held_nodes after count o k =
       mapped_page (λ v. nodes_in attachments v.number) count (entries_between nat_cmp (Excluded after) Unbounded volumes)
       ∙ ap (λ (vs : List Volume). map (λ v. nodes_in attachments v.number) vs) (held_page after count o k)
-      ∙ ap (λ (m : fin.FinMap place_cmp Attachment). map (λ v. map (λ a. a.node) (map (λ e. e.1) (filter (λ e. e.0.0 == v.number) (fin.entries m)))) (page s after count)) (sym k.attachments_are)
+      ∙ ap (λ (m : fin.FinMap attachment_key_cmp Attachment). map (λ v. map (λ a. a.node) (map (λ e. e.1) (filter (λ e. e.0.0 == v.number) (fin.entries m)))) (page s after count)) (sym k.attachments_are)
 
   -- what a listing tells of a page
   pub held_listing : (after count : ℕ) → fin.entries (volumes_of volumes) ≡ volumes → IsKept next volumes names pools attachments spots s
@@ -65,37 +66,43 @@ module _ (next : ℕ) (volumes : List (ℕ × Volume)) (names : List (Place × �
   held_listing after count o k =
       mapped_page (listed_in attachments) count (entries_between nat_cmp (Excluded after) Unbounded volumes)
       ∙ ap (λ (vs : List Volume). map (listed_in attachments) vs) (held_page after count o k)
-      ∙ ap (λ (m : fin.FinMap place_cmp Attachment). map (λ v. listed_at v (map (λ a. a.node) (map (λ e. e.1) (filter (λ e. e.0.0 == v.number) (fin.entries m))))) (page s after count)) (sym k.attachments_are)
+      ∙ ap (λ (m : fin.FinMap attachment_key_cmp Attachment). map (λ v. listed_at v (map (λ a. a.node) (map (λ e. e.1) (filter (λ e. e.0.0 == v.number) (fin.entries m))))) (page s after count)) (sym k.attachments_are)
 
-  pub held_places : (n : ℕ) → fin.entries (places_of attachments) ≡ attachments → IsKept next volumes names pools attachments spots s → map (λ e. e.1) (filter (λ e. e.0.0 == n) (entries_between place_cmp (Included (n, [])) (place_end n) attachments)) ≡ attached s n
+  pub held_places : (n : ℕ) → fin.entries (places_of attachments) ≡ attachments → IsKept next volumes names pools attachments spots s → map (λ e. e.1) (filter (λ e. e.0.0 == n) (entries_between attachment_key_cmp (Included (n, [])) (place_end n) attachments)) ≡ attached s n
   held_places n o k =
-      ap (λ (es : List (Place × Attachment)). map (λ e. e.1) es) (place_rows attachments n)
-      ∙ ap (λ (es : List (Place × Attachment)). map (λ e. e.1) (filter (λ e. e.0.0 == n) es)) (places k o)
+      ap (λ (es : List (AttachmentKey × Attachment)). map (λ e. e.1) es) (place_rows attachments n)
+      ∙ ap (λ (es : List (AttachmentKey × Attachment)). map (λ e. e.1) (filter (λ e. e.0.0 == n) es)) (places k o)
 
-  pub held_at : (node : Text) → fin.entries (spots_of spots) ≡ spots → IsKept next volumes names pools attachments spots s → numbers_by spots node ≡ attached_at s node
+  pub held_at : (node : Text) → IsStrictlySortedBy nat_cmp (numbers_by spots node) → IsKept next volumes names pools attachments spots s → numbers_by spots node ≡ attached_at s node
   held_at node o k =
       numbers_spotted attachments spots node k.spotted o
-      ∙ ap (λ (m : fin.FinMap place_cmp Attachment). map (λ e. e.0.0) (filter (λ e. same_text e.0.1 node) (fin.entries m))) (sym k.attachments_are)
+      ∙ ap (λ (m : fin.FinMap attachment_key_cmp Attachment). map (λ e. e.0.0) (filter (λ e. same_text e.0.1 node) (fin.entries m))) (sym k.attachments_are)
+
+  pub held_count : (node : Text) → IsStrictlySortedBy nat_cmp (numbers_by spots node) → IsKept next volumes names pools attachments spots s → length (numbers_by spots node) ≡ count_at s node
+  held_count node o k = ap (λ (ns : List ℕ). length ns) (held_at node o k)
 
   -- the kept total tells what is used
   pub held_used : (pool : Text) → IsKept next volumes names pools attachments spots s → told (total_of pools pool) ≡ used s pool
   held_used pool k = ap told (k.totals pool)
 
 -- trees with no entries, and totals of nothing, stand for the first State
-pub first_held : (first : ℕ) → 1 ≤ first → (volumes : List (ℕ × Volume)) (names : List (Place × ℕ)) (pools : Totals) (attachments : List (Place × Attachment)) (spots : List (Spot × Unit {0}))
+pub first_held : (first : ℕ) → 1 ≤ first → (volumes : List (ℕ × Volume)) (names : List (AttachmentKey × ℕ)) (pools : Totals) (attachments : List (AttachmentKey × Attachment)) (spots : Nodes)
     → volumes ≡ [] → names ≡ [] → attachments ≡ [] → spots ≡ [] → ((q : Text) → total_of pools q ≡ zero_total) → IsKept first volumes names pools attachments spots (first_state first)
 first_held first least volumes names pools attachments spots no_volumes no_names no_attachments no_spots none = record {
   next_is = refl;
   volumes_are = sym (ap (λ (es : List (ℕ × Volume)). volumes_of es) no_volumes);
-  attachments_are = sym (ap (λ (es : List (Place × Attachment)). places_of es) no_attachments);
+  attachments_are = sym (ap (λ (es : List (AttachmentKey × Attachment)). places_of es) no_attachments);
   named = λ n v e. absurd (none_some v (sym (fin.get-empty {X = Volume} nat_cmp n) ∙ e));
-  names_stand = λ p n e. absurd (none_some n (sym (ap (λ (es : List (Place × ℕ)). lookup (is_at (place_cmp p)) es) no_names) ∙ e));
+  names_stand = λ p n e. absurd (none_some n (sym (ap (λ (es : List (AttachmentKey × ℕ)). lookup (is_at (attachment_key_cmp p)) es) no_names) ∙ e));
   totals = λ pool. none pool ∙ sym (ap (λ (es : List (ℕ × Volume)). the_total (length (in_order es pool)) (sum (in_order es pool))) no_rows);
   few = let z = fin.len-empty nat_cmp Volume in omega (arith, z, least);
   small = λ n v e. absurd (none_some v (sym (fin.get-empty {X = Volume} nat_cmp n) ∙ e));
-  spotted = λ q.
-      ap (λ (es : List (Spot × Unit {0})). lookup (is_at (spot_cmp q)) es) no_spots
-      ∙ sym (ap (λ (es : List (Place × Attachment)). mark (fin.get (places_of es) (q.1, q.0))) no_attachments ∙ ap mark (fin.get-empty {X = Attachment} place_cmp (q.1, q.0)));
+  spotted = record {
+    found = λ q.
+        ap (λ (es : Nodes). has_spot es q) no_spots
+        ∙ sym (ap (λ (es : List (AttachmentKey × Attachment)). is_some (fin.get (places_of es) (q.1, q.0))) no_attachments ∙ ap is_some (fin.get-empty {X = Attachment} attachment_key_cmp (q.1, q.0)));
+    no_empty = subst HasNoEmpty (sym no_spots) (λ node numbers e. absurd (none_some numbers e));
+  };
 }
   where
     no_rows : fin.entries (fin.empty {X = Volume} {R = nat_cmp}) ≡ []

@@ -14,7 +14,7 @@ use Rattle.std.proofs.lemmas.Bool.{eqb-true, ne_eqb}
 use Rattle.std.proofs.lemmas.List.Kept.{IsStrictlySortedBy-filter}
 use Rattle.std.proofs.lemmas.Map.Keys.{sorted_head, sorted_tail}
 use Rattle.csi_keeper.specs.declared.volume.Attachment.{Attachment}
-use Rattle.csi_keeper.specs.State.{Place, place_cmp}
+use Rattle.csi_keeper.specs.State.{AttachmentKey, attachment_key_cmp}
 use Rattle.csi_keeper.specs.Texts.{Text, text_cmp}
 use Rattle.csi_memory.specs.Walking.{Row, rows_at, put_back, AreAhead, BeginsAbove}
 use Rattle.csi_memory.specs.facts.Listing.{empty_first, filter_after, places_are}
@@ -25,26 +25,26 @@ nodes_at n es = map (λ (a : Attachment). a.node) (map (λ (e : Row). e.1) (rows
 
 -- A number that none has
 
-far : (n : ℕ) (q p : Place) → place_cmp q p ≡ Less → n < q.0 → (p.0 == n) ≡ false
+far : (n : ℕ) (q p : AttachmentKey) → attachment_key_cmp q p ≡ Less → n < q.0 → (p.0 == n) ≡ false
 far n q p less low = ne_eqb p.0 n (λ e.
     let up : nat_cmp q.0 p.0 ≡ Greater = sym (nat_cmp_is q.0 p.0 Greater (omega (arith, e, low))) in
-    let is : place_cmp q p ≡ Greater = ap (λ r. ordering_then r (text_cmp q.1 p.1)) up in
+    let is : attachment_key_cmp q p ≡ Greater = ap (λ r. ordering_then r (text_cmp q.1 p.1)) up in
     cc (less, is))
 
-none_at : (n : ℕ) (q : Place) (es : List Row) → n < q.0 → AllByRecursion (λ p. place_cmp q p ≡ Less) (keys_of es) → rows_at n es ≡ []
+none_at : (n : ℕ) (q : AttachmentKey) (es : List Row) → n < q.0 → AllByRecursion (λ p. attachment_key_cmp q p ≡ Less) (keys_of es) → rows_at n es ≡ []
 none_at n q [] low h = refl
 none_at n q (e ∷ es) low h = ap (λ b. cond b (e ∷ rows_at n es) (rows_at n es)) (far n q e.0 h.0 low) ∙ none_at n q es low h.1
 
 other : (n : ℕ) (e : Row) (es : List Row) → (e.0.0 ≡ n → ⊥) → rows_at n (e ∷ es) ≡ rows_at n es
 other n e es far = ap (λ b. cond b (e ∷ rows_at n es) (rows_at n es)) (ne_eqb e.0.0 n far)
 
-none_left : (n : ℕ) (es : List Row) → BeginsAbove n es → IsStrictlySortedBy place_cmp (keys_of es) → rows_at n es ≡ []
+none_left : (n : ℕ) (es : List Row) → BeginsAbove n es → IsStrictlySortedBy attachment_key_cmp (keys_of es) → rows_at n es ≡ []
 none_left n [] low h = refl
-none_left n (e ∷ es) low h = other n e es (λ is. omega (arith, is, low)) ∙ none_at n e.0 es low (sorted_head place_cmp e.0 (keys_of es) h)
+none_left n (e ∷ es) low h = other n e es (λ is. omega (arith, is, low)) ∙ none_at n e.0 es low (sorted_head attachment_key_cmp e.0 (keys_of es) h)
 
 -- Where a walk begins
 
-keys_kept : (p : Place → Bool) (es : List Row) → keys_of (filter (λ e. p e.0) es) ≡ filter p (keys_of es)
+keys_kept : (p : AttachmentKey → Bool) (es : List Row) → keys_of (filter (λ e. p e.0) es) ≡ filter p (keys_of es)
 keys_kept p [] = refl
 keys_kept p (e ∷ es) = go (keys_kept p es) (p e.0)
   where
@@ -63,23 +63,23 @@ not_above a b h = elim (eq-or-lt_of_le h) as (λ _. is_le (nat_cmp a b) ≡ true
   | inr e ↦ ap is_le (sym (nat_cmp_is a b Less e))
 ]
 
-from_start : (start n : ℕ) (q : Place) → start ≤ n → (q.0 == n) ≡ true → range_contains place_cmp (Included (start, [])) Unbounded q ≡ true
+from_start : (start n : ℕ) (q : AttachmentKey) → start ≤ n → (q.0 == n) ≡ true → range_contains attachment_key_cmp (Included (start, [])) Unbounded q ≡ true
 from_start start n q low t =
     let is : q.0 ≡ n = eqb-true q.0 n t in
     let up : start ≤ q.0 = omega (arith, is, low) in
     ap (λ b. b && true) (first_le (nat_cmp start q.0) (text_cmp [] q.1) (empty_first q.1) ∙ not_above start q.0 up)
 
-back : (es fs : List Row) (r : Option (Bor Place × Bor Attachment)) → TakesFirst deref_pair es r fs → put_back r fs ≡ es
+back : (es fs : List Row) (r : Option (Bor AttachmentKey × Bor Attachment)) → TakesFirst deref_pair es r fs → put_back r fs ≡ es
 back es fs None h = sym h.0
 back es fs (Some p) h = sym h
 
-pub begun : (all es fs : List Row) (start passed : ℕ) (r : Option (Bor Place × Bor Attachment)) → start ≤ passed + 1 → IsStrictlySortedBy place_cmp (keys_of all)
-    → es ≡ entries_between place_cmp (Included (start, [])) Unbounded all → TakesFirst deref_pair es r fs → AreAhead all (put_back r fs) passed
+pub begun : (all es fs : List Row) (start passed : ℕ) (r : Option (Bor AttachmentKey × Bor Attachment)) → start ≤ passed + 1 → IsStrictlySortedBy attachment_key_cmp (keys_of all)
+    → es ≡ entries_between attachment_key_cmp (Included (start, [])) Unbounded all → TakesFirst deref_pair es r fs → AreAhead all (put_back r fs) passed
 begun all es fs start passed r low rise is took =
-    let within = range_contains place_cmp (Included (start, [])) Unbounded in
-    let left : put_back r fs ≡ entries_between place_cmp (Included (start, [])) Unbounded all = back es fs r took ∙ is in
+    let within = range_contains attachment_key_cmp (Included (start, [])) Unbounded in
+    let left : put_back r fs ≡ entries_between attachment_key_cmp (Included (start, [])) Unbounded all = back es fs r took ∙ is in
     record {
-      rise = subst (λ xs. IsStrictlySortedBy place_cmp (keys_of xs)) (sym left) (subst (IsStrictlySortedBy place_cmp) (sym (keys_kept within all)) (IsStrictlySortedBy-filter place_cmp within (keys_of all) rise));
+      rise = subst (λ xs. IsStrictlySortedBy attachment_key_cmp (keys_of xs)) (sym left) (subst (IsStrictlySortedBy attachment_key_cmp) (sym (keys_kept within all)) (IsStrictlySortedBy-filter attachment_key_cmp within (keys_of all) rise));
       whole = λ n more. ap (rows_at n) (places_are all rise) ∙ sym (filter_after _ _ (λ e t. from_start start n e.0 (omega (arith, low, more)) t) all) ∙ ap (rows_at n) (sym left);
     }
 
@@ -87,7 +87,7 @@ begun all es fs start passed r low rise is took =
 
 pub gone_past : (all es fs : List Row) (n : ℕ) (e : Row) → es ≡ e ∷ fs → e.0.0 ≤ n → AreAhead all es n → AreAhead all fs n
 gone_past all es fs n e is low o = record {
-  rise = sorted_tail place_cmp e.0 (keys_of fs) (subst (λ xs. IsStrictlySortedBy place_cmp (keys_of xs)) is o.rise);
+  rise = sorted_tail attachment_key_cmp e.0 (keys_of fs) (subst (λ xs. IsStrictlySortedBy attachment_key_cmp (keys_of xs)) is o.rise);
   whole = λ m more. o.whole m more ∙ ap (rows_at m) is ∙ other m e fs (λ same. omega (arith, same, low, more));
 }
 

@@ -13,8 +13,8 @@ abbrev pub burnt : Option ℕ → Result (Unit {0}) StoreFault × Option ℕ
 burnt None = (Ok tt, None)
 burnt (Some n) = if n == 0 then (Err Refused, None) else (Ok tt, Some (n - 1))
 
--- what is seen of a keeper that refuses a call: the keeper below it, how many calls go by before the one that is refused (none is behind it), how many were
--- answered `Refused` or `Down`, and whether it is down
+-- what is seen of a keeper that refuses a call: the keeper below it, how many calls go by before the one that
+-- is refused (none is behind it), how many were answered `Refused` or `Down`, and whether it is down
 abbrev pub kept : FusedMem → MemKeeper
 kept fused = fused.keeper
 
@@ -22,10 +22,10 @@ abbrev pub calls_left : FusedMem → Option ℕ
 calls_left fused = fused.fuse.left
 
 abbrev pub refusals_of : FusedMem → ℕ
-refusals_of fused = fused.fuse.refusals
+refusals_of fused = fused.fuse.health.refusals
 
 abbrev pub is_shut : FusedMem → Bool
-is_shut fused = fused.fuse.is_down
+is_shut fused = fused.fuse.health.is_down
 
 -- A call goes by, or is the one that is refused: no other is, and none goes uncounted.
 pub record Burns {X : Type 0} (old new : FusedMem) (result : Result X StoreFault) : Type 0 where

@@ -1,17 +1,19 @@
 -- What rows in memory stand for.
-use Rattle.std.specs.Prelude.{◌≡◌, ℕ, ◌+◌, ◌-◌, ◌*◌, ◌^◌, ◌==◌, List, [], ◌∷◌, Option, Some, None, map, filter, length, take, drop, nat_lt, if◌then◌else◌}
+use Rattle.std.specs.Prelude.{◌≡◌, ℕ, ◌+◌, ◌-◌, ◌*◌, ◌^◌, ◌==◌, List, [], ◌∷◌, Option, Some, None, ◌≢◌, Bool, is_some, map, filter, length, take}
+use Rattle.std.specs.Prelude.{drop, nat_lt, if◌then◌else◌}
 use Rattle.std.specs.BTreeMap.{is_at}
+use Rattle.std.specs.BTreeSet.{BTreeSet}
 use Rattle.std.specs.Int.{from_be_bytes, w32, w64}
 use Rattle.std.specs.FinMap.{FinMap, get, remove, entries, from_entries}
+use Rattle.std.specs.List.{list_any}
 use Rattle.std.specs.Map.{lookup}
 use Rattle.std.specs.Ordering.{nat_cmp, ordering_then}
 use Rattle.std.specs.declared.cmp.Ordering.{Ordering}
 use Rattle.std.specs.declared.ops.Bound.{Bound}
 use Rattle.std.specs.declared.ops.Bound.TheVariants.{Excluded, Unbounded}
-use Rattle.csi_types.specs.Maps.{same_text}
 use Rattle.csi_keeper.specs.declared.volume.Attachment.{Attachment}
 use Rattle.csi_keeper.specs.declared.volume.Volume.{Volume}
-use Rattle.csi_keeper.specs.State.{Place, place_cmp}
+use Rattle.csi_keeper.specs.State.{AttachmentKey, attachment_key_cmp}
 use Rattle.csi_keeper.specs.Listing.{listed_at}
 use Rattle.csi_keeper.specs.declared.listed.Listed.{Listed}
 use Rattle.csi_keeper.specs.Texts.{Text, text_cmp}
@@ -19,7 +21,7 @@ use Rattle.csi_keeper.specs.Texts.{Text, text_cmp}
 abbrev pub volumes_of : List (ℕ × Volume) → FinMap nat_cmp Volume
 volumes_of es = from_entries es
 
-abbrev pub places_of : List (Place × Attachment) → FinMap place_cmp Attachment
+abbrev pub places_of : List (AttachmentKey × Attachment) → FinMap attachment_key_cmp Attachment
 places_of es = from_entries es
 
 -- the entries after a value was set at a key, or taken away there
@@ -30,7 +32,8 @@ abbrev pub at_number : FinMap nat_cmp Volume → Option ℕ → Option Volume
 at_number volumes None = None
 at_number volumes (Some n) = get volumes n
 
--- a number by which most names are told apart: the first eight bytes, or of a shorter name the first four and the last four
+-- a number by which most names are told apart: the first eight bytes, or of a shorter name the first four and
+-- the last four
 unfoldable pub first_number : List ℕ → ℕ
 first_number name =
     if nat_lt (length name) 4 then 0
@@ -38,27 +41,27 @@ first_number name =
     else from_be_bytes w64 (take 8 name)
 
 -- a name behind its number
-abbrev pub name_key : Text → Place
+abbrev pub name_key : Text → AttachmentKey
 name_key name = (first_number name, name)
 
 -- the volume of a name, by the index
-abbrev pub named_by : List (Place × ℕ) → FinMap nat_cmp Volume → Text → Option Volume
-named_by names volumes name = at_number volumes (lookup (is_at (place_cmp (name_key name))) names)
+abbrev pub named_by : List (AttachmentKey × ℕ) → FinMap nat_cmp Volume → Text → Option Volume
+named_by names volumes name = at_number volumes (lookup (is_at (attachment_key_cmp (name_key name))) names)
 
 -- the end of the places of a number that a u64 keeps
-abbrev pub place_end : ℕ → Bound Place
+abbrev pub place_end : ℕ → Bound AttachmentKey
 place_end n = if n == 2 ^ 64 - 1 then Unbounded else Excluded (n + 1, [])
 
 -- the nodes of a number's attachments
-abbrev pub nodes_in : List (Place × Attachment) → ℕ → List Text
+abbrev pub nodes_in : List (AttachmentKey × Attachment) → ℕ → List Text
 nodes_in es n = map (λ a. a.node) (map (λ e. e.1) (filter (λ e. e.0.0 == n) (entries (places_of es))))
 
 -- what a listing tells of a volume, by these attachments
-abbrev pub listed_in : List (Place × Attachment) → Volume → Listed
+abbrev pub listed_in : List (AttachmentKey × Attachment) → Volume → Listed
 listed_in es v = listed_at v (nodes_in es v.number)
 
 -- without the attachments at the places
-abbrev pub removed_each : FinMap place_cmp Attachment → List Place → FinMap place_cmp Attachment
+abbrev pub removed_each : FinMap attachment_key_cmp Attachment → List AttachmentKey → FinMap attachment_key_cmp Attachment
 removed_each m [] = m
 removed_each m (p ∷ ps) = removed_each (remove m p) ps
 
@@ -70,18 +73,32 @@ Spot = Text × ℕ
 abbrev pub spot_cmp : Spot → Spot → Ordering
 spot_cmp a b = ordering_then (text_cmp a.0 b.0) (nat_cmp a.1 b.1)
 
-abbrev pub spots_of : List (Spot × Unit {0}) → FinMap spot_cmp (Unit {0})
-spots_of es = from_entries es
+-- the index of nodes: the numbers of the volumes that are attached at each
+abbrev pub Nodes : Type 0
+Nodes = List (Text × BTreeSet ℕ)
 
--- that something is there
-abbrev pub mark : {X : Type 0} → Option X → Option (Unit {0})
-mark None = None
-mark (Some x) = Some tt
-
--- the index of nodes has a spot exactly where an attachment stands
-abbrev pub AreSpotted : List (Place × Attachment) → List (Spot × Unit {0}) → Type 0
-AreSpotted es spots = (q : Spot) → lookup (is_at (spot_cmp q)) spots ≡ mark (get (places_of es) (q.1, q.0))
+-- a node that is not in the index has none
+abbrev pub numbers_in : Option (BTreeSet ℕ) → List ℕ
+numbers_in None = []
+numbers_in (Some numbers) = numbers.keys
 
 -- the numbers at a node, by the index
-abbrev pub numbers_by : List (Spot × Unit {0}) → Text → List ℕ
-numbers_by spots node = map (λ e. e.0.1) (filter (λ e. same_text e.0.0 node) spots)
+abbrev pub numbers_by : Nodes → Text → List ℕ
+numbers_by nodes node = numbers_in (lookup (is_at (text_cmp node)) nodes)
+
+-- whether the index has a spot
+abbrev pub has_spot : Nodes → Spot → Bool
+has_spot nodes q = list_any (is_at (nat_cmp q.1)) (numbers_by nodes q.0)
+
+-- the index after a spot was put into it, or taken out
+abbrev pub IsSpotSet : Spot → Bool → Nodes → Nodes → Type 0
+IsSpotSet p b old new = (q : Spot) → has_spot new q ≡ (if is_at (spot_cmp p) q then b else has_spot old q)
+
+-- each node in the index has a number
+abbrev pub HasNoEmpty : Nodes → Type 0
+HasNoEmpty nodes = (node : Text) (numbers : BTreeSet ℕ) → lookup (is_at (text_cmp node)) nodes ≡ Some numbers → numbers.keys ≢ []
+
+-- the index of nodes has a spot exactly where an attachment stands, and no node where none does
+pub record AreSpotted (es : List (AttachmentKey × Attachment)) (nodes : Nodes) : Type 0 where
+  pub found : (q : Spot) → has_spot nodes q ≡ is_some (get (places_of es) (q.1, q.0))
+  pub no_empty : HasNoEmpty nodes

@@ -6,19 +6,19 @@ use Rattle.std.specs.List.Sorted.{IsStrictlySortedBy}
 use Rattle.std.specs.Map.{keys_of}
 use Rattle.std.specs.Map.Iter.{deref_pair}
 use Rattle.csi_memory.specs.Memory.{places_of}
-use Rattle.csi_keeper.specs.State.{Place, place_cmp}
+use Rattle.csi_keeper.specs.State.{AttachmentKey, attachment_key_cmp}
 use Rattle.csi_memory.specs.declared.walk.Walk.{Walk}
 use Rattle.csi_keeper.specs.declared.volume.Attachment.{Attachment}
 
 abbrev pub Row : Type 0
-Row = Place × Attachment
+Row = AttachmentKey × Attachment
 
 -- the entries of a number
 abbrev pub rows_at : ℕ → List Row → List Row
 rows_at n es = filter (λ e. e.0.0 == n) es
 
 -- a list by its first entry, if it has one, and those after it
-abbrev pub put_back : Option (Bor Place × Bor Attachment) → List Row → List Row
+abbrev pub put_back : Option (Bor AttachmentKey × Bor Attachment) → List Row → List Row
 put_back None es = []
 put_back (Some p) es = deref_pair p ∷ es
 
@@ -28,7 +28,7 @@ ahead w = put_back w.next w.rest
 
 -- what is ahead where a number was passed rises, and has all attachments of each greater number
 pub record AreAhead (all es : List Row) (passed : ℕ) : Type 0 where
-  pub rise : IsStrictlySortedBy place_cmp (keys_of es)
+  pub rise : IsStrictlySortedBy attachment_key_cmp (keys_of es)
   pub whole : (n : ℕ) → passed < n → rows_at n (entries (places_of all)) ≡ rows_at n es
 
 -- it is a walk over these attachments
@@ -41,6 +41,6 @@ BeginsAbove n [] = ⊤
 BeginsAbove n (e ∷ es) = n < e.0.0
 
 -- the first is taken, where its number is at most n
-abbrev pub TakesUpTo : ℕ → List Row → Option (Bor Place × Bor Attachment) → List Row → Type 0
+abbrev pub TakesUpTo : ℕ → List Row → Option (Bor AttachmentKey × Bor Attachment) → List Row → Type 0
 TakesUpTo n es None fs = (fs ≡ es) × BeginsAbove n es
 TakesUpTo n es (Some p) fs = (es ≡ deref_pair p ∷ fs) × (p.0.now.0 ≤ n)

@@ -7,14 +7,14 @@ ghost use Rattle.csi_keeper.specs.declared.volume.Attachment.{Attachment as Row}
 ghost use Rattle.std.specs.FinMap.{get, insert, remove, entries, retain_keys};
 ghost use Rattle.std.specs.declared.ops.Bound.TheVariants.{Included};
 ghost use Rattle.csi_memory.specs.Memory.{places_of, place_end, nodes_in, removed_each, AreSpotted};
-ghost use Rattle.csi_keeper.specs.State.{Place, place_cmp};
+ghost use Rattle.csi_keeper.specs.State.{AttachmentKey, attachment_key_cmp};
 
 use crate::nodes::{drop_spot, put_spot};
 use csi_keeper::{Attachment, copy_attachment};
 use csi_types::{Items, Text, copy_text};
 use std::alloc::{AllocError, AllocFailed, Global};
-use std::collections::BTreeMap;
 use std::collections::btree_map::Range;
+use std::collections::{BTreeMap, BTreeSet};
 use std::ops::Bound;
 
 // The end of a number's places.
@@ -33,8 +33,9 @@ fn places_of_one(
     attachments: &BTreeMap<(u64, Text), Attachment>,
     number: u64,
 ) -> Range<'_, (u64, Text), Attachment>
-    ensures rest { result ≡ entries_between place_cmp (Included (number, [])) (place_end number) attachments.now.entries }
-    ensures runs { ShowsInOrder (deref_pair {K = Place} {X = Row}) }
+    ensures rest { result ≡ entries_between attachment_key_cmp (Included (number, []))
+        (place_end number) attachments.now.entries }
+    ensures runs { ShowsInOrder (deref_pair {K = AttachmentKey} {X = Row}) }
     ensures ordered { entries (places_of attachments.now.entries) ≡ attachments.now.entries }
 {
     let first = Bound::Included((number, Text::new(alloc)));
@@ -48,7 +49,8 @@ fn push_at(
     place: &(u64, Text),
     attachment: &Attachment,
 ) -> Result<(), AllocError>
-    ensures { OnOk result (copies.new ≡ copies.old ++ (if place.now.0 == number then attachment.now ∷ [] else [])) }
+    ensures { OnOk result (copies.new ≡ copies.old
+        ++ (if place.now.0 == number then attachment.now ∷ [] else [])) }
 {
     if place.0 == number {
         copies.push(copy_attachment(alloc, attachment)?)?;
@@ -63,7 +65,8 @@ pub(crate) fn attached_to(
     number: u64,
 ) -> Result<Items<Attachment>, AllocError>
     ensures value { IfOk result (λ xs. xs ≡ map (λ e. e.1)
-        (filter (λ e. e.0.0 == number) (entries_between place_cmp (Included (number, [])) (place_end number) attachments.now.entries))) }
+        (filter (λ e. e.0.0 == number) (entries_between attachment_key_cmp (Included (number, []))
+        (place_end number) attachments.now.entries))) }
     ensures ordered { entries (places_of attachments.now.entries) ≡ attachments.now.entries }
 {
     let mut copies = Items::new(alloc);
@@ -81,7 +84,8 @@ pub(crate) fn push_node(
     place: &(u64, Text),
     attachment: &Attachment,
 ) -> Result<(), AllocError>
-    ensures { OnOk result (nodes.new ≡ nodes.old ++ (if place.now.0 == number then attachment.now.node ∷ [] else [])) }
+    ensures { OnOk result (nodes.new ≡ nodes.old
+        ++ (if place.now.0 == number then attachment.now.node ∷ [] else [])) }
 {
     if place.0 == number {
         nodes.push(copy_text(alloc, attachment.node.as_str())?)?;
@@ -111,7 +115,8 @@ fn put_place(
     place: (u64, Text),
     attachment: Attachment,
 ) -> Result<(), AllocFailed<((u64, Text), Attachment)>>
-    ensures ok { OnOk result (places_of attachments.new.entries ≡ insert (places_of attachments.old.entries) place attachment) }
+    ensures ok { OnOk result (places_of attachments.new.entries
+        ≡ insert (places_of attachments.old.entries) place attachment) }
     ensures err { OnErr result (attachments.new.entries ≡ attachments.old.entries) }
     ensures back { IfErr result (λ failed. failed.value ≡ (place, attachment)) }
 {
@@ -119,18 +124,21 @@ fn put_place(
     Ok(())
 }
 
-/// Adds a copy of an attachment where none stands, and its spot to the index. Where memory is refused both stay.
+/// Adds a copy of an attachment where none stands, and its spot to the index. Where memory is refused both
+/// stay.
 pub(crate) fn put_attachment(
     alloc: Global,
     attachments: &mut BTreeMap<(u64, Text), Attachment>,
-    nodes: &mut BTreeMap<(Text, u64), ()>,
+    nodes: &mut BTreeMap<Text, BTreeSet<u64>>,
     number: u64,
     attachment: &Attachment,
 ) -> Result<(), AllocError>
-    ensures ok { OnOk result (places_of attachments.new.entries ≡ insert (places_of attachments.old.entries) (number, attachment.now.node) attachment.now) }
+    ensures ok { OnOk result (places_of attachments.new.entries
+        ≡ insert (places_of attachments.old.entries) (number, attachment.now.node) attachment.now) }
     ensures err { OnErr result (attachments.new.entries ≡ attachments.old.entries) }
     ensures spotted { get (places_of attachments.old.entries) (number, attachment.now.node) ≡ None
-        → AreSpotted attachments.old.entries nodes.old.entries → AreSpotted attachments.new.entries nodes.new.entries }
+        → AreSpotted attachments.old.entries nodes.old.entries
+        → AreSpotted attachments.new.entries nodes.new.entries }
 {
     let place = (number, copy_text(alloc, attachment.node.as_str())?);
     let copy = copy_attachment(alloc, attachment)?;
@@ -144,7 +152,7 @@ pub(crate) fn put_attachment(
 }
 
 #[tactic(auto, using(crate::specs::facts::Trees::no_place))]
-fn take_place(attachments: &mut BTreeMap<(u64, Text), Attachment>, place: &(u64, Text))
+fn remove_place(attachments: &mut BTreeMap<(u64, Text), Attachment>, place: &(u64, Text))
     ensures { places_of attachments.new.entries ≡ remove (places_of attachments.old.entries) place.now }
 {
     attachments.remove(place);
@@ -156,7 +164,8 @@ fn push_place(
     number: u64,
     place: &(u64, Text),
 ) -> Result<(), AllocError>
-    ensures { OnOk result (copies.new ≡ copies.old ++ (if place.now.0 == number then place.now ∷ [] else [])) }
+    ensures { OnOk result (copies.new ≡ copies.old
+        ++ (if place.now.0 == number then place.now ∷ [] else [])) }
 {
     if place.0 == number {
         copies.push((number, copy_text(alloc, place.1.as_str())?))?;
@@ -171,7 +180,8 @@ fn places_to(
     number: u64,
 ) -> Result<Items<(u64, Text)>, AllocError>
     ensures value { IfOk result (λ xs. xs ≡ map (λ e. e.0)
-        (filter (λ e. e.0.0 == number) (entries_between place_cmp (Included (number, [])) (place_end number) attachments.now.entries))) }
+        (filter (λ e. e.0.0 == number) (entries_between attachment_key_cmp (Included (number, []))
+        (place_end number) attachments.now.entries))) }
     ensures ordered { entries (places_of attachments.now.entries) ≡ attachments.now.entries }
 {
     let mut copies = Items::new(alloc);
@@ -182,46 +192,51 @@ fn places_to(
 }
 
 /// Takes the attachment at a place away, and its spot out of the index.
-pub(crate) fn take_attachment(
+pub(crate) fn remove_attachment(
     attachments: &mut BTreeMap<(u64, Text), Attachment>,
-    nodes: &mut BTreeMap<(Text, u64), ()>,
+    nodes: &mut BTreeMap<Text, BTreeSet<u64>>,
     place: (u64, Text),
 )
     ensures rows { places_of attachments.new.entries ≡ remove (places_of attachments.old.entries) place }
-    ensures spotted { AreSpotted attachments.old.entries nodes.old.entries → AreSpotted attachments.new.entries nodes.new.entries }
+    ensures spotted { AreSpotted attachments.old.entries nodes.old.entries
+        → AreSpotted attachments.new.entries nodes.new.entries }
 {
-    take_place(attachments, &place);
+    remove_place(attachments, &place);
     let (number, node) = place;
     drop_spot(nodes, &(node, number));
 }
 
-fn take_each(
+fn remove_each(
     attachments: &mut BTreeMap<(u64, Text), Attachment>,
-    nodes: &mut BTreeMap<(Text, u64), ()>,
+    nodes: &mut BTreeMap<Text, BTreeSet<u64>>,
     places: Items<(u64, Text)>,
 )
-    ensures rows { places_of attachments.new.entries ≡ removed_each (places_of attachments.old.entries) places }
-    ensures spotted { AreSpotted attachments.old.entries nodes.old.entries → AreSpotted attachments.new.entries nodes.new.entries }
+    ensures rows { places_of attachments.new.entries
+        ≡ removed_each (places_of attachments.old.entries) places }
+    ensures spotted { AreSpotted attachments.old.entries nodes.old.entries
+        → AreSpotted attachments.new.entries nodes.new.entries }
 {
     for place in places.into_vec() {
-        take_attachment(attachments, nodes, place);
+        remove_attachment(attachments, nodes, place);
     }
 }
 
 /// Takes the attachments of a number away. Where memory is refused they stay.
 #[tactic(auto, using(crate::proofs::DetachLemmas::each_detached))]
-pub(crate) fn take_places(
+pub(crate) fn remove_attachments(
     alloc: Global,
     attachments: &mut BTreeMap<(u64, Text), Attachment>,
-    nodes: &mut BTreeMap<(Text, u64), ()>,
+    nodes: &mut BTreeMap<Text, BTreeSet<u64>>,
     number: u64,
 ) -> Result<(), AllocError>
-    ensures ok { OnOk result (places_of attachments.new.entries ≡ retain_keys (places_of attachments.old.entries) (λ p. not (p.0 == number))) }
-    ensures spotted { AreSpotted attachments.old.entries nodes.old.entries → AreSpotted attachments.new.entries nodes.new.entries }
+    ensures ok { OnOk result (places_of attachments.new.entries
+        ≡ retain_keys (places_of attachments.old.entries) (λ p. not (p.0 == number))) }
+    ensures spotted { AreSpotted attachments.old.entries nodes.old.entries
+        → AreSpotted attachments.new.entries nodes.new.entries }
     ensures err { OnErr result (attachments.new.entries ≡ attachments.old.entries) }
-    ensures same { OnErr result (nodes.new.entries ≡ nodes.old.entries) }
+    ensures unchanged { OnErr result (nodes.new.entries ≡ nodes.old.entries) }
 {
     let places = places_to(alloc, attachments, number)?;
-    take_each(attachments, nodes, places);
+    remove_each(attachments, nodes, places);
     Ok(())
 }

@@ -1,17 +1,19 @@
 //! Keepers that fail where a test asks for it.
 
-ghost use Rattle.std.specs.Prelude.{◌≡◌, ◌≢◌, ◌≤◌, ◌+◌, ◌-◌, ◌^◌, ◌↔◌, min, false, Some, Err, IfOk, IsTrue};
+ghost use Rattle.std.specs.Prelude.{◌≡◌, ◌≢◌, ◌≤◌, ◌^◌, ◌↔◌, false, Some, Err, IfOk, IsTrue};
 ghost use Rattle.std.specs.FinMap.{get};
 ghost use Rattle.std.specs.Option.{option_map};
 ghost use Rattle.csi_memory.specs.Holding.{Holds};
 ghost use Rattle.csi_memory.specs.Fakes.{burnt, calls_left, is_shut, kept, refusals_of, Burns, fused_model};
 ghost use Rattle.csi_keeper.specs.Keeper.{Applies, Reads, count_after};
 ghost use Rattle.csi_keeper.specs.Listing.{listing};
-ghost use Rattle.csi_keeper.specs.State.{IsBounded, attached, attached_at, named, page, published_of_page, sizes, used, first_state};
+ghost use Rattle.csi_keeper.specs.State.{IsBounded, attached, attached_at, count_at, named, page, published_of_page, sizes, used, first_state};
 ghost use Rattle.csi_keeper.specs.declared.change.StoreFault.TheVariants.{Down, Refused};
 
 use crate::mem::MemKeeper;
-use csi_keeper::{Attachment, CapKey, Change, Keeper, Listed, PageFold, StoreFault, Usage, Volume};
+use csi_keeper::{
+    Attachment, CapKey, Change, Health, Keeper, Listed, PageFold, StoreFault, Usage, Volume,
+};
 use csi_types::{Items, Text};
 use std::alloc::{AllocError, Global};
 
@@ -20,35 +22,24 @@ use std::alloc::{AllocError, Global};
 struct Fuse {
     // How many calls go by before the one that is refused; none is once it was.
     left: Option<u64>,
-    // How many calls were answered `Refused` or `Down`, up to the greatest `u64`.
-    refusals: u64,
-    is_down: bool,
+    health: Health,
 }
 
 impl Fuse {
-    fn count_refusal(&mut self)
-        ensures { self.new ≡ record self.old { refusals = min (self.old.refusals + 1) (2 ^ 64 - 1) } }
-    {
-        self.refusals = self.refusals.saturating_add(1);
-    }
-
     // Lets a call go by, or refuses it.
     fn burn(&mut self) -> Result<(), StoreFault>
-        ensures turn { self.old.is_down ≡ false → (result ≡ (burnt self.old.left).0) × (self.new.left ≡ (burnt self.old.left).1) }
-        ensures count { self.new.refusals ≡ count_after self.old.refusals result }
-        ensures down { (result ≡ Err Down) ↔ IsTrue self.old.is_down }
-        ensures stays { self.new.is_down ≡ self.old.is_down }
+        ensures burns { self.old.health.is_down ≡ false → (result ≡ (burnt self.old.left).0)
+            × (self.new.left ≡ (burnt self.old.left).1) }
+        ensures count { self.new.health.refusals ≡ count_after self.old.health.refusals result }
+        ensures down { (result ≡ Err Down) ↔ IsTrue self.old.health.is_down }
+        ensures stays { self.new.health.is_down ≡ self.old.health.is_down }
     {
-        if self.is_down {
-            self.count_refusal();
-            return Err(StoreFault::Down);
-        }
+        self.health.start_call()?;
         match self.left {
             None => Ok(()),
             Some(0) => {
                 self.left = None;
-                self.count_refusal();
-                Err(StoreFault::Refused)
+                self.health.finish_call(Err(StoreFault::Refused))
             }
             Some(left) => {
                 self.left = Some(left - 1);
@@ -82,14 +73,14 @@ impl FusedMem {
         requires least { 1 ≤ first }
         requires most { first ≤ 2 ^ 62 }
         ensures state { IfOk result (λ fused. Holds (kept fused) (first_state first)) }
-        ensures fuse { IfOk result (λ fused. (calls_left fused ≡ Some at) × (is_shut fused ≡ false) × (refusals_of fused ≡ 0)) }
+        ensures fuse { IfOk result (λ fused. (calls_left fused ≡ Some at) × (is_shut fused ≡ false)
+            × (refusals_of fused ≡ 0)) }
     {
         Ok(FusedMem {
             keeper: MemKeeper::new(alloc, first)?,
             fuse: Fuse {
                 left: Some(at),
-                refusals: 0,
-                is_down: false,
+                health: Health::new(),
             },
         })
     }
@@ -98,7 +89,7 @@ impl FusedMem {
     pub fn is_down(&self) -> bool
         ensures { result ≡ is_shut self.now }
     {
-        self.fuse.is_down
+        self.fuse.health.is_down
     }
 
     /// The keeper as it is opened again: it keeps what was kept, and refuses nothing.
@@ -115,76 +106,93 @@ impl Keeper for FusedMem {
     ghost model = { fused_model };
 
     fn refusals(&self) -> u64 {
-        self.fuse.refusals
+        self.fuse.health.refusals
     }
 
     fn next_number(&mut self) -> Result<u64, StoreFault>
         ensures reads { Reads (fused_model self.old) (fused_model self.new) result (λ s n. n ≡ s.next) }
-        ensures turn { Burns self.old self.new result }
+        ensures burns { Burns self.old self.new result }
     {
         self.fuse.burn()?;
         self.keeper.next_number()
     }
 
     fn by_name(&mut self, alloc: Global, name: &str) -> Result<Option<Volume>, StoreFault>
-        ensures reads { Reads (fused_model self.old) (fused_model self.new) result (λ s v. v ≡ named s name.now) }
-        ensures turn { Burns self.old self.new result }
+        ensures reads { Reads (fused_model self.old) (fused_model self.new) result
+            (λ s v. v ≡ named s name.now) }
+        ensures burns { Burns self.old self.new result }
     {
         self.fuse.burn()?;
         self.keeper.by_name(alloc, name)
     }
 
     fn by_number(&mut self, alloc: Global, number: u64) -> Result<Option<Volume>, StoreFault>
-        ensures reads { Reads (fused_model self.old) (fused_model self.new) result (λ s v. v ≡ get s.volumes number) }
-        ensures turn { Burns self.old self.new result }
+        ensures reads { Reads (fused_model self.old) (fused_model self.new) result
+            (λ s v. v ≡ get s.volumes number) }
+        ensures burns { Burns self.old self.new result }
     {
         self.fuse.burn()?;
         self.keeper.by_number(alloc, number)
     }
 
     fn caps_of(&mut self, alloc: Global, number: u64) -> Result<Option<Items<CapKey>>, StoreFault>
-        ensures reads { Reads (fused_model self.old) (fused_model self.new) result (λ s keys. keys ≡ option_map (λ v. v.caps) (get s.volumes number)) }
-        ensures turn { Burns self.old self.new result }
+        ensures reads { Reads (fused_model self.old) (fused_model self.new) result
+            (λ s keys. keys ≡ option_map (λ v. v.caps) (get s.volumes number)) }
+        ensures burns { Burns self.old self.new result }
     {
         self.fuse.burn()?;
         self.keeper.caps_of(alloc, number)
     }
 
     fn attachments(&mut self, alloc: Global, number: u64) -> Result<Items<Attachment>, StoreFault>
-        ensures reads { Reads (fused_model self.old) (fused_model self.new) result (λ s xs. xs ≡ attached s number) }
-        ensures turn { Burns self.old self.new result }
+        ensures reads { Reads (fused_model self.old) (fused_model self.new) result
+            (λ s xs. xs ≡ attached s number) }
+        ensures burns { Burns self.old self.new result }
     {
         self.fuse.burn()?;
         self.keeper.attachments(alloc, number)
     }
 
     fn attached_at(&mut self, alloc: Global, node: &str) -> Result<Items<u64>, StoreFault>
-        ensures reads { Reads (fused_model self.old) (fused_model self.new) result (λ s xs. xs ≡ attached_at s node.now) }
-        ensures turn { Burns self.old self.new result }
+        ensures reads { Reads (fused_model self.old) (fused_model self.new) result
+            (λ s xs. xs ≡ attached_at s node.now) }
+        ensures burns { Burns self.old self.new result }
     {
         self.fuse.burn()?;
         self.keeper.attached_at(alloc, node)
     }
 
+    fn count_at(&mut self, alloc: Global, node: &Text) -> Result<u64, StoreFault>
+        ensures reads { Reads (fused_model self.old) (fused_model self.new) result
+            (λ s n. n ≡ count_at s node.now) }
+        ensures burns { Burns self.old self.new result }
+    {
+        self.fuse.burn()?;
+        self.keeper.count_at(alloc, node)
+    }
+
     fn sizes_in(&mut self, alloc: Global, pool: &str) -> Result<Items<u64>, StoreFault>
-        ensures reads { Reads (fused_model self.old) (fused_model self.new) result (λ s xs. xs ≡ sizes s pool.now) }
-        ensures turn { Burns self.old self.new result }
+        ensures reads { Reads (fused_model self.old) (fused_model self.new) result
+            (λ s xs. xs ≡ sizes s pool.now) }
+        ensures burns { Burns self.old self.new result }
     {
         self.fuse.burn()?;
         self.keeper.sizes_in(alloc, pool)
     }
 
     fn used_in(&mut self, pool: &Text) -> Result<Usage, StoreFault>
-        ensures reads { Reads (fused_model self.old) (fused_model self.new) result (λ s u. u ≡ used s pool.now) }
-        ensures turn { Burns self.old self.new result }
+        ensures reads { Reads (fused_model self.old) (fused_model self.new) result
+            (λ s u. u ≡ used s pool.now) }
+        ensures burns { Burns self.old self.new result }
     {
         self.fuse.burn()?;
         self.keeper.used_in(pool)
     }
 
     fn page(&mut self, alloc: Global, after: u64, count: u32) -> Result<Items<Volume>, StoreFault>
-        ensures reads { Reads (fused_model self.old) (fused_model self.new) result (λ s xs. xs ≡ page s after count) }
-        ensures turn { Burns self.old self.new result }
+        ensures reads { Reads (fused_model self.old) (fused_model self.new) result
+            (λ s xs. xs ≡ page s after count) }
+        ensures burns { Burns self.old self.new result }
     {
         self.fuse.burn()?;
         self.keeper.page(alloc, after, count)
@@ -196,8 +204,9 @@ impl Keeper for FusedMem {
         after: u64,
         count: u32,
     ) -> Result<Items<Items<Text>>, StoreFault>
-        ensures reads { Reads (fused_model self.old) (fused_model self.new) result (λ s xs. xs ≡ published_of_page s after count) }
-        ensures turn { Burns self.old self.new result }
+        ensures reads { Reads (fused_model self.old) (fused_model self.new) result
+            (λ s xs. xs ≡ published_of_page s after count) }
+        ensures burns { Burns self.old self.new result }
     {
         self.fuse.burn()?;
         self.keeper.published_nodes(alloc, after, count)
@@ -209,8 +218,9 @@ impl Keeper for FusedMem {
         after: u64,
         count: u32,
     ) -> Result<Items<Listed>, StoreFault>
-        ensures reads { Reads (fused_model self.old) (fused_model self.new) result (λ s xs. xs ≡ listing s after count) }
-        ensures turn { Burns self.old self.new result }
+        ensures reads { Reads (fused_model self.old) (fused_model self.new) result
+            (λ s xs. xs ≡ listing s after count) }
+        ensures burns { Burns self.old self.new result }
     {
         self.fuse.burn()?;
         self.keeper.listing(alloc, after, count)
@@ -223,9 +233,10 @@ impl Keeper for FusedMem {
         count: u32,
         fold: &mut F,
     ) -> Result<(), StoreFault>
-        ensures folded { Reads (fused_model self.old) (fused_model self.new) result (λ s _. F.folds fold.old (listing s after count) fold.new) }
+        ensures folded { Reads (fused_model self.old) (fused_model self.new) result
+            (λ s _. F.folds fold.old (listing s after count) fold.new) }
         ensures kept { F.keeps fold.old fold.new }
-        ensures turn { Burns self.old self.new result }
+        ensures burns { Burns self.old self.new result }
     {
         self.fuse.burn()?;
         self.keeper.fold_page(alloc, after, count, fold)
@@ -234,12 +245,12 @@ impl Keeper for FusedMem {
     fn apply(&mut self, alloc: Global, change: &Change) -> Result<(), StoreFault>
         requires { IsBounded change.now }
         ensures applies { Applies (fused_model self.old) (fused_model self.new) change.now result }
-        ensures turn { Burns self.old self.new result }
+        ensures burns { Burns self.old self.new result }
         ensures stops { result ≡ Err Refused → IsTrue (is_shut self.new) }
         ensures goes_on { result ≢ Err Refused → is_shut self.new ≡ is_shut self.old }
     {
         if let Err(fault) = self.fuse.burn() {
-            self.fuse.is_down = true;
+            self.fuse.health.is_down = true;
             return Err(fault);
         }
         self.keeper.apply(alloc, change)
@@ -248,7 +259,7 @@ impl Keeper for FusedMem {
     fn apply_owned(&mut self, alloc: Global, change: Change) -> Result<(), StoreFault>
         requires { IsBounded change }
         ensures applies { Applies (fused_model self.old) (fused_model self.new) change result }
-        ensures turn { Burns self.old self.new result }
+        ensures burns { Burns self.old self.new result }
         ensures stops { result ≡ Err Refused → IsTrue (is_shut self.new) }
         ensures goes_on { result ≢ Err Refused → is_shut self.new ≡ is_shut self.old }
     {

@@ -6,11 +6,11 @@ ghost use Rattle.csi_keeper.specs.declared.change.Change.TheVariants.{AddVolume,
 ghost use Rattle.csi_memory.specs.Holding.{Holds};
 ghost use Rattle.csi_memory.specs.Restoring.{CanRestore, from_number, restored};
 
-use crate::attachments::{attached_to, put_attachment, take_attachment, take_places};
+use crate::attachments::{attached_to, put_attachment, remove_attachment, remove_attachments};
 use crate::names::{drop_name, set_name, volume_named};
-use crate::nodes::numbers_at;
+use crate::nodes::{count_at, numbers_at};
 use crate::rows::{
-    caps_at, fold_after, nodes_after, put_volume, set_mutable, sizes_of, take_volume, volume_at,
+    caps_at, fold_after, nodes_after, put_volume, remove_volume, set_mutable, sizes_of, volume_at,
     volumes_after,
 };
 use csi_keeper::{
@@ -18,28 +18,28 @@ use csi_keeper::{
 };
 use csi_types::{Items, Map, Text, copy_map, copy_text};
 use std::alloc::{AllocError, Global};
-use std::collections::BTreeMap;
+use std::collections::{BTreeMap, BTreeSet};
 
 /// A keeper in memory. It is never down, and refuses nothing but what memory refuses: then it stays
 /// as it was, and goes on. What it keeps ends with it, so there is nothing that a stop leaves.
 ///
-/// Each volume is there once. For n volumes and m attachments a volume is found by its number or
-/// name in O(log n), the attachments of a volume in O(log m) and their number, and a page in
-/// O(log n) and its entries, for its nodes O(log m) more and their number; what a pool has used
-/// costs O(log p) for p pools. What is attached at a node costs O(log m) and the numbers there;
-/// `sizes_in` looks through all volumes. A change costs O(log n + log m), and `DetachAll` the
-/// attachments that it takes away. What is answered is a copy.
+/// Each volume is there once. For n volumes and m attachments a volume is found by its number or name in
+/// O(log n), the attachments of a volume in O(log m) and their number, and a page in O(log n) and its
+/// entries, for its nodes O(log m) more and their number; what a pool has used costs O(log p) for p pools.
+/// For d nodes where something is attached, the count at one of them costs O(log d), and the numbers there
+/// O(log d) and their number; `sizes_in` looks through all volumes. A change costs O(log n + log m), and
+/// `DetachAll` the attachments that it takes away. What is answered is a copy.
 #[derive(Drop)]
 pub struct MemKeeper {
     next: u64,
     volumes: BTreeMap<u64, Volume>,
-    // The number of a name's volume, by the first bytes of the name as a number, which are compared fast and tell most names apart, and by
-    // the name.
+    // The number of a name's volume, by the first bytes of the name as a number, which are compared fast and
+    // tell most names apart, and by the name.
     names: BTreeMap<(u64, Text), u64>,
     pools: Totals,
     attachments: BTreeMap<(u64, Text), Attachment>,
-    // Where an attachment stands, by node.
-    nodes: BTreeMap<(Text, u64), ()>,
+    // The numbers of the volumes that are attached at a node, where there are any.
+    nodes: BTreeMap<Text, BTreeSet<u64>>,
 }
 
 impl MemKeeper {
@@ -69,30 +69,35 @@ impl MemKeeper {
         self.next = self.next.max(number);
     }
 
-    /// Adds a volume that has its number already, which is the next one or a greater one, while none has its name.
-    /// The next number is the one behind it.
+    /// Adds a volume that has its number already, which is the next one or a greater one, while none has its
+    /// name. The next number is the one after it. The volume is moved into the rows: of what it owns only its
+    /// name is copied into the index, and its pool's name.
     ///
     /// # Errors
     ///
     /// Where memory is refused. The volumes stay.
-    pub fn restore(&mut self, alloc: Global, volume: &Volume) -> Result<(), AllocError>
-        requires number { volume.now.number < 2 ^ 62 }
-        requires bytes { volume.now.bytes ≤ 2 ^ 62 }
-        ensures made { OnOk result ((s : State) → Holds self.old s → CanRestore s volume.now → Holds self.new (restored s volume.now)) }
-        ensures same { OnErr result ((s : State) → Holds self.old s → CanRestore s volume.now → Holds self.new (from_number s volume.now.number)) }
+    pub fn restore(&mut self, alloc: Global, volume: Volume) -> Result<(), AllocError>
+        requires number { volume.number < 2 ^ 62 }
+        requires bytes { volume.bytes ≤ 2 ^ 62 }
+        ensures made { OnOk result ((s : State) → Holds self.old s → CanRestore s volume
+            → Holds self.new (restored s volume)) }
+        ensures unchanged { OnErr result ((s : State) → Holds self.old s → CanRestore s volume
+            → Holds self.new (from_number s volume.number)) }
     {
         self.skip_to(volume.number);
-        self.add(alloc, copy_volume(alloc, volume)?)
+        self.add(alloc, volume)
     }
 
     fn add(&mut self, alloc: Global, volume: Volume) -> Result<(), AllocError>
         requires number { volume.number < 2 ^ 62 }
         requires bytes { volume.bytes ≤ 2 ^ 62 }
-        ensures made { OnOk result ((s : State) → Holds self.old s → Allows s (AddVolume volume) → Holds self.new (changed s (AddVolume volume))) }
-        ensures same { OnErr result ((s : State) → Holds self.old s → Allows s (AddVolume volume) → Holds self.new s) }
+        ensures made { OnOk result ((s : State) → Holds self.old s → Allows s (AddVolume volume)
+            → Holds self.new (changed s (AddVolume volume))) }
+        ensures unchanged { OnErr result ((s : State) → Holds self.old s → Allows s (AddVolume volume)
+            → Holds self.new s) }
     {
         let (number, bytes) = (volume.number, volume.bytes);
-        let pool = copy_text(alloc, volume.pool.as_str())?;
+        let pool = volume.pool.copy(alloc)?;
         set_name(alloc, &mut self.names, &volume.name, number)?;
         if let Err(failed) = put_volume(&mut self.volumes, volume) {
             let (_, volume) = failed.value;
@@ -100,7 +105,7 @@ impl MemKeeper {
             return Err(AllocError);
         }
         if let Err(refused) = self.pools.add(pool, bytes) {
-            if let Some(volume) = take_volume(&mut self.volumes, number) {
+            if let Some(volume) = remove_volume(&mut self.volumes, number) {
                 drop_name(&mut self.names, volume.name);
             }
             return Err(refused);
@@ -110,9 +115,10 @@ impl MemKeeper {
     }
 
     fn remove(&mut self, number: u64)
-        ensures { (s : State) → Holds self.old s → Allows s (RemoveVolume number) → Holds self.new (changed s (RemoveVolume number)) }
+        ensures { (s : State) → Holds self.old s → Allows s (RemoveVolume number)
+            → Holds self.new (changed s (RemoveVolume number)) }
     {
-        if let Some(volume) = take_volume(&mut self.volumes, number) {
+        if let Some(volume) = remove_volume(&mut self.volumes, number) {
             self.pools.remove(&volume.pool, volume.bytes);
             drop_name(&mut self.names, volume.name);
         }
@@ -126,7 +132,8 @@ impl MemKeeper {
     ) -> Result<(), AllocError>
         ensures made { OnOk result ((s : State) → Holds self.old s → Allows s (Attach number attachment.now)
             → Holds self.new (changed s (Attach number attachment.now))) }
-        ensures same { OnErr result ((s : State) → Holds self.old s → Allows s (Attach number attachment.now) → Holds self.new s) }
+        ensures unchanged { OnErr result ((s : State) → Holds self.old s
+            → Allows s (Attach number attachment.now) → Holds self.new s) }
     {
         put_attachment(
             alloc,
@@ -138,26 +145,31 @@ impl MemKeeper {
     }
 
     fn detach(&mut self, alloc: Global, number: u64, node: &Text) -> Result<(), AllocError>
-        ensures made { OnOk result ((s : State) → Holds self.old s → Allows s (Detach number node.now) → Holds self.new (changed s (Detach number node.now))) }
-        ensures same { OnErr result ((s : State) → Holds self.old s → Allows s (Detach number node.now) → Holds self.new s) }
+        ensures made { OnOk result ((s : State) → Holds self.old s → Allows s (Detach number node.now)
+            → Holds self.new (changed s (Detach number node.now))) }
+        ensures unchanged { OnErr result ((s : State) → Holds self.old s → Allows s (Detach number node.now)
+            → Holds self.new s) }
     {
         let place = (number, copy_text(alloc, node.as_str())?);
-        take_attachment(&mut self.attachments, &mut self.nodes, place);
+        remove_attachment(&mut self.attachments, &mut self.nodes, place);
         Ok(())
     }
 
     fn detach_all(&mut self, alloc: Global, number: u64) -> Result<(), AllocError>
-        ensures made { OnOk result ((s : State) → Holds self.old s → Allows s (DetachAll number) → Holds self.new (changed s (DetachAll number))) }
-        ensures same { OnErr result ((s : State) → Holds self.old s → Allows s (DetachAll number) → Holds self.new s) }
+        ensures made { OnOk result ((s : State) → Holds self.old s → Allows s (DetachAll number)
+            → Holds self.new (changed s (DetachAll number))) }
+        ensures unchanged { OnErr result ((s : State) → Holds self.old s → Allows s (DetachAll number)
+            → Holds self.new s) }
     {
-        take_places(alloc, &mut self.attachments, &mut self.nodes, number)
+        remove_attachments(alloc, &mut self.attachments, &mut self.nodes, number)
     }
 
     #[tactic(auto, using(crate::proofs::ChangeLemmas::kept_mutable))]
     fn set_mutable(&mut self, alloc: Global, number: u64, mutable: &Map) -> Result<(), AllocError>
         ensures made { OnOk result ((s : State) → Holds self.old s → Allows s (SetMutable number mutable.now)
             → Holds self.new (changed s (SetMutable number mutable.now))) }
-        ensures same { OnErr result ((s : State) → Holds self.old s → Allows s (SetMutable number mutable.now) → Holds self.new s) }
+        ensures unchanged { OnErr result ((s : State) → Holds self.old s
+            → Allows s (SetMutable number mutable.now) → Holds self.new s) }
     {
         let copy = copy_map(alloc, mutable)?;
         set_mutable(&mut self.volumes, number, copy);
@@ -203,6 +215,10 @@ impl Keeper for MemKeeper {
     #[tactic(auto, using(csi_keeper::specs::facts::Reads::quiet_same, crate::proofs::ReadLemmas::held_at))]
     fn attached_at(&mut self, alloc: Global, node: &str) -> Result<Items<u64>, StoreFault> {
         Ok(numbers_at(alloc, &self.nodes, node)?)
+    }
+
+    fn count_at(&mut self, _alloc: Global, node: &Text) -> Result<u64, StoreFault> {
+        Ok(count_at(&self.nodes, node))
     }
 
     #[tactic(auto, using(csi_keeper::specs::facts::Reads::quiet_same, crate::proofs::ReadLemmas::held_sizes))]

@@ -2,11 +2,11 @@
 
 ghost use Rattle.std.specs.Prelude.{◌≡◌, Some, None, IfOk, OnOk, OnErr};
 ghost use Rattle.csi_memory.specs.Memory.{volumes_of, name_key, named_by, first_number, IsSetAt};
-ghost use Rattle.csi_keeper.specs.State.{place_cmp};
+ghost use Rattle.csi_keeper.specs.State.{attachment_key_cmp};
 
 use crate::rows::volume_at;
 use csi_keeper::Volume;
-use csi_types::{Text, copy_text};
+use csi_types::Text;
 use std::alloc::{AllocError, Global};
 use std::collections::BTreeMap;
 
@@ -54,17 +54,18 @@ pub(crate) fn set_name(
     name: &Text,
     number: u64,
 ) -> Result<(), AllocError>
-    ensures ok { OnOk result (IsSetAt place_cmp (name_key name.now) (Some number) names.old.entries names.new.entries) }
+    ensures ok { OnOk result (IsSetAt attachment_key_cmp (name_key name.now)
+        (Some number) names.old.entries names.new.entries) }
     ensures err { OnErr result (names.new.entries ≡ names.old.entries) }
 {
-    let key = key_of(copy_text(alloc, name.as_str())?);
+    let key = key_of(name.copy(alloc)?);
     names.insert(key, number)?;
     Ok(())
 }
 
 /// Takes a name out of the index.
 pub(crate) fn drop_name(names: &mut BTreeMap<(u64, Text), u64>, name: Text)
-    ensures { IsSetAt place_cmp (name_key name) None names.old.entries names.new.entries }
+    ensures { IsSetAt attachment_key_cmp (name_key name) None names.old.entries names.new.entries }
 {
     names.remove(&key_of(name));
 }

@@ -1,84 +1,84 @@
-//! The index of nodes in memory: where each attachment stands, by the node's id and then by number.
+//! The index of nodes in memory: the numbers of the volumes that are attached at each node, by the node's id.
+//! A node where none is has no entry.
 
-ghost use Rattle.std.specs.BTreeMap.Range.{entries_between};
-ghost use Rattle.std.specs.FinMap.{entries};
-ghost use Rattle.std.specs.Map.Iter.{ShowsInOrder, deref_pair};
-ghost use Rattle.std.specs.Prelude.{◌≡◌, ◌∷◌, ◌++◌, [], Some, None, ℕ, List, IfOk, OnOk, OnErr, if◌then◌else◌};
-ghost use Rattle.std.specs.declared.ops.Bound.TheVariants.{Included, Excluded};
-ghost use Rattle.csi_types.specs.Maps.{same_text};
-ghost use Rattle.csi_memory.specs.Memory.{Spot, spot_cmp, spots_of, numbers_by, IsSetAt};
+ghost use Rattle.std.specs.List.Sorted.{IsStrictlySortedBy};
+ghost use Rattle.std.specs.Ordering.{nat_cmp};
+ghost use Rattle.std.specs.Prelude.{◌≡◌, true, false, length, IfOk, OnOk, OnErr};
+ghost use Rattle.csi_memory.specs.Memory.{Spot, IsSpotSet, HasNoEmpty, has_spot, numbers_by};
 
 use csi_types::{Items, Text, copy_text};
 use std::alloc::{AllocError, Global};
-use std::collections::BTreeMap;
-use std::collections::btree_map::Range;
-use std::ops::Bound;
+use std::collections::{BTreeMap, BTreeSet};
 
-/// Adds a spot. Where memory is refused the index stays.
+/// Adds a spot. Where memory is refused the index has the spots that it had.
 pub(crate) fn put_spot(
     alloc: Global,
-    nodes: &mut BTreeMap<(Text, u64), ()>,
+    nodes: &mut BTreeMap<Text, BTreeSet<u64>>,
     node: &Text,
     number: u64,
 ) -> Result<(), AllocError>
-    ensures ok { OnOk result (IsSetAt spot_cmp (node.now, number) (Some tt) nodes.old.entries nodes.new.entries) }
-    ensures err { OnErr result (nodes.new.entries ≡ nodes.old.entries) }
+    ensures ok { OnOk result (IsSpotSet (node.now, number) true nodes.old.entries nodes.new.entries) }
+    ensures err { OnErr result ((q : Spot) → has_spot nodes.new.entries q ≡ has_spot nodes.old.entries q) }
+    ensures full { HasNoEmpty nodes.old.entries → HasNoEmpty nodes.new.entries }
 {
-    nodes.insert((copy_text(alloc, node.as_str())?, number), ())?;
-    Ok(())
-}
-
-/// Takes a spot out of the index.
-pub(crate) fn drop_spot(nodes: &mut BTreeMap<(Text, u64), ()>, spot: &(Text, u64))
-    ensures { IsSetAt spot_cmp spot.now None nodes.old.entries nodes.new.entries }
-{
-    nodes.remove(spot);
-}
-
-// The least text that is greater than this one.
-fn next_text(alloc: Global, text: &str) -> Result<Text, AllocError>
-    ensures { IfOk result (λ t. t ≡ text.now ++ 0 ∷ []) }
-{
-    Text::joined(alloc, text, "\0")
-}
-
-#[tactic(auto, using(crate::specs::facts::Spots::spots_are))]
-fn spots_of_one(
-    nodes: &BTreeMap<(Text, u64), ()>,
-    node: Text,
-    end: Text,
-) -> Range<'_, (Text, u64), ()>
-    requires { end ≡ node ++ 0 ∷ [] }
-    ensures rest { result ≡ entries_between spot_cmp (Included (node, 0)) (Excluded (end, 0)) nodes.now.entries }
-    ensures runs { ShowsInOrder (deref_pair {K = Spot} {X = Unit {0}}) }
-    ensures ordered { entries (spots_of nodes.now.entries) ≡ nodes.now.entries }
-{
-    nodes.range((Bound::Included((node, 0)), Bound::Excluded((end, 0))))
-}
-
-fn push_number(numbers: &mut Items<u64>, spot: &(Text, u64), node: &str) -> Result<(), AllocError>
-    ensures { OnOk result (numbers.new ≡ numbers.old ++ (if same_text spot.now.0 node.now then spot.now.1 ∷ [] else [])) }
-{
-    if spot.0.as_str() == node {
-        numbers.push(spot.1)?;
+    if let Some(numbers) = nodes.get_mut(node) {
+        numbers.insert(number)?;
+        return Ok(());
     }
+    let mut numbers = BTreeSet::new(alloc);
+    numbers.insert(number)?;
+    nodes.insert(copy_text(alloc, node.as_str())?, numbers)?;
     Ok(())
+}
+
+/// Takes a spot out of the index, and its node where that was the last one there.
+pub(crate) fn drop_spot(nodes: &mut BTreeMap<Text, BTreeSet<u64>>, spot: &(Text, u64))
+    ensures gone { IsSpotSet spot.now false nodes.old.entries nodes.new.entries }
+    ensures full { HasNoEmpty nodes.old.entries → HasNoEmpty nodes.new.entries }
+{
+    let Some(numbers) = nodes.get_mut(&spot.0) else {
+        return;
+    };
+    numbers.remove(&spot.1);
+    if numbers.is_empty() {
+        nodes.remove(&spot.0);
+    }
+}
+
+fn copies_of(alloc: Global, numbers: &BTreeSet<u64>) -> Result<Items<u64>, AllocError>
+    ensures value { IfOk result (λ xs. xs ≡ numbers.now.keys) }
+    ensures ordered { IsStrictlySortedBy nat_cmp numbers.now.keys }
+{
+    let mut copies = Items::with_room(alloc, numbers.len())?;
+    for number in numbers {
+        copies.push(*number)?;
+    }
+    Ok(copies)
 }
 
 /// The numbers of the volumes that are attached at a node, in rising order.
 pub(crate) fn numbers_at(
     alloc: Global,
-    nodes: &BTreeMap<(Text, u64), ()>,
+    nodes: &BTreeMap<Text, BTreeSet<u64>>,
     node: &str,
 ) -> Result<Items<u64>, AllocError>
     ensures value { IfOk result (λ xs. xs ≡ numbers_by nodes.now.entries node.now) }
-    ensures ordered { OnOk result (entries (spots_of nodes.now.entries) ≡ nodes.now.entries) }
+    ensures ordered { OnOk result (IsStrictlySortedBy nat_cmp (numbers_by nodes.now.entries node.now)) }
 {
-    let first = copy_text(alloc, node)?;
-    let end = next_text(alloc, node)?;
-    let mut numbers = Items::new(alloc);
-    for (spot, _) in spots_of_one(nodes, first, end) {
-        push_number(&mut numbers, spot, node)?;
+    let node = copy_text(alloc, node)?;
+    match nodes.get(&node) {
+        Some(numbers) => copies_of(alloc, numbers),
+        None => Ok(Items::new(alloc)),
     }
-    Ok(numbers)
+}
+
+/// How many volumes are attached at a node.
+pub(crate) fn count_at(nodes: &BTreeMap<Text, BTreeSet<u64>>, node: &Text) -> u64
+    ensures value { result ≡ length (numbers_by nodes.now.entries node.now) }
+    ensures ordered { IsStrictlySortedBy nat_cmp (numbers_by nodes.now.entries node.now) }
+{
+    match nodes.get(node) {
+        Some(numbers) => numbers.len() as u64,
+        None => 0,
+    }
 }

@@ -43,7 +43,8 @@ pub(crate) fn caps_at(
     volumes: &BTreeMap<u64, Volume>,
     number: u64,
 ) -> Result<Option<Items<CapKey>>, AllocError>
-    ensures { IfOk result (λ keys. keys ≡ option_map (λ v. v.caps) (get (volumes_of volumes.now.entries) number)) }
+    ensures { IfOk result (λ keys. keys ≡ option_map (λ v. v.caps)
+        (get (volumes_of volumes.now.entries) number)) }
 {
     match volumes.get(&number) {
         Some(volume) => Ok(Some(copy_keys(alloc, &volume.caps)?)),
@@ -64,7 +65,8 @@ pub(crate) fn sizes_of(
     volumes: &BTreeMap<u64, Volume>,
     pool: &str,
 ) -> Result<Vec<u64>, AllocError>
-    ensures value { IfOk result (λ xs. xs.items ≡ map (λ v. v.bytes) (filter (λ v. same_text v.pool pool.now) (values volumes.now))) }
+    ensures value { IfOk result (λ xs. xs.items
+        ≡ map (λ v. v.bytes) (filter (λ v. same_text v.pool pool.now) (values volumes.now))) }
     ensures ordered { entries (volumes_of volumes.now.entries) ≡ volumes.now.entries }
 {
     volumes
@@ -90,7 +92,9 @@ pub(crate) fn volumes_after(
     after: u64,
     count: u32,
 ) -> Result<Items<Volume>, AllocError>
-    ensures value { IfOk result (λ vs. vs ≡ take count (map (λ e. e.1) (entries_between nat_cmp (Excluded after) Unbounded volumes.now.entries))) }
+    ensures value { IfOk result (λ vs. vs
+        ≡ take count (map (λ e. e.1) (entries_between nat_cmp
+        (Excluded after) Unbounded volumes.now.entries))) }
     ensures ordered { entries (volumes_of volumes.now.entries) ≡ volumes.now.entries }
 {
     let rows = beyond(volumes, after);
@@ -113,7 +117,8 @@ pub(crate) fn nodes_after(
     count: u32,
 ) -> Result<Items<Items<Text>>, AllocError>
     ensures value { IfOk result (λ xs. xs ≡ take count
-        (map (λ e. nodes_in attachments.now.entries e.1.number) (entries_between nat_cmp (Excluded after) Unbounded volumes.now.entries))) }
+        (map (λ e. nodes_in attachments.now.entries e.1.number)
+        (entries_between nat_cmp (Excluded after) Unbounded volumes.now.entries))) }
     ensures ordered { entries (volumes_of volumes.now.entries) ≡ volumes.now.entries }
 {
     let rows = beyond(volumes, after);
@@ -139,7 +144,8 @@ pub(crate) fn fold_after<F: PageFold>(
     fold: &mut F,
 ) -> Result<(), AllocError>
     ensures folded { OnOk result (F.folds fold.old (take count
-        (map (λ e. listed_in attachments.now.entries e.1) (entries_between nat_cmp (Excluded after) Unbounded volumes.now.entries))) fold.new) }
+        (map (λ e. listed_in attachments.now.entries e.1)
+        (entries_between nat_cmp (Excluded after) Unbounded volumes.now.entries))) fold.new) }
     ensures kept { F.keeps fold.old fold.new }
     ensures ordered { entries (volumes_of volumes.now.entries) ≡ volumes.now.entries }
 {
@@ -152,7 +158,7 @@ pub(crate) fn fold_after<F: PageFold>(
         }
         left -= 1;
         let nodes = walk.nodes_of(alloc, attachments, volume.number)?;
-        fold.take(&lent_at(volume, &nodes))?;
+        fold.add(&lent_at(volume, &nodes))?;
     }
     Ok(())
 }
@@ -163,7 +169,8 @@ pub(crate) fn put_volume(
     volumes: &mut BTreeMap<u64, Volume>,
     volume: Volume,
 ) -> Result<(), AllocFailed<(u64, Volume)>>
-    ensures ok { OnOk result (volumes_of volumes.new.entries ≡ insert (volumes_of volumes.old.entries) volume.number volume) }
+    ensures ok { OnOk result (volumes_of volumes.new.entries
+        ≡ insert (volumes_of volumes.old.entries) volume.number volume) }
     ensures err { OnErr result (volumes.new.entries ≡ volumes.old.entries) }
     ensures back { IfErr result (λ failed. failed.value ≡ (volume.number, volume)) }
 {
@@ -173,7 +180,7 @@ pub(crate) fn put_volume(
 
 /// Takes the volume of a number away.
 #[tactic(auto, using(crate::specs::facts::Trees::no_volume, crate::specs::facts::Trees::get_number))]
-pub(crate) fn take_volume(volumes: &mut BTreeMap<u64, Volume>, number: u64) -> Option<Volume>
+pub(crate) fn remove_volume(volumes: &mut BTreeMap<u64, Volume>, number: u64) -> Option<Volume>
     ensures value { result ≡ get (volumes_of volumes.old.entries) number }
     ensures rest { volumes_of volumes.new.entries ≡ remove (volumes_of volumes.old.entries) number }
 {
@@ -183,7 +190,9 @@ pub(crate) fn take_volume(volumes: &mut BTreeMap<u64, Volume>, number: u64) -> O
 /// Gives the volume of a number, where one stands, other mutable parameters. It takes no memory.
 #[tactic(auto, using(crate::proofs::RowChangeLemmas::one_mutable, crate::proofs::RowChangeLemmas::no_mutable))]
 pub(crate) fn set_mutable(volumes: &mut BTreeMap<u64, Volume>, number: u64, mutable: Map)
-    ensures { volumes_of volumes.new.entries ≡ mutable_set (volumes_of volumes.old.entries) number mutable (get (volumes_of volumes.old.entries) number) }
+    ensures { volumes_of volumes.new.entries
+        ≡ mutable_set (volumes_of volumes.old.entries) number mutable
+        (get (volumes_of volumes.old.entries) number) }
 {
     if let Some(volume) = volumes.get_mut(&number) {
         volume.mutable = mutable;

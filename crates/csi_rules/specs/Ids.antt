@@ -1,5 +1,5 @@
--- Numbers of volumes as texts: volume ids, and tokens of a listing (CSI specification, 'CreateVolume', Volume.volume_id, and
--- 'ListVolumes', starting_token). Both are the plugin's own.
+-- Numbers of volumes as texts: volume ids, and tokens of a listing (CSI specification, 'CreateVolume',
+-- Volume.volume_id, and 'ListVolumes', starting_token). Both are the plugin's own.
 use Rattle.std.specs.Prelude.{ℕ, ◌^◌, ◌++◌, ◌&&◌, nat_lt, Option, None, Some, drop, take, codes, if◌then◌else◌}
 use Rattle.std.specs.Fmt.{decimal}
 use Rattle.std.specs.Str.Parse.{digits_value}

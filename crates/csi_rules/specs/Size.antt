@@ -16,19 +16,19 @@ abbrev pub rounded_up : ℕ → ℕ
 rounded_up n = rounded_down (n + (GRANULE_BYTES - 1))
 
 -- 0 is not given: what is required, rounded up; or else the default size, and at most the limit, rounded down
-abbrev pub asked : Sizes → ℕ → ℕ → ℕ
-asked sizes required limit =
+abbrev pub requested_bytes : Sizes → ℕ → ℕ → ℕ
+requested_bytes sizes required limit =
     if nat_lt 0 required then rounded_up required
     else (if nat_lt 0 limit then min sizes.default_bytes (rounded_down limit) else sizes.default_bytes)
 
--- a size that is not zero, nor above a limit that is given, nor above the greatest one; what is required is compared before it is rounded, too, which is never what decides: rounded up
--- it is no smaller
+-- a size that is not zero, nor above a limit that is given, nor above the greatest one; what is required is
+-- compared before it is rounded, too, which is never what decides: rounded up it is no smaller
 abbrev pub within : Sizes → ℕ → ℕ → ℕ → Option ℕ
 within sizes required limit n =
     if nat_lt 0 n && (limit == 0 || nat_le n limit) && nat_le n sizes.greatest_bytes && nat_le required sizes.greatest_bytes then Some n else None
 
 abbrev pub size_by : Sizes → ℕ → ℕ → Option ℕ
-size_by sizes required limit = within sizes required limit (asked sizes required limit)
+size_by sizes required limit = within sizes required limit (requested_bytes sizes required limit)
 
 -- the size of a volume for which a range is asked, or none
 abbrev pub size : Sizes → Option CapacityRange → Option ℕ

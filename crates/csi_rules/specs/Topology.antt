@@ -1,4 +1,5 @@
--- Which pools serve a topology (CSI specification, 'CreateVolume', the messages Topology and TopologyRequirement).
+-- Which pools serve a topology (CSI specification, 'CreateVolume', the messages Topology and
+-- TopologyRequirement).
 use Rattle.std.specs.Prelude.{◌==◌, ◌||◌, Bool, true, List, [], ◌∷◌, ◌++◌, Option, Some, None, length}
 use Rattle.std.specs.FinMap.{empty}
 use Rattle.std.specs.List.{list_any}
@@ -14,7 +15,8 @@ abbrev pub or_empty : List TextMap → List TextMap
 or_empty [] = empty ∷ []
 or_empty (t ∷ ts) = t ∷ ts
 
--- the terms in the order in which they are tried: the preferred ones, and then the requisite ones, or the empty term where there is none
+-- the terms in the order in which they are tried: the preferred ones, and then the requisite ones, or the
+-- empty term where there is none
 abbrev pub terms : Option Requirement → List TextMap
 terms None = empty ∷ []
 terms (Some r) = r.preferred ++ or_empty r.requisite

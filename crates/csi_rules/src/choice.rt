@@ -35,7 +35,8 @@ impl Room<'_> {
 #[inline(always)]
 fn read_room<'a, K: Keeper>(keeper: &mut K, pool: &'a Pool) -> Result<Room<'a>, StoreFault>
     ensures pool { IfOk result (λ r. r.pool.now ≡ pool.now) }
-    ensures reads { Reads (K.model keeper.old) (K.model keeper.new) result (λ s r. room_value r ≡ (pool.now, used s pool.now.name)) }
+    ensures reads { Reads (K.model keeper.old) (K.model keeper.new) result
+        (λ s r. room_value r ≡ (pool.now, used s pool.now.name)) }
 {
     let used = keeper.used_in(&pool.name)?;
     Ok(Room { pool, used })
@@ -50,7 +51,8 @@ pub fn read_rooms<'a, K: Keeper>(
     keeper: &mut K,
 ) -> Result<Vec<Room<'a>>, StoreFault>
     ensures pools { IfOk result (λ rs. map (λ r. r.pool.now) rs.items ≡ config.now.pools) }
-    ensures finds { Finds (K.model keeper.old) (K.model keeper.new) result (λ s rs. map room_value rs.items ≡ rooms config.now s) }
+    ensures finds { Finds (K.model keeper.old) (K.model keeper.new) result
+        (λ s rs. map room_value rs.items ≡ rooms config.now s) }
 {
     let mut rooms = Vec::new(alloc);
     for pool in config.pools() {
@@ -71,7 +73,8 @@ pub fn count(rooms: &[Room<'_>]) -> u64
 }
 
 fn fits(room: &Room<'_>, term: &Map, size: u64) -> bool
-    ensures { result ≡ (serves (room_value room.now).0.segments term.now && nat_le size (free (room_value room.now))) }
+    ensures { result ≡ (serves (room_value room.now).0.segments term.now
+        && nat_le size (free (room_value room.now))) }
 {
     serves(&room.pool.segments, term) && size <= room.free()
 }
@@ -79,7 +82,8 @@ fn fits(room: &Room<'_>, term: &Map, size: u64) -> bool
 // The first pool that serves the term and has room.
 fn first_for<'a>(rooms: &[Room<'a>], term: &Map, size: u64) -> Option<&'a Pool>
     ensures { option_map (λ p. p.now) result
-        ≡ option_map (λ r. r.pool.now) (find (λ r. serves r.pool.now.segments term.now && nat_le size (free (room_value r))) rooms.now) }
+        ≡ option_map (λ r. r.pool.now) (find
+        (λ r. serves r.pool.now.segments term.now && nat_le size (free (room_value r))) rooms.now) }
 {
     let room = rooms.iter().find(|room| fits(room, term, size))?;
     Some(room.pool)
@@ -117,7 +121,8 @@ fn pool_requisite<'a>(
     requisite: &[Map],
     size: u64,
 ) -> Option<&'a Pool>
-    ensures { option_map (λ p. p.now) result ≡ choice (map room_value rooms.now) (or_empty requisite.now) size }
+    ensures { option_map (λ p. p.now) result
+        ≡ choice (map room_value rooms.now) (or_empty requisite.now) size }
 {
     if requisite.is_empty() {
         pool_anywhere(alloc, rooms, size)
@@ -133,7 +138,8 @@ fn pool_by<'a>(
     wanted: &Requirement,
     size: u64,
 ) -> Option<&'a Pool>
-    ensures { option_map (λ p. p.now) result ≡ choice (map room_value rooms.now) (terms (Some wanted.now)) size }
+    ensures { option_map (λ p. p.now) result
+        ≡ choice (map room_value rooms.now) (terms (Some wanted.now)) size }
 {
     if let Some(pool) = pool_among(rooms, wanted.preferred.as_slice(), size) {
         return Some(pool);

@@ -22,7 +22,8 @@ pub fn volume_of<K: Keeper>(
     id: &Text,
 ) -> Result<Option<(u64, Volume)>, StoreFault>
     ensures unasked { number_of_id id.now ≡ None → (keeper.new ≡ keeper.old) × (result ≡ Ok None) }
-    ensures finds { Finds (K.model keeper.old) (K.model keeper.new) result (λ s found. found ≡ volume_at s (number_of_id id.now)) }
+    ensures finds { Finds (K.model keeper.old) (K.model keeper.new) result
+        (λ s found. found ≡ volume_at s (number_of_id id.now)) }
 {
     let Some(number) = number_of_id(id.as_str()) else {
         return Ok(None);
@@ -46,7 +47,8 @@ pub fn caps_of<K: Keeper>(
     id: &Text,
 ) -> Result<Option<(u64, Items<CapKey>)>, StoreFault>
     ensures unasked { number_of_id id.now ≡ None → (keeper.new ≡ keeper.old) × (result ≡ Ok None) }
-    ensures finds { Finds (K.model keeper.old) (K.model keeper.new) result (λ s found. found ≡ caps_at s (number_of_id id.now)) }
+    ensures finds { Finds (K.model keeper.old) (K.model keeper.new) result
+        (λ s found. found ≡ caps_at s (number_of_id id.now)) }
 {
     let Some(number) = number_of_id(id.as_str()) else {
         return Ok(None);

@@ -1,9 +1,12 @@
-//! The rules by which the volume machine plans: values of the State and of requests, and the reads that they rest on.
+//! The rules by which the volume machine plans: values of the State and of requests, and the reads that they
+//! rest on.
 //!
-//! [`keys_of`] and [`have_keys`] say which keys capabilities have and whether they are had (`capability.rt`), [`size`] and [`has_size`] how large a volume is
-//! made (`sizes.rt`), [`serves`] and [`is_reachable`] which pools serve a topology (`topology.rt`), [`choose`] from which pool a volume is made
-//! (`choice.rt`). `ids.rt` has ids and the numbers in ids and tokens, `info.rt` what is answered of a volume, and `finding.rt` reads of a keeper. Each has its
-//! definitions in `specs/`, and `specs/facts/` has what follows from these and is wanted above as well.
+//! [`keys_of`] and [`have_keys`] say which keys capabilities have and whether they are had (`capability.rt`),
+//! [`size`] and [`has_size`] how large a volume is made (`sizes.rt`), [`serves`] and [`is_reachable`] which
+//! pools serve a topology (`topology.rt`), [`choose`] from which pool a volume is made (`choice.rt`).
+//! `ids.rt` has ids and the numbers in ids and tokens, `info.rt` what is answered of a volume, and
+//! `finding.rt` reads of a keeper. Each has its definitions in `specs/`, and `specs/facts/` has what follows
+//! from these and is wanted above as well.
 //!
 //! ```rust
 //! let rooms = read_rooms(alloc, config, keeper)?;

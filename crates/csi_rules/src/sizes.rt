@@ -1,7 +1,7 @@
 //! How large a volume is made.
 
 ghost use Rattle.std.specs.Prelude.{◌≡◌, ◌<◌, ◌≤◌, ◌^◌};
-ghost use Rattle.csi_rules.specs.Size.{whole, rounded_down, asked, size_by, size, has_size};
+ghost use Rattle.csi_rules.specs.Size.{whole, rounded_down, requested_bytes, size_by, size, has_size};
 
 use csi_config::{GRANULE_BYTES, Sizes};
 use csi_types::CapacityRange;
@@ -21,9 +21,9 @@ fn rounded_down(bytes: u64) -> u64
     bytes / GRANULE_BYTES * GRANULE_BYTES
 }
 
-fn asked(sizes: &Sizes, required: u64, limit: u64) -> u64
+fn requested_bytes(sizes: &Sizes, required: u64, limit: u64) -> u64
     requires { required < 2 ^ 63 }
-    ensures { result ≡ asked sizes.now required limit }
+    ensures { result ≡ requested_bytes sizes.now required limit }
 {
     if required > 0 {
         rounded_down(required + (GRANULE_BYTES - 1))
@@ -38,7 +38,7 @@ fn size_by(sizes: &Sizes, required: u64, limit: u64) -> Option<u64>
     requires { required < 2 ^ 63 }
     ensures { result ≡ size_by sizes.now required limit }
 {
-    let bytes = asked(sizes, required, limit);
+    let bytes = requested_bytes(sizes, required, limit);
     // What is required is compared too, and never decides: rounded up it is no smaller.
     let is_within = bytes > 0
         && (limit == 0 || bytes <= limit)

@@ -1,4 +1,5 @@
-//! The sample server: calls on standard input, replies on standard output, under the sample configuration, with the volumes in memory.
+//! The sample server: calls on standard input, replies on standard output, under the sample configuration,
+//! with the volumes in memory.
 #![tactic(auto)]
 
 use csi_config::Config;

@@ -22,7 +22,7 @@ use Rattle.csi_types.specs.Codes.{number_of}
 use Rattle.csi_types.specs.Reasons.{code_of, text_of}
 use Rattle.csi_codec.specs.Methods.{IsNoRequest}
 use Rattle.csi_codec.specs.Reading.{read_request, IsRead}
-use Rattle.csi_machine.specs.Verdicts.{Told, Says, Denies, within, told_of}
+use Rattle.csi_machine.specs.Verdicts.{Told, Says, Denies, within, reported_of}
 use Rattle.csi_server.specs.Machine.{refusal, refused}
 use Rattle.csi_server.specs.Requests.{requests, malformed, told, after_check, after_read, after_path}
 use Rattle.csi_server.proofs.Printable.{all_printable}
@@ -40,7 +40,7 @@ short_within body = by (nat_le (length body) MAX_BODY_BYTES) refl
     by true e = leb-true (length body) MAX_BODY_BYTES e
     by false e = tt
 
-pub short_told : (o : Result Response Reason) → IsShort (told_of o)
+pub short_told : (o : Result Response Reason) → IsShort (reported_of o)
 short_told (Ok r) = short_within _
 short_told (Err r) = tt
 

@@ -10,7 +10,7 @@ use Rattle.envelope.specs.declared.limits.TheConstants.{REPLY_HEAD_BYTES}
 use Rattle.csi_codec.specs.Reading.{read_request}
 use Rattle.csi_machine.specs.declared.body.Verdict.{Verdict}
 use Rattle.csi_machine.specs.declared.body.Verdict.TheVariants as verdict
-use Rattle.csi_machine.specs.Verdicts.{Told, told_of, IsTold}
+use Rattle.csi_machine.specs.Verdicts.{Told, reported_of, IsReported}
 use Rattle.csi_keeper.specs.Model.{Model}
 use Rattle.csi_server.specs.Machine.{Machine, Mark, Unmarked, OutOfMemory, StoreRefused, StoreDown, Answers, Leaves, KnowsDown, marked, refused}
 use Rattle.csi_server.specs.Requests.{AnswersBy, LeavesBy, IsUnread, IsRequest, MayBe, requests, after_check, after_read, after_path, told}
@@ -124,8 +124,8 @@ SaysIn out r (Ok (verdict.Refused q)) = r ≡ refused q
 SaysIn out r (Err e) = r ≡ refused reason.OutOfMemory
 
 -- the identity service's answer
-pub said_by : {E : Type 0} (name version : List ℕ) (q : Request) (v : Result Verdict E) (out : List ℕ) (r : ReplyBytes) → IsTold (told_of (said name version q)) room out v → SaysIn out r v
-    → AnswersBy (λ t. after_check (λ (s : ⊤) (p : Request). (told_of (said name version p), s)) t q None) (MayBe false) still still tt r
+pub said_by : {E : Type 0} (name version : List ℕ) (q : Request) (v : Result Verdict E) (out : List ℕ) (r : ReplyBytes) → IsReported (reported_of (said name version q)) room out v → SaysIn out r v
+    → AnswersBy (λ t. after_check (λ (s : ⊤) (p : Request). (reported_of (said name version p), s)) t q None) (MayBe false) still still tt r
 said_by name version q (Ok verdict.Done) out r tells e =
     kept_by _ (MayBe false) still tt r (λ s. ap (λ (t : Told). (told t, s)) tells.1 ∙ ap (λ (o : List ℕ). (record { status = 0; text = []; body = drop REPLY_HEAD_BYTES o }, s)) (sym tells.2) ∙ ap (λ (b : ReplyBytes). (b, s)) (sym e)) tt
 said_by name version q (Ok (verdict.Refused why)) out r tells e =

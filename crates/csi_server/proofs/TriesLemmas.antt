@@ -16,7 +16,7 @@ use Rattle.csi_codec.specs.Reading.{read_request}
 use Rattle.csi_config.specs.declared.config.Config.{Config}
 use Rattle.csi_keeper.specs.Invariant.{IsInvariant}
 use Rattle.csi_keeper.specs.State.{State}
-use Rattle.csi_machine.specs.Retry.{Try, Ending, Marked, Down, Unanswered, Answered, after_try, told_by, told_of, IsDue, Leaves, IsLife, AreTriesOf, all_tries, told_once, after_once, still_open, state_after as after_tries}
+use Rattle.csi_machine.specs.Retry.{Try, Ending, Marked, Down, Unanswered, Answered, after_try, told_by, reported_of, IsDue, Leaves, IsLife, AreTriesOf, all_tries, told_once, after_once, still_open, state_after as after_tries}
 use Rattle.csi_machine.specs.Step.{step}
 use Rattle.csi_machine.specs.Verdicts.{Told}
 use Rattle.csi_server.specs.Machine.{Event, Mark, Unmarked, OutOfMemory, StoreRefused, StoreDown, marked, may_leave, refused, state_after}
@@ -124,11 +124,11 @@ module _ (config : Config) where
   -- the State after it, and what its client heard
   record Moves (s : State) (x : Exchange) : Type 0 where
     pub after : (call_step (volumes config) s x.event).1 ≡ after_tries config s (tries_in x)
-    pub heard : heard_by (asked x.event.call) x.event.mark x.is_heard (call_step (volumes config) s x.event).0 ≡ map told (told_of config s (tries_in x))
+    pub heard : heard_by (asked x.event.call) x.event.mark x.is_heard (call_step (volumes config) s x.event).0 ≡ map told (reported_of config s (tries_in x))
 
   moves_by : (s : State) (call : CallBytes) (mark : Mark) (is_heard : Bool) (o : Option Request) → asked call ≡ o
       → ((marked s ((volumes config).respond s call) mark).1 ≡ after_tries config s (tries_for o (ending mark is_heard)))
-      × (heard_by o mark is_heard (marked s ((volumes config).respond s call) mark).0 ≡ map told (told_of config s (tries_for o (ending mark is_heard))))
+      × (heard_by o mark is_heard (marked s ((volumes config).respond s call) mark).0 ≡ map told (reported_of config s (tries_for o (ending mark is_heard))))
   moves_by s call Unmarked true (Some r) e =
       let is : (volumes config).respond s call ≡ answer_to s r = asked_answers s call r e in
       (ap (λ (y : ReplyBytes × State). y.1) is, ap (λ (y : ReplyBytes × State). y.0 ∷ []) is)
@@ -152,11 +152,11 @@ module _ (config : Config) where
   after_append s [] us = refl
   after_append s (t ∷ ts) us = after_append (after_try config s t) ts us
 
-  told_append : (s : State) (ts us : List Try) → told_of config s (ts ++ us) ≡ told_of config s ts ++ told_of config (after_tries config s ts) us
+  told_append : (s : State) (ts us : List Try) → reported_of config s (ts ++ us) ≡ reported_of config s ts ++ reported_of config (after_tries config s ts) us
   told_append s [] us = refl
   told_append s (t ∷ ts) us =
       ap (λ (l : List Told). told_by config s t.request t.end ++ l) (told_append (after_try config s t) ts us)
-      ∙ sym (append_assoc (told_by config s t.request t.end) (told_of config (after_try config s t) ts) (told_of config (after_tries config (after_try config s t) ts) us))
+      ∙ sym (append_assoc (told_by config s t.request t.end) (reported_of config (after_try config s t) ts) (reported_of config (after_tries config (after_try config s t) ts) us))
 
   -- ---- a session
 
@@ -167,14 +167,14 @@ module _ (config : Config) where
       session_after (call_step (volumes config) s x.event).1 xs
       ∙ (ap (λ (z : State). after_tries config z (tries_of xs)) (moves s x).after ∙ sym (after_append s (tries_in x) (tries_of xs)))
 
-  pub session_heard : (s : State) (session : List Exchange) → heard_of config s session ≡ map told (told_of config s (tries_of session))
+  pub session_heard : (s : State) (session : List Exchange) → heard_of config s session ≡ map told (reported_of config s (tries_of session))
   session_heard s [] = refl
   session_heard s (x ∷ xs) =
       let first = (moves s x).heard in
-      let next = session_heard (call_step (volumes config) s x.event).1 xs ∙ ap (λ (z : State). map told (told_of config z (tries_of xs))) (moves s x).after in
+      let next = session_heard (call_step (volumes config) s x.event).1 xs ∙ ap (λ (z : State). map told (reported_of config z (tries_of xs))) (moves s x).after in
       ap (λ (l : List ReplyBytes). l ++ heard_of config (call_step (volumes config) s x.event).1 xs) first
-      ∙ (ap (λ (l : List ReplyBytes). map told (told_of config s (tries_in x)) ++ l) next
-      ∙ (sym (map-append told (told_of config s (tries_in x)) (told_of config (after_tries config s (tries_in x)) (tries_of xs)))
+      ∙ (ap (λ (l : List ReplyBytes). map told (reported_of config s (tries_in x)) ++ l) next
+      ∙ (sym (map-append told (reported_of config s (tries_in x)) (reported_of config (after_tries config s (tries_in x)) (tries_of xs)))
       ∙ ap (map told) (sym (told_append s (tries_in x) (tries_of xs)))))
 
   -- ---- what a session leaves
@@ -356,11 +356,11 @@ module _ (config : Config) where
   life_tries s (session ∷ sessions) heard t (u, rest, left, hears, more) =
       let o = life_tries u sessions rest t more in
       record {
-        said = told_of config s (tries_of session) ++ o.said;
+        said = reported_of config s (tries_of session) ++ o.said;
         life = (u, o.said, session_leaves s u session left, refl, o.life);
         hears = hears
             ∙ (ap (λ (l : List ReplyBytes). l ++ rest) (session_heard config s session)
-            ∙ (ap (λ (l : List ReplyBytes). map told (told_of config s (tries_of session)) ++ l) o.hears ∙ sym (map-append told (told_of config s (tries_of session)) o.said)));
+            ∙ (ap (λ (l : List ReplyBytes). map told (reported_of config s (tries_of session)) ++ l) o.hears ∙ sym (map-append told (reported_of config s (tries_of session)) o.said)));
       }
 
 -- ---- requests that are asked for pass the checks

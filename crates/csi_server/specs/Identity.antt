@@ -9,7 +9,7 @@ use Rattle.csi_types.specs.declared.requests.Request.TheVariants as request
 use Rattle.csi_types.specs.declared.responses.Response.{Response}
 use Rattle.csi_types.specs.declared.responses.Response.TheVariants as response
 use Rattle.csi_types.specs.Methods.{method_at}
-use Rattle.csi_machine.specs.Verdicts.{told_of}
+use Rattle.csi_machine.specs.Verdicts.{reported_of}
 use Rattle.csi_keeper.specs.Model.{Model}
 use Rattle.csi_server.specs.Machine.{Machine}
 use Rattle.csi_server.specs.Requests.{requests}
@@ -33,7 +33,7 @@ outcome_of (Some r) = Ok r
 
 -- its state says nothing, and no store is asked
 abbrev pub identity : List ℕ → List ℕ → Machine ⊤
-identity name version = requests (λ path. known (method_at path)) (λ r. false) (λ s r. (told_of (said name version r), s))
+identity name version = requests (λ path. known (method_at path)) (λ r. false) (λ s r. (reported_of (said name version r), s))
 
 abbrev pub still : Model ⊤
 still = record { holds = λ s. ⊤; doubt = 0; refusals = 0; survivors = λ s. ⊤; tied = ⊤; is_down = false }

@@ -13,8 +13,8 @@ use Rattle.frames_core.specs.Framer.{FramerState}
 use Rattle.frames_core.specs.Writing.{WrotePrefix}
 use Rattle.csi_server.specs.Machine.{Machine, Runs, Event, replies, calls_of}
 use Rattle.csi_server.specs.Serving.{Answered, AreReplied, Broken, CutOff, HasFault, IsPrompt, Replied, fault_frame}
-use Rattle.csi_server.specs.declared.running.Step.{Step}
-use Rattle.csi_server.specs.declared.running.Step.TheVariants.{Fed, Faulty, Cut}
+use Rattle.csi_server.specs.declared.running.PieceOutcome.{PieceOutcome}
+use Rattle.csi_server.specs.declared.running.PieceOutcome.TheVariants.{Fed, Faulty, Cut}
 
 -- What was answered so far, of the stream whose first bytes are these.
 pub record SoFar {S : Type 0} (m : Machine S) (start now : Model S) (s : S) (bytes : List ℕ) (held holds : Option (List ℕ)) : Type 0 where
@@ -38,9 +38,10 @@ abbrev pub IsLive : {S : Type 0} → Machine S → Model S → Model S → S →
 IsLive m start now s read framer held holds = now.doubt ≡ 0 → Live m start now s read framer held holds
 
 -- what was read was taken, or the run is over
-abbrev pub Steps : {S : Type 0} → Machine S → Model S → Model S → S → List ℕ → FramerState → Option (List ℕ) → Option (List ℕ) → Step → Type 0
+abbrev pub Steps : {S : Type 0} → Machine S → Model S → Model S → S → List ℕ → FramerState → Option (List ℕ) → Option (List ℕ) → PieceOutcome → Type 0
 Steps m start now s read framer held holds Fed = Live m start now s read framer held holds
-Steps m start now s read framer held holds (Faulty f) = (f.why ≢ EndOfInput) × Answered m start now s read held holds (λ calls. HasFault read calls f.why f.at) []
+Steps m start now s read framer held holds (Faulty f) = (f.why ≢ EndOfInput)
+    × Answered m start now s read held holds (λ calls. HasFault read calls f.why f.at) []
 Steps m start now s read framer held holds Cut = CutOff m start now s read ⊥ held holds
 
 -- ---- whatever the service
@@ -59,7 +60,7 @@ pub record Replying (read : List ℕ) (framer : FramerState) (held holds : Optio
   pub unfinished : IsUnfinished framer.held
   pub written : Appends held holds (flat_map reply rs)
 
-abbrev pub Replies : List ℕ → FramerState → Option (List ℕ) → Option (List ℕ) → Step → Type 0
+abbrev pub Replies : List ℕ → FramerState → Option (List ℕ) → Option (List ℕ) → PieceOutcome → Type 0
 Replies read framer held holds Fed = Replying read framer held holds
 Replies read framer held holds (Faulty f) = (f.why ≢ EndOfInput) × Replied held holds (λ calls. HasFault read calls f.why f.at) [] × IsPrompt read
 Replies read framer held holds Cut = Broken read ⊥ held holds
@@ -73,7 +74,7 @@ pub record Advances (old new : FramerState) (n : ℕ) : Type 0 where
   pub count : new.past + length new.held ≡ old.past + length old.held + n
   pub ready : IsReady new
 
-abbrev pub AdvancesBy : FramerState → FramerState → ℕ → Step → Type 0
+abbrev pub AdvancesBy : FramerState → FramerState → ℕ → PieceOutcome → Type 0
 AdvancesBy old new n Fed = Advances old new n
 AdvancesBy old new n (Faulty f) = Unit {0}
 AdvancesBy old new n Cut = Unit {0}

@@ -1,4 +1,5 @@
--- A machine that answers requests: the path of a call names a method, its message is read, its arguments are checked, and then it is answered.
+-- A machine that answers requests: the path of a call names a method, its message is read, its arguments are
+-- checked, and then it is answered.
 use Rattle.std.specs.Prelude.{◌≡◌, ◌≢◌, ◌⊎◌, ℕ, Bool, true, List, [], ◌++◌, Option, Some, None, Result, Ok, Err, codes, decimal}
 use Rattle.csi_types.specs.declared.method.Method.{Method}
 use Rattle.csi_types.specs.declared.reason.Reason.{Reason}
@@ -49,7 +50,8 @@ MayBe asks OutOfMemory = Unit {0}
 MayBe asks StoreRefused = asks ≡ true
 MayBe asks StoreDown = asks ≡ true
 
--- a call may be marked so where its path names a method and its message means a request, which may be refused so
+-- a call may be marked so where its path names a method and its message means a request, which may be refused
+-- so
 abbrev pub IsRequest : (Request → Bool) → Option Method → List ℕ → Mark → Type 0
 IsRequest asks None message mark = ⊥
 IsRequest asks (Some m) message mark = (r : Request) × (read_request m message ≡ Ok r) × MayBe (asks r) mark

@@ -36,13 +36,15 @@ abbrev pub fault_frame : FrameFault → List ℕ
 fault_frame f = reply (refusal (number_of code.InvalidArgument) (fault_words f.why ++ decimal f.at))
 
 -- All calls that were read were answered, and then this was written.
-pub record Answered {S : Type 0} (m : Machine S) (old new : Model S) (s : S) (read : List ℕ) (held holds : Option (List ℕ)) (IsEnd : List CallBytes → Type 0) (last : List ℕ) : Type 0 where
+pub record Answered {S : Type 0} (m : Machine S) (old new : Model S) (s : S) (read : List ℕ) (held holds : Option (List ℕ)) (IsEnd : List CallBytes
+    → Type 0) (last : List ℕ) : Type 0 where
   pub events : List Event
   pub ended : IsEnd (calls_of events)
   pub run : Runs m old new s events
   pub written : Appends held holds (replies m s events ++ last)
 
--- The reply to the last call, or the frame that answers the fault, was written in part or not flushed. That the input ends inside a frame is a fault only at its end.
+-- The reply to the last call, or the frame that answers the fault, was written in part or not flushed. That
+-- the input ends inside a frame is a fault only at its end.
 pub record CutOff {S : Type 0} (m : Machine S) (old new : Model S) (s : S) (read : List ℕ) (AtEnd : Type 0) (held holds : Option (List ℕ)) : Type 0 where
   pub events : List Event
   pub begins : BeginsWithCalls read (calls_of events)
@@ -54,7 +56,8 @@ pub record CutOff {S : Type 0} (m : Machine S) (old new : Model S) (s : S) (read
   pub written : Appends held holds (replies m s earlier ++ part)
 
 -- One call was answered, from the state s: its reply was written, or a prefix of it.
-pub record AnswersCall {S : Type 0} (m : Machine S) (old new : Model S) (s : S) (call : CallBytes) (held holds : Option (List ℕ)) (Whole : Type 0) : Type 0 where
+pub record AnswersCall {S : Type 0} (m : Machine S) (old new : Model S) (s : S) (call : CallBytes) (held holds : Option (List ℕ))
+    (Whole : Type 0) : Type 0 where
   pub r : ReplyBytes
   pub answers : Answers m old new s call r
   pub formed : IsReply r
@@ -64,19 +67,22 @@ pub record AnswersCall {S : Type 0} (m : Machine S) (old new : Model S) (s : S) 
 -- How a run from the state s ends that read these bytes, and found the end of the input or not.
 abbrev pub Ended : {S : Type 0} → Machine S → Model S → Model S → S → List ℕ → Type 0 → Option (List ℕ) → Option (List ℕ) → RunEnd → Type 0
 Ended m old new s read AtEnd held holds Done = Answered m old new s read held holds (λ calls. Stream read calls Clean) [] × AtEnd
-Ended m old new s read AtEnd held holds (Malformed f) = Answered m old new s read held holds (λ calls. HasFault read calls f.why f.at) (fault_frame f) × (f.why ≡ EndOfInput → AtEnd)
+Ended m old new s read AtEnd held holds (Malformed f) = Answered m old new s read held holds (λ calls. HasFault read calls f.why f.at) (fault_frame f)
+    × (f.why ≡ EndOfInput → AtEnd)
 Ended m old new s read AtEnd held holds ReadFailed = Answered m old new s read held holds (HasNoFault read) []
 Ended m old new s read AtEnd held holds TurnsSpent = Answered m old new s read held holds (HasNoFault read) [] × (2 ^ 32 ≤ length read)
 Ended m old new s read AtEnd held holds WriteFailed = CutOff m old new s read AtEnd held holds
 Ended m old new s read AtEnd held holds NoMemory = Runs m old new s [] × Keeps held holds
 
--- A run of a service that was clean to its end: from each state that the service may have had, the run ends as the table says.
--- The service goes from old to new, the reader from unread to left, the writer from held to holds.
+-- A run of a service that was clean to its end: from each state that the service may have had, the run ends
+-- as the table says. The service goes from old to new, the reader from unread to left, the writer from held
+-- to holds.
 abbrev pub Serves : {S : Type 0} → Machine S → Model S → Model S → Option (List ℕ) → Option (List ℕ) → Option (List ℕ) → Option (List ℕ) → RunEnd → Type 0
 Serves {S} m old new unread left held holds end =
     (read : List ℕ) × Consumes unread left read × (new.doubt ≡ 0 → (s : S) → old.holds s → Ended m old new s read (IsAtEnd left) held holds end)
 
--- ---- what is so of every service, also of one whose store lied, or that has a state of which nothing is promised
+-- ---- what is so of every service, also of one whose store lied, or that has a state of which nothing is
+-- promised
 
 -- No piece is read after the one in which a fault shows: before the last piece there is none.
 pub record IsPrompt (read : List ℕ) : Type 0 where
@@ -100,7 +106,8 @@ pub record Replied (held holds : Option (List ℕ)) (IsEnd : List CallBytes → 
   pub replied : AreReplied calls rs
   pub written : Appends held holds (flat_map reply rs ++ last)
 
--- What was read begins with these calls and one more, whose reply was being written. No piece is read after the one in which that call ends.
+-- What was read begins with these calls and one more, whose reply was being written. No piece is read after
+-- the one in which that call ends.
 pub record IsLast (read : List ℕ) (calls : List CallBytes) (part : List ℕ) : Type 0 where
   pub call : CallBytes
   pub rest : List ℕ
@@ -131,7 +138,8 @@ pub record Broken (read : List ℕ) (AtEnd : Type 0) (held holds : Option (List 
 -- What a run writes that read these bytes, and found the end of the input or not, by the way it ends.
 abbrev pub Wrote : List ℕ → Type 0 → Option (List ℕ) → Option (List ℕ) → RunEnd → Type 0
 Wrote read AtEnd held holds Done = Replied held holds (λ calls. Stream read calls Clean) [] × AtEnd
-Wrote read AtEnd held holds (Malformed f) = Replied held holds (λ calls. HasFault read calls f.why f.at) (fault_frame f) × (f.why ≡ EndOfInput → AtEnd) × IsPrompt read
+Wrote read AtEnd held holds (Malformed f) = Replied held holds (λ calls. HasFault read calls f.why f.at) (fault_frame f)
+    × (f.why ≡ EndOfInput → AtEnd) × IsPrompt read
 Wrote read AtEnd held holds ReadFailed = Replied held holds (HasNoFault read) []
 Wrote read AtEnd held holds TurnsSpent = Replied held holds (HasNoFault read) [] × (2 ^ 32 ≤ length read)
 Wrote read AtEnd held holds WriteFailed = Broken read AtEnd held holds

@@ -1,4 +1,5 @@
--- Calls as tries of requests: what a client of the volume machine asks for, call by call, what it hears, and what its sessions leave (CSI specification, 'Timeouts').
+-- Calls as tries of requests: what a client of the volume machine asks for, call by call, what it hears, and
+-- what its sessions leave (CSI specification, 'Timeouts').
 use Rattle.std.specs.Prelude.{◌≡◌, ◌⊎◌, ℕ, Bool, true, false, List, [], ◌∷◌, ◌++◌, map, Option, Some, None, Result, Ok, Err}
 use Rattle.std.specs.List.{flat_map}
 use Rattle.envelope.specs.Envelope.{CallBytes, ReplyBytes}
@@ -30,7 +31,8 @@ abbrev pub asked_of : Option Method → List ℕ → Option Request
 asked_of None message = None
 asked_of (Some m) message = asked_in (read_request m message)
 
--- The request that a call asks for: its path names a method, its message is read, and its arguments pass the checks. Any other call asks for none.
+-- The request that a call asks for: its path names a method, its message is read, and its arguments pass the
+-- checks. Any other call asks for none.
 abbrev pub asked : CallBytes → Option Request
 asked call = asked_of (method_at call.path) call.message
 
@@ -86,19 +88,23 @@ heard_by (Some r) OutOfMemory is_heard reply = []
 heard_by (Some r) StoreRefused is_heard reply = []
 heard_by (Some r) StoreDown is_heard reply = []
 
--- What the client heard of its requests: the replies to the calls that ask for one and were not refused inside, as the machine replies to them at their places.
+-- What the client heard of its requests: the replies to the calls that ask for one and were not refused
+-- inside, as the machine replies to them at their places.
 abbrev pub heard_of : Config → State → List Exchange → List ReplyBytes
 heard_of config s [] = []
 heard_of config s (x ∷ xs) =
-    heard_by (asked x.event.call) x.event.mark x.is_heard (call_step (volumes config) s x.event).0 ++ heard_of config (call_step (volumes config) s x.event).1 xs
+    heard_by (asked x.event.call) x.event.mark x.is_heard (call_step (volumes config) s x.event).0
+    ++ heard_of config (call_step (volumes config) s x.event).1 xs
 
 -- ---- over stops
 
--- what the law `pending` says that a session leaves: the State after its calls, or what a call would have made that was refused for memory or by the store
+-- what the law `pending` says that a session leaves: the State after its calls, or what a call would have
+-- made that was refused for memory or by the store
 abbrev pub IsLeft : Config → State → List Event → State → Type 0
 IsLeft config s events t = (t ≡ state_after (volumes config) s events) ⊎ IsPending config s events t
 
--- A life in calls: sessions, each begun from what the one before it left; what the client heard in all of them, and what the last one left.
+-- A life in calls: sessions, each begun from what the one before it left; what the client heard in all of
+-- them, and what the last one left.
 abbrev pub IsLifeOfCalls : Config → State → List (List Exchange) → List ReplyBytes → State → Type 0
 IsLifeOfCalls config s [] heard t = (heard ≡ []) × (t ≡ s)
 IsLifeOfCalls config s (session ∷ sessions) heard t =
@@ -110,14 +116,17 @@ IsLifeOfCalls config s (session ∷ sessions) heard t =
 
 -- ---- a life of one call
 
--- a session in which a call is made and its reply is not heard, and one in which it is made again and its reply is heard
+-- a session in which a call is made and its reply is not heard, and one in which it is made again and its
+-- reply is heard
 abbrev pub twice : CallBytes → Mark → List (List Exchange)
 twice call mark =
     (record { event = record { call = call; mark = mark }; is_heard = false } ∷ [])
     ∷ (record { event = record { call = call; mark = Unmarked }; is_heard = true } ∷ []) ∷ []
 
--- They are tries of the request, and a life from the State: the first session leaves what the call makes of it, and the second replies to it there.
+-- They are tries of the request, and a life from the State: the first session leaves what the call makes of
+-- it, and the second replies to it there.
 abbrev pub IsLifeOfTwo : Config → State → CallBytes → Request → Mark → Type 0
 IsLifeOfTwo config s call r mark =
     AreTriesOf (r ∷ []) (all_tries (map tries_of (twice call mark)))
-    × IsLifeOfCalls config s (twice call mark) (((volumes config).respond (done (volumes config) s call) call).0 ∷ []) (done (volumes config) (done (volumes config) s call) call)
+    × IsLifeOfCalls config s (twice call mark) (((volumes config).respond (done (volumes config) s call) call).0 ∷ [])
+    (done (volumes config) (done (volumes config) s call) call)

@@ -30,7 +30,8 @@ asks_keeper r = not (is_of_plugin r)
 abbrev pub volumes : Config → Machine State
 volumes config = requests method_at asks_keeper (step config)
 
--- a keeper as a run sees it: of the States that it may have those of the invariant, and the rest as the keeper has it
+-- a keeper as a run sees it: of the States that it may have those of the invariant, and the rest as the
+-- keeper has it
 abbrev pub seen : Config → Model State → Model State
 seen config m = record m { holds = λ s. m.holds s × IsInvariant config s }
 
@@ -42,8 +43,8 @@ RepliesTo out r (Err fault.NoMemory) = r ≡ refused reason.OutOfMemory
 RepliesTo out r (Err fault.Refused) = r ≡ refused reason.StoreRefused
 RepliesTo out r (Err fault.Down) = r ≡ refused reason.StoreDown
 
--- What a stop may leave beside the last State: what a call would have made that was refused for memory or by the store, whose request was read and passed
--- the checks, and after which no call moved the State.
+-- What a stop may leave beside the last State: what a call would have made that was refused for memory or by
+-- the store, whose request was read and passed the checks, and after which no call moved the State.
 pub record IsPending (config : Config) (s : State) (events : List Event) (t : State) : Type 0 where
   pub before : List Event
   pub refused : Event

@@ -1,4 +1,5 @@
--- Calls that walk over the pages of a listing, with other calls among them (CSI specification, 'ListVolumes').
+-- Calls that walk over the pages of a listing, with other calls among them (CSI specification,
+-- 'ListVolumes').
 use Rattle.std.specs.Prelude.{◌≡◌, ◌≢◌, ℕ, Bool, true, false, List, [], ◌∷◌, Option, Some, None}
 use Rattle.envelope.specs.Envelope.{CallBytes, ReplyBytes}
 use Rattle.csi_types.specs.declared.reason.Reason.TheVariants.{BadToken}
@@ -32,7 +33,8 @@ shown_by config s token (Some most) mark is_heard = shown_heard config s token m
 abbrev pub shown_in : Config → State → Text → Turn → Option (List Entry × Text)
 shown_in config s token t = shown_by config s token t.page t.exchange.event.mark t.exchange.is_heard
 
--- The pages of a walk from a State on, of which the first begins after a token. A call that shows nothing is no page, and the next one is asked for with the same token.
+-- The pages of a walk from a State on, of which the first begins after a token. A call that shows nothing is
+-- no page, and the next one is asked for with the same token.
 abbrev pub pages : Config → State → Text → List Turn → List Page
 pages config s token [] = []
 pages config s token (t ∷ ts) =

@@ -1,4 +1,4 @@
-use frames_core::FrameFault;
+use envelope::FrameFault;
 
 /// How a run of the server ended.
 #[derive(Clone, Copy, Debug)]

@@ -3,7 +3,7 @@ ghost use Rattle.std.specs.Io.KnownBytes.{Consumes, IsAtEnd, Keeps};
 ghost use Rattle.csi_types.specs.declared.requests.Request.{Request as AnyRequest};
 ghost use Rattle.csi_types.specs.Methods.{method_at};
 ghost use Rattle.csi_codec.specs.Reading.{read_request};
-ghost use Rattle.csi_machine.specs.Verdicts.{told_of, Appended, IsTold};
+ghost use Rattle.csi_machine.specs.Verdicts.{reported_of, Appended, IsReported};
 ghost use Rattle.csi_server.specs.Identity.{said, known, outcome_of, identity, still};
 ghost use Rattle.csi_server.specs.Requests.{after_check, after_read, AnswersBy, MayBe};
 ghost use Rattle.csi_server.specs.Serving.{Ended, Writes};
@@ -11,12 +11,12 @@ ghost use Rattle.csi_server.specs.Service.{reply_of, HoldsBody, room};
 
 use crate::end::RunEnd;
 use crate::message::{read_message, refuse};
-use crate::refused::Answer;
+use crate::refused::CallResult;
 use crate::running::run_service;
 use crate::service::{Service, begin_body};
 use csi_machine::{Verdict, append_body};
 use csi_types::{Method, Reason, Request, Response, Text, method_of};
-use frames_core::Call;
+use envelope::Call;
 use std::alloc::{AllocError, Global};
 use std::io::{Read, Write};
 
@@ -58,7 +58,8 @@ fn put_response(
     reply: &mut Vec<u8>,
 ) -> Result<Verdict, AllocError>
     ensures appended { IfOk result (λ v. Appended room reply.new.items result) }
-    ensures told { IfOk result (λ v. IsTold (told_of (said names.now.name.now names.now.version.now request.now)) room reply.new.items result) }
+    ensures told { IfOk result (λ v. IsReported
+        (reported_of (said names.now.name.now names.now.version.now request.now)) room reply.new.items result) }
 {
     begin_body(reply)?;
     match respond(alloc, names, request)? {
@@ -73,8 +74,10 @@ fn answer_request(
     names: &PluginNames<'_>,
     request: &Request,
     reply: &mut Vec<u8>,
-) -> Answer
-    ensures step { AnswersBy (λ t. after_check (λ s r. (told_of (said names.now.name.now names.now.version.now r), s)) t request.now None) (MayBe false) still still tt
+) -> CallResult
+    ensures step { AnswersBy (λ t. after_check
+        (λ s r. (reported_of (said names.now.name.now names.now.version.now r), s)) t request.now None)
+        (MayBe false) still still tt
         (reply_of result reply.new.items) }
     ensures room { HoldsBody result reply.new.items }
 {
@@ -92,9 +95,12 @@ fn answer_message(
     method: Method,
     message: &[u8],
     reply: &mut Vec<u8>,
-) -> Answer
-    ensures step { AnswersBy (λ t. after_read (λ s r. (told_of (said names.now.name.now names.now.version.now r), s)) t (read_request method message.now))
-        (λ mark. (r : AnyRequest) × (read_request method message.now ≡ Ok r) × MayBe false mark) still still tt (reply_of result reply.new.items) }
+) -> CallResult
+    ensures step { AnswersBy (λ t. after_read
+        (λ s r. (reported_of (said names.now.name.now names.now.version.now r), s)) t
+        (read_request method message.now))
+        (λ mark. (r : AnyRequest) × (read_request method message.now ≡ Ok r)
+        × MayBe false mark) still still tt (reply_of result reply.new.items) }
     ensures room { HoldsBody result reply.new.items }
 {
     match read_message(alloc, method, message) {
@@ -129,7 +135,7 @@ impl<'a> Service<PluginNames<'a>> for Identity {
         alloc: Global,
         call: &Call<'_>,
         reply: &mut Vec<u8>,
-    ) -> Answer {
+    ) -> CallResult {
         match known_method(call.path) {
             Some(method) => answer_message(alloc, config, method, call.message, reply),
             None => refuse(Reason::UnknownMethod),
@@ -137,11 +143,12 @@ impl<'a> Service<PluginNames<'a>> for Identity {
     }
 }
 
-/// Serves the two calls that say what a plugin is: Probe, which is answered that it is ready, and GetPluginInfo (CSI specification,
-/// 'Identity Service RPC'). Any other path is answered 12 `unknown method`.
+/// Serves the two calls that say what a plugin is: Probe, which is answered that it is ready, and
+/// GetPluginInfo (CSI specification, 'Identity Service RPC'). Any other path is answered 12 `unknown method`.
 ///
-/// Name and version have at most 128 bytes each, and an empty one is left out of the answer. A message that is no list of fields is
-/// answered 3 `malformed message in the field at byte N`, and want of memory for one body 13 `out of memory`.
+/// Name and version have at most 128 bytes each, and an empty one is left out of the answer. A message that
+/// is no list of fields is answered 3 `malformed message in the field at byte N`, and want of memory for one
+/// body 13 `out of memory`.
 pub fn serve_identity<R: Read, W: Write>(
     alloc: Global,
     name: &str,
@@ -151,8 +158,10 @@ pub fn serve_identity<R: Read, W: Write>(
 ) -> RunEnd
     requires short { (length name.now ≤ 128) × (length version.now ≤ 128) }
     ensures serves { (read : List ℕ) × Consumes (R.remaining reader.old) (R.remaining reader.new) read
-        × Ended (identity name.now version.now) still still tt read (IsAtEnd (R.remaining reader.new)) (W.contents writer.old) (W.contents writer.new) result }
-    ensures writes { Writes (R.remaining reader.old) (R.remaining reader.new) (W.contents writer.old) (W.contents writer.new) result }
+        × Ended (identity name.now version.now) still still tt read (IsAtEnd (R.remaining reader.new))
+        (W.contents writer.old) (W.contents writer.new) result }
+    ensures writes { Writes (R.remaining reader.old) (R.remaining reader.new) (W.contents writer.old)
+        (W.contents writer.new) result }
     ensures unread { result ≡ RunEnd.NoMemory → Keeps (R.remaining reader.old) (R.remaining reader.new) }
     ensures unwritten { result ≡ RunEnd.NoMemory → Keeps (W.contents writer.old) (W.contents writer.new) }
 {

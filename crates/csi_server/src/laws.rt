@@ -17,7 +17,7 @@ ghost use Rattle.csi_server.specs.Identity.{identity};
 ghost use Rattle.csi_server.specs.Requests.{told};
 ghost use Rattle.csi_server.specs.Tries.{Asks, Exchange, asked, spelled_call, events_of, tries_of, heard_of, IsLeft, IsLifeOfCalls, IsLifeOfTwo};
 ghost use Rattle.csi_server.specs.Volumes.{volumes, seen, IsPending};
-ghost use Rattle.csi_machine.specs.Retry.{Leaves, AreTriesOf, all_tries, told_of, told_once, after_once, state_after as after_tries};
+ghost use Rattle.csi_machine.specs.Retry.{Leaves, AreTriesOf, all_tries, reported_of, told_once, after_once, state_after as after_tries};
 ghost use Rattle.csi_machine.specs.Step.{step};
 ghost use Rattle.csi_config.specs.Values.{Has};
 ghost use Rattle.csi_config.specs.declared.config.Config.{Config as AnyConfig};
@@ -34,34 +34,39 @@ use csi_machine::laws::{
     kept as kept_by_answers, repeat as repeat_request, retry as retry_requests,
     walk as walk_by_requests,
 };
-use frames_core::laws::decimal_is_text;
+use envelope::laws::decimal_is_text;
 
-/// After a run in which neither memory nor the store refused a call, what a stop may leave is the state after the run: a call that is
-/// answered, also that the store is down, adds nothing to it.
-pub fn settled<C, S: Service<C>>(config: &C)
-    ensures { (old new : S) (s : S.State) (events : List Event) → Runs (S.machine config.now) (S.model config.now old) (S.model config.now new) s events
+/// After a run in which neither memory nor the store refused a call, what a stop may leave is the state after
+/// the run: a call that is answered, also that the store is down, adds nothing to it.
+pub fn stop_leaves_state<C, S: Service<C>>(config: &C)
+    ensures { (old new : S) (s : S.State) (events : List Event)
+        → Runs (S.machine config.now) (S.model config.now old) (S.model config.now new) s events
         → AllByRecursion (λ e. may_leave e.mark ≡ false) events
         → ((t : S.State) → (S.model config.now old).survivors t → t ≡ s)
-        → (t : S.State) → (S.model config.now new).survivors t → t ≡ state_after (S.machine config.now) s events }
+        → (t : S.State) → (S.model config.now new).survivors t
+        → t ≡ state_after (S.machine config.now) s events }
 {}
 
-/// Each reply of a run of any service is one of the envelope's table: one of its status codes, with a text and no body or, with
-/// status 0, with a body and no text. So are the refusals of the calls that are marked.
+/// Each reply of a run of any service is one of the envelope's table: one of its status codes, with a text
+/// and no body or, with status 0, with a body and no text. So are the refusals of the calls that are marked.
 pub fn formed<C, S: Service<C>>(config: &C)
-    ensures { (old new : S) (s : S.State) (events : List Event) → Runs (S.machine config.now) (S.model config.now old) (S.model config.now new) s events
+    ensures { (old new : S) (s : S.State) (events : List Event)
+        → Runs (S.machine config.now) (S.model config.now old) (S.model config.now new) s events
         → AreReplies (S.machine config.now) s events }
 {}
 
 /// The reply that answers a malformed frame is one of the envelope's table.
 pub fn formed_fault()
-    ensures { (fault : FrameFault) → fault.at < 2 ^ 64 → IsReply (refusal (number_of Code.InvalidArgument) (fault_words fault.why ++ decimal fault.at)) }
+    ensures { (fault : FrameFault) → fault.at < 2 ^ 64
+        → IsReply (refusal (number_of Code.InvalidArgument) (fault_words fault.why ++ decimal fault.at)) }
 {
     decimal_is_text();
 }
 
 /// Each reply that the identity service has to any call, in a run or not, is one of the envelope's table.
 pub fn formed_identity()
-    ensures { (name version : List ℕ) (call : CallBytes) → length call.message ≤ MAX_MESSAGE_BYTES → IsReply ((identity name version).respond tt call).0 }
+    ensures { (name version : List ℕ) (call : CallBytes) → length call.message ≤ MAX_MESSAGE_BYTES
+        → IsReply ((identity name version).respond tt call).0 }
 {
     decimal_is_text();
     reading();
@@ -70,7 +75,8 @@ pub fn formed_identity()
 /// Each reply that the volume machine has to any call from any State, in a run or not, is one of the
 /// envelope's table.
 pub fn formed_volumes()
-    ensures { (config : AnyConfig) (s : MachineState) (call : CallBytes) → length call.message ≤ MAX_MESSAGE_BYTES
+    ensures { (config : AnyConfig) (s : MachineState) (call : CallBytes)
+        → length call.message ≤ MAX_MESSAGE_BYTES
         → IsReply ((volumes config).respond s call).0 }
 {
     decimal_is_text();
@@ -80,8 +86,10 @@ pub fn formed_volumes()
 /// From a State of the invariant a run of the volume machine, whatever its calls and marks, leaves one of the
 /// invariant, and so is each State that [`pending`] says a stop may leave.
 pub fn kept(config: &Config)
-    ensures run { (s : MachineState) (events : List Event) → IsInvariant config.now s → IsInvariant config.now (state_after (volumes config.now) s events) }
-    ensures pending { (s : MachineState) (events : List Event) (t : MachineState) → IsInvariant config.now s → IsPending config.now s events t
+    ensures run { (s : MachineState) (events : List Event) → IsInvariant config.now s
+        → IsInvariant config.now (state_after (volumes config.now) s events) }
+    ensures pending { (s : MachineState) (events : List Event) (t : MachineState) → IsInvariant config.now s
+        → IsPending config.now s events t
         → IsInvariant config.now t }
 {
     kept_by_answers(config);
@@ -94,16 +102,18 @@ pub fn pending<K: Keeper>(config: &Config)
     ensures { (old new : K) (s : MachineState) (events : List Event)
         → Runs (volumes config.now) (seen config.now (K.model old)) (seen config.now (K.model new)) s events
         → ((t : MachineState) → (K.model old).survivors t → t ≡ s)
-        → (t : MachineState) → (K.model new).survivors t → (t ≡ state_after (volumes config.now) s events) ⊎ IsPending config.now s events t }
+        → (t : MachineState) → (K.model new).survivors t → (t ≡ state_after (volumes config.now) s events)
+        ⊎ IsPending config.now s events t }
 {}
 
-/// A call asks for a request exactly where its path names a method, its message is read as that request, and the
-/// request passes the checks of its arguments. It is answered as the machine answers the request. One that asks for
-/// none has the same reply from each State, under each configuration, and leaves each as it is. Each request that can be
-/// spelled and passes the checks is asked for by a call.
+/// A call asks for a request exactly where its path names a method, its message is read as that request, and
+/// the request passes the checks of its arguments. It is answered as the machine answers the request. One
+/// that asks for none has the same reply from each State, under each configuration, and leaves each as it is.
+/// Each request that can be spelled and passes the checks is asked for by a call.
 pub fn asking()
     ensures exact { (call : CallBytes) (r : Request) → (asked call ≡ Some r) ↔ Asks call r }
-    ensures answered { (config : AnyConfig) (s : MachineState) (call : CallBytes) (r : Request) → asked call ≡ Some r
+    ensures answered { (config : AnyConfig) (s : MachineState) (call : CallBytes) (r : Request)
+        → asked call ≡ Some r
         → (volumes config).respond s call ≡ (told (step config s r).0, (step config s r).1) }
     ensures unasked { (call : CallBytes) → asked call ≡ None → (reply : ReplyBytes)
         × ((config : AnyConfig) (s : MachineState) → (volumes config).respond s call ≡ (reply, s)) }
@@ -113,30 +123,35 @@ pub fn asking()
     round_trip();
 }
 
-/// The calls of a session are tries of the requests that they ask for: the State after them and the replies that
-/// were heard are those of the tries, and what [`pending`] says that they leave is just what the tries leave. So
-/// over any keeper, after a run from a State that alone would have been left by a stop, a stop leaves what the
-/// tries leave.
+/// The calls of a session are tries of the requests that they ask for: the State after them and the replies
+/// that were heard are those of the tries, and what [`pending`] says that they leave is just what the tries
+/// leave. So over any keeper, after a run from a State that alone would have been left by a stop, a stop
+/// leaves what the tries leave.
 pub fn tries<K: Keeper>(config: &Config)
     ensures after { (s : MachineState) (session : List Exchange)
-        → state_after (volumes config.now) s (events_of session) ≡ after_tries config.now s (tries_of session) }
-    ensures heard { (s : MachineState) (session : List Exchange) → heard_of config.now s session ≡ map told (told_of config.now s (tries_of session)) }
-    ensures left { (s t : MachineState) (session : List Exchange) → IsLeft config.now s (events_of session) t ↔ Leaves config.now s (tries_of session) t }
+        → state_after (volumes config.now) s (events_of session)
+        ≡ after_tries config.now s (tries_of session) }
+    ensures heard { (s : MachineState) (session : List Exchange)
+        → heard_of config.now s session ≡ map told (reported_of config.now s (tries_of session)) }
+    ensures left { (s t : MachineState) (session : List Exchange) → IsLeft config.now s (events_of session) t
+        ↔ Leaves config.now s (tries_of session) t }
     ensures stopped { (old new : K) (s : MachineState) (session : List Exchange)
-        → Runs (volumes config.now) (seen config.now (K.model old)) (seen config.now (K.model new)) s (events_of session)
+        → Runs (volumes config.now) (seen config.now (K.model old)) (seen config.now (K.model new)) s
+        (events_of session)
         → ((t : MachineState) → (K.model old).survivors t → t ≡ s)
         → (t : MachineState) → (K.model new).survivors t → Leaves config.now s (tries_of session) t }
 {}
 
-/// Requests that a lone client asks for over and over, each until it hears the reply, are each taken once (CSI
-/// specification, 'Timeouts').
+/// Requests that a lone client asks for over and over, each until it hears the reply, are each taken once
+/// (CSI specification, 'Timeouts').
 ///
-/// From a State of the invariant: a call may be refused inside, a reply may be lost, and between any two calls a
-/// stop may end the session, which leaves what [`pending`] says. Calls that ask for nothing may come anywhere,
-/// from anyone. What the client hears of its requests, and each State that may be left in the end, are those of
-/// the requests taken once each.
+/// From a State of the invariant: a call may be refused inside, a reply may be lost, and between any two
+/// calls a stop may end the session, which leaves what [`pending`] says. Calls that ask for nothing may come
+/// anywhere, from anyone. What the client hears of its requests, and each State that may be left in the end,
+/// are those of the requests taken once each.
 pub fn retry(config: &Config)
-    ensures { (s t : MachineState) (requests : List Request) (sessions : List (List Exchange)) (heard : List ReplyBytes) → IsInvariant config.now s
+    ensures { (s t : MachineState) (requests : List Request) (sessions : List (List Exchange))
+        (heard : List ReplyBytes) → IsInvariant config.now s
         → AreTriesOf requests (all_tries (map tries_of sessions))
         → IsLifeOfCalls config.now s sessions heard t
         → (heard ≡ map told (told_once config.now s requests)) × (t ≡ after_once config.now s requests) }
@@ -144,39 +159,50 @@ pub fn retry(config: &Config)
     retry_requests(config);
 }
 
-/// Calls that walk over the pages of a listing, from a State of the invariant (CSI specification, 'ListVolumes').
+/// Calls that walk over the pages of a listing, from a State of the invariant (CSI specification,
+/// 'ListVolumes').
 ///
-/// The first page is asked for with an empty token, each next one with the token of the page before. A call for a page that is refused
-/// inside, or whose reply is not heard, is no page of the walk, and the page is asked for again with its token. Other calls may come
-/// anywhere, from anyone. No page is refused for its token; what is listed stood at its page; nothing is listed twice; and what stood
-/// at each page of a walk that came to its end is listed.
+/// The first page is asked for with an empty token, each next one with the token of the page before. A call
+/// for a page that is refused inside, or whose reply is not heard, is no page of the walk, and the page is
+/// asked for again with its token. Other calls may come anywhere, from anyone. No page is refused for its
+/// token; what is listed stood at its page; nothing is listed twice; and what stood at each page of a walk
+/// that came to its end is listed.
 pub fn walk(config: &Config)
-    ensures read { (s : MachineState) (turns : List Turn) → IsInvariant config.now s → AreAsked config.now s [] turns → AreRead config.now s [] turns }
+    ensures read { (s : MachineState) (turns : List Turn) → IsInvariant config.now s
+        → AreAsked config.now s [] turns → AreRead config.now s [] turns }
     ensures stood { (s : MachineState) (turns : List Turn) → AreAsked config.now s [] turns
         → AllByRecursion (AreOfVolumes config.now) (pages config.now s [] turns) }
-    ensures once { (s : MachineState) (turns : List Turn) → IsInvariant config.now s → AreAsked config.now s [] turns
+    ensures once { (s : MachineState) (turns : List Turn) → IsInvariant config.now s
+        → AreAsked config.now s [] turns
         → GoOn (pages config.now s [] turns) → AreApart (listed_ids (pages config.now s [] turns)) }
-    ensures each { (s : MachineState) (turns : List Turn) (n : ℕ) → IsInvariant config.now s → AreAsked config.now s [] turns
-        → GoOn (pages config.now s [] turns) → End (pages config.now s [] turns) → Stood n (pages config.now s [] turns)
+    ensures each { (s : MachineState) (turns : List Turn) (n : ℕ) → IsInvariant config.now s
+        → AreAsked config.now s [] turns
+        → GoOn (pages config.now s [] turns) → End (pages config.now s [] turns)
+        → Stood n (pages config.now s [] turns)
         → Has (listed_ids (pages config.now s [] turns)) (id n) }
 {
     walk_by_requests(config);
 }
 
-/// There are such lives, of each call that asks for a request and from each State, so [`retry`] does not speak of nothing.
+/// There are such lives, of each call that asks for a request and from each State, so [`retry`] does not
+/// speak of nothing.
 ///
-/// The call is made and its reply is lost; or it is refused for memory or by the store, and a stop leaves its change all the same. In
-/// the next session it is made again, and its reply is heard.
+/// The call is made and its reply is lost; or it is refused for memory or by the store, and a stop leaves its
+/// change all the same. In the next session it is made again, and its reply is heard.
 pub fn made_twice(config: &Config)
-    ensures lost { (s : MachineState) (call : CallBytes) (r : Request) → Asks call r → IsLifeOfTwo config.now s call r Unmarked }
-    ensures refused { (s : MachineState) (call : CallBytes) (r : Request) (mark : Mark) → Asks call r → may_leave mark ≡ true → IsLifeOfTwo config.now s call r mark }
+    ensures lost { (s : MachineState) (call : CallBytes) (r : Request) → Asks call r
+        → IsLifeOfTwo config.now s call r Unmarked }
+    ensures refused { (s : MachineState) (call : CallBytes) (r : Request) (mark : Mark) → Asks call r
+        → may_leave mark ≡ true → IsLifeOfTwo config.now s call r mark }
 {}
 
-/// Each call is idempotent (CSI specification, 'Timeouts'): from a State of the invariant the same call, made again
-/// at once, has the same reply and leaves the same State, also one that is not read or does not pass the checks.
+/// Each call is idempotent (CSI specification, 'Timeouts'): from a State of the invariant the same call, made
+/// again at once, has the same reply and leaves the same State, also one that is not read or does not pass
+/// the checks.
 pub fn repeat(config: &Config)
     ensures { (s : MachineState) (call : CallBytes) → IsInvariant config.now s
-        → (volumes config.now).respond ((volumes config.now).respond s call).1 call ≡ (volumes config.now).respond s call }
+        → (volumes config.now).respond ((volumes config.now).respond s call).1 call
+        ≡ (volumes config.now).respond s call }
 {
     repeat_request(config);
 }

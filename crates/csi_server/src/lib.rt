@@ -1,13 +1,16 @@
 //! The server: it reads frames of calls and writes the frames of their replies.
 //!
-//! The engine, [`run_service`], knows nothing of methods: it feeds a `Framer`, hands each call to a [`Service`], and writes what the service answers. Its
-//! proof is over any service, reader and writer, by the public clauses of `frames_core` alone. `specs/Machine.antt` says what a run over calls replies and
-//! leaves, `specs/Serving.antt` what is read and written by each end of a run.
+//! The engine, [`run_service`], knows nothing of methods: it feeds a `Framer`, hands each call to a
+//! [`Service`], and writes what the service answers. Its proof is over any service, reader and writer, by the
+//! public clauses of `frames_core` alone. `specs/Machine.antt` says what a run over calls replies and leaves,
+//! `specs/Serving.antt` what is read and written by each end of a run.
 //!
-//! A service writes a body behind room for the reply's head into one buffer that is kept from call to call, so a reply goes out as one write. `message.rt`
-//! decodes and checks the message of a call. [`serve_identity`] is the engine over a service without a state; [`serve`] is the engine over a keeper: each keeper is
-//! a service (`volumes.rt`), which answers a request by `csi_machine::append_answer`. `specs/Requests.antt` says what a machine over requests responds, and
-//! only the step of a request is its own. [`laws`] says what follows for runs and for calls that are made again.
+//! A service writes a body behind room for the reply's head into one buffer that is kept from call to call,
+//! so a reply goes out as one write. `message.rt` decodes and checks the message of a call.
+//! [`serve_identity`] is the engine over a service without a state; [`serve`] is the engine over a keeper:
+//! each keeper is a service (`volumes.rt`), which answers a request by `csi_machine::append_answer`.
+//! `specs/Requests.antt` says what a machine over requests responds, and only the step of a request is its
+//! own. [`laws`] says what follows for runs and for calls that are made again.
 //!
 //! ```rust
 //! let mut keeper = MemKeeper::new(alloc, 1)?;
@@ -27,7 +30,7 @@ mod writing;
 
 pub use end::RunEnd;
 pub use identity::serve_identity;
-pub use refused::{Answer, Refusal};
+pub use refused::{CallResult, Refusal};
 pub use running::run_service;
 pub use service::{Service, begin_body};
 pub use volumes::serve;

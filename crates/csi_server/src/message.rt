@@ -7,7 +7,7 @@ ghost use Rattle.csi_server.specs.Machine.{refused};
 ghost use Rattle.csi_server.specs.Service.{refused_by, reply_of, HoldsBody};
 ghost use Rattle.csi_server.specs.Requests.{IsUnread};
 
-use crate::refused::{Answer, Refusal};
+use crate::refused::{CallResult, Refusal};
 use csi_checks::check;
 use csi_codec::decode;
 use csi_types::{Method, Reason, Request};
@@ -20,7 +20,8 @@ pub(crate) fn read_message(
     method: Method,
     message: &[u8],
 ) -> Result<Request, Refusal>
-    ensures ok { IfOk result (λ request. (read_request method message.now ≡ Ok request) × (checked request ≡ None)) }
+    ensures ok { IfOk result (λ request. (read_request method message.now ≡ Ok request)
+        × (checked request ≡ None)) }
     ensures err { IfErr result (λ why. IsUnread method message.now (refused_by why)) }
 {
     let request = match decode(alloc, method, message) {
@@ -35,7 +36,7 @@ pub(crate) fn read_message(
 }
 
 /// The answer that refuses a call for a reason.
-pub(crate) fn refuse(reason: Reason) -> Answer
+pub(crate) fn refuse(reason: Reason) -> CallResult
     ensures answered { (buffer : List ℕ) → reply_of result buffer ≡ refused reason }
     ensures room { (buffer : List ℕ) → HoldsBody result buffer }
 {

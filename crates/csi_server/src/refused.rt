@@ -5,7 +5,7 @@ ghost use Rattle.envelope.specs.Envelope.{IsReply, IsTextByte, reply as reply_fr
 ghost use Rattle.csi_server.specs.Service.{refused_by};
 
 use csi_types::{Code, Reason};
-use frames_core::{FixedFrame, refusal_frame, text_and_number};
+use envelope::{FixedFrame, refusal_frame, text_and_number};
 use pbmessage::MALFORMED_MESSAGE;
 
 /// Why a call is not done.
@@ -18,7 +18,7 @@ pub enum Refusal {
 }
 
 /// What comes of a call: it is done, or refused.
-pub type Answer = Result<(), Refusal>;
+pub type CallResult = Result<(), Refusal>;
 
 impl Refusal {
     /// The frame of the reply that says so.

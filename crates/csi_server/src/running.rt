@@ -6,7 +6,8 @@ ghost use Rattle.csi_server.specs.Live.{IsLive, Steps, Replying, Replies, Advanc
 use crate::end::RunEnd;
 use crate::service::Service;
 use crate::writing::{put_fault, put_reply};
-use frames_core::{FrameFault, Framer};
+use envelope::FrameFault;
+use frames_core::Framer;
 use std::alloc::Global;
 use std::io::{Read, Write};
 
@@ -18,7 +19,7 @@ const PIECE_BYTES: usize = 4096;
 
 // What came of a piece.
 #[derive(Clone, Copy)]
-pub(crate) enum Step {
+pub(crate) enum PieceOutcome {
     Fed,
     Faulty(FrameFault),
     Cut,
@@ -34,17 +35,20 @@ fn answer_piece<C, S: Service<C>, W: Write>(
     piece: &[u8],
     reply: &mut Vec<u8>,
     writer: &mut W,
-) -> Step
+) -> PieceOutcome
     requires room { framer.old.past + length framer.old.held + length piece.now < 2 ^ 63 }
     requires ready { IsReady framer.old }
     requires one { length piece.now ≤ PIECE_BYTES }
     ensures clean { (S.model config.now service.old).doubt ≤ (S.model config.now service.new).doubt }
     ensures steps { (start : S) (s : S.State) (read : List ℕ) (held : Option (List ℕ))
-        → IsLive (S.machine config.now) (S.model config.now start) (S.model config.now service.old) s read framer.old held (W.contents writer.old)
+        → IsLive (S.machine config.now) (S.model config.now start)
+        (S.model config.now service.old) s read framer.old held (W.contents writer.old)
         → (S.model config.now service.new).doubt ≡ 0
-        → Steps (S.machine config.now) (S.model config.now start) (S.model config.now service.new) s (read ++ piece.now) framer.new held
+        → Steps (S.machine config.now) (S.model config.now start) (S.model config.now service.new) s
+        (read ++ piece.now) framer.new held
         (W.contents writer.new) result }
-    ensures replies { (read : List ℕ) (held : Option (List ℕ)) → Replying read framer.old held (W.contents writer.old)
+    ensures replies { (read : List ℕ) (held : Option (List ℕ))
+        → Replying read framer.old held (W.contents writer.old)
         → Replies (read ++ piece.now) framer.new held (W.contents writer.new) result }
     ensures count { AdvancesBy framer.old framer.new (length piece.now) result }
 {
@@ -53,28 +57,29 @@ fn answer_piece<C, S: Service<C>, W: Write>(
         let (_, rest) = piece.split_at(at);
         at += framer.feed(rest);
         if let Some(fault) = framer.fault() {
-            return Step::Faulty(fault);
+            return PieceOutcome::Faulty(fault);
         }
         let Some(call) = framer.frame() else {
             continue;
         };
         let answer = service.answer(config, alloc, &call, reply);
         let Ok(()) = put_reply(writer, &answer, reply) else {
-            return Step::Cut;
+            return PieceOutcome::Cut;
         };
         framer.next_frame();
     }
-    Step::Fed
+    PieceOutcome::Fed
 }
 
 /// Runs a service over the calls that a reader gives, and writes their replies.
 ///
-/// It reads at most 4,096 bytes a read and makes at most 2^32 reads. Each call is answered and its reply flushed as soon as its
-/// frame is whole, before the next frame is looked at. After a fault or a failed write nothing more is read. An interrupted read or
-/// write is a failure. Memory is taken for one buffer of frames at the start, and for the bodies of replies, in one buffer that is
-/// kept from call to call.
+/// It reads at most 4,096 bytes a read and makes at most 2^32 reads. Each call is answered and its reply
+/// flushed as soon as its frame is whole, before the next frame is looked at. After a fault or a failed write
+/// nothing more is read. An interrupted read or write is a failure. Memory is taken for one buffer of frames
+/// at the start, and for the bodies of replies, in one buffer that is kept from call to call.
 ///
-/// `serves` speaks of a service that is clean to its end, and `writes` of any: one reply of the envelope's table is written to each call.
+/// `serves` speaks of a service that is clean to its end, and `writes` of any: one reply of the envelope's
+/// table is written to each call.
 pub fn run_service<C, S: Service<C>, R: Read, W: Write>(
     alloc: Global,
     config: &C,
@@ -82,9 +87,12 @@ pub fn run_service<C, S: Service<C>, R: Read, W: Write>(
     reader: &mut R,
     writer: &mut W,
 ) -> RunEnd
-    ensures serves { Serves (S.machine config.now) (S.model config.now service.old) (S.model config.now service.new)
-        (R.remaining reader.old) (R.remaining reader.new) (W.contents writer.old) (W.contents writer.new) result }
-    ensures writes { Writes (R.remaining reader.old) (R.remaining reader.new) (W.contents writer.old) (W.contents writer.new) result }
+    ensures serves { Serves (S.machine config.now) (S.model config.now service.old)
+        (S.model config.now service.new)
+        (R.remaining reader.old) (R.remaining reader.new) (W.contents writer.old)
+        (W.contents writer.new) result }
+    ensures writes { Writes (R.remaining reader.old) (R.remaining reader.new) (W.contents writer.old)
+        (W.contents writer.new) result }
     ensures clean { (S.model config.now service.old).doubt ≤ (S.model config.now service.new).doubt }
     ensures unread { result ≡ RunEnd.NoMemory → Keeps (R.remaining reader.old) (R.remaining reader.new) }
     ensures unwritten { result ≡ RunEnd.NoMemory → Keeps (W.contents writer.old) (W.contents writer.new) }
@@ -111,9 +119,9 @@ pub fn run_service<C, S: Service<C>, R: Read, W: Write>(
                     &mut reply,
                     writer,
                 ) {
-                    Step::Fed => {}
-                    Step::Faulty(fault) => return refuse(&fault, writer),
-                    Step::Cut => return RunEnd::WriteFailed,
+                    PieceOutcome::Fed => {}
+                    PieceOutcome::Faulty(fault) => return refuse(&fault, writer),
+                    PieceOutcome::Cut => return RunEnd::WriteFailed,
                 }
             }
         }

@@ -4,8 +4,8 @@ ghost use Rattle.csi_keeper.specs.Model.{Model};
 ghost use Rattle.csi_server.specs.Machine.{Machine, Answers};
 ghost use Rattle.csi_server.specs.Service.{room};
 
-use crate::refused::Answer;
-use frames_core::{Call, REPLY_HEAD_BYTES};
+use crate::refused::CallResult;
+use envelope::{Call, REPLY_HEAD_BYTES};
 use std::alloc::{AllocError, Global};
 
 /// What answers calls, under a configuration.
@@ -21,16 +21,25 @@ pub trait Service<C> {
 
     ghost use Rattle.csi_server.specs.Service.{reply_of, HoldsBody};
 
-    /// Answers one call with status 0. Then `reply` has room for a reply's head, [`REPLY_HEAD_BYTES`], and behind it the body, of
-    /// at most [`MAX_BODY_BYTES`](frames_core::MAX_BODY_BYTES).
+    /// Answers one call with status 0. Then `reply` has room for a reply's head, [`REPLY_HEAD_BYTES`], and
+    /// behind it the body, of at most [`MAX_BODY_BYTES`](envelope::MAX_BODY_BYTES).
     ///
     /// # Errors
     ///
-    /// The call is answered with the status and the text of the refusal, and what `reply` has is of no account.
-    fn answer(&mut self, config: &C, alloc: Global, call: &Call<'_>, reply: &mut Vec<u8>) -> Answer
+    /// The call is answered with the status and the text of the refusal, and what `reply` has is of no
+    /// account.
+    fn answer(
+        &mut self,
+        config: &C,
+        alloc: Global,
+        call: &Call<'_>,
+        reply: &mut Vec<u8>,
+    ) -> CallResult
         ensures clean { (model config.now self.old).doubt ≤ (model config.now self.new).doubt }
-        ensures step { (model config.now self.new).doubt ≡ 0 → (s : State) → (model config.now self.old).holds s
-            → Answers (machine config.now) (model config.now self.old) (model config.now self.new) s (bytes_of call.now) (reply_of result reply.new.items) }
+        ensures step { (model config.now self.new).doubt ≡ 0 → (s : State)
+            → (model config.now self.old).holds s
+            → Answers (machine config.now) (model config.now self.old) (model config.now self.new) s
+            (bytes_of call.now) (reply_of result reply.new.items) }
         ensures room { HoldsBody result reply.new.items };
 }
 

@@ -12,21 +12,22 @@ ghost use Rattle.csi_server.specs.Volumes.{asks_keeper, volumes, seen, RepliesTo
 
 use crate::end::RunEnd;
 use crate::message::{read_message, refuse};
-use crate::refused::Answer;
+use crate::refused::CallResult;
 use crate::running::run_service;
 use crate::service::{Service, begin_body};
 use csi_config::Config;
 use csi_keeper::{Keeper, StoreFault};
 use csi_machine::{Verdict, append_answer};
 use csi_types::{Reason, Request, method_of};
-use frames_core::Call;
+use envelope::Call;
 use std::alloc::Global;
 use std::io::{Read, Write};
 
 // The answer to a call of which the machine answered this.
-fn answer_of(verdict: Result<Verdict, StoreFault>) -> Answer
+fn answer_of(verdict: Result<Verdict, StoreFault>) -> CallResult
     ensures reply { (buffer : List ℕ) → RepliesTo buffer (reply_of result buffer) verdict }
-    ensures room { (buffer : List ℕ) → (verdict ≡ Ok Verdict.Done → HasBody buffer) → HoldsBody result buffer }
+    ensures room { (buffer : List ℕ) → (verdict ≡ Ok Verdict.Done → HasBody buffer)
+        → HoldsBody result buffer }
 {
     match verdict {
         Ok(Verdict::Done) => Ok(()),
@@ -45,11 +46,14 @@ fn answer_request<K: Keeper>(
     keeper: &mut K,
     request: &Request,
     reply: &mut Vec<u8>,
-) -> Answer
+) -> CallResult
     requires { checked request.now ≡ None }
     ensures clean { (K.model keeper.old).doubt ≤ (K.model keeper.new).doubt }
-    ensures step { (K.model keeper.new).doubt ≡ 0 → (s : State) → (seen config.now (K.model keeper.old)).holds s
-        → AnswersBy (λ t. after_check (step config.now) t request.now None) (MayBe (asks_keeper request.now)) (seen config.now (K.model keeper.old)) (seen config.now (K.model keeper.new)) s (reply_of result reply.new.items) }
+    ensures step { (K.model keeper.new).doubt ≡ 0 → (s : State)
+        → (seen config.now (K.model keeper.old)).holds s
+        → AnswersBy (λ t. after_check (step config.now) t request.now None) (MayBe (asks_keeper request.now))
+        (seen config.now (K.model keeper.old)) (seen config.now (K.model keeper.new)) s
+        (reply_of result reply.new.items) }
     ensures room { HoldsBody result reply.new.items }
 {
     match begin_body(reply) {
@@ -76,7 +80,7 @@ impl<K: Keeper> Service<Config> for K {
         alloc: Global,
         call: &Call<'_>,
         reply: &mut Vec<u8>,
-    ) -> Answer {
+    ) -> CallResult {
         let Some(method) = method_of(call.path) else {
             return refuse(Reason::UnknownMethod);
         };
@@ -101,8 +105,9 @@ impl<K: Keeper> Service<Config> for K {
 /// 2^64 - 1, and where a stop at the start could only leave the State, a stop at the end leaves the
 /// last State, or what [`pending`](crate::laws::pending) says.
 ///
-/// `writes` says without any premise what is written: one reply of the envelope's table to each call that was read. It also says
-/// that a fault or a failed write is the end of reading: no piece, of at most 4,096 bytes, is read after the one in which it shows.
+/// `writes` says without any premise what is written: one reply of the envelope's table to each call that was
+/// read. It also says that a fault or a failed write is the end of reading: no piece, of at most 4,096 bytes,
+/// is read after the one in which it shows.
 pub fn serve<K: Keeper, R: Read, W: Write>(
     alloc: Global,
     config: &Config,
@@ -110,9 +115,12 @@ pub fn serve<K: Keeper, R: Read, W: Write>(
     reader: &mut R,
     writer: &mut W,
 ) -> RunEnd
-    ensures serves { Serves (volumes config.now) (seen config.now (K.model keeper.old)) (seen config.now (K.model keeper.new))
-        (R.remaining reader.old) (R.remaining reader.new) (W.contents writer.old) (W.contents writer.new) result }
-    ensures writes { Writes (R.remaining reader.old) (R.remaining reader.new) (W.contents writer.old) (W.contents writer.new) result }
+    ensures serves { Serves (volumes config.now) (seen config.now (K.model keeper.old))
+        (seen config.now (K.model keeper.new))
+        (R.remaining reader.old) (R.remaining reader.new) (W.contents writer.old)
+        (W.contents writer.new) result }
+    ensures writes { Writes (R.remaining reader.old) (R.remaining reader.new) (W.contents writer.old)
+        (W.contents writer.new) result }
     ensures clean { (K.model keeper.old).doubt ≤ (K.model keeper.new).doubt }
     ensures unread { result ≡ RunEnd.NoMemory → Keeps (R.remaining reader.old) (R.remaining reader.new) }
     ensures unwritten { result ≡ RunEnd.NoMemory → Keeps (W.contents writer.old) (W.contents writer.new) }

@@ -6,11 +6,12 @@ ghost use Rattle.frames_core.specs.Writing.{WrotePrefix};
 ghost use Rattle.csi_server.specs.Serving.{fault_frame};
 ghost use Rattle.csi_server.specs.Service.{reply_of, HoldsBody};
 
-use crate::refused::Answer;
+use crate::refused::CallResult;
 use csi_types::Code;
-use frames_core::{
-    FrameFault, MAX_BODY_BYTES, REPLY_HEAD_BYTES, fault_text, refusal_frame, reply_head, send,
+use envelope::{
+    FrameFault, MAX_BODY_BYTES, REPLY_HEAD_BYTES, fault_text, refusal_frame, reply_head,
 };
+use frames_core::send;
 use std::io::{self, Write};
 
 // Writes the head of a reply with status 0 over the bytes before its body.
@@ -18,7 +19,11 @@ use std::io::{self, Write};
 fn set_head(reply: &mut Vec<u8>)
     requires head { REPLY_HEAD_BYTES ≤ length reply.old.items }
     requires small { length reply.old.items ≤ REPLY_HEAD_BYTES + MAX_BODY_BYTES }
-    ensures { reply.new.items ≡ reply_frame (record { status = 0; text = []; body = drop REPLY_HEAD_BYTES reply.old.items }) }
+    ensures { reply.new.items ≡ reply_frame (record {
+      status = 0;
+      text = [];
+      body = drop REPLY_HEAD_BYTES reply.old.items;
+    }) }
 {
     let head = reply_head((reply.len() - REPLY_HEAD_BYTES) as u32);
     reply
@@ -26,16 +31,19 @@ fn set_head(reply: &mut Vec<u8>)
         .copy_from_slice(head.bytes());
 }
 
-/// Writes the reply of an answer and flushes. The body goes out with its head in one write, where the writer takes it whole.
+/// Writes the reply of an answer and flushes. The body goes out with its head in one write, where the writer
+/// takes it whole.
 #[inline(always)]
 pub(crate) fn put_reply<W: Write>(
     writer: &mut W,
-    answer: &Answer,
+    answer: &CallResult,
     reply: &mut Vec<u8>,
 ) -> io::Result<()>
     requires { HoldsBody answer.now reply.old.items }
-    ensures all { OnOk result (Appends (W.contents writer.old) (W.contents writer.new) (reply_frame (reply_of answer.now reply.old.items))) }
-    ensures part { WrotePrefix (W.contents writer.old) (W.contents writer.new) (reply_frame (reply_of answer.now reply.old.items)) }
+    ensures all { OnOk result (Appends (W.contents writer.old) (W.contents writer.new)
+        (reply_frame (reply_of answer.now reply.old.items))) }
+    ensures part { WrotePrefix (W.contents writer.old) (W.contents writer.new)
+        (reply_frame (reply_of answer.now reply.old.items)) }
     ensures formed { IsReply (reply_of answer.now reply.old.items) }
 {
     match answer {
@@ -49,7 +57,8 @@ pub(crate) fn put_reply<W: Write>(
 
 /// Writes the frame that answers a fault and flushes.
 pub(crate) fn put_fault<W: Write>(writer: &mut W, fault: &FrameFault) -> io::Result<()>
-    ensures all { OnOk result (Appends (W.contents writer.old) (W.contents writer.new) (fault_frame fault.now)) }
+    ensures all { OnOk result (Appends (W.contents writer.old) (W.contents writer.new)
+        (fault_frame fault.now)) }
     ensures part { WrotePrefix (W.contents writer.old) (W.contents writer.new) (fault_frame fault.now) }
 {
     send(

@@ -14,8 +14,8 @@ use Rattle.csi_sql.specs.Making.{AddsFirst, StepMakes, schema_before, step_text}
 use Rattle.csi_sql.specs.Rows.{number_value, seen_meta}
 use Rattle.csi_sql.specs.Tables.{schema, no_schema, one_schema, two_schema, meta, volumes, attachments, meta_text, volumes_text, attachments_text, first_text}
 use Rattle.csi_sql.specs.declared.formats.TheConstants.{LATEST_FORMAT}
-use Rattle.csi_sql.specs.declared.making.Step.{Step}
-use Rattle.csi_sql.specs.declared.making.Step.TheVariants as step
+use Rattle.csi_sql.specs.declared.making.TableStatement.{TableStatement}
+use Rattle.csi_sql.specs.declared.making.TableStatement.TheVariants as step
 use Rattle.csi_sql.specs.facts.Steps.{cast_null, cast_int}
 use Rattle.csi_sql.specs.facts.Writes.{IsCommand, inserted}
 use Rattle.csi_sql.proofs.CreateLemmas.{attachments_create, creates, meta_create, volumes_create}
@@ -46,7 +46,7 @@ adds_first old new count has h =
       attachments = it.2.made.tables.1.1.0 (λ e. absurd (omega arith));
     }
 
-pub makes : (s : Step) (old new : State) (count : ℕ) → old.now.schema ≡ schema_before s → Executes (step_text s) [] old new (Ok count) → StepMakes s old.now new.now
+pub makes : (s : TableStatement) (old new : State) (count : ℕ) → old.now.schema ≡ schema_before s → Executes (step_text s) [] old new (Ok count) → StepMakes s old.now new.now
 makes step.Meta = creates no_schema meta_text meta meta_create
 makes step.Volumes = creates one_schema volumes_text volumes volumes_create
 makes step.Attachments = creates two_schema attachments_text attachments attachments_create

@@ -38,14 +38,16 @@ pub record Reads (What : Database → Type 0) (old : State) : Type 0 where
   pub what : old.now.schema ≡ schema → What old.now
 
 module _ {S : Type 0} (g : Ghosts S) (old new : Held S) where
-  -- A SELECT inside a transaction: what it shows, and why it fails. The database stays, and nothing is committed.
+  -- A SELECT inside a transaction: what it shows, and why it fails. The database stays, and nothing is
+  -- committed.
   pub record Selects {X : Type 0} (What : Database → X → Type 0) (Refuses : State → Error → Type 0) (r : Result X Error) : Type 0 where
     pub ok : HasCleanDisk (state g new) → IsTrue old.in_transaction → IfOk r (λ x. Steps (Sees (λ db. What db x)) (state g old) (state g new))
     pub failed : FailsFrom g old new schema Refuses r
     pub kept : KeepsCommitted g old new
     pub survives : LeavesNothingNew g old new
 
-  -- A call that only reads, in a transaction that is then undone: what it answers of the rows, and why it fails. A stop leaves what it could leave before.
+  -- A call that only reads, in a transaction that is then undone: what it answers of the rows, and why it
+  -- fails. A stop leaves what it could leave before.
   pub record ReadsOnly {X : Type 0} (What : Database → X → Type 0) (Refuses : State → Error → Type 0) (r : Result X Error) : Type 0 where
     pub idle : new.in_transaction ≡ false
     pub ok : HasCleanDisk (state g new) → IfOk r (λ x. Reads (λ db. What db x) (state g old))

@@ -14,7 +14,8 @@ use Rattle.sqlite.specs.declared.error.ErrorCode.TheVariants.{Closed, OperationI
 use Rattle.sqlite_disk.specs.Disk.{MoreFaults}
 use Rattle.sqlite_resolve.specs.declared.compiled.Compiled.{Compiled}
 
--- The error and its cause. A store may tell want of memory at any time; each other error has a cause that can be seen.
+-- The error and its cause. A store may tell want of memory at any time; each other error has a cause that can
+-- be seen.
 pub data FailsFor (Refuses : Error → Type 0) (old new : State) (e : Error) : Type 0 where
   for_memory : e ≡ SqliteFailure OutOfMemory → FailsFor Refuses old new e
   -- the disk failed once more since
@@ -26,7 +27,8 @@ pub data FailsFor (Refuses : Error → Type 0) (old new : State) (e : Error) : T
   -- what is asked for is refused
   as_refused : Refuses e → FailsFor Refuses old new e
 
--- SQL's rules refuse what the text does with the parameters to the database, or a row of it is too big to be stored
+-- SQL's rules refuse what the text does with the parameters to the database, or a row of it is too big to be
+-- stored
 abbrev pub SqlRefuses : List ℕ → Row → State → Error → Type 0
 SqlRefuses text params s e =
     (c : Compiled) × (understood s.now.schema text ≡ Ok c)
@@ -37,7 +39,8 @@ SqlRefuses text params s e =
 abbrev pub SqlRefusesToRead : List ℕ → Row → State → Error → Type 0
 SqlRefusesToRead text params s e =
     IsNoStatement s text params e
-    ⊎ ((c : Compiled) × (understood s.now.schema text ≡ Ok c) × (db : Database) × IsSourceOf (reads_listing s.now.schema text) s.now db × RefusesToRead s.step_limit c.command db params e)
+    ⊎ ((c : Compiled) × (understood s.now.schema text ≡ Ok c) × (db : Database) × IsSourceOf (reads_listing s.now.schema text) s.now db
+    × RefusesToRead s.step_limit c.command db params e)
 
 -- nothing refuses it
 abbrev pub Unrefused : Error → Type 0

@@ -9,8 +9,8 @@ use Rattle.sqlite.specs.declared.error.Error.{Error}
 use Rattle.csi_sql.specs.Failing.{SqlRefuses}
 use Rattle.csi_sql.specs.Rows.{seen_meta, meta_row}
 use Rattle.csi_sql.specs.declared.formats.TheConstants.{LATEST_FORMAT}
-use Rattle.csi_sql.specs.declared.making.Step.{Step}
-use Rattle.csi_sql.specs.declared.making.Step.TheVariants as step
+use Rattle.csi_sql.specs.declared.making.TableStatement.{TableStatement}
+use Rattle.csi_sql.specs.declared.making.TableStatement.TheVariants as step
 use Rattle.csi_sql.specs.Tables.{schema, no_schema, one_schema, two_schema, meta, volumes, attachments, meta_text, volumes_text, attachments_text, first_text}
 
 -- an empty table is made
@@ -28,19 +28,19 @@ pub record AddsFirst (old new : Database) : Type 0 where
   pub attachments : new.trees 3 ≡ old.trees 3
 
 -- each statement that makes the tables: its text, the schema that it meets, and what it makes
-abbrev pub step_text : Step → List ℕ
+abbrev pub step_text : TableStatement → List ℕ
 step_text step.Meta = meta_text
 step_text step.Volumes = volumes_text
 step_text step.Attachments = attachments_text
 step_text step.First = first_text
 
-abbrev pub schema_before : Step → Schema
+abbrev pub schema_before : TableStatement → Schema
 schema_before step.Meta = no_schema
 schema_before step.Volumes = one_schema
 schema_before step.Attachments = two_schema
 schema_before step.First = schema
 
-abbrev pub StepMakes : Step → Database → Database → Type 0
+abbrev pub StepMakes : TableStatement → Database → Database → Type 0
 StepMakes step.Meta = Creates no_schema meta
 StepMakes step.Volumes = Creates one_schema volumes
 StepMakes step.Attachments = Creates two_schema attachments

@@ -1,4 +1,5 @@
--- Why statements and transactions over the tables are refused: a change by SQL's rules, as where a number or a name stands already, or for the size of a row; a read for nothing but a meta without a row.
+-- Why statements and transactions over the tables are refused: a change by SQL's rules, as where a number or
+-- a name stands already, or for the size of a row; a read for nothing but a meta without a row.
 use Rattle.std.specs.Prelude.{◌≡◌, ◌⊎◌, ℕ, [], ◌∷◌, List}
 use Rattle.sqlite.specs.Effect.{Database}
 use Rattle.sqlite.specs.Order.{Row}
@@ -22,7 +23,8 @@ RefusesNext next s e = SqlRefuses (text SetNext) (number_value next ∷ []) s e
 
 -- the row is refused, or the next number once the row is there
 abbrev pub RefusesNumbered : Row → ℕ → State → Error → Type 0
-RefusesNumbered row next s e = RefusesVolume row s e ⊎ ((db : Database) × (s.now.schema ≡ schema → AddsVolume row s.now db) × RefusesNext next (record s { now = db }) e)
+RefusesNumbered row next s e = RefusesVolume row s e
+    ⊎ ((db : Database) × (s.now.schema ≡ schema → AddsVolume row s.now db) × RefusesNext next (record s { now = db }) e)
 
 abbrev pub RefusesFormat : State → Error → Type 0
 RefusesFormat s e = SqlRefuses (text SetFormat) [] s e

@@ -1,4 +1,5 @@
--- The queries that the reads are: over which tree, which rows pass, what is shown of a row, and in which order.
+-- The queries that the reads are: over which tree, which rows pass, what is shown of a row, and in which
+-- order.
 use Rattle.std.specs.Prelude.{false, [], ◌∷◌, None, List, pos, negsuc}
 use Rattle.sqlite.specs.Collation.TheVariants.{Binary}
 use Rattle.sqlite.specs.declared.types.Value.TheVariants.{Int}
@@ -40,13 +41,32 @@ abbrev pub volume_query : Query
 volume_query = record plain_query { from = inner 1 end; filter = op2 (Compare Eq Binary) (col 1 0) (col 0 0) ∷ []; project = volume_columns }
 
 abbrev pub named_query : Query
-named_query = record plain_query { from = inner 1 end; filter = op2 (Compare Eq Binary) (col 1 2) (col 0 0) ∷ []; project = volume_columns; order = (col 1 0, rising) ∷ [] }
+named_query = record plain_query {
+  from = inner 1 end;
+  filter = op2 (Compare Eq Binary) (col 1 2) (col 0 0)
+      ∷ [];
+  project = volume_columns;
+  order = (col 1 0, rising) ∷ [];
+}
 
 abbrev pub sizes_query : Query
-sizes_query = record plain_query { from = inner 1 end; filter = op2 (Compare Eq Binary) (col 1 4) (col 0 0) ∷ []; project = col 1 3 ∷ []; order = (col 1 0, rising) ∷ [] }
+sizes_query = record plain_query {
+  from = inner 1 end;
+  filter = op2 (Compare Eq Binary) (col 1 4) (col 0 0) ∷ [];
+  project = col 1 3
+      ∷ [];
+  order = (col 1 0, rising) ∷ [];
+}
 
 abbrev pub page_query : Query
-page_query = record plain_query { from = inner 1 end; filter = op2 (Compare Gt Binary) (col 1 0) (col 0 0) ∷ []; project = volume_columns; order = (col 1 0, rising) ∷ []; limit = col 0 1 }
+page_query = record plain_query {
+  from = inner 1 end;
+  filter = op2 (Compare Gt Binary) (col 1 0) (col 0 0)
+      ∷ [];
+  project = volume_columns;
+  order = (col 1 0, rising) ∷ [];
+  limit = col 0 1;
+}
 
 abbrev pub page_numbers_query : Query
 page_numbers_query = record page_query { project = col 1 0 ∷ [] }
@@ -54,10 +74,22 @@ page_numbers_query = record page_query { project = col 1 0 ∷ [] }
 -- ---- attachments: their number is no key, so what it is compared with is made a number first
 
 abbrev pub nodes_query : Query
-nodes_query = record plain_query { from = inner 3 end; filter = op2 (Compare Eq Binary) (col 1 1) (op1 ToNumeric (col 0 0)) ∷ []; project = col 1 2 ∷ col 1 3 ∷ col 1 4 ∷ []; order = (col 1 2, rising) ∷ [] }
+nodes_query = record plain_query {
+  from = inner 3 end;
+  filter = op2 (Compare Eq Binary) (col 1 1) (op1 ToNumeric (col 0 0)) ∷ [];
+  project = col 1 2
+      ∷ col 1 3 ∷ col 1 4 ∷ [];
+  order = (col 1 2, rising) ∷ [];
+}
 
 abbrev pub attached_query : Query
-attached_query = record plain_query { from = inner 3 end; filter = op2 (Compare Eq Binary) (col 1 2) (col 0 0) ∷ []; project = col 1 1 ∷ []; order = (col 1 1, rising) ∷ [] }
+attached_query = record plain_query {
+  from = inner 3 end;
+  filter = op2 (Compare Eq Binary) (col 1 2) (col 0 0) ∷ [];
+  project = col 1 1
+      ∷ [];
+  order = (col 1 1, rising) ∷ [];
+}
 
 abbrev pub places_query : Query
 places_query = record plain_query {

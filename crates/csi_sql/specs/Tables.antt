@@ -34,7 +34,8 @@ key_column name = record { name = name; kind = Integer; is_strict = false; not_n
 abbrev pub full_column : List ℕ → Kind → Column
 full_column name kind = record { name = name; kind = kind; is_strict = false; not_null = true; default = Null; collation = Binary }
 
--- what none of them has: a reference, a computed column, a default that reads the time, and rowids that are counted
+-- what none of them has: a reference, a computed column, a default that reads the time, and rowids that are
+-- counted
 abbrev pub bare_table : List ℕ → List Column → Table
 bare_table name columns = record {
   name = name;
@@ -59,13 +60,15 @@ meta = record (bare_table (codes "meta") (key_column (codes "k") ∷ full_column
 }
 
 abbrev pub volumes_columns : List Column
-volumes_columns = key_column (codes "number") ∷ full_column (codes "name") Text ∷ full_column (codes "bytes") Integer ∷ full_column (codes "pool") Text ∷ full_column (codes "caps") Any ∷ full_column (codes "params") Any ∷ []
+volumes_columns = key_column (codes "number") ∷ full_column (codes "name") Text ∷ full_column (codes "bytes") Integer
+    ∷ full_column (codes "pool") Text ∷ full_column (codes "caps") Any ∷ full_column (codes "params") Any ∷ []
 
 abbrev pub volumes : Table
 volumes = record (bare_table (codes "volumes") volumes_columns) { key = Some 0; primary = 0 ∷ []; uniques = (2 ∷ []) ∷ []; orders = plain ∷ [] }
 
 abbrev pub attachments_columns : List Column
-attachments_columns = full_column (codes "number") Integer ∷ full_column (codes "node") Text ∷ full_column (codes "cap") Any ∷ full_column (codes "readonly") Integer ∷ []
+attachments_columns = full_column (codes "number") Integer ∷ full_column (codes "node") Text ∷ full_column (codes "cap") Any
+    ∷ full_column (codes "readonly") Integer ∷ []
 
 abbrev pub attachments : Table
 attachments = record (bare_table (codes "attachments") attachments_columns) { primary = 1 ∷ 2 ∷ []; uniques = (1 ∷ 2 ∷ []) ∷ []; orders = plain ∷ [] }

@@ -45,15 +45,19 @@ module _ {S : Type 0} (g : Ghosts S) (old new : Held S) where
   abbrev pub LeavesNothingNew : Type 0
   LeavesNothingNew = Survives (state g old) (state g new) (λ _. ⊥)
 
-  -- A statement inside a transaction: what it makes of tables of a schema, why it fails, and that nothing is committed.
-  pub record RunsOver {X : Type 0} (before : Schema) (Effect : Database → Database → Type 0) (Refuses : State → Error → Type 0) (r : Result X Error) : Type 0 where
+  -- A statement inside a transaction: what it makes of tables of a schema, why it fails, and that nothing is
+  -- committed.
+  pub record RunsOver {X : Type 0} (before : Schema) (Effect : Database → Database → Type 0) (Refuses : State → Error
+      → Type 0) (r : Result X Error) : Type 0 where
     pub ok : RunsFrom before Effect r
     pub failed : FailsFrom g old new before Refuses r
     pub kept : KeepsCommitted
     pub survives : LeavesNothingNew
 
-  -- A change in a transaction of its own: committed, or undone for a cause. A stop leaves what it could leave before, or the change.
-  pub record CommitsOver {X : Type 0} (before : Schema) (Effect : Database → Database → Type 0) (Refuses : State → Error → Type 0) (r : Result X Error) : Type 0 where
+  -- A change in a transaction of its own: committed, or undone for a cause. A stop leaves what it could leave
+  -- before, or the change.
+  pub record CommitsOver {X : Type 0} (before : Schema) (Effect : Database → Database → Type 0) (Refuses : State → Error
+      → Type 0) (r : Result X Error) : Type 0 where
     pub idle : new.in_transaction ≡ false
     pub ok : HasCleanDisk (state g new) → OnOk r (ChangesFrom before Effect (state g old) (state g new))
     pub err : HasCleanDisk (state g new) → OnErr r (IsUndone (state g old) (state g new))

@@ -6,7 +6,8 @@ use Rattle.csi_sql.specs.Deletes.{is_numbered}
 use Rattle.csi_sql.specs.Effects.{AreKeyed}
 use Rattle.csi_sql.specs.Rows.{seen_volume, volume_row}
 
--- the volume of the number has the params, and each other is as it was; where none has the number nothing changes
+-- the volume of the number has the params, and each other is as it was; where none has the number nothing
+-- changes
 pub record SetsParams (number : ℕ) (params : List ℕ) (old new : Database) : Type 0 where
   pub schema : new.schema ≡ old.schema
   pub sound : IsDatabase new

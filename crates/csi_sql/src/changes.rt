@@ -35,7 +35,8 @@ pub fn add_volume<S: Alter>(
     requires volume { volume < 2 ^ 62 }
     requires bytes { bytes < 2 ^ 63 }
     ensures { let row = volume_row volume name.now bytes pool.now caps.now params.now in
-        CommitsOver S.Store conn.old conn.new schema (AddsNumbered row (volume + 1)) (RefusesNumbered row (volume + 1)) result }
+        CommitsOver S.Store conn.old conn.new schema (AddsNumbered row (volume + 1))
+        (RefusesNumbered row (volume + 1)) result }
 {
     let mut tx = conn.transaction();
     let row = VolumeRow {
@@ -60,7 +61,8 @@ pub fn set_params<S: Alter>(
 ) -> Result<(), Error>
     requires idle { conn.old.in_transaction ≡ false }
     requires volume { volume < 2 ^ 63 }
-    ensures { CommitsOver S.Store conn.old conn.new schema (SetsParams volume params.now) (RefusesParams volume params.now) result }
+    ensures { CommitsOver S.Store conn.old conn.new schema (SetsParams volume params.now)
+        (RefusesParams volume params.now) result }
 {
     let mut tx = conn.transaction();
     update_params(&mut tx, volume, params)?;
@@ -72,14 +74,16 @@ pub fn set_params<S: Alter>(
 pub fn remove_volume<S: Alter>(conn: &mut Connection<S>, volume: u64) -> Result<(), Error>
     requires idle { conn.old.in_transaction ≡ false }
     requires volume { volume < 2 ^ 63 }
-    ensures { CommitsOver S.Store conn.old conn.new schema (Drops 1 seen_volume (is_numbered volume)) (RefusesRemoval volume) result }
+    ensures { CommitsOver S.Store conn.old conn.new schema (Drops 1 seen_volume (is_numbered volume))
+        (RefusesRemoval volume) result }
 {
     let mut tx = conn.transaction();
     delete_volume(&mut tx, volume)?;
     tx.commit()
 }
 
-/// Sets the format to [`LATEST_FORMAT`](crate::LATEST_FORMAT). The next number, the volumes and the attachments stay.
+/// Sets the format to [`LATEST_FORMAT`](crate::LATEST_FORMAT). The next number, the volumes and the
+/// attachments stay.
 pub fn set_format<S: Alter>(conn: &mut Connection<S>) -> Result<(), Error>
     requires idle { conn.old.in_transaction ≡ false }
     ensures { CommitsOver S.Store conn.old conn.new schema SetsFormat RefusesFormat result }
@@ -113,7 +117,8 @@ pub fn attach<S: Alter>(
 pub fn detach<S: Alter>(conn: &mut Connection<S>, volume: u64, node: &str) -> Result<(), Error>
     requires idle { conn.old.in_transaction ≡ false }
     requires volume { volume < 2 ^ 63 }
-    ensures { CommitsOver S.Store conn.old conn.new schema (Drops 3 seen_attachment (is_place volume node.now)) (RefusesDetaching volume node.now) result }
+    ensures { CommitsOver S.Store conn.old conn.new schema
+        (Drops 3 seen_attachment (is_place volume node.now)) (RefusesDetaching volume node.now) result }
 {
     let mut tx = conn.transaction();
     delete_attachment(&mut tx, volume, node)?;
@@ -124,7 +129,8 @@ pub fn detach<S: Alter>(conn: &mut Connection<S>, volume: u64, node: &str) -> Re
 pub fn detach_all<S: Alter>(conn: &mut Connection<S>, volume: u64) -> Result<(), Error>
     requires idle { conn.old.in_transaction ≡ false }
     requires volume { volume < 2 ^ 63 }
-    ensures { CommitsOver S.Store conn.old conn.new schema (Drops 3 seen_attachment (is_of volume)) (RefusesDetachingAll volume) result }
+    ensures { CommitsOver S.Store conn.old conn.new schema (Drops 3 seen_attachment (is_of volume))
+        (RefusesDetachingAll volume) result }
 {
     let mut tx = conn.transaction();
     delete_attachments(&mut tx, volume)?;

@@ -1,26 +1,32 @@
 //! SQL over the tables that volumes are kept in: how they are made, each change, and each read.
 //!
-//! `specs/Tables.antt` has the three CREATE texts and the schema that they make: `meta` (its key, the number of the format, the next number),
-//! `volumes` by number, and `attachments` by number and node. `specs/Rows.antt` says what a row is as it is kept and as a SELECT shows it. The trees of a
-//! database have numbers: meta is 0, volumes 1 with its index of names 2, attachments 3 with its index 4. `specs/Transactions.antt` has the words for
-//! what a transaction did, and for what a stop in its commit may leave.
+//! `specs/Tables.antt` has the three CREATE texts and the schema that they make: `meta` (its key, the number
+//! of the format, the next number), `volumes` by number, and `attachments` by number and node.
+//! `specs/Rows.antt` says what a row is as it is kept and as a SELECT shows it. The trees of a database have
+//! numbers: meta is 0, volumes 1 with its index of names 2, attachments 3 with its index 4.
+//! `specs/Transactions.antt` has the words for what a transaction did, and for what a stop in its commit may
+//! leave.
 //!
-//! - [`make_tables`] makes the tables in one transaction: whole, with the first row of meta, or not at all. [`is_our_schema`] compares a schema with
-//!   that of the tables, part by part (`specs/Ours.antt`): it looks at no text of a CREATE, only at what it means.
-//! - [`changes`] has one transaction a change. After `Ok` it is made and committed, after an error the tables are as they were; a stop leaves what it
-//!   could leave before, or the tables after the change.
-//! - [`reads`] has a transaction a read, which is undone: it answers rows, leaves the tables, and adds nothing to what a stop may leave. [`values`] has the
-//!   cells of a row as numbers, truths, texts and bytes.
-//! - [`statements`] has the statements with fixed texts, a table a module, inside a transaction that the caller ends. The SELECTs of rows are each a variant
-//!   (`statements/select.rt`).
+//! - [`make_tables`] makes the tables in one transaction: whole, with the first row of meta, or not at all.
+//!   [`is_our_schema`] compares a schema with that of the tables, part by part (`specs/Ours.antt`): it looks
+//!   at no text of a CREATE, only at what it means.
+//! - [`changes`] has one transaction a change. After `Ok` it is made and committed, after an error the tables
+//!   are as they were; a stop leaves what it could leave before, or the tables after the change.
+//! - [`reads`] has a transaction a read, which is undone: it answers rows, leaves the tables, and adds
+//!   nothing to what a stop may leave. [`values`] has the cells of a row as numbers, truths, texts and bytes.
+//! - [`statements`] has the statements with fixed texts, a table a module, inside a transaction that the
+//!   caller ends. The SELECTs of rows are each a variant (`statements/select.rt`).
 //!
-//! The checker computes each text under the schema (`proofs/TextLemmas.antt`), so a contract cites not the text but its meaning: an INSERT adds a row
-//! (`specs/Effects.antt`), a DELETE is a filter of the table (`specs/Deletes.antt`), and a SELECT shows the rows that pass in an order
-//! (`specs/Shown.antt` over the queries of `specs/Statements.antt`). A DELETE goes by rowids, so it is a filter where no two rows share one (`AreKeyed`); an
-//! INSERT keeps that. `specs/facts/` says what INSERT, UPDATE and DELETE of a fixed text make of one table.
+//! The checker computes each text under the schema (`proofs/TextLemmas.antt`), so a contract cites not the
+//! text but its meaning: an INSERT adds a row (`specs/Effects.antt`), a DELETE is a filter of the table
+//! (`specs/Deletes.antt`), and a SELECT shows the rows that pass in an order (`specs/Shown.antt` over the
+//! queries of `specs/Statements.antt`). A DELETE goes by rowids, so it is a filter where no two rows share
+//! one (`AreKeyed`); an INSERT keeps that. `specs/facts/` says what INSERT, UPDATE and DELETE of a fixed text
+//! make of one table.
 //!
-//! What is promised of the tables is promised while the connection is clean as the call ends (`HasCleanDisk`: the disk has returned what was written,
-//! and nobody else has written), under this schema; of [`make_tables`], where the store had no table. Which statements succeed is not promised.
+//! What is promised of the tables is promised while the connection is clean as the call ends (`HasCleanDisk`:
+//! the disk has returned what was written, and nobody else has written), under this schema; of
+//! [`make_tables`], where the store had no table. Which statements succeed is not promised.
 //!
 //! ```rust
 //! if !is_our_schema(conn.schema()) {

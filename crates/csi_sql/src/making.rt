@@ -10,7 +10,7 @@ use sqlite::{Alter, Connection, Error, Transaction};
 
 // The statements that make the tables, each behind those before it.
 #[derive(Clone, Copy)]
-enum Step {
+enum TableStatement {
     Meta,
     Volumes,
     Attachments,
@@ -18,26 +18,27 @@ enum Step {
     First,
 }
 
-fn text_of(step: Step) -> &'static str
+fn text_of(step: TableStatement) -> &'static str
     ensures { result.now ≡ step_text step }
 {
     match step {
-        Step::Meta => {
+        TableStatement::Meta => {
             "CREATE TABLE meta (k INTEGER PRIMARY KEY CHECK (k = 1), format_no INTEGER NOT NULL, next_number INTEGER NOT NULL)"
         }
-        Step::Volumes => {
+        TableStatement::Volumes => {
             "CREATE TABLE volumes (number INTEGER PRIMARY KEY, name TEXT NOT NULL UNIQUE, bytes INTEGER NOT NULL, pool TEXT NOT NULL, caps BLOB NOT NULL, params BLOB NOT NULL)"
         }
-        Step::Attachments => {
+        TableStatement::Attachments => {
             "CREATE TABLE attachments (number INTEGER NOT NULL, node TEXT NOT NULL, cap BLOB NOT NULL, readonly INTEGER NOT NULL, PRIMARY KEY (number, node))"
         }
-        Step::First => "INSERT INTO meta (k, format_no, next_number) VALUES (1, 2, 1)",
+        TableStatement::First => "INSERT INTO meta (k, format_no, next_number) VALUES (1, 2, 1)",
     }
 }
 
-fn make<S: Alter>(tx: &mut Transaction<'_, S>, step: Step) -> Result<usize, Error>
+fn make<S: Alter>(tx: &mut Transaction<'_, S>, step: TableStatement) -> Result<usize, Error>
     ensures same_reference { tx.new.conn.ghost_name ≡ tx.old.conn.ghost_name }
-    ensures runs { RunsOver S.Store tx.old.conn.now tx.new.conn.now (schema_before step) (StepMakes step) (SqlRefuses (step_text step) []) result }
+    ensures runs { RunsOver S.Store tx.old.conn.now tx.new.conn.now (schema_before step) (StepMakes step)
+        (SqlRefuses (step_text step) []) result }
 {
     tx.execute(text_of(step), &[])
 }
@@ -46,17 +47,17 @@ fn create_tables<S: Alter>(tx: &mut Transaction<'_, S>) -> Result<(), Error>
     ensures same_reference { tx.new.conn.ghost_name ≡ tx.old.conn.ghost_name }
     ensures runs { RunsOver S.Store tx.old.conn.now tx.new.conn.now no_schema MakesTables RefusesTables result }
 {
-    make(tx, Step::Meta)?;
-    make(tx, Step::Volumes)?;
-    make(tx, Step::Attachments)?;
-    make(tx, Step::First)?;
+    make(tx, TableStatement::Meta)?;
+    make(tx, TableStatement::Volumes)?;
+    make(tx, TableStatement::Attachments)?;
+    make(tx, TableStatement::First)?;
     Ok(())
 }
 
 /// Makes the three tables and the first row of meta, in one transaction.
 ///
-/// After `Ok` a store that had no table has these three, with no volume, no attachment, the latest
-/// format and 1 as the next number, and all of it is committed. After an error nothing was made. A stop leaves what it
+/// After `Ok` a store that had no table has these three, with no volume, no attachment, the latest format and
+/// 1 as the next number, and all of it is committed. After an error nothing was made. A stop leaves what it
 /// could leave before, or the tables as they were made.
 pub fn make_tables<S: Alter>(conn: &mut Connection<S>) -> Result<(), Error>
     requires idle { conn.old.in_transaction ≡ false }

@@ -13,8 +13,8 @@ use sqlite_schema::schema::{Index, Schema, Table};
 use tables::{is_attachments, is_meta, is_volumes};
 
 fn are_tables(tables: &[Table]) -> bool
-    ensures is { IsTrue result → tables.now ≡ our_tables }
-    ensures whole { tables.now ≡ our_tables → IsTrue result }
+    ensures true_only_if { IsTrue result → tables.now ≡ our_tables }
+    ensures true_if { tables.now ≡ our_tables → IsTrue result }
 {
     let [first, second, third] = tables else {
         return false;
@@ -23,8 +23,8 @@ fn are_tables(tables: &[Table]) -> bool
 }
 
 fn are_indexes(indexes: &[Index]) -> bool
-    ensures is { IsTrue result → indexes.now ≡ our_indexes }
-    ensures whole { indexes.now ≡ our_indexes → IsTrue result }
+    ensures true_only_if { IsTrue result → indexes.now ≡ our_indexes }
+    ensures true_if { indexes.now ≡ our_indexes → IsTrue result }
 {
     let [names, places] = indexes else {
         return false;
@@ -40,8 +40,8 @@ fn are_indexes(indexes: &[Index]) -> bool
 /// there is no further table, index or view.
 #[tactic(auto, using(crate::proofs::OursLemmas::is_ours, crate::proofs::OursLemmas::has_ours))]
 pub fn is_our_schema(schema: &Schema) -> bool
-    ensures is { IsTrue result → schema.now ≡ our_schema }
-    ensures whole { schema.now ≡ our_schema → IsTrue result }
+    ensures true_only_if { IsTrue result → schema.now ≡ our_schema }
+    ensures true_if { schema.now ≡ our_schema → IsTrue result }
 {
     are_tables(schema.tables.as_slice())
         & are_indexes(schema.indexes.as_slice())

@@ -32,7 +32,8 @@ pub fn next_number<S: Alter>(conn: &mut Connection<S>) -> Result<Row, Error>
 fn rows_of<S: Alter>(conn: &mut Connection<S>, read: &Select<'_>) -> Result<Vec<Row>, Error>
     requires idle { conn.old.in_transaction ≡ false }
     requires asked { IsAsked read.now }
-    ensures { ReadsOnly S.Store conn.old conn.new (λ db rows. Tells read.now db rows.items) NothingRefuses result }
+    ensures { ReadsOnly S.Store conn.old conn.new
+        (λ db rows. Tells read.now db rows.items) NothingRefuses result }
 {
     let mut tx = conn.transaction();
     let rows = select_rows(&mut tx, read)?;
@@ -44,7 +45,9 @@ fn rows_of<S: Alter>(conn: &mut Connection<S>, read: &Select<'_>) -> Result<Vec<
 pub fn by_number<S: Alter>(conn: &mut Connection<S>, volume: u64) -> Result<Option<Row>, Error>
     requires idle { conn.old.in_transaction ≡ false }
     requires volume { volume < 2 ^ 63 }
-    ensures { ReadsOnly S.Store conn.old conn.new (λ db found. IsFoundBy volume_query (db.trees 1) (number_value volume ∷ []) found) NothingRefuses result }
+    ensures { ReadsOnly S.Store conn.old conn.new
+        (λ db found. IsFoundBy volume_query (db.trees 1)
+        (number_value volume ∷ []) found) NothingRefuses result }
 {
     let rows = rows_of(conn, &Select::Numbered(volume))?;
     Ok(first(rows))
@@ -53,7 +56,8 @@ pub fn by_number<S: Alter>(conn: &mut Connection<S>, volume: u64) -> Result<Opti
 /// The volume of a name, byte for byte; `None` where none stands.
 pub fn by_name<S: Alter>(conn: &mut Connection<S>, name: &str) -> Result<Option<Row>, Error>
     requires idle { conn.old.in_transaction ≡ false }
-    ensures { ReadsOnly S.Store conn.old conn.new (λ db found. IsFoundBy named_query (db.trees 1) (Text name.now ∷ []) found) NothingRefuses result }
+    ensures { ReadsOnly S.Store conn.old conn.new
+        (λ db found. IsFoundBy named_query (db.trees 1) (Text name.now ∷ []) found) NothingRefuses result }
 {
     let rows = rows_of(conn, &Select::Named(name))?;
     Ok(first(rows))
@@ -65,7 +69,8 @@ pub fn attachments<S: Alter>(conn: &mut Connection<S>, volume: u64) -> Result<Ve
     requires idle { conn.old.in_transaction ≡ false }
     requires volume { volume < 2 ^ 63 }
     ensures { ReadsOnly S.Store conn.old conn.new
-        (λ db rows. IsShownOf nodes_query (db.trees 3) (number_value volume ∷ []) rows.items) NothingRefuses result }
+        (λ db rows. IsShownOf nodes_query (db.trees 3)
+        (number_value volume ∷ []) rows.items) NothingRefuses result }
 {
     rows_of(conn, &Select::Nodes(volume))
 }
@@ -73,7 +78,9 @@ pub fn attachments<S: Alter>(conn: &mut Connection<S>, volume: u64) -> Result<Ve
 /// The number of each volume that is attached at a node, in rising order.
 pub fn attached_at<S: Alter>(conn: &mut Connection<S>, node: &str) -> Result<Vec<Row>, Error>
     requires idle { conn.old.in_transaction ≡ false }
-    ensures { ReadsOnly S.Store conn.old conn.new (λ db rows. IsShownOf attached_query (db.trees 3) (Text node.now ∷ []) rows.items) NothingRefuses result }
+    ensures { ReadsOnly S.Store conn.old conn.new
+        (λ db rows. IsShownOf attached_query (db.trees 3)
+        (Text node.now ∷ []) rows.items) NothingRefuses result }
 {
     rows_of(conn, &Select::Attached(node))
 }
@@ -81,7 +88,9 @@ pub fn attached_at<S: Alter>(conn: &mut Connection<S>, node: &str) -> Result<Vec
 /// The bytes of each volume of a pool, in rising order of their numbers.
 pub fn sizes_in<S: Alter>(conn: &mut Connection<S>, pool: &str) -> Result<Vec<Row>, Error>
     requires idle { conn.old.in_transaction ≡ false }
-    ensures { ReadsOnly S.Store conn.old conn.new (λ db rows. IsShownOf sizes_query (db.trees 1) (Text pool.now ∷ []) rows.items) NothingRefuses result }
+    ensures { ReadsOnly S.Store conn.old conn.new
+        (λ db rows. IsShownOf sizes_query (db.trees 1)
+        (Text pool.now ∷ []) rows.items) NothingRefuses result }
 {
     rows_of(conn, &Select::Sizes(pool))
 }
@@ -90,7 +99,8 @@ pub fn sizes_in<S: Alter>(conn: &mut Connection<S>, pool: &str) -> Result<Vec<Ro
 pub fn page<S: Alter>(conn: &mut Connection<S>, after: u64, count: u32) -> Result<Vec<Row>, Error>
     requires idle { conn.old.in_transaction ≡ false }
     requires after { after < 2 ^ 63 }
-    ensures { ReadsOnly S.Store conn.old conn.new (λ db rows. IsPage after count db rows.items) NothingRefuses result }
+    ensures { ReadsOnly S.Store conn.old conn.new
+        (λ db rows. IsPage after count db rows.items) NothingRefuses result }
 {
     rows_of(conn, &Select::Page(after, count))
 }
@@ -125,7 +135,8 @@ pub fn page_nodes<S: Alter>(
 ) -> Result<PageNodes, Error>
     requires idle { conn.old.in_transaction ≡ false }
     requires after { after < 2 ^ 63 }
-    ensures { ReadsOnly S.Store conn.old conn.new (λ db page. IsPageNodes after count db page.numbers.items page.places.items) NothingRefuses result }
+    ensures { ReadsOnly S.Store conn.old conn.new
+        (λ db page. IsPageNodes after count db page.numbers.items page.places.items) NothingRefuses result }
 {
     let mut tx = conn.transaction();
     let numbers = select_rows(&mut tx, &Select::PageNumbers(after, count))?;

@@ -19,27 +19,27 @@ use Rattle.csi_tables.specs.Answers.{of_database}
 use Rattle.csi_tables.specs.Encoding.{ReadsBack}
 use Rattle.csi_tables.specs.Holding.{IsRows, IsStorable, Shows, conn_doubt, conn_holds}
 use Rattle.csi_tables.specs.Refusing.{ConnChanges, ConnReads, ConnStays, StoreChanges}
-use Rattle.csi_tables.specs.declared.fault.Fault.{Fault}
-use Rattle.csi_tables.specs.declared.fault.Fault.TheVariants.{Refused}
+use Rattle.csi_tables.specs.declared.fault.TablesFault.{TablesFault}
+use Rattle.csi_tables.specs.declared.fault.TablesFault.TheVariants.{Refused}
 use Rattle.csi_tables.proofs.CellLemmas.{handed_on}
 use Rattle.csi_tables.proofs.KeepLemmas.{fails, fails_behind, fails_quiet, is_quiet, makes, makes_behind, makes_never, on_err, on_err_so, on_ok_so, store_fails, store_makes}
 use Rattle.csi_tables.proofs.RefusalLemmas.{call_refused, refused_after, refused_so, told_as}
 
 -- an answer Ok is no refusal
-made_unrefused : {X : Type 0} (x : X) (P : Type 0) → ◌≡◌ {A = Result X Fault} (Ok x) (Err Refused) → P
+made_unrefused : {X : Type 0} (x : X) (P : Type 0) → ◌≡◌ {A = Result X TablesFault} (Ok x) (Err Refused) → P
 made_unrefused x P is = absurd cc
 
-pub on_ok : {X P : Type 0} (r : Result X Fault) → P → OnOk r P
+pub on_ok : {X P : Type 0} (r : Result X TablesFault) → P → OnOk r P
 on_ok (Ok x) h = h
 on_ok (Err fault) h = tt
 
-pub never_ok : {X : Type 0} (r : Result X Fault) (P : Fault → Type 0) (Q : Type 0) → IsErrAnd r P → OnOk r Q
+pub never_ok : {X : Type 0} (r : Result X TablesFault) (P : TablesFault → Type 0) (Q : Type 0) → IsErrAnd r P → OnOk r Q
 never_ok (Ok x) P Q is = absurd is
 never_ok (Err fault) P Q is = tt
 
 module _ {S X : Type 0} {g : Ghosts S} {old new : Held S} {Why : Type 0} where
   -- a change that changes nothing
-  pub stays : {r : Result X Fault} (change : Change) → ((s : State) → IsStorable s → changed s change ≡ s) → ConnStays g old new r → ConnChanges g old new change Why r
+  pub stays : {r : Result X TablesFault} (change : Change) → ((s : State) → IsStorable s → changed s change ≡ s) → ConnStays g old new r → ConnChanges g old new change Why r
   stays {r = r} change same h = record {
     idle = h.idle;
     made = on_ok_so (λ made. made change same) r h.made;
@@ -49,7 +49,7 @@ module _ {S X : Type 0} {g : Ghosts S} {old new : Held S} {Why : Type 0} where
   }
 
   -- a change behind a read that failed
-  pub unmade : {Z : Type 0} {What : State → Z → Type 0} (change : Change) (r : Result X Fault) (fault : Fault) → ConnReads g old new What (Err fault) → IsErrAnd r (λ y. y ≡ fault) → ConnChanges g old new change Why r
+  pub unmade : {Z : Type 0} {What : State → Z → Type 0} (change : Change) (r : Result X TablesFault) (fault : TablesFault) → ConnReads g old new What (Err fault) → IsErrAnd r (λ y. y ≡ fault) → ConnChanges g old new change Why r
   unmade change r fault h is = record {
     idle = h.idle;
     made = never_ok r _ _ is;
@@ -70,7 +70,7 @@ module _ {S X : Type 0} {g : Ghosts S} {old new : Held S} {Why : Type 0} where
   }
 
   -- a change beside totals that are moved with it
-  pub beside : (r : Result X Fault) (change : Change) {a b : Totals} → OnOk r ((s : State) → conn_doubt g new ≡ 0 → conn_holds g old s → Allows s change → IsStorable s → AreTotals a s → AreTotals b (changed s change))
+  pub beside : (r : Result X TablesFault) (change : Change) {a b : Totals} → OnOk r ((s : State) → conn_doubt g new ≡ 0 → conn_holds g old s → Allows s change → IsStorable s → AreTotals a s → AreTotals b (changed s change))
       → OnOk r ((s : State) → conn_doubt g new ≡ 0 → conn_holds g old s → Allows s change → IsStorable s → IsStorable (changed s change)) → OnErr r ((q : Text) → total_of b q ≡ total_of a q)
       → ConnChanges g old new change Why r → StoreChanges g (old, a) (new, b) change Why r
   beside (Ok x) change {a = a} {b = b} totals storable same h = record {
@@ -95,7 +95,7 @@ module _ {S : Type 0} (g : Ghosts S) (back : ReadsBack) (change : Change) (Effec
   pub changes : {x : X} {y : Y} → ((s : S) (db : Trees) → IsTrue (g.view s).is_open → g.recovers s db → db ≡ (g.view s).committed) → CommitsOver g old new schema Effect Refuses (Ok x) → ConnChanges g old new change Why (Ok y)
   changes {y = y} settled h = record { idle = h.idle; made = makes g back change Effect keeps steps old new h.survives settled h.ok; failed = tt; refused = λ clean is. made_unrefused y _ is; limit = h.survives.limit }
 
-  pub changes_not : (r : Result Y Fault) (e : Error) → (Refuses (state g old) e → Why) → CommitsOver g old new {X = X} schema Effect Refuses (Err e) → IsErrAnd r (λ y. y ≡ of_database e) → ConnChanges g old new change Why r
+  pub changes_not : (r : Result Y TablesFault) (e : Error) → (Refuses (state g old) e → Why) → CommitsOver g old new {X = X} schema Effect Refuses (Err e) → IsErrAnd r (λ y. y ≡ of_database e) → ConnChanges g old new change Why r
   changes_not r e why h is = record {
     idle = h.idle;
     made = never_ok r _ _ is;
@@ -106,7 +106,7 @@ module _ {S : Type 0} (g : Ghosts S) (back : ReadsBack) (change : Change) (Effec
 
 -- by one transaction behind a read
 module _ {S : Type 0} (g : Ghosts S) (back : ReadsBack) (change : Change) (Effect : Database → Database → Type 0) (keeps : (old new : Database) → Effect old new → new.schema ≡ old.schema)
-    {X Y Z : Type 0} {before old new : Held S} {What : State → Z → Type 0} {z : Result Z Fault} (read : ConnReads g before old What z) {Refuses : sql.State → Error → Type 0} {Why : Type 0}
+    {X Y Z : Type 0} {before old new : Held S} {What : State → Z → Type 0} {z : Result Z TablesFault} (read : ConnReads g before old What z) {Refuses : sql.State → Error → Type 0} {Why : Type 0}
     (steps : HasCleanDisk (state g new) → (s : State) → conn_holds g before s → (db after : Database) → db.schema ≡ schema → IsRows s db.trees → Allows s change → Effect db after → IsRows (changed s change) after.trees) where
   pub changes_behind : {x : X} {y : Y} → ((s : S) (db : Trees) → IsTrue (g.view s).is_open → g.recovers s db → db ≡ (g.view s).committed) → CommitsOver g old new schema Effect Refuses (Ok x) → ConnChanges g before new change Why (Ok y)
   changes_behind {y = y} settled h = record {
@@ -117,7 +117,7 @@ module _ {S : Type 0} (g : Ghosts S) (back : ReadsBack) (change : Change) (Effec
     limit = h.survives.limit ∙ read.survives.limit;
   }
 
-  pub changes_not_behind : (r : Result Y Fault) (e : Error) → (HasCleanDisk (state g old) → (s : State) → conn_holds g before s → Shows (state g before) s → (state g old).now ≡ (state g before).now → (state g old).step_limit ≡ (state g before).step_limit → Refuses (state g old) e → Why)
+  pub changes_not_behind : (r : Result Y TablesFault) (e : Error) → (HasCleanDisk (state g old) → (s : State) → conn_holds g before s → Shows (state g before) s → (state g old).now ≡ (state g before).now → (state g old).step_limit ≡ (state g before).step_limit → Refuses (state g old) e → Why)
       → CommitsOver g old new {X = X} schema Effect Refuses (Err e) → IsErrAnd r (λ y. y ≡ of_database e) → ConnChanges g before new change Why r
   changes_not_behind r e why h is = record {
     idle = h.idle;

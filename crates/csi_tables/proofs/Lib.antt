@@ -17,3 +17,4 @@ mod StateLemmas
 mod TablesLemmas
 mod TestLemmas
 mod TotalsLemmas
+mod WritingLemmas

@@ -13,8 +13,8 @@ use Rattle.csi_keeper.specs.declared.volume.Volume.{Volume}
 use Rattle.csi_sql.specs.Transactions.{IsUndone}
 use Rattle.csi_tables.specs.Holding.{conn_holds}
 use Rattle.csi_tables.specs.Refusing.{ConnReads, IsRefusal, by_disk, as_shut, at_limit, as_refused}
-use Rattle.csi_tables.specs.declared.fault.Fault.{Fault}
-use Rattle.csi_tables.specs.declared.fault.Fault.TheVariants.{NoMemory, Refused}
+use Rattle.csi_tables.specs.declared.fault.TablesFault.{TablesFault}
+use Rattle.csi_tables.specs.declared.fault.TablesFault.TheVariants.{NoMemory, Refused}
 use Rattle.csi_tables.proofs.CellLemmas.{handed_on}
 use Rattle.csi_tables.proofs.KeepLemmas.{is_quiet}
 
@@ -27,7 +27,7 @@ each_listed s (v ∷ vs) = ap (λ told. listed_of s v ∷ told) (each_listed s v
 pub listed_page : (s : State) (vs : List Volume) (nodes : List (List Text)) (told : List Listed) (after count : ℕ) → vs ≡ page s after count → nodes ≡ published_of_page s after count → told ≡ listed_each vs nodes → told ≡ listing s after count
 listed_page s vs nodes told after count volumes places is = is ∙ ap₂ listed_each volumes places ∙ each_listed s (page s after count)
 
-none_told : {X : Type 0} (P : X → Type 0) (Q : Fault → Type 0) (r : Result X Fault) → IsErrAnd r Q → IfOk r P
+none_told : {X : Type 0} (P : X → Type 0) (Q : TablesFault → Type 0) (r : Result X TablesFault) → IsErrAnd r Q → IfOk r P
 none_told P Q (Ok x) is = absurd is
 none_told P Q (Err fault) is = tt
 
@@ -46,7 +46,7 @@ open_or_shut false P f h = h refl
 
 module _ {S : Type 0} (g : Ghosts S) where
   -- a read that failed
-  pub read_failed : {X Y : Type 0} {One : State → X → Type 0} {What : State → Y → Type 0} (a b : Held S) (r : Result Y Fault) (fault : Fault) → ConnReads g a b One (Err fault) → IsErrAnd r (λ y. y ≡ fault) → ConnReads g a b What r
+  pub read_failed : {X Y : Type 0} {One : State → X → Type 0} {What : State → Y → Type 0} (a b : Held S) (r : Result Y TablesFault) (fault : TablesFault) → ConnReads g a b One (Err fault) → IsErrAnd r (λ y. y ≡ fault) → ConnReads g a b What r
   read_failed {X = X} a b r fault h is = record {
     idle = h.idle;
     value = none_told _ _ r is;
@@ -72,10 +72,10 @@ module _ {S : Type 0} (g : Ghosts S) where
     earlier clean (as_refused why) = absurd why
 
   -- the State is still there behind the first one
-  still : {X : Type 0} (One : State → X → Type 0) (a b : Held S) (x : Result X Fault) → ConnReads g a b One x → HasCleanDisk (state g b) → (s : State) → conn_holds g a s → conn_holds g b s
+  still : {X : Type 0} (One : State → X → Type 0) (a b : Held S) (x : Result X TablesFault) → ConnReads g a b One x → HasCleanDisk (state g b) → (s : State) → conn_holds g a s → conn_holds g b s
   still One a b x first clean s held = (is_quiet g a b first.undone first.survives).state clean s held
 
-  module _ {X Y Z : Type 0} (One : State → X → Type 0) (Two : State → Z → Type 0) (What : State → Y → Type 0) (a b d : Held S) (x : X) (q : Result Z Fault) (r : Result Y Fault)
+  module _ {X Y Z : Type 0} (One : State → X → Type 0) (Two : State → Z → Type 0) (What : State → Y → Type 0) (a b d : Held S) (x : X) (q : Result Z TablesFault) (r : Result Y TablesFault)
       (first : ConnReads g a b One (Ok x)) (second : ConnReads g b d Two q) where
     pub read_behind : IfOk r (λ y. HasCleanDisk (state g d) → (s : State) → conn_holds g a s → What s y) → (r ≡ Err Refused → q ≡ Err Refused) → ConnReads g a d What r
     read_behind value refused = record {
@@ -86,11 +86,11 @@ module _ {S : Type 0} (g : Ghosts S) where
       survives = survives_then (state g a) (state g b) (state g d) (λ _. ⊥) (λ _. ⊥) (λ _. ⊥) (λ _ db none. none) (λ _ db none. none) first.survives second.survives;
     }
 
-    pub read_behind_failed : (fault : Fault) → q ≡ Err fault → IsErrAnd r (λ y. y ≡ fault) → ConnReads g a d What r
+    pub read_behind_failed : (fault : TablesFault) → q ≡ Err fault → IsErrAnd r (λ y. y ≡ fault) → ConnReads g a d What r
     read_behind_failed fault was is = read_behind (none_told _ _ r is) (λ told. handed_on r q fault Refused is told was)
 
     pub read_behind_short : IsErrAnd r (λ y. y ≡ NoMemory) → ConnReads g a d What r
-    read_behind_short is = read_behind (none_told _ _ r is) (λ told. let no : ◌≡◌ {A = Result ℕ Fault} (Err NoMemory) (Err Refused) = handed_on r (Err NoMemory) NoMemory Refused is told refl in absurd (cc))
+    read_behind_short is = read_behind (none_told _ _ r is) (λ told. let no : ◌≡◌ {A = Result ℕ TablesFault} (Err NoMemory) (Err Refused) = handed_on r (Err NoMemory) NoMemory Refused is told refl in absurd (cc))
 
 -- the volumes of a page, and their nodes
 pub listing_read : {S : Type 0} (g : Ghosts S) (a b d : Held S) (vs : List Volume) (nodes : List (List Text)) (told : List Listed) (after count : ℕ) → ConnReads g a b (λ s xs. xs ≡ page s after count) (Ok vs)

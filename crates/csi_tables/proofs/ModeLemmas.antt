@@ -7,7 +7,7 @@ use Rattle.csi_types.specs.Checks.{is_known_mode}
 use Rattle.csi_config.specs.declared.config.Config.{Config}
 use Rattle.csi_keeper.specs.Capability.{access_of, is_supported_key}
 use Rattle.csi_keeper.specs.Invariant.{IsAttached, IsInvariant}
-use Rattle.csi_keeper.specs.State.{Place, State}
+use Rattle.csi_keeper.specs.State.{AttachmentKey, State}
 use Rattle.csi_keeper.specs.declared.capability.CapKey.{CapKey}
 use Rattle.csi_keeper.specs.declared.volume.Attachment.{Attachment}
 use Rattle.csi_keeper.specs.declared.volume.Volume.{Volume}
@@ -34,5 +34,5 @@ all_known config s inv = record {
   attachments = all_entries place_total place_exact (λ q (a : Attachment). AreKnown (a.cap ∷ [])) s.attachments (λ q a e. attached q a (inv.attachments q.0 q.1 a e));
 }
   where
-    attached : (q : Place) (a : Attachment) → IsAttached config s q.0 q.1 a → AreKnown (a.cap ∷ [])
+    attached : (q : AttachmentKey) (a : Attachment) → IsAttached config s q.0 q.1 a → AreKnown (a.cap ∷ [])
     attached q a at = (key_known a.cap (had_supported at.volume.caps a.cap at.cap (inv.volumes q.0 at.volume at.stands).caps.supported), tt)

@@ -10,7 +10,7 @@ use Rattle.sqlite.specs.Order.{Row}
 use Rattle.sqlite.specs.State.{HasCleanDisk, Survives}
 use Rattle.sqlite.specs.Store.{Ghosts}
 use Rattle.sqlite.specs.Tree.{Trees}
-use Rattle.csi_keeper.specs.State.{Place, place_cmp, first_state}
+use Rattle.csi_keeper.specs.State.{AttachmentKey, attachment_key_cmp, first_state}
 use Rattle.csi_keeper.specs.Texts.{Text}
 use Rattle.csi_keeper.specs.Totals.{AreTotals, total_of, the_total, zero_total}
 use Rattle.csi_keeper.specs.declared.totals.Totals.{Totals}
@@ -33,8 +33,8 @@ use Rattle.csi_tables.proofs.StateLemmas.{same_state}
 no_volumes : entries (empty {X = Volume} {R = nat_cmp}) ≡ []
 no_volumes = none_listed nat_cmp
 
-no_attachments : entries (empty {X = Attachment} {R = place_cmp}) ≡ []
-no_attachments = none_listed place_cmp
+no_attachments : entries (empty {X = Attachment} {R = attachment_key_cmp}) ≡ []
+no_attachments = none_listed attachment_key_cmp
 
 first_storable : IsStorable (first_state 1)
 first_storable = record {
@@ -50,7 +50,7 @@ first_rows old new h = record {
   meta = h.meta;
   volumes = subst (λ (es : List (ℕ × Volume)). IsPermutation (map volume_entry es) (map seen_volume (new.trees 1))) (sym no_volumes)
       (subst (λ (rows : List Row). IsPermutation [] (map seen_volume rows)) (sym h.volumes) (IsPermutation-refl []));
-  attachments = subst (λ (es : List (Place × Attachment)). IsPermutation (map attachment_entry es) (map seen_attachment (new.trees 3))) (sym no_attachments)
+  attachments = subst (λ (es : List (AttachmentKey × Attachment)). IsPermutation (map attachment_entry es) (map seen_attachment (new.trees 3))) (sym no_attachments)
       (subst (λ (rows : List Row). IsPermutation [] (map seen_attachment rows)) (sym h.attachments) (IsPermutation-refl []));
   keyed = subst (AreKeyed seen_attachment) (sym h.attachments) none_keyed;
   storable = first_storable;

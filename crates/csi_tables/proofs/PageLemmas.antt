@@ -14,7 +14,7 @@ use Rattle.sqlite_sql.specs.declared.ops.BinaryOp.TheVariants.{Compare}
 use Rattle.sqlite_sql.specs.declared.ops.CompareOp.TheVariants.{Gt, Le}
 use Rattle.sqlite_trees.proofs.ListLemmas.{ascending-filter, ascending-map, ascending_weaker, all-filter}
 use Rattle.sqlite_value.proofs.OrderLemmas.{value_cmp-Int, value_cmp-Text}
-use Rattle.csi_keeper.specs.State.{State, Place, place_cmp, published, published_of_page}
+use Rattle.csi_keeper.specs.State.{State, AttachmentKey, attachment_key_cmp, published, published_of_page}
 use Rattle.csi_keeper.specs.Texts.{text_cmp}
 use Rattle.csi_keeper.specs.declared.volume.Attachment.{Attachment}
 use Rattle.csi_keeper.specs.declared.volume.Volume.{Volume}
@@ -48,7 +48,7 @@ then_nothing Greater = refl
 less_is : (x y : ℕ) → nat_cmp x y ≡ Less → x < y
 less_is x y e = grind (arith, nat_tests, e)
 
-less_or_same : (a b : Place) → place_cmp a b ≡ Less → a.0 ≤ b.0
+less_or_same : (a b : AttachmentKey) → attachment_key_cmp a b ≡ Less → a.0 ≤ b.0
 less_or_same a b h = go (nat_cmp a.0 b.0) refl h
   where
     go : (o : Ordering) → nat_cmp a.0 b.0 ≡ o → ordering_then o (text_cmp a.1 b.1) ≡ Less → a.0 ≤ b.0
@@ -94,11 +94,11 @@ up_to_last n (m ∷ ms) up = subst (λ (l : ℕ). AllByRecursion (λ k. k ≤ l)
 
 -- ---- the nodes of one number, and of each
 
-stays : ℕ → ℕ → Place × Attachment → Bool
+stays : ℕ → ℕ → AttachmentKey × Attachment → Bool
 stays after last e = nat_lt after e.0.0 && nat_le e.0.0 last
 
 -- the places of a number between the two are those of the State
-nodes_here : (after last n : ℕ) → after < n → n ≤ last → (es : List (Place × Attachment)) → AllByRecursion IsPlaced es
+nodes_here : (after last n : ℕ) → after < n → n ≤ last → (es : List (AttachmentKey × Attachment)) → AllByRecursion IsPlaced es
     → nodes_at (map (λ e. e.0) (filter (stays after last) es)) n ≡ map (λ a. a.node) (map (λ e. e.1) (filter (λ e. e.0.0 == n) es))
 unfolding stays
 nodes_here after last n low high [] all = refl
@@ -110,9 +110,9 @@ nodes_here after last n low high (e ∷ es) all = go (stays after last e) refl (
     go : (b : Bool) → stays after last e ≡ b → (d : Bool) → (e.0.0 == n) ≡ d → nodes_at (map (λ e. e.0) (filter (stays after last) es)) n ≡ map (λ a. a.node) (map (λ e. e.1) (filter (λ e. e.0.0 == n) es))
         → nodes_at (map (λ e. e.0) (cond b (e ∷ filter (stays after last) es) (filter (stays after last) es))) n ≡ map (λ a. a.node) (map (λ e. e.1) (cond d (e ∷ filter (λ e. e.0.0 == n) es) (filter (λ e. e.0.0 == n) es)))
     go true t true u more =
-        ap (λ b. map (λ (p : Place). p.1) (cond b (e.0 ∷ filter (λ p. p.0 == n) (map (λ e. e.0) (filter (stays after last) es))) (filter (λ p. p.0 == n) (map (λ e. e.0) (filter (stays after last) es))))) u
+        ap (λ b. map (λ (p : AttachmentKey). p.1) (cond b (e.0 ∷ filter (λ p. p.0 == n) (map (λ e. e.0) (filter (stays after last) es))) (filter (λ p. p.0 == n) (map (λ e. e.0) (filter (stays after last) es))))) u
         ∙ ap₂ ◌∷◌ (sym all.0.node) more
-    go true t false u more = ap (λ b. map (λ (p : Place). p.1) (cond b (e.0 ∷ filter (λ p. p.0 == n) (map (λ e. e.0) (filter (stays after last) es))) (filter (λ p. p.0 == n) (map (λ e. e.0) (filter (stays after last) es))))) u ∙ more
+    go true t false u more = ap (λ b. map (λ (p : AttachmentKey). p.1) (cond b (e.0 ∷ filter (λ p. p.0 == n) (map (λ e. e.0) (filter (stays after last) es))) (filter (λ p. p.0 == n) (map (λ e. e.0) (filter (stays after last) es))))) u ∙ more
     go false t true u more = absurd (let h = inside e.0.0 u in let k : true ≡ false = sym h ∙ t in cc)
     go false t false u more = more
 
@@ -169,7 +169,7 @@ module _ (s : State) (db : Trees) (p : IsRows s db) where
 
   pub page_nodes_rows : (after count : ℕ) (numbers places : List Row) → IsBeginningOf page_numbers_query (db 1) (number_value after ∷ number_value count ∷ []) count numbers
       → IsShownOf places_query (db 3) (number_value after ∷ number_value (last_number after numbers) ∷ []) places
-      → (ns : List ℕ) × AreRising ns × (numbers ≡ map (λ n. number_value n ∷ []) ns) × ((ps : List Place) × IsRisen ps × (places ≡ map place_row ps) × (map (nodes_at ps) ns ≡ published_of_page s after count))
+      → (ns : List ℕ) × AreRising ns × (numbers ≡ map (λ n. number_value n ∷ []) ns) × ((ps : List AttachmentKey) × IsRisen ps × (places ≡ map place_row ps) × (map (nodes_at ps) ns ≡ published_of_page s after count))
   unfolding behind
   page_nodes_rows after count numbers places h k =
       let all = filter (λ (e : ℕ × Volume). nat_lt after e.0) (entries s.volumes) in
@@ -178,7 +178,7 @@ module _ (s : State) (db : Trees) (p : IsRows s db) where
       let last = last_number after numbers in
       let are = numbers_shown after count numbers h in
       let rising = numbers_rise after count in
-      let ps = map (λ (e : Place × Attachment). e.0) (filter (stays after last) (entries s.attachments)) in
+      let ps = map (λ (e : AttachmentKey × Attachment). e.0) (filter (stays after last) (entries s.attachments)) in
       let below = subst (λ (rows : List Row). AllByRecursion (λ n. n ≤ last_number after rows) ns) (sym are) (up_to_last after ns rising) in
       let each = nodes_each after last es (all-take IsStored count all (all-filter IsStored (λ e. nat_lt after e.0) (entries s.volumes) p.storable.volumes)) (all-take _ count all (passed (λ e. nat_lt after e.0) (entries s.volumes))) below in (
         ns,
@@ -193,14 +193,14 @@ module _ (s : State) (db : Trees) (p : IsRows s db) where
         ),
       )
 
-  texts_of : (stays : Place × Attachment → Bool) (es : List (Place × Attachment)) → AllByRecursion IsPlaced es → AreTexts (map (λ e. e.0) (filter stays es))
+  texts_of : (stays : AttachmentKey × Attachment → Bool) (es : List (AttachmentKey × Attachment)) → AllByRecursion IsPlaced es → AreTexts (map (λ e. e.0) (filter stays es))
   texts_of stays [] all = tt
   texts_of stays (e ∷ es) all = elim (stays e) as (λ b. AreTexts (map (λ e. e.0) (cond b (e ∷ filter stays es) (filter stays es)))) [ true ↦ (all.0.text, texts_of stays es all.1) | false ↦ texts_of stays es all.1 ]
 
   -- the same rows, which are read
   pub page_nodes_readable : (after count : ℕ) (numbers places : List Row) → IsBeginningOf page_numbers_query (db 1) (number_value after ∷ number_value count ∷ []) count numbers
       → IsShownOf places_query (db 3) (number_value after ∷ number_value (last_number after numbers) ∷ []) places
-      → (ns : List ℕ) × AreRising ns × (numbers ≡ map (λ n. number_value n ∷ []) ns) × ((ps : List Place) × IsRisen ps × (places ≡ map place_row ps) × AreTexts ps)
+      → (ns : List ℕ) × AreRising ns × (numbers ≡ map (λ n. number_value n ∷ []) ns) × ((ps : List AttachmentKey) × IsRisen ps × (places ≡ map place_row ps) × AreTexts ps)
   unfolding behind
   page_nodes_readable after count numbers places h k =
       let last = last_number after numbers in (

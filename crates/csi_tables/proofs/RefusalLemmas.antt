@@ -23,13 +23,13 @@ use Rattle.csi_sql.specs.Rows.{meta_row, number_value, seen_meta}
 use Rattle.csi_tables.specs.Answers.{answered, of_database}
 use Rattle.csi_tables.specs.Holding.{Shows, conn_doubt, conn_holds}
 use Rattle.csi_tables.specs.Refusing.{ConnReads, HasKnownModes, IsRefusal, by_disk, as_shut, at_limit, as_refused}
-use Rattle.csi_tables.specs.declared.fault.Fault.{Fault}
-use Rattle.csi_tables.specs.declared.fault.Fault.TheVariants.{NoMemory, Refused}
+use Rattle.csi_tables.specs.declared.fault.TablesFault.{TablesFault}
+use Rattle.csi_tables.specs.declared.fault.TablesFault.TheVariants.{NoMemory, Refused}
 use Rattle.csi_tables.proofs.CellLemmas.{handed_on}
 
 -- a `?` on an error of the database
-pub told_as : {X : Type 0} (r : Result X Fault) (e : Error) → IsErrAnd r (λ y. y ≡ of_database e) → r ≡ Err Refused → of_database e ≡ Refused
-told_as r e and is = let same : ◌≡◌ {A = Result ℕ Fault} (Err (of_database e)) (Err Refused) = handed_on r (Err (of_database e)) (of_database e) Refused and is refl in cc
+pub told_as : {X : Type 0} (r : Result X TablesFault) (e : Error) → IsErrAnd r (λ y. y ≡ of_database e) → r ≡ Err Refused → of_database e ≡ Refused
+told_as r e and is = let same : ◌≡◌ {A = Result ℕ TablesFault} (Err (of_database e)) (Err Refused) = handed_on r (Err (of_database e)) (of_database e) Refused and is refl in cc
 
 refusal : (R : Error → Type 0) (Why : Type 0) (old new : sql.State) (e : Error) → (R e → Why) → of_database e ≡ Refused → FailsFor R old new e → IsRefusal Why old new
 refusal R Why old new e f told (fails.for_memory is) = absurd (let no : NoMemory ≡ Refused = sym (ap of_database is) ∙ told in cc)
@@ -64,7 +64,7 @@ module _ {S : Type 0} (g : Ghosts S) (old new : Held S) where
 
 -- a read that the database failed
 pub unread : {S X Y : Type 0} {g : Ghosts S} {old new : Held S} {Shown : Database → X → Type 0} {Refuses : sql.State → Error → Type 0} {What : State → Y → Type 0}
-    → (r : Result Y Fault) (e : Error) → ((s : State) → Shows (state g old) s → Refuses (state g old) e → ⊥) → ReadsOnly g old new Shown Refuses (Err e) → IsErrAnd r (λ y. y ≡ of_database e) → ConnReads g old new What r
+    → (r : Result Y TablesFault) (e : Error) → ((s : State) → Shows (state g old) s → Refuses (state g old) e → ⊥) → ReadsOnly g old new Shown Refuses (Err e) → IsErrAnd r (λ y. y ≡ of_database e) → ConnReads g old new What r
 unread (Ok y) e never h is = absurd is
 unread {Y = Y} {g = g} {old = old} {new = new} {Refuses = Refuses} (Err fault) e never h is = record {
   idle = h.idle;
@@ -74,13 +74,13 @@ unread {Y = Y} {g = g} {old = old} {new = new} {Refuses = Refuses} (Err fault) e
   survives = h.survives;
 }
 
-each_told : {Y : Type 0} (C : Type 0) (H : State → Type 0) (What : State → Y → Type 0) (r : Result Y Fault) → (C → (s : State) → H s → IfOk r (λ y. What s y)) → IfOk r (λ y. C → (s : State) → H s → What s y)
+each_told : {Y : Type 0} (C : Type 0) (H : State → Type 0) (What : State → Y → Type 0) (r : Result Y TablesFault) → (C → (s : State) → H s → IfOk r (λ y. What s y)) → IfOk r (λ y. C → (s : State) → H s → What s y)
 each_told C H What (Ok y) f = f
 each_told C H What (Err fault) f = tt
 
 -- a read whose rows are read again
 pub read_as : {S X Y : Type 0} {g : Ghosts S} {old new : Held S} {Shown : Database → X → Type 0} {Refuses : sql.State → Error → Type 0} {What : State → Y → Type 0} {x : X}
-    → (r : Result Y Fault) → ReadsOnly g old new Shown Refuses (Ok x) → ((s : State) → Shows (state g old) s → Shown (state g old).now x → IfOk r (λ y. What s y))
+    → (r : Result Y TablesFault) → ReadsOnly g old new Shown Refuses (Ok x) → ((s : State) → Shows (state g old) s → Shown (state g old).now x → IfOk r (λ y. What s y))
     → ((s : State) → Shows (state g old) s → HasKnownModes s → Shown (state g old).now x → r ≡ Err Refused → ⊥) → ConnReads g old new What r
 read_as {g = g} {old = old} {new = new} {What = What} r h tells never = record {
   idle = h.idle;
@@ -98,7 +98,7 @@ read_as {g = g} {old = old} {new = new} {What = What} r h tells never = record {
 
 -- a read of numbers
 pub read_numbers : {S X : Type 0} {g : Ghosts S} {old new : Held S} {Shown : Database → X → Type 0} {Refuses : sql.State → Error → Type 0} {x : X}
-    → (r : Result (List ℕ) Fault) (rows : List Row) (value : State → List ℕ) → ReadsOnly g old new Shown Refuses (Ok x) → IfOk r (λ xs. (ns : List ℕ) → rows ≡ map (λ n. number_value n ∷ []) ns → xs ≡ ns)
+    → (r : Result (List ℕ) TablesFault) (rows : List Row) (value : State → List ℕ) → ReadsOnly g old new Shown Refuses (Ok x) → IfOk r (λ xs. (ns : List ℕ) → rows ≡ map (λ n. number_value n ∷ []) ns → xs ≡ ns)
     → (r ≡ Err Refused → (ns : List ℕ) → rows ≢ map (λ n. number_value n ∷ []) ns) → ((s : State) → Shows (state g old) s → Shown (state g old).now x → rows ≡ map (λ n. number_value n ∷ []) (value s))
     → ConnReads g old new (λ s xs. xs ≡ value s) r
 read_numbers r rows value h ok refused shown =
@@ -136,10 +136,10 @@ module _ {S : Type 0} (g : Ghosts S) (a b d : Held S) (Why : Type 0) where
 
 -- ---- how it is told
 
-pub told_refused : {X : Type 0} (answer : Result X Fault) (r : Result X StoreFault) → r ≡ answered answer → r ≡ Err store.Refused → answer ≡ Err Refused
+pub told_refused : {X : Type 0} (answer : Result X TablesFault) (r : Result X StoreFault) → r ≡ answered answer → r ≡ Err store.Refused → answer ≡ Err Refused
 told_refused {X} answer r told is = go answer (sym told ∙ is)
   where
-    go : (a : Result X Fault) → answered a ≡ Err store.Refused → a ≡ Err Refused
+    go : (a : Result X TablesFault) → answered a ≡ Err store.Refused → a ≡ Err Refused
     go (Ok x) is = absurd cc
     go (Err NoMemory) is = absurd cc
     go (Err Refused) is = refl

@@ -19,7 +19,7 @@ use Rattle.sqlite_rules.proofs.ProbeLemmas.{has_mapped, mapped_has}
 use Rattle.sqlite_rules.specs.Lists.{Has}
 use Rattle.sqlite_value.proofs.OrderLemmas.{value_cmp-Int}
 use Rattle.csi_types.specs.Maps.{TextMap}
-use Rattle.csi_keeper.specs.State.{State, Place, place_cmp, changed, mutable_set, with_mutable, Allows}
+use Rattle.csi_keeper.specs.State.{State, AttachmentKey, attachment_key_cmp, changed, mutable_set, with_mutable, Allows}
 use Rattle.csi_keeper.specs.Texts.{text_cmp}
 use Rattle.csi_keeper.specs.declared.change.Change.TheVariants.{AddVolume, RemoveVolume, Attach, Detach, DetachAll, SetMutable}
 use Rattle.csi_keeper.specs.declared.volume.Attachment.{Attachment}
@@ -52,7 +52,7 @@ storable_removed s n h = record { volumes = all_left _ _ (entries s.volumes) _ (
 pub storable_attached : (s : State) (n : ℕ) (a : Attachment) → n < 2 ^ 63 → IsUtf8 a.node → FitCaps (a.cap ∷ []) → get s.attachments (n, a.node) ≡ None → IsStorable s → IsStorable (changed s (Attach n a))
 storable_attached s n a low text fit none h = record {
   volumes = h.volumes;
-  attachments = all_inserted place_cmp place_total IsPlaced s.attachments (n, a.node) a none (record { node = refl; text = text; small = low; cap = fit }) h.attachments;
+  attachments = all_inserted attachment_key_cmp place_total IsPlaced s.attachments (n, a.node) a none (record { node = refl; text = text; small = low; cap = fit }) h.attachments;
 }
 
 pub storable_detached : (s : State) (n : ℕ) (node : List ℕ) → IsStorable s → IsStorable (changed s (Detach n node))
@@ -82,11 +82,11 @@ not_small n (e ∷ es) far all = let other : is_eq (nat_cmp n e.0) ≡ false = g
 pub no_volume : (s : State) (n : ℕ) → 2 ^ 63 ≤ n → IsStorable s → get s.volumes n ≡ None
 no_volume s n far h = get-entries s.volumes n ∙ not_small n (entries s.volumes) far h.volumes
 
-not_placed : (n : ℕ) (node : List ℕ) (es : List (Place × Attachment)) → 2 ^ 63 ≤ n → AllByRecursion IsPlaced es → find place_cmp (n, node) es ≡ None
+not_placed : (n : ℕ) (node : List ℕ) (es : List (AttachmentKey × Attachment)) → 2 ^ 63 ≤ n → AllByRecursion IsPlaced es → find attachment_key_cmp (n, node) es ≡ None
 not_placed n node [] far all = refl
 not_placed n node (e ∷ es) far all =
     let other : is_eq (nat_cmp n e.0.0) ≡ false = grind (arith, nat_tests, all.0.small) in
-    ap (λ b. cond b (Some e.1) (find place_cmp (n, node) es)) (both_eq (nat_cmp n e.0.0) (text_cmp node e.0.1) ∙ ap (λ b. b && is_eq (text_cmp node e.0.1)) other) ∙ not_placed n node es far all.1
+    ap (λ b. cond b (Some e.1) (find attachment_key_cmp (n, node) es)) (both_eq (nat_cmp n e.0.0) (text_cmp node e.0.1) ∙ ap (λ b. b && is_eq (text_cmp node e.0.1)) other) ∙ not_placed n node es far all.1
 
 pub none_removed : (n : ℕ) (s : State) → get s.volumes n ≡ None → changed s (RemoveVolume n) ≡ s
 none_removed n s none = ap (λ (m : FinMap nat_cmp Volume). record s { volumes = m }) (not_there nat_cmp_total nat_cmp-IsAntisymmetric s.volumes n none)
@@ -103,15 +103,15 @@ nothing_removed n far s h = none_removed n s (no_volume s n far h)
 
 pub nothing_detached : (n : ℕ) (node : List ℕ) → 2 ^ 63 ≤ n → (s : State) → IsStorable s → changed s (Detach n node) ≡ s
 nothing_detached n node far s h =
-    ap (λ (m : FinMap place_cmp Attachment). record s { attachments = m })
+    ap (λ (m : FinMap attachment_key_cmp Attachment). record s { attachments = m })
     (not_there place_total place_exact s.attachments (n, node) (get-entries s.attachments (n, node) ∙ not_placed n node (entries s.attachments) far h.attachments))
 
 pub nothing_detached_all : (n : ℕ) → 2 ^ 63 ≤ n → (s : State) → IsStorable s → changed s (DetachAll n) ≡ s
 nothing_detached_all n far s h =
-    ap (λ (m : FinMap place_cmp Attachment). record s { attachments = m })
+    ap (λ (m : FinMap attachment_key_cmp Attachment). record s { attachments = m })
     (same_entries_map _ _ (entries_retained place_total place_exact s.attachments (λ q. not (q.0 == n)) ∙ all_stay (entries s.attachments) h.attachments))
   where
-    all_stay : (es : List (Place × Attachment)) → AllByRecursion IsPlaced es → filter (λ e. not (e.0.0 == n)) es ≡ es
+    all_stay : (es : List (AttachmentKey × Attachment)) → AllByRecursion IsPlaced es → filter (λ e. not (e.0.0 == n)) es ≡ es
     all_stay [] all = refl
     all_stay (e ∷ es) all = let other : not (e.0.0 == n) ≡ true = grind (arith, nat_tests, all.0.small, far) in ap (λ b. cond b (e ∷ filter (λ e. not (e.0.0 == n)) es) (filter (λ e. not (e.0.0 == n)) es)) other ∙ ap (λ xs. e ∷ xs) (all_stay es all.1)
 
@@ -168,7 +168,7 @@ rows_detached s n node old new has p h =
     record {
       meta = ap (map seen_meta) (h.others.0 (λ e. absurd (omega arith))) ∙ p.meta;
       volumes = subst (λ rows. IsPermutation (map volume_entry (entries s.volumes)) (map seen_volume rows)) (sym (h.others.1.0 (λ e. absurd (omega arith)))) p.volumes;
-      attachments = filtered_rows attachment_entry seen_attachment (entries s.attachments) _ (old.trees 3) _ (λ e. not (eq_by_cmp place_cmp (n, node) e.0)) (is_place n node)
+      attachments = filtered_rows attachment_entry seen_attachment (entries s.attachments) _ (old.trees 3) _ (λ e. not (eq_by_cmp attachment_key_cmp (n, node) e.0)) (is_place n node)
           (λ x. is_same (column x 0) (Int (pos n)) && is_same (column x 1) (Text node))
           (λ e. ap not (ap₂ (λ a b. a && b) (same_numbers e.0.0 n) (same_texts e.0.1 node) ∙ sym (both_eq (nat_cmp n e.0.0) (text_cmp node e.0.1)))) (λ r. refl) kept left p.attachments;
       keyed = keyed_left seen_attachment _ (old.trees 3) (new.trees 3) left p.keyed;
@@ -213,7 +213,7 @@ pub rows_attached : (s : State) (n : ℕ) (a : Attachment) (old new : Database) 
 rows_attached s n a old new has p low text fit none h = record {
   meta = ap (map seen_meta) h.meta ∙ p.meta;
   volumes = subst (λ rows. IsPermutation (map volume_entry (entries s.volumes)) (map seen_volume rows)) (sym h.volumes) p.volumes;
-  attachments = IsPermutation-trans _ _ _ (IsPermutation-sym _ _ (IsPermutation-map attachment_entry _ _ (inserted place_cmp place_total s.attachments (n, a.node) a none)))
+  attachments = IsPermutation-trans _ _ _ (IsPermutation-sym _ _ (IsPermutation-map attachment_entry _ _ (inserted attachment_key_cmp place_total s.attachments (n, a.node) a none)))
       (IsPermutation-trans _ _ _ (IsPermutation-cons _ _ _ p.attachments) h.rows);
   keyed = h.keyed p.keyed;
   storable = storable_attached s n a low text fit none p.storable;

@@ -22,7 +22,7 @@ use Rattle.sqlite_sql.specs.declared.ops.CompareOp.TheVariants.{Gt}
 use Rattle.sqlite_sql.specs.declared.ops.UnaryOp.TheVariants.{ToNumeric}
 use Rattle.sqlite_trees.proofs.ListLemmas.{all-filter, ascending-filter, ascending_weaker}
 use Rattle.sqlite_value.proofs.OrderLemmas.{value_cmp-Int, value_cmp-Text}
-use Rattle.csi_keeper.specs.State.{State, Place, place_cmp, attached, attached_at, named, page, sizes}
+use Rattle.csi_keeper.specs.State.{State, AttachmentKey, attachment_key_cmp, attached, attached_at, named, page, sizes}
 use Rattle.csi_keeper.specs.Texts.{text_cmp}
 use Rattle.csi_keeper.specs.declared.volume.Attachment.{Attachment}
 use Rattle.csi_keeper.specs.declared.volume.Volume.{Volume}
@@ -66,7 +66,7 @@ lower : (a b : ℕ) → nat_cmp a b ≡ Less → value_cmp (number_value a) (num
 lower a b h = value_cmp-Int (pos a) (pos b) ∙ grind (arith, nat_tests, h)
 
 -- of places in order, those of one number go by their nodes, and those at one node by their numbers
-same_first : (a b : Place) → place_cmp a b ≡ Less → a.0 ≡ b.0 → text_cmp a.1 b.1 ≡ Less
+same_first : (a b : AttachmentKey) → attachment_key_cmp a b ≡ Less → a.0 ≡ b.0 → text_cmp a.1 b.1 ≡ Less
 same_first a b h e = let tied : nat_cmp a.0 b.0 ≡ Equal = ap (nat_cmp a.0) (sym e) ∙ tied_itself nat_cmp_total a.0 in ap (λ o. ordering_then o (text_cmp a.1 b.1)) (sym tied) ∙ h
 
 second_less : (o : Ordering) → ordering_then o Equal ≡ Less → o ≡ Less
@@ -74,7 +74,7 @@ second_less Less h = refl
 second_less Equal h = h
 second_less Greater h = h
 
-same_second : (a b : Place) → place_cmp a b ≡ Less → a.1 ≡ b.1 → nat_cmp a.0 b.0 ≡ Less
+same_second : (a b : AttachmentKey) → attachment_key_cmp a b ≡ Less → a.1 ≡ b.1 → nat_cmp a.0 b.0 ≡ Less
 same_second a b h e = second_less (nat_cmp a.0 b.0) (let tied : text_cmp a.1 b.1 ≡ Equal = ap (text_cmp a.1) (sym e) ∙ tied_itself nat_list_cmp_total a.1 in ap (ordering_then (nat_cmp a.0 b.0)) (sym tied) ∙ h)
 
 ascending_on : {E : Type 0} {R S : E → E → Type 0} (P : E → Type 0) → ((a b : E) → P a → P b → R a b → S a b) → (es : List E) → AllByRecursion P es → IsAscending R es → IsAscending S es
@@ -88,10 +88,10 @@ ascending_on {E} {R} {S} P f (e ∷ es) all up = (above es all.1 up.0, ascending
 pub passed : {E : Type 0} (p : E → Bool) (es : List E) → AllByRecursion (λ e. p e ≡ true) (filter p es)
 passed p es = all_from _ (filter p es) (λ e has. (has_filtered p es e has).1)
 
-at_node : (node : List ℕ) (es : List (Place × Attachment)) → IsAscending (λ a b. place_cmp a.0 b.0 ≡ Less) es → IsAscending (λ a b. nat_cmp a.0.0 b.0.0 ≡ Less) (filter (λ e. bytes_eq e.0.1 node) es)
+at_node : (node : List ℕ) (es : List (AttachmentKey × Attachment)) → IsAscending (λ a b. attachment_key_cmp a.0 b.0 ≡ Less) es → IsAscending (λ a b. nat_cmp a.0.0 b.0.0 ≡ Less) (filter (λ e. bytes_eq e.0.1 node) es)
 at_node node es up = ascending_on (λ e. bytes_eq e.0.1 node ≡ true) (λ a b p q h. same_second a.0 b.0 h ((bytes_eq-Decides a.0.1 node).0 p ∙ sym ((bytes_eq-Decides b.0.1 node).0 q))) _ (passed _ es) (ascending-filter _ _ es up)
 
-of_number : (number : ℕ) (es : List (Place × Attachment)) → IsAscending (λ a b. place_cmp a.0 b.0 ≡ Less) es → IsAscending (λ a b. text_cmp a.0.1 b.0.1 ≡ Less) (filter (λ e. e.0.0 == number) es)
+of_number : (number : ℕ) (es : List (AttachmentKey × Attachment)) → IsAscending (λ a b. attachment_key_cmp a.0 b.0 ≡ Less) es → IsAscending (λ a b. text_cmp a.0.1 b.0.1 ≡ Less) (filter (λ e. e.0.0 == number) es)
 of_number number es up = ascending_on (λ e. (e.0.0 == number) ≡ true) (λ a b p q h. same_first a.0 b.0 h (same a.0.0 b.0.0 p q)) _ (passed _ es) (ascending-filter _ _ es up)
   where
     same : (x y : ℕ) → (x == number) ≡ true → (y == number) ≡ true → x ≡ y
@@ -149,7 +149,7 @@ readable : (es : List (ℕ × Volume)) → AllByRecursion IsStored es → AllByR
 readable [] stored known = tt
 readable (e ∷ es) stored known = (record { stored = stored.0; caps = known.0 }, readable es stored.1 known.1)
 
-readable_places : (es : List (Place × Attachment)) → AllByRecursion IsPlaced es → AllByRecursion (λ e. AreKnown (e.1.cap ∷ [])) es → AllByRecursion IsReadablePlace es
+readable_places : (es : List (AttachmentKey × Attachment)) → AllByRecursion IsPlaced es → AllByRecursion (λ e. AreKnown (e.1.cap ∷ [])) es → AllByRecursion IsReadablePlace es
 readable_places [] placed known = tt
 readable_places (e ∷ es) placed known = (record { placed = placed.0; cap = known.0 }, readable_places es placed.1 known.1)
 
@@ -162,8 +162,8 @@ module _ (s : State) (db : Trees) (p : IsRows s db) where
   pub volumes_up : IsAscending (λ a b. nat_cmp a.0 b.0 ≡ Less) (entries s.volumes)
   volumes_up = rises nat_cmp (entries s.volumes) (entries_sorted s.volumes)
 
-  pub places_up : IsAscending (λ a b. place_cmp a.0 b.0 ≡ Less) (entries s.attachments)
-  places_up = rises place_cmp (entries s.attachments) (entries_sorted s.attachments)
+  pub places_up : IsAscending (λ a b. attachment_key_cmp a.0 b.0 ≡ Less) (entries s.attachments)
+  places_up = rises attachment_key_cmp (entries s.attachments) (entries_sorted s.attachments)
 
   -- volumes by a query that orders them by number
   pub by_rising : {R : ℕ × Volume → ℕ × Volume → Type 0} (stays : ℕ × Volume → Bool) → ((a b : ℕ × Volume) → value_cmp (number_value a.0) (number_value b.0) ≡ Less → R a b) → IsAscending R (filter stays (entries s.volumes))
@@ -229,7 +229,7 @@ module _ (s : State) (db : Trees) (p : IsRows s db) where
 
   -- the attachments of a volume
   pub node_rows : (number : ℕ) (shown : List Row) → IsShownOf nodes_query (db 3) (number_value number ∷ []) shown
-      → (es : List (Place × Attachment)) × AllByRecursion IsPlaced es × (shown ≡ map node_entry es) × (map (λ e. e.1) es ≡ attached s number)
+      → (es : List (AttachmentKey × Attachment)) × AllByRecursion IsPlaced es × (shown ≡ map node_entry es) × (map (λ e. e.1) es ≡ attached s number)
   node_rows number shown h =
       let es = entries s.attachments in (
         filter (λ e. e.0.0 == number) es,
@@ -281,7 +281,7 @@ module _ (s : State) (db : Trees) (p : IsRows s db) where
           (page_rows after count shown h).2,
         )
 
-    pub nodes_readable : (number : ℕ) (shown : List Row) → IsShownOf nodes_query (db 3) (number_value number ∷ []) shown → (es : List (Place × Attachment)) × AllByRecursion IsReadablePlace es × (shown ≡ map node_entry es)
+    pub nodes_readable : (number : ℕ) (shown : List Row) → IsShownOf nodes_query (db 3) (number_value number ∷ []) shown → (es : List (AttachmentKey × Attachment)) × AllByRecursion IsReadablePlace es × (shown ≡ map node_entry es)
     unfolding node_rows
     nodes_readable number shown h =
         let es = entries s.attachments in (

@@ -8,7 +8,7 @@ use Rattle.sqlite.specs.declared.types.Value.{Value}
 use Rattle.sqlite.specs.declared.types.Value.TheVariants.{Int, Text, Blob}
 use Rattle.sqlite.specs.Order.{Row, column}
 use Rattle.sqlite.specs.Tree.{Trees}
-use Rattle.csi_keeper.specs.State.{State, Place, place_cmp}
+use Rattle.csi_keeper.specs.State.{State, AttachmentKey, attachment_key_cmp}
 use Rattle.csi_keeper.specs.declared.capability.Kind.TheVariants.{Block}
 use Rattle.csi_keeper.specs.declared.volume.Attachment.{Attachment}
 use Rattle.csi_keeper.specs.declared.volume.Volume.{Volume}
@@ -45,14 +45,14 @@ module _ (back : ReadsBack) where
   volume_of : Row → ℕ × Volume
   volume_of row = (nat_of (column row 0), record { number = nat_of (column row 0); name = text_of (column row 1); bytes = nat_of (column row 2); pool = text_of (column row 3); caps = keys_in (blob_of (column row 4)); params = (params_in (blob_of (column row 5))).0; mutable = (params_in (blob_of (column row 5))).1 })
 
-  attachment_of : Row → Place × Attachment
+  attachment_of : Row → AttachmentKey × Attachment
   attachment_of row = ((nat_of (column row 0), text_of (column row 1)), record { node = text_of (column row 1); cap = get_or (keys_in (blob_of (column row 2))) 0 (record { kind = Block; mode = 0 }); readonly = flag_of (column row 3) })
 
   volume_back : (e : ℕ × Volume) → IsStored e → volume_of (volume_entry e) ≡ e
   unfolding volume_of nat_of text_of blob_of
   volume_back e h = λ i. (e.0, record { number = sym h.number i; name = e.1.name; bytes = e.1.bytes; pool = e.1.pool; caps = keys_back back e.1.caps h.caps i; params = (params_back back e.1.params e.1.mutable h.params i).0; mutable = (params_back back e.1.params e.1.mutable h.params i).1 })
 
-  attachment_back : (e : Place × Attachment) → IsPlaced e → attachment_of (attachment_entry e) ≡ e
+  attachment_back : (e : AttachmentKey × Attachment) → IsPlaced e → attachment_of (attachment_entry e) ≡ e
   unfolding attachment_of nat_of text_of blob_of
   attachment_back e h = λ i. (e.0, record { node = sym h.node i; cap = get_or (keys_back back (e.1.cap ∷ []) h.cap i) 0 (record { kind = Block; mode = 0 }); readonly = flag_back e.1.readonly i })
 
@@ -68,7 +68,7 @@ module _ (back : ReadsBack) where
       subst (λ xs. IsPermutation xs (entries t.volumes)) (map_back_on _ volume_entry volume_of volume_back (entries s.volumes) p.storable.volumes)
       (subst (IsPermutation (map volume_of (map volume_entry (entries s.volumes)))) (map_back_on _ volume_entry volume_of volume_back (entries t.volumes) q.storable.volumes)
       (IsPermutation-map volume_of _ _ (IsPermutation-trans _ _ _ p.volumes (IsPermutation-sym _ _ q.volumes))))) in
-      let attachments = same_if_permuted place_cmp place_total s.attachments t.attachments (
+      let attachments = same_if_permuted attachment_key_cmp place_total s.attachments t.attachments (
       subst (λ xs. IsPermutation xs (entries t.attachments)) (map_back_on _ attachment_entry attachment_of attachment_back (entries s.attachments) p.storable.attachments)
       (subst (IsPermutation (map attachment_of (map attachment_entry (entries s.attachments)))) (map_back_on _ attachment_entry attachment_of attachment_back (entries t.attachments) q.storable.attachments)
       (IsPermutation-map attachment_of _ _ (IsPermutation-trans _ _ _ p.attachments (IsPermutation-sym _ _ q.attachments))))) in

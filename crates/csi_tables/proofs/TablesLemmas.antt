@@ -5,55 +5,66 @@ use Rattle.std.specs.List.{AllByRecursion}
 use Rattle.std.proofs.lemmas.Bool.Decides.{nat_tests}
 use Rattle.sqlite.specs.Held.{Held}
 use Rattle.sqlite.specs.Store.{Ghosts}
+use Rattle.csi_keeper.specs.Health as health
+use Rattle.csi_keeper.specs.Health.{Finishes, Starts}
 use Rattle.csi_keeper.specs.Listing.{listed_of, listing}
 use Rattle.csi_keeper.specs.Keeper.{Changes, Reads, count_after}
-use Rattle.csi_keeper.specs.State.{State, Place, attached, page, published_of_page, published}
+use Rattle.csi_keeper.specs.State.{State, AttachmentKey, attached, page, published_of_page, published}
 use Rattle.csi_keeper.specs.declared.change.Change.{Change}
 use Rattle.csi_keeper.specs.declared.change.StoreFault.{StoreFault}
 use Rattle.csi_keeper.specs.declared.change.StoreFault.TheVariants as store
 use Rattle.csi_keeper.specs.declared.change.StoreFault.TheVariants.{Down}
+use Rattle.csi_keeper.specs.declared.health.Health.{Health}
 use Rattle.csi_keeper.specs.declared.totals.Totals.{Totals}
 use Rattle.csi_keeper.specs.declared.volume.Attachment.{Attachment}
 use Rattle.csi_keeper.specs.declared.volume.Volume.{Volume}
-use Rattle.csi_tables.specs.Answers.{answered, Begins, Ends}
+use Rattle.csi_tables.specs.Answers.{answered}
 use Rattle.csi_tables.specs.Holding.{IsStorable, IsStored, IsPlaced, Store, StoreMakes, StoreFails, model_with}
 use Rattle.csi_tables.specs.Refusing.{ConnReads, StoreRefuses}
-use Rattle.csi_tables.specs.declared.health.Health.{Health}
-use Rattle.csi_tables.specs.declared.fault.Fault.{Fault}
-use Rattle.csi_tables.specs.declared.fault.Fault.TheVariants.{NoMemory, Refused}
+use Rattle.csi_tables.specs.declared.fault.TablesFault.{TablesFault}
+use Rattle.csi_tables.specs.declared.fault.TablesFault.TheVariants.{NoMemory, Refused}
 use Rattle.csi_tables.proofs.KeepLemmas.{is_quiet, stays_quiet}
 use Rattle.csi_tables.proofs.RefusalLemmas.{told_refused}
 
+answered_again : {X : Type 0} (answer : Result X TablesFault) → health.answered (answered answer) ≡ answered answer
+answered_again (Ok x) = refl
+answered_again (Err NoMemory) = refl
+answered_again (Err Refused) = refl
+
+-- an answer over the tables is what the keeper answers
+pub is_answer : {X : Type 0} (answer : Result X TablesFault) (stored r : Result X StoreFault) → stored ≡ answered answer → r ≡ health.answered stored → r ≡ answered answer
+is_answer answer stored r made is = is ∙ ap health.answered made ∙ answered_again answer
+
 -- what is told of an answer
-pub told_if : {X : Type 0} {P Q : X → Type 0} (answer : Result X Fault) (r : Result X StoreFault) → r ≡ answered answer → ((x : X) → P x → Q x) → IfOk answer P → IfOk r Q
+pub told_if : {X : Type 0} {P Q : X → Type 0} (answer : Result X TablesFault) (r : Result X StoreFault) → r ≡ answered answer → ((x : X) → P x → Q x) → IfOk answer P → IfOk r Q
 told_if {X} {P} {Q} answer r is f h = subst (λ (x : Result X StoreFault). IfOk x Q) (sym is) (go answer h)
   where
-    go : (a : Result X Fault) → IfOk a P → IfOk (answered a) Q
+    go : (a : Result X TablesFault) → IfOk a P → IfOk (answered a) Q
     go (Ok x) h = f x h
     go (Err fault) h = tt
 
 -- a read of the connection, between the beginning of the call and its end
-pub keeps_read : {S X : Type 0} {g : Ghosts S} {a b : Held S} {before between behind : Health} {What : State → X → Type 0} {answer : Result X Fault} {r : Result X StoreFault}
-    (totals : Totals) → Begins before between (Ok tt) → ConnReads g a b What answer → Ends between behind answer r → record {
+pub keeps_read : {S X : Type 0} {g : Ghosts S} {a b : Held S} {before between behind : Health} {What : State → X → Type 0} {answer : Result X TablesFault} {stored r : Result X StoreFault}
+    (totals : Totals) → Starts before between (Ok tt) → ConnReads g a b What answer → stored ≡ answered answer → Finishes between behind stored r → record {
       reads : Reads (model_with g (a, totals) before) (model_with g (b, totals) behind) r What;
       refused : StoreRefuses g (a, totals) (b, totals) store.Refused ⊥ r;
       limit : b.step_limit ≡ a.step_limit;
     }
-keeps_read {g = g} {a = a} {b = b} {answer = answer} {r = r} totals begun read end = record {
+keeps_read {g = g} {a = a} {b = b} {answer = answer} {stored = stored} {r = r} totals begun read made end = record {
   reads =
       let q = is_quiet g a b read.undone read.survives in
       record {
-        value = told_if answer r end.told (λ x tells clean s held. tells clean s held.0) read.value;
+        value = told_if answer r (is_answer answer stored r made end.answers) (λ x tells clean s held. tells clean s held.0) read.value;
         quiet = record { clean = q.clean; state = λ clean s held. (q.state clean s held.0, held.1, held.2); crash = q.crash; ties = q.ties; down = end.stays ∙ begun.stays };
         count = end.count ∙ ap (λ n. count_after n r) begun.count;
         down = (λ is. absurd (end.up is), λ down. absurd (cc (begun.down.1 down)));
       };
-  refused = λ clean is s held known. read.refused clean (told_refused answer r end.told is) s held.0 known;
+  refused = λ clean is s held known. read.refused clean (told_refused answer r (is_answer answer stored r made end.answers) is) s held.0 known;
   limit = read.survives.limit;
 }
 
 -- a read that needs none, since no row has such a number
-pub keeps_none : {S X : Type 0} (g : Ghosts S) (a : Held S) {before between : Health} {What : State → X → Type 0} (totals : Totals) (x : X) → Begins before between (Ok tt) → ((s : State) → IsStorable s → What s x)
+pub keeps_none : {S X : Type 0} (g : Ghosts S) (a : Held S) {before between : Health} {What : State → X → Type 0} (totals : Totals) (x : X) → Starts before between (Ok tt) → ((s : State) → IsStorable s → What s x)
     → Reads (model_with g (a, totals) before) (model_with g (a, totals) between) (Ok x) What
 keeps_none g a totals x begun so =
     let q = stays_quiet g a in
@@ -66,13 +77,13 @@ keeps_none g a totals x begun so =
 
 module _ {S : Type 0} (g : Ghosts S) (old new : Store S) (before behind : Health) where
   -- a change that was made, or that failed
-  pub keeps_applied : (change : Change) (answer : Result (Unit {0}) Fault) (r : Result (Unit {0}) StoreFault) → r ≡ answered answer → OnOk answer (StoreMakes g old new change) → OnErr answer (StoreFails g old new change)
+  pub keeps_applied : (change : Change) (answer : Result (Unit {0}) TablesFault) (r : Result (Unit {0}) StoreFault) → r ≡ answered answer → OnOk answer (StoreMakes g old new change) → OnErr answer (StoreFails g old new change)
       → OnOk r (behind.is_down ≡ before.is_down) → Changes (model_with g old before) (model_with g new behind) change r
   keeps_applied change answer r is made failed down =
       subst (λ (x : Result (Unit {0}) StoreFault). Changes (model_with g old before) (model_with g new behind) change x) (sym is)
       (go answer made failed (subst (λ (x : Result (Unit {0}) StoreFault). OnOk x (behind.is_down ≡ before.is_down)) is down))
     where
-      go : (a : Result (Unit {0}) Fault) → OnOk a (StoreMakes g old new change) → OnErr a (StoreFails g old new change) → OnOk (answered a) (behind.is_down ≡ before.is_down)
+      go : (a : Result (Unit {0}) TablesFault) → OnOk a (StoreMakes g old new change) → OnErr a (StoreFails g old new change) → OnOk (answered a) (behind.is_down ≡ before.is_down)
           → Changes (model_with g old before) (model_with g new behind) change (answered a)
       go (Ok x) made failed down = record { clean = made.clean; state = made.state; settled = made.settled; ties = made.ties; down = down }
       go (Err NoMemory) made failed down = record { clean = failed.clean; state = failed.state; crash = failed.crash; ties = failed.ties }
@@ -87,7 +98,7 @@ module _ {S : Type 0} (g : Ghosts S) (t : Store S) (before behind : Health) wher
 
 -- ---- a number that no row has
 
-none_at : (n : ℕ) (es : List (Place × Attachment)) → 2 ^ 63 ≤ n → AllByRecursion IsPlaced es → filter (λ e. e.0.0 == n) es ≡ []
+none_at : (n : ℕ) (es : List (AttachmentKey × Attachment)) → 2 ^ 63 ≤ n → AllByRecursion IsPlaced es → filter (λ e. e.0.0 == n) es ≡ []
 none_at n [] far all = refl
 none_at n (e ∷ es) far all = let other : (e.0.0 == n) ≡ false = grind (arith, nat_tests, all.0.small, far) in ap (λ b. cond b (e ∷ filter (λ e. e.0.0 == n) es) (filter (λ e. e.0.0 == n) es)) other ∙ none_at n es far all.1
 

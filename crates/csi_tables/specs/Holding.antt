@@ -13,7 +13,7 @@ use Rattle.sqlite.specs.declared.types.Value.TheVariants.{Text, Blob}
 use Rattle.sqlite_catalog.specs.Listing.{IsSound}
 use Rattle.csi_keeper.specs.Keeper.{Fails, IsQuiet, Makes, Tells}
 use Rattle.csi_keeper.specs.Model.{Model}
-use Rattle.csi_keeper.specs.State.{State, Place}
+use Rattle.csi_keeper.specs.State.{State, AttachmentKey}
 use Rattle.csi_keeper.specs.Totals.{AreTotals}
 use Rattle.csi_keeper.specs.declared.change.Change.{Change}
 use Rattle.csi_keeper.specs.declared.totals.Totals.{Totals}
@@ -24,20 +24,21 @@ use Rattle.csi_sql.specs.declared.formats.TheConstants.{FIRST_FORMAT, LATEST_FOR
 use Rattle.csi_sql.specs.Rows.{number_value, bool_value, meta_row, seen_meta, seen_volume, seen_attachment}
 use Rattle.csi_sql.specs.Effects.{AreKeyed}
 use Rattle.csi_tables.specs.Encoding.{caps_bytes, params_bytes, AreKnown, FitCaps, FitParams}
-use Rattle.csi_tables.specs.declared.health.Health.{Health}
+use Rattle.csi_keeper.specs.declared.health.Health.{Health}
 
 -- ---- rows
 
 -- number, name, bytes, pool, caps, and both kinds of parameters
 abbrev pub volume_entry : ℕ × Volume → Row
-volume_entry e = number_value e.0 ∷ Text e.1.name ∷ number_value e.1.bytes ∷ Text e.1.pool ∷ Blob (caps_bytes e.1.caps) ∷ Blob (params_bytes e.1.params e.1.mutable) ∷ []
+volume_entry e = number_value e.0 ∷ Text e.1.name ∷ number_value e.1.bytes ∷ Text e.1.pool ∷ Blob (caps_bytes e.1.caps)
+    ∷ Blob (params_bytes e.1.params e.1.mutable) ∷ []
 
 -- number, node, cap, readonly
-abbrev pub attachment_entry : Place × Attachment → Row
+abbrev pub attachment_entry : AttachmentKey × Attachment → Row
 attachment_entry e = number_value e.0.0 ∷ Text e.0.1 ∷ Blob (caps_bytes (e.1.cap ∷ [])) ∷ bool_value e.1.readonly ∷ []
 
 -- what is shown of an attachment among those of its volume: node, cap, readonly
-abbrev pub node_entry : Place × Attachment → Row
+abbrev pub node_entry : AttachmentKey × Attachment → Row
 node_entry e = Text e.0.1 ∷ Blob (caps_bytes (e.1.cap ∷ [])) ∷ bool_value e.1.readonly ∷ []
 
 -- a volume that a row can say: its texts are UTF-8, as what made the row had each from a `Text`
@@ -50,7 +51,7 @@ pub record IsStored (e : ℕ × Volume) : Type 0 where
   pub params : FitParams e.1.params e.1.mutable
 
 -- an attachment that a row can say
-pub record IsPlaced (e : Place × Attachment) : Type 0 where
+pub record IsPlaced (e : AttachmentKey × Attachment) : Type 0 where
   pub node : e.1.node ≡ e.0.1
   pub text : IsUtf8 e.0.1
   pub small : e.0.0 < 2 ^ 63
@@ -62,7 +63,7 @@ pub record IsReadable (e : ℕ × Volume) : Type 0 where
   pub caps : AreKnown e.1.caps
 
 -- an attachment whose row is read again
-pub record IsReadablePlace (e : Place × Attachment) : Type 0 where
+pub record IsReadablePlace (e : AttachmentKey × Attachment) : Type 0 where
   pub placed : IsPlaced e
   pub cap : AreKnown (e.1.cap ∷ [])
 
@@ -89,8 +90,8 @@ IsRows s db = IsRowsOf LATEST_FORMAT s db
 abbrev pub AreUnmodified : State → Type 0
 AreUnmodified s = AllByRecursion (λ e. e.1.mutable ≡ empty) (entries s.volumes)
 
--- Those of the first format, which has no mutable parameters: but for the number of the format they are the rows that
--- are written of such a State.
+-- Those of the first format, which has no mutable parameters: but for the number of the format they are the
+-- rows that are written of such a State.
 abbrev pub IsFirstRows : State → Trees → Type 0
 IsFirstRows s db = IsRowsOf FIRST_FORMAT s db × AreUnmodified s
 
@@ -165,7 +166,14 @@ module _ {S : Type 0} (g : Ghosts S) where
 
   -- with what is counted of the calls
   abbrev pub model_with : Store S → Health → Model State
-  model_with t health = record { holds = store_holds t; doubt = store_doubt t; refusals = health.refusals; survivors = store_survivors t; tied = store_tied t; is_down = health.is_down }
+  model_with t health = record {
+    holds = store_holds t;
+    doubt = store_doubt t;
+    refusals = health.refusals;
+    survivors = store_survivors t;
+    tied = store_tied t;
+    is_down = health.is_down;
+  }
 
   -- and where nothing is counted
   abbrev pub store_model : Store S → Model State

@@ -38,7 +38,8 @@ module _ {S : Type 0} (g : Ghosts S) where
   abbrev pub refuses_change : Tables S g → Change → Type 0
   refuses_change t change = RefusesChange change t.totals (state g t.conn)
 
-  -- A keeper over tables that were made on a connection. Its State is the first one if the database had no table.
+  -- A keeper over tables that were made on a connection. Its State is the first one if the database had no
+  -- table.
   pub record IsNewOver (conn : Held S) (t : Tables S g) : Type 0 where
     pub clean : conn_doubt g conn ≤ (tables_model t).doubt
     pub begun : (tables_model t).doubt ≡ 0 → (state g conn).now.schema ≡ no_schema → (tables_model t).holds (first_state 1)

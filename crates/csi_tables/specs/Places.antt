@@ -4,25 +4,25 @@ use Rattle.std.specs.List.{AllByRecursion}
 use Rattle.sqlite.specs.Order.{Row}
 use Rattle.sqlite.specs.Tree.{IsAscending}
 use Rattle.sqlite.specs.declared.types.Value.TheVariants.{Text}
-use Rattle.csi_keeper.specs.State.{Place}
+use Rattle.csi_keeper.specs.State.{AttachmentKey}
 use Rattle.csi_keeper.specs.Texts as texts
 use Rattle.csi_sql.specs.Rows.{number_value}
 
 -- number, node
-abbrev pub place_row : Place → Row
+abbrev pub place_row : AttachmentKey → Row
 place_row p = number_value p.0 ∷ Text p.1 ∷ []
 
 -- the places rise by their numbers
-abbrev pub IsRisen : List Place → Type 0
+abbrev pub IsRisen : List AttachmentKey → Type 0
 IsRisen ps = IsAscending (λ a b. a.0 ≤ b.0) ps
 
 -- the nodes are UTF-8
-abbrev pub AreTexts : List Place → Type 0
+abbrev pub AreTexts : List AttachmentKey → Type 0
 AreTexts ps = AllByRecursion (λ p. IsUtf8 p.1) ps
 
 abbrev pub AreRising : List ℕ → Type 0
 AreRising ns = IsAscending (λ a b. a < b) ns
 
 -- the nodes of a number
-abbrev pub nodes_at : List Place → ℕ → List texts.Text
+abbrev pub nodes_at : List AttachmentKey → ℕ → List texts.Text
 nodes_at ps number = map (λ p. p.1) (filter (λ p. p.0 == number) ps)

@@ -78,7 +78,8 @@ abbrev pub is_number : ℕ → Option ℕ → Bool
 is_number n None = false
 is_number n (Some m) = m == n
 
--- Nodes of a number, of rows of a number and a node each: every row has a number, and those of this one have these texts.
+-- Nodes of a number, of rows of a number and a node each: every row has a number, and those of this one have
+-- these texts.
 pub record ShowNodes (number : ℕ) (rows : List Row) (nodes : List texts.Text) : Type 0 where
   pub numbers : List ℕ
   pub numbered : AreReadOf ShowsNumber rows numbers

@@ -21,9 +21,10 @@ use Rattle.csi_sql.specs.Refusing.{RefusesAttachment, RefusesDetaching, RefusesD
 use Rattle.csi_sql.specs.Transactions.{LeavesNothingNew, IsUndone}
 use Rattle.csi_sql.specs.Rows.{attachment_row, seen_volume, volume_row}
 use Rattle.csi_tables.specs.Encoding.{caps_bytes, params_bytes, AreKnown}
-use Rattle.csi_tables.specs.Holding.{IsStorable, Store, conn_doubt, conn_holds, store_doubt, store_holds, ConnFails, ConnMakes, ConnTells, StoreFails, StoreMakes, volume_entry}
-use Rattle.csi_tables.specs.declared.fault.Fault.{Fault}
-use Rattle.csi_tables.specs.declared.fault.Fault.TheVariants.{Refused}
+use Rattle.csi_tables.specs.Holding.{IsStorable, Store, conn_doubt, conn_holds, store_doubt, store_holds, ConnFails, ConnMakes, ConnTells, StoreFails}
+use Rattle.csi_tables.specs.Holding.{StoreMakes, volume_entry}
+use Rattle.csi_tables.specs.declared.fault.TablesFault.{TablesFault}
+use Rattle.csi_tables.specs.declared.fault.TablesFault.TheVariants.{Refused}
 
 -- the cause of a refusal
 pub data IsRefusal (Why : Type 0) (old new : sql.State) : Type 0 where
@@ -78,19 +79,21 @@ RefusesChange (SetMutable n m) totals s = RefusesMutable n m s
 
 module _ {S : Type 0} (g : Ghosts S) (old new : Held S) where
   -- over a connection that has a State whose rows are read again
-  abbrev pub ConnRefuses : {X : Type 0} → Type 0 → Result X Fault → Type 0
+  abbrev pub ConnRefuses : {X : Type 0} → Type 0 → Result X TablesFault → Type 0
   ConnRefuses Why r = conn_doubt g new ≡ 0 → IsErrOf r Refused → (s : State) → conn_holds g old s → HasKnownModes s → IsRefusal Why (state g old) (state g new)
 
-  -- A read: what it answers of the State, and that nothing refuses it. What was committed stays, and a stop leaves what it could leave before.
-  pub record ConnReads {X : Type 0} (What : State → X → Type 0) (r : Result X Fault) : Type 0 where
+  -- A read: what it answers of the State, and that nothing refuses it. What was committed stays, and a stop
+  -- leaves what it could leave before.
+  pub record ConnReads {X : Type 0} (What : State → X → Type 0) (r : Result X TablesFault) : Type 0 where
     pub idle : new.in_transaction ≡ false
     pub value : IfOk r (λ x. ConnTells g old new (λ s. What s x))
     pub refused : ConnRefuses ⊥ r
     pub undone : HasCleanDisk (state g new) → IsUndone (state g old) (state g new)
     pub survives : LeavesNothingNew g old new
 
-  -- A change: it is made, or it fails and may be left by a stop; and why it is refused. The limit on steps stays.
-  pub record ConnChanges {X : Type 0} (change : Change) (Why : Type 0) (r : Result X Fault) : Type 0 where
+  -- A change: it is made, or it fails and may be left by a stop; and why it is refused. The limit on steps
+  -- stays.
+  pub record ConnChanges {X : Type 0} (change : Change) (Why : Type 0) (r : Result X TablesFault) : Type 0 where
     pub idle : new.in_transaction ≡ false
     pub made : OnOk r (ConnMakes g old new change)
     pub failed : OnErr r (ConnFails g old new change)
@@ -98,7 +101,7 @@ module _ {S : Type 0} (g : Ghosts S) (old new : Held S) where
     pub limit : new.step_limit ≡ old.step_limit
 
   -- a call that makes any change that changes nothing
-  pub record ConnStays {X : Type 0} (r : Result X Fault) : Type 0 where
+  pub record ConnStays {X : Type 0} (r : Result X TablesFault) : Type 0 where
     pub idle : new.in_transaction ≡ false
     pub made : OnOk r ((change : Change) → ((s : State) → IsStorable s → changed s change ≡ s) → ConnMakes g old new change)
     pub failed : OnErr r ((change : Change) → ConnFails g old new change)
@@ -108,10 +111,11 @@ module _ {S : Type 0} (g : Ghosts S) (old new : Held S) where
 module _ {S : Type 0} (g : Ghosts S) (old new : Store S) where
   -- and beside it the totals
   abbrev pub StoreRefuses : {X E : Type 0} → E → Type 0 → Result X E → Type 0
-  StoreRefuses refused Why r = store_doubt g new ≡ 0 → IsErrOf r refused → (s : State) → store_holds g old s → HasKnownModes s → IsRefusal Why (state g old.0) (state g new.0)
+  StoreRefuses refused Why r = store_doubt g new ≡ 0 → IsErrOf r refused → (s : State) → store_holds g old s → HasKnownModes s
+      → IsRefusal Why (state g old.0) (state g new.0)
 
   -- a change, with the totals
-  pub record StoreChanges {X : Type 0} (change : Change) (Why : Type 0) (r : Result X Fault) : Type 0 where
+  pub record StoreChanges {X : Type 0} (change : Change) (Why : Type 0) (r : Result X TablesFault) : Type 0 where
     pub idle : new.0.in_transaction ≡ false
     pub made : OnOk r (StoreMakes g old new change)
     pub failed : OnErr r (StoreFails g old new change)

@@ -12,15 +12,15 @@ ghost use Rattle.csi_keeper.specs.declared.change.Change.TheVariants.{AddVolume,
 ghost use Rattle.csi_tables.specs.Encoding.{caps_bytes, FitCaps};
 ghost use Rattle.csi_tables.specs.Holding.{conn_doubt, conn_holds, IsStorable};
 ghost use Rattle.csi_tables.specs.Refusing.{ConnChanges, ConnStays, StoreChanges, RefusesAdding, RefusesAttaching, RefusesChange, RefusesDetach, RefusesDetachAll, RefusesMutable, RefusesRemoving};
-ghost use Rattle.csi_tables.specs.declared.fault.Fault.TheVariants.{Refused};
+ghost use Rattle.csi_tables.specs.declared.fault.TablesFault.TheVariants.{Refused};
 
 use crate::encoding::{read_back, write_caps, write_params};
-use crate::fault::Fault;
+use crate::fault::TablesFault;
 use crate::read::by_number;
 use csi_keeper::{Attachment, CapKey, Change, Totals, Volume};
 use csi_sql::changes::{add_volume, attach, detach, detach_all, remove_volume, set_params};
 use csi_sql::reads;
-use csi_types::{Map, Text, copy_text};
+use csi_types::{Map, Text};
 use sqlite::{Alter, Connection};
 use std::alloc::{AllocError, Global};
 use std::slice::from_ref;
@@ -29,16 +29,16 @@ use std::slice::from_ref;
 pub(crate) const NUMBERS: u64 = 1 << 63;
 
 // Makes sure that one volume more can be counted in a pool without memory.
-fn reserve(alloc: Global, totals: &mut Totals, pool: &Text, bytes: u64) -> Result<(), Fault>
+fn reserve(alloc: Global, totals: &mut Totals, pool: &Text, bytes: u64) -> Result<(), TablesFault>
     ensures room { OnOk result (HasRoom (total_of totals.old pool.now) bytes) }
     ensures reserved { OnOk result (IsReserved totals.new pool.now) }
-    ensures same { (q : List ℕ) → total_of totals.new q ≡ total_of totals.old q }
+    ensures unchanged { (q : List ℕ) → total_of totals.new q ≡ total_of totals.old q }
     ensures refused { IsErrOf result Refused → ¬ HasRoom (total_of totals.old pool.now) bytes }
 {
     if !totals.has_room(pool, bytes) {
-        return Err(Fault::Refused);
+        return Err(TablesFault::Refused);
     }
-    totals.reserve(copy_text(alloc, pool.as_str())?)?;
+    totals.reserve(pool.copy(alloc)?)?;
     Ok(())
 }
 
@@ -48,7 +48,7 @@ pub(crate) fn make_volume<S: Alter>(
     conn: &mut Connection<S>,
     totals: &mut Totals,
     volume: &Volume,
-) -> Result<(), Fault>
+) -> Result<(), TablesFault>
     requires idle { conn.old.in_transaction ≡ false }
     requires bounded { IsBounded (AddVolume volume.now) }
     ensures { StoreChanges S.Store (conn.old, totals.old) (conn.new, totals.new) (AddVolume volume.now)
@@ -73,7 +73,7 @@ pub(crate) fn make_volume<S: Alter>(
 
 // A change that changes nothing, as that of a number that no row has. A read tells whether the
 // connection is open, and what a stop leaves is the State then.
-fn make_nothing<S: Alter>(conn: &mut Connection<S>) -> Result<(), Fault>
+fn make_nothing<S: Alter>(conn: &mut Connection<S>) -> Result<(), TablesFault>
     requires idle { conn.old.in_transaction ≡ false }
     ensures { ConnStays S.Store conn.old conn.new result }
 {
@@ -96,15 +96,16 @@ pub(crate) fn make_attachment<S: Alter>(
     conn: &mut Connection<S>,
     number: u64,
     attachment: &Attachment,
-) -> Result<(), Fault>
+) -> Result<(), TablesFault>
     requires idle { conn.old.in_transaction ≡ false }
     ensures changes { ConnChanges S.Store conn.old conn.new (Attach number attachment.now)
         (RefusesAttaching number attachment.now (state S.Store conn.old)) result }
-    ensures stored { OnOk result ((number < 2 ^ 63) × IsUtf8 attachment.now.node × FitCaps (attachment.now.cap ∷ [])) }
+    ensures stored { OnOk result ((number < 2 ^ 63) × IsUtf8 attachment.now.node
+        × FitCaps (attachment.now.cap ∷ [])) }
 {
     read_back();
     if number >= NUMBERS {
-        return Err(Fault::Refused);
+        return Err(TablesFault::Refused);
     }
     let cap = write_cap(alloc, &attachment.cap)?;
     attach(
@@ -122,9 +123,10 @@ pub(crate) fn unmake_attachment<S: Alter>(
     conn: &mut Connection<S>,
     number: u64,
     node: &Text,
-) -> Result<(), Fault>
+) -> Result<(), TablesFault>
     requires idle { conn.old.in_transaction ≡ false }
-    ensures { ConnChanges S.Store conn.old conn.new (Detach number node.now) (RefusesDetach number node.now (state S.Store conn.old)) result }
+    ensures { ConnChanges S.Store conn.old conn.new (Detach number node.now)
+        (RefusesDetach number node.now (state S.Store conn.old)) result }
 {
     read_back();
     if number >= NUMBERS {
@@ -138,9 +140,10 @@ pub(crate) fn unmake_attachment<S: Alter>(
 pub(crate) fn unmake_attachments<S: Alter>(
     conn: &mut Connection<S>,
     number: u64,
-) -> Result<(), Fault>
+) -> Result<(), TablesFault>
     requires idle { conn.old.in_transaction ≡ false }
-    ensures { ConnChanges S.Store conn.old conn.new (DetachAll number) (RefusesDetachAll number (state S.Store conn.old)) result }
+    ensures { ConnChanges S.Store conn.old conn.new (DetachAll number)
+        (RefusesDetachAll number (state S.Store conn.old)) result }
 {
     read_back();
     if number >= NUMBERS {
@@ -157,7 +160,7 @@ pub(crate) fn unmake_volume<S: Alter>(
     conn: &mut Connection<S>,
     totals: &mut Totals,
     number: u64,
-) -> Result<(), Fault>
+) -> Result<(), TablesFault>
     requires idle { conn.old.in_transaction ≡ false }
     ensures { StoreChanges S.Store (conn.old, totals.old) (conn.new, totals.new) (RemoveVolume number)
         (RefusesRemoving number (state S.Store conn.old)) result }
@@ -192,11 +195,12 @@ pub(crate) fn make_mutable<S: Alter>(
     conn: &mut Connection<S>,
     number: u64,
     mutable: &Map,
-) -> Result<(), Fault>
+) -> Result<(), TablesFault>
     requires idle { conn.old.in_transaction ≡ false }
     ensures changes { ConnChanges S.Store conn.old conn.new (SetMutable number mutable.now)
         (RefusesMutable number mutable.now (state S.Store conn.old)) result }
-    ensures stored { OnOk result (conn_doubt S.Store conn.new ≡ 0 → (s : State) → conn_holds S.Store conn.old s → IsStorable s
+    ensures stored { OnOk result (conn_doubt S.Store conn.new ≡ 0 → (s : State)
+        → conn_holds S.Store conn.old s → IsStorable s
         → IsStorable (changed s (SetMutable number mutable.now))) }
 {
     read_back();
@@ -218,7 +222,7 @@ pub(crate) fn make<S: Alter>(
     conn: &mut Connection<S>,
     totals: &mut Totals,
     change: &Change,
-) -> Result<(), Fault>
+) -> Result<(), TablesFault>
     requires idle { conn.old.in_transaction ≡ false }
     requires bounded { IsBounded change.now }
     ensures { StoreChanges S.Store (conn.old, totals.old) (conn.new, totals.new) change.now

@@ -1,25 +1,34 @@
 //! Capabilities and parameters as they stand in a column: the canonical bytes of a
 //! `CreateVolumeRequest` that has nothing else.
+//!
+//! So the format of a column is that of the request's fields, by their numbers, and a change of how
+//! these fields are written is a migration of every file.
 
-ghost use Rattle.std.specs.Prelude.{◌≡◌, ◌≢◌, List, Some, Ok, IfOk, IsErrOf, OnOk, map};
+ghost use Rattle.std.specs.Prelude.{◌≡◌, ◌≢◌, ◌++◌, List, Some, Ok, IfOk, IsErrOf, OnOk, map};
 ghost use Rattle.csi_types.specs.Maps.{TextMap};
 ghost use Rattle.csi_types.specs.declared.method.Method.TheVariants.{CreateVolume as Creating};
 ghost use Rattle.csi_types.specs.declared.requests.CreateVolume.{CreateVolume as Message};
 ghost use Rattle.csi_types.specs.declared.requests.Request.TheVariants.{Create};
-ghost use Rattle.csi_codec.specs.Methods.{request_bytes, FitsRequest};
+ghost use Rattle.pbmessage.specs.Canon.{bytes_of};
+ghost use Rattle.pbmessage.specs.Kept.{Keeps};
 ghost use Rattle.csi_codec.specs.Reading.{read_request};
-ghost use Rattle.csi_keeper.specs.Capability.{capability_of, key_of};
+ghost use Rattle.csi_codec.specs.messages.Capability.{canon_access, FitsAccess};
+ghost use Rattle.csi_keeper.specs.Capability.{access_of, key_of};
 ghost use Rattle.csi_keeper.specs.declared.capability.CapKey.{CapKey as Key};
-ghost use Rattle.csi_tables.specs.Encoding.{create_with, caps_bytes, params_bytes, AreKnown, FitCaps, FitParams, ReadsBack};
+ghost use Rattle.csi_tables.specs.Encoding.{caps_bytes, params_bytes, AreKnown, FitCaps, FitParams, ReadsBack};
 ghost use Rattle.csi_tables.specs.Reading.{AreKeysOf, AreParamsOf};
-ghost use Rattle.csi_tables.specs.declared.fault.Fault.TheVariants.{Refused};
+ghost use Rattle.csi_tables.specs.declared.fault.TablesFault.TheVariants.{Refused};
 
-use crate::fault::Fault;
+use crate::fault::TablesFault;
+use csi_codec::decode_create;
 use csi_codec::laws::{read_as_meant, round_trip};
-use csi_codec::{decode_create, encode_create};
-use csi_keeper::{CapKey, cap_key, capability_of};
-use csi_types::{Capability, CreateVolume, Items, Map, Text, copy_map};
+use csi_keeper::{CapKey, Kind, cap_key};
+use csi_types::{Capability, CreateVolume, Items, Map, Text};
+use pbmessage::{Written, put_map, put_message, put_presence, put_text};
 use std::alloc::{AllocError, Global};
+
+// Room for the bytes of one capability: a block has 8, a mount 10 and the name of its file system.
+const KEY_BYTES: usize = 16;
 
 /// What is written of a request that fits is read as that request.
 #[inline(always)]
@@ -30,57 +39,72 @@ pub(crate) fn read_back()
     read_as_meant();
 }
 
-fn create_with(
-    alloc: Global,
-    capabilities: Items<Capability>,
-    parameters: Map,
-    mutable: Map,
-) -> CreateVolume
-    ensures { Create result ≡ create_with capabilities parameters mutable }
-{
-    CreateVolume {
-        name: Text::new(alloc),
-        range: None,
-        capabilities,
-        parameters,
-        secrets: Map::new(alloc),
-        source: false,
-        topology: None,
-        mutable,
+// The package of messages that are written from borrowed parts, without a copy.
+struct Lent;
+
+// `VolumeCapability.MountVolume` of a file system's type alone.
+#[derive(Drop)]
+struct LentMount<'a> {
+    fs_type: &'a Text,
+}
+
+impl Written<Lent> for LentMount<'_> {
+    ghost use Rattle.std.specs.Prelude.{[]};
+    ghost use Rattle.csi_codec.specs.messages.Capability.{canon_mount, FitsMount};
+
+    ghost canon = { λ m. canon_mount (record { fs_type = m.fs_type.now; flags = []; group = [] }) };
+
+    ghost fits = { λ m. FitsMount (record { fs_type = m.fs_type.now; flags = []; group = [] }) };
+
+    fn write(&self, out: &mut Vec<u8>) -> Result<(), AllocError> {
+        put_text(out, 1, self.fs_type)
     }
 }
 
-fn write(alloc: Global, message: &CreateVolume) -> Result<Vec<u8>, AllocError>
-    ensures bytes { IfOk result (λ out. out.items ≡ request_bytes (Create message.now)) }
-    ensures fits { OnOk result (FitsRequest (Create message.now)) }
+// `VolumeCapability.access_type` of a kind.
+#[tactic(auto, unfolding(pbmessage::specs::Canon::row_fields))]
+fn put_kind(out: &mut Vec<u8>, kind: &Kind) -> Result<(), AllocError>
+    ensures ok { OnOk result (out.new.items
+        ≡ out.old.items ++ bytes_of (canon_access (access_of kind.now))) }
+    ensures fitting { OnOk result (FitsAccess (access_of kind.now)) }
+    ensures kept { Keeps out.old.items out.new.items }
 {
-    let mut out = Vec::new(alloc);
-    encode_create(message, &mut out)?;
-    Ok(out)
+    match kind {
+        Kind::Block => put_presence(out, 1, true),
+        Kind::Mount(fs_type) => put_message(out, 2, &LentMount { fs_type }),
+    }
 }
 
-fn capabilities_of(alloc: Global, keys: &[CapKey]) -> Result<Items<Capability>, AllocError>
-    ensures { IfOk result (λ capabilities. capabilities ≡ map capability_of keys.now) }
+// `VolumeCapability` of a key.
+#[derive(Drop)]
+struct LentKey<'a> {
+    key: &'a CapKey,
+}
+
+impl Written<Lent> for LentKey<'_> {
+    ghost use Rattle.csi_codec.specs.messages.Capability.{canon_capability, FitsCapability};
+    ghost use Rattle.csi_keeper.specs.Capability.{capability_of};
+
+    ghost canon = { λ k. canon_capability (capability_of k.key.now) };
+
+    ghost fits = { λ k. FitsCapability (capability_of k.key.now) };
+
+    fn write(&self, out: &mut Vec<u8>) -> Result<(), AllocError> {
+        put_kind(out, &self.key.kind)?;
+        put_message(out, 3, &i32::from(self.key.mode))
+    }
+}
+
+// The capabilities of keys, each in a field 3.
+#[tactic(auto, unfolding(pbmessage::specs::Canon::row_fields))]
+fn put_keys(out: &mut Vec<u8>, keys: &[CapKey]) -> Result<(), AllocError>
+    ensures bytes { OnOk result (out.new.items ≡ out.old.items ++ caps_bytes keys.now) }
+    ensures fits { OnOk result (FitCaps keys.now) }
 {
-    let mut capabilities = Items::new(alloc);
     for key in keys {
-        capabilities.push(capability_of(alloc, key)?)?;
+        put_message(out, 3, &LentKey { key })?;
     }
-    Ok(capabilities)
-}
-
-// The canonical bytes of capabilities and parameters. The message is large, and lives here alone.
-fn write_parts(
-    alloc: Global,
-    capabilities: Items<Capability>,
-    parameters: Map,
-    mutable: Map,
-) -> Result<Vec<u8>, AllocError>
-    ensures bytes { IfOk result (λ out. out.items ≡ request_bytes (create_with capabilities parameters mutable)) }
-    ensures fits { OnOk result (FitsRequest (create_with capabilities parameters mutable)) }
-{
-    let message = create_with(alloc, capabilities, parameters, mutable);
-    write(alloc, &message)
+    Ok(())
 }
 
 /// The canonical bytes of capabilities, as they stand in a column.
@@ -88,17 +112,13 @@ fn write_parts(
 /// # Errors
 ///
 /// Where memory was refused.
-#[tactic(auto, unfolding(crate::specs::Encoding::caps_bytes, crate::specs::Encoding::FitCaps))]
 pub fn write_caps(alloc: Global, keys: &[CapKey]) -> Result<Vec<u8>, AllocError>
     ensures bytes { IfOk result (λ out. out.items ≡ caps_bytes keys.now) }
     ensures fits { OnOk result (FitCaps keys.now) }
 {
-    write_parts(
-        alloc,
-        capabilities_of(alloc, keys)?,
-        Map::new(alloc),
-        Map::new(alloc),
-    )
+    let mut out = Vec::with_capacity(alloc, keys.len().saturating_mul(KEY_BYTES))?;
+    put_keys(&mut out, keys)?;
+    Ok(out)
 }
 
 /// The canonical bytes of parameters and of mutable parameters, as they stand in a column. Without
@@ -107,34 +127,33 @@ pub fn write_caps(alloc: Global, keys: &[CapKey]) -> Result<Vec<u8>, AllocError>
 /// # Errors
 ///
 /// Where memory was refused.
-#[tactic(auto, unfolding(crate::specs::Encoding::params_bytes, crate::specs::Encoding::FitParams))]
+#[tactic(auto, using(crate::proofs::WritingLemmas::params_written))]
 pub fn write_params(alloc: Global, params: &Map, mutable: &Map) -> Result<Vec<u8>, AllocError>
     ensures bytes { IfOk result (λ out. out.items ≡ params_bytes params.now mutable.now) }
     ensures fits { OnOk result (FitParams params.now mutable.now) }
 {
-    write_parts(
-        alloc,
-        Items::new(alloc),
-        copy_map(alloc, params)?,
-        copy_map(alloc, mutable)?,
-    )
+    let mut out = Vec::new(alloc);
+    put_map(&mut out, 4, params)?;
+    put_map(&mut out, 8, mutable)?;
+    Ok(out)
 }
 
-fn read(alloc: Global, bytes: &[u8]) -> Result<CreateVolume, Fault>
+fn read(alloc: Global, bytes: &[u8]) -> Result<CreateVolume, TablesFault>
     ensures ok { IfOk result (λ message. read_request Creating bytes.now ≡ Ok (Create message)) }
-    ensures refused { IsErrOf result Refused → (m : Message) → read_request Creating bytes.now ≢ Ok (Create m) }
+    ensures refused { IsErrOf result Refused → (m : Message)
+        → read_request Creating bytes.now ≢ Ok (Create m) }
 {
     Ok(decode_create(alloc, bytes)?)
 }
 
-fn keys_of(alloc: Global, capabilities: &[Capability]) -> Result<Items<CapKey>, Fault>
+fn keys_of(alloc: Global, capabilities: &[Capability]) -> Result<Items<CapKey>, TablesFault>
     ensures ok { IfOk result (λ keys. map Some keys ≡ map key_of capabilities.now) }
     ensures refused { IsErrOf result Refused → (ks : List Key) → map Some ks ≢ map key_of capabilities.now }
 {
     let mut keys = Items::new(alloc);
     for capability in capabilities {
         let Some(key) = cap_key(alloc, capability)? else {
-            return Err(Fault::Refused);
+            return Err(TablesFault::Refused);
         };
         keys.push(key)?;
     }
@@ -142,9 +161,10 @@ fn keys_of(alloc: Global, capabilities: &[Capability]) -> Result<Items<CapKey>, 
 }
 
 /// The keys whose bytes these are.
-pub(crate) fn read_caps(alloc: Global, bytes: &[u8]) -> Result<Items<CapKey>, Fault>
+pub(crate) fn read_caps(alloc: Global, bytes: &[u8]) -> Result<Items<CapKey>, TablesFault>
     ensures ok { IfOk result (λ keys. (ks : List Key) → FitCaps ks → bytes.now ≡ caps_bytes ks → keys ≡ ks) }
-    ensures refused { IsErrOf result Refused → (ks : List Key) → FitCaps ks → AreKnown ks → bytes.now ≢ caps_bytes ks }
+    ensures refused { IsErrOf result Refused → (ks : List Key) → FitCaps ks → AreKnown ks
+        → bytes.now ≢ caps_bytes ks }
     ensures exact { IfOk result (λ keys. AreKeysOf bytes.now keys) }
     ensures unread { IsErrOf result Refused → (ks : List Key) → AreKeysOf bytes.now ks → ⊥ }
 {
@@ -154,11 +174,14 @@ pub(crate) fn read_caps(alloc: Global, bytes: &[u8]) -> Result<Items<CapKey>, Fa
 }
 
 /// The parameters and the mutable parameters whose bytes these are.
-pub(crate) fn read_params(alloc: Global, bytes: &[u8]) -> Result<(Map, Map), Fault>
-    ensures ok { IfOk result (λ read. (p m : TextMap) → FitParams p m → bytes.now ≡ params_bytes p m → read ≡ (p, m)) }
-    ensures refused { IsErrOf result Refused → (p m : TextMap) → FitParams p m → bytes.now ≢ params_bytes p m }
+pub(crate) fn read_params(alloc: Global, bytes: &[u8]) -> Result<(Map, Map), TablesFault>
+    ensures ok { IfOk result (λ read. (p m : TextMap) → FitParams p m → bytes.now ≡ params_bytes p m
+        → read ≡ (p, m)) }
+    ensures refused { IsErrOf result Refused → (p m : TextMap) → FitParams p m
+        → bytes.now ≢ params_bytes p m }
     ensures exact { IfOk result (λ read. AreParamsOf bytes.now read) }
-    ensures unread { IsErrOf result Refused → (params : TextMap × TextMap) → AreParamsOf bytes.now params → ⊥ }
+    ensures unread { IsErrOf result Refused → (params : TextMap × TextMap) → AreParamsOf bytes.now params
+        → ⊥ }
 {
     read_back();
     let message = read(alloc, bytes)?;

@@ -1,25 +1,28 @@
 //! The nodes of the volumes of a page, of one list of places.
 
 ghost use Rattle.std.specs.Prelude.{◌≡◌, ◌≢◌, ◌==◌, ◌<◌, ◌≤◌, ℕ, List, IfOk, IsErrOf, length, drop, filter, map, nat_lt, take};
-ghost use Rattle.csi_keeper.specs.State.{Place};
+ghost use Rattle.csi_keeper.specs.State.{AttachmentKey};
 ghost use Rattle.csi_tables.specs.Places.{place_row, nodes_at, IsRisen, AreRising, AreTexts};
 ghost use Rattle.csi_tables.specs.Reading.{ShowNodes};
-ghost use Rattle.csi_tables.specs.declared.fault.Fault.TheVariants.{Refused};
+ghost use Rattle.csi_tables.specs.declared.fault.TablesFault.TheVariants.{Refused};
 
-use crate::fault::Fault;
+use crate::fault::TablesFault;
 use crate::rows::{number_in, text_in};
 use csi_types::{Items, Text};
 use sqlite::Row;
 use std::alloc::Global;
 
 // The nodes of a number, and how many places have no greater one. The places rise by number.
-fn nodes_of(alloc: Global, places: &[Row], number: u64) -> Result<(Items<Text>, usize), Fault>
-    ensures nodes { IfOk result (λ found. (ps : List Place) → IsRisen ps → places.now ≡ map place_row ps → found.0 ≡ nodes_at ps number) }
-    ensures passed { IfOk result (λ found. (ps : List Place) → IsRisen ps → places.now ≡ map place_row ps
+fn nodes_of(alloc: Global, places: &[Row], number: u64) -> Result<(Items<Text>, usize), TablesFault>
+    ensures nodes { IfOk result (λ found. (ps : List AttachmentKey) → IsRisen ps
+        → places.now ≡ map place_row ps → found.0 ≡ nodes_at ps number) }
+    ensures passed { IfOk result (λ found. (ps : List AttachmentKey) → IsRisen ps
+        → places.now ≡ map place_row ps
         → drop found.1 ps ≡ filter (λ p. nat_lt number p.0) ps) }
     ensures within { IfOk result (λ found. found.1 ≤ length places.now) }
     ensures exact { IfOk result (λ found. ShowNodes number (take found.1 places.now) found.0) }
-    ensures refused { IsErrOf result Refused → (ps : List Place) → AreTexts ps → places.now ≢ map place_row ps }
+    ensures refused { IsErrOf result Refused → (ps : List AttachmentKey) → AreTexts ps
+        → places.now ≢ map place_row ps }
 {
     let mut nodes = Items::new(alloc);
     for (passed, row) in places.iter().enumerate() {
@@ -40,10 +43,12 @@ pub(crate) fn nodes_of_each(
     alloc: Global,
     numbers: &[u64],
     places: &[Row],
-) -> Result<Items<Items<Text>>, Fault>
-    ensures nodes { IfOk result (λ all. (ps : List Place) → IsRisen ps → AreRising numbers.now → places.now ≡ map place_row ps
+) -> Result<Items<Items<Text>>, TablesFault>
+    ensures nodes { IfOk result (λ all. (ps : List AttachmentKey) → IsRisen ps → AreRising numbers.now
+        → places.now ≡ map place_row ps
         → all ≡ map (nodes_at ps) numbers.now) }
-    ensures refused { IsErrOf result Refused → (ps : List Place) → IsRisen ps → AreRising numbers.now → AreTexts ps → places.now ≢ map place_row ps }
+    ensures refused { IsErrOf result Refused → (ps : List AttachmentKey) → IsRisen ps → AreRising numbers.now
+        → AreTexts ps → places.now ≢ map place_row ps }
 {
     let mut all = Items::new(alloc);
     let mut rest = places;

@@ -42,10 +42,14 @@ impl<S: Alter> Tables<S> {
     pub fn make(alloc: Global, mut conn: Connection<S>) -> Result<Tables<S>, MakeFault<S>>
         requires idle { conn.in_transaction ≡ false }
         ensures made { IfOk result (λ tables. IsNewOver S.Store conn tables) }
-        ensures was_open { IfOk result (λ tables. store_doubt S.Store (store_of S.Store tables) ≡ 0 → IsTrue (state S.Store conn).is_open) }
-        ensures undone { IfErr result (λ fault. HasCleanDisk (state S.Store fault.conn) → IsUndone (state S.Store conn) (state S.Store fault.conn)) }
-        ensures failed { IfErr result (λ fault. HasCleanDisk (state S.Store fault.conn) → conn.schema ≡ no_schema
-            → FailsFor (RefusesTables (state S.Store conn)) (state S.Store conn) (state S.Store fault.conn) fault.error) }
+        ensures was_open { IfOk result (λ tables. store_doubt S.Store (store_of S.Store tables) ≡ 0
+            → IsTrue (state S.Store conn).is_open) }
+        ensures undone { IfErr result (λ fault. HasCleanDisk (state S.Store fault.conn)
+            → IsUndone (state S.Store conn) (state S.Store fault.conn)) }
+        ensures failed { IfErr result (λ fault. HasCleanDisk (state S.Store fault.conn)
+            → conn.schema ≡ no_schema
+            → FailsFor (RefusesTables (state S.Store conn)) (state S.Store conn)
+            (state S.Store fault.conn) fault.error) }
         ensures survives { IfErr result (λ fault. Survives (state S.Store conn) (state S.Store fault.conn)
             (LeavesFrom no_schema MakesTables (state S.Store conn))) }
         ensures idle { IfErr result (λ fault. fault.conn.in_transaction ≡ false) }
@@ -63,7 +67,7 @@ impl<S: Alter> Tables<S> {
     pub fn over(conn: Connection<S>, totals: Totals) -> Tables<S>
         requires idle { conn.in_transaction ≡ false }
         requires stands { conn_doubt S.Store conn ≡ 0 → (s : State) × store_holds S.Store (conn, totals) s }
-        ensures same { store_of S.Store result ≡ (conn, totals) }
+        ensures value { store_of S.Store result ≡ (conn, totals) }
         ensures fresh { (is_down S.Store result ≡ false) × (refusals S.Store result ≡ 0) }
     {
         Tables::new(conn, totals)
@@ -71,7 +75,7 @@ impl<S: Alter> Tables<S> {
 
     /// The connection, on which no transaction is open. The rows stay in its database.
     pub fn into_connection(self) -> Connection<S>
-        ensures same { result ≡ connection_of S.Store self }
+        ensures value { result ≡ connection_of S.Store self }
         ensures idle { result.in_transaction ≡ false }
     {
         self.conn

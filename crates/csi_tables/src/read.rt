@@ -10,7 +10,7 @@ ghost use Rattle.csi_keeper.specs.State.{attached, attached_at, named, page, pub
 ghost use Rattle.csi_tables.specs.Reading.{TellsNext};
 ghost use Rattle.csi_tables.specs.Refusing.{ConnReads};
 
-use crate::fault::Fault;
+use crate::fault::TablesFault;
 use crate::nodes::nodes_of_each;
 use crate::rows::{attachments_from, number_in, numbers_from, volume_of, volumes_from};
 use csi_keeper::{Attachment, Listed, Volume, listed_each};
@@ -20,7 +20,7 @@ use sqlite::{Alter, Connection};
 use std::alloc::Global;
 
 /// The next number.
-pub(crate) fn next_number<S: Alter>(conn: &mut Connection<S>) -> Result<u64, Fault>
+pub(crate) fn next_number<S: Alter>(conn: &mut Connection<S>) -> Result<u64, TablesFault>
     requires idle { conn.old.in_transaction ≡ false }
     ensures reads { ConnReads S.Store conn.old conn.new (λ s n. n ≡ s.next) result }
     ensures exact { IfOk result (λ n. TellsNext S.Store conn.old conn.new n) }
@@ -34,7 +34,7 @@ pub(crate) fn by_number<S: Alter>(
     alloc: Global,
     conn: &mut Connection<S>,
     number: u64,
-) -> Result<Option<Volume>, Fault>
+) -> Result<Option<Volume>, TablesFault>
     requires idle { conn.old.in_transaction ≡ false }
     requires number { number < 2 ^ 63 }
     ensures { ConnReads S.Store conn.old conn.new (λ s v. v ≡ get s.volumes number) result }
@@ -48,7 +48,7 @@ pub(crate) fn by_name<S: Alter>(
     alloc: Global,
     conn: &mut Connection<S>,
     name: &str,
-) -> Result<Option<Volume>, Fault>
+) -> Result<Option<Volume>, TablesFault>
     requires idle { conn.old.in_transaction ≡ false }
     ensures { ConnReads S.Store conn.old conn.new (λ s v. v ≡ named s name.now) result }
 {
@@ -61,7 +61,7 @@ pub(crate) fn attachments<S: Alter>(
     alloc: Global,
     conn: &mut Connection<S>,
     number: u64,
-) -> Result<Items<Attachment>, Fault>
+) -> Result<Items<Attachment>, TablesFault>
     requires idle { conn.old.in_transaction ≡ false }
     requires number { number < 2 ^ 63 }
     ensures { ConnReads S.Store conn.old conn.new (λ s xs. xs ≡ attached s number) result }
@@ -75,7 +75,7 @@ pub(crate) fn attached_at<S: Alter>(
     alloc: Global,
     conn: &mut Connection<S>,
     node: &str,
-) -> Result<Items<u64>, Fault>
+) -> Result<Items<u64>, TablesFault>
     requires idle { conn.old.in_transaction ≡ false }
     ensures { ConnReads S.Store conn.old conn.new (λ s xs. xs ≡ attached_at s node.now) result }
 {
@@ -88,7 +88,7 @@ pub(crate) fn sizes_in<S: Alter>(
     alloc: Global,
     conn: &mut Connection<S>,
     pool: &str,
-) -> Result<Items<u64>, Fault>
+) -> Result<Items<u64>, TablesFault>
     requires idle { conn.old.in_transaction ≡ false }
     ensures { ConnReads S.Store conn.old conn.new (λ s xs. xs ≡ sizes s pool.now) result }
 {
@@ -102,7 +102,7 @@ pub(crate) fn page<S: Alter>(
     conn: &mut Connection<S>,
     after: u64,
     count: u32,
-) -> Result<Items<Volume>, Fault>
+) -> Result<Items<Volume>, TablesFault>
     requires idle { conn.old.in_transaction ≡ false }
     requires after { after < 2 ^ 63 }
     ensures { ConnReads S.Store conn.old conn.new (λ s xs. xs ≡ page s after count) result }
@@ -117,7 +117,7 @@ pub(crate) fn published_nodes<S: Alter>(
     conn: &mut Connection<S>,
     after: u64,
     count: u32,
-) -> Result<Items<Items<Text>>, Fault>
+) -> Result<Items<Items<Text>>, TablesFault>
     requires idle { conn.old.in_transaction ≡ false }
     requires after { after < 2 ^ 63 }
     ensures { ConnReads S.Store conn.old conn.new (λ s xs. xs ≡ published_of_page s after count) result }
@@ -133,7 +133,7 @@ pub(crate) fn listing<S: Alter>(
     conn: &mut Connection<S>,
     after: u64,
     count: u32,
-) -> Result<Items<Listed>, Fault>
+) -> Result<Items<Listed>, TablesFault>
     requires idle { conn.old.in_transaction ≡ false }
     requires after { after < 2 ^ 63 }
     ensures { ConnReads S.Store conn.old conn.new (λ s xs. xs ≡ listing s after count) result }

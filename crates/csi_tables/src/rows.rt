@@ -5,7 +5,7 @@ ghost use Rattle.std.specs.List.{AllByRecursion};
 ghost use Rattle.sqlite.specs.declared.types.Value.TheVariants.{Text as Words, Blob};
 ghost use Rattle.sqlite.specs.Order.{column};
 ghost use Rattle.csi_types.specs.Maps.{TextMap};
-ghost use Rattle.csi_keeper.specs.State.{Place};
+ghost use Rattle.csi_keeper.specs.State.{AttachmentKey};
 ghost use Rattle.csi_keeper.specs.declared.capability.CapKey.{CapKey as Key};
 ghost use Rattle.csi_keeper.specs.declared.volume.Attachment.{Attachment as Placed};
 ghost use Rattle.csi_keeper.specs.declared.volume.Volume.{Volume as Stored};
@@ -13,10 +13,10 @@ ghost use Rattle.csi_sql.specs.Rows.{number_value};
 ghost use Rattle.csi_tables.specs.Encoding.{caps_bytes, params_bytes, AreKnown, FitCaps, FitParams};
 ghost use Rattle.csi_tables.specs.Holding.{volume_entry, node_entry, IsStored, IsPlaced, IsReadable, IsReadablePlace};
 ghost use Rattle.csi_tables.specs.Reading.{AreReadOf, HasKeys, HasParams, IsReadOf, ShowsAttachment, ShowsNumber, ShowsVolume};
-ghost use Rattle.csi_tables.specs.declared.fault.Fault.TheVariants.{Refused};
+ghost use Rattle.csi_tables.specs.declared.fault.TablesFault.TheVariants.{Refused};
 
 use crate::encoding::{read_caps, read_params};
-use crate::fault::Fault;
+use crate::fault::TablesFault;
 use csi_keeper::{Attachment, CapKey, Volume};
 use csi_sql::values::{blob_at, flag_at};
 use csi_types::{Items, Map, Text};
@@ -24,47 +24,53 @@ use sqlite::Row;
 use std::alloc::Global;
 
 /// The text in a cell.
-pub(crate) fn text_in(row: &Row, at: usize) -> Result<Text, Fault>
+pub(crate) fn text_in(row: &Row, at: usize) -> Result<Text, TablesFault>
     ensures ok { IfOk result (λ text. column row.now at ≡ Words text) }
-    ensures refused { IsErrOf result Refused → (text : List ℕ) → IsUtf8 text → column row.now at ≢ Words text }
+    ensures refused { IsErrOf result Refused → (text : List ℕ) → IsUtf8 text
+        → column row.now at ≢ Words text }
 {
     Ok(Text::from_string(row.get(at)?))
 }
 
 /// The number in a cell.
-pub(crate) fn number_in(row: &Row, at: usize) -> Result<u64, Fault>
+pub(crate) fn number_in(row: &Row, at: usize) -> Result<u64, TablesFault>
     ensures ok { IfOk result (λ n. column row.now at ≡ number_value n) }
     ensures refused { IsErrOf result Refused → (n : ℕ) → column row.now at ≢ number_value n }
 {
     Ok(row.get(at)?)
 }
 
-fn caps_in(alloc: Global, row: &Row, at: usize) -> Result<Items<CapKey>, Fault>
-    ensures ok { IfOk result (λ keys. (ks : List Key) → FitCaps ks → column row.now at ≡ Blob (caps_bytes ks) → keys ≡ ks) }
-    ensures refused { IsErrOf result Refused → (ks : List Key) → FitCaps ks → AreKnown ks → column row.now at ≢ Blob (caps_bytes ks) }
+fn caps_in(alloc: Global, row: &Row, at: usize) -> Result<Items<CapKey>, TablesFault>
+    ensures ok { IfOk result (λ keys. (ks : List Key) → FitCaps ks → column row.now at ≡ Blob (caps_bytes ks)
+        → keys ≡ ks) }
+    ensures refused { IsErrOf result Refused → (ks : List Key) → FitCaps ks → AreKnown ks
+        → column row.now at ≢ Blob (caps_bytes ks) }
     ensures exact { IfOk result (λ keys. HasKeys (column row.now at) keys) }
     ensures unread { IsErrOf result Refused → (ks : List Key) → HasKeys (column row.now at) ks → ⊥ }
 {
     match blob_at(row, at) {
         Some(bytes) => read_caps(alloc, bytes),
-        None => Err(Fault::Refused),
+        None => Err(TablesFault::Refused),
     }
 }
 
-fn params_in(alloc: Global, row: &Row, at: usize) -> Result<(Map, Map), Fault>
-    ensures ok { IfOk result (λ read. (p m : TextMap) → FitParams p m → column row.now at ≡ Blob (params_bytes p m) → read ≡ (p, m)) }
-    ensures refused { IsErrOf result Refused → (p m : TextMap) → FitParams p m → column row.now at ≢ Blob (params_bytes p m) }
+fn params_in(alloc: Global, row: &Row, at: usize) -> Result<(Map, Map), TablesFault>
+    ensures ok { IfOk result (λ read. (p m : TextMap) → FitParams p m
+        → column row.now at ≡ Blob (params_bytes p m) → read ≡ (p, m)) }
+    ensures refused { IsErrOf result Refused → (p m : TextMap) → FitParams p m
+        → column row.now at ≢ Blob (params_bytes p m) }
     ensures exact { IfOk result (λ read. HasParams (column row.now at) read) }
-    ensures unread { IsErrOf result Refused → (params : TextMap × TextMap) → HasParams (column row.now at) params → ⊥ }
+    ensures unread { IsErrOf result Refused → (params : TextMap × TextMap)
+        → HasParams (column row.now at) params → ⊥ }
 {
     match blob_at(row, at) {
         Some(bytes) => read_params(alloc, bytes),
-        None => Err(Fault::Refused),
+        None => Err(TablesFault::Refused),
     }
 }
 
 /// The volume that a row shows.
-pub(crate) fn volume_from(alloc: Global, row: &Row) -> Result<Volume, Fault>
+pub(crate) fn volume_from(alloc: Global, row: &Row) -> Result<Volume, TablesFault>
     ensures ok { IfOk result (λ v. (e : ℕ × Stored) → IsStored e → row.now ≡ volume_entry e → v ≡ e.1) }
     ensures refused { IsErrOf result Refused → (e : ℕ × Stored) → IsReadable e → row.now ≢ volume_entry e }
     ensures exact { IfOk result (λ v. ShowsVolume row.now v) }
@@ -87,9 +93,11 @@ pub(crate) fn volume_from(alloc: Global, row: &Row) -> Result<Volume, Fault>
 }
 
 /// The volume of the row, if there is one.
-pub(crate) fn volume_of(alloc: Global, found: Option<Row>) -> Result<Option<Volume>, Fault>
-    ensures ok { IfOk result (λ v. (o : Option (ℕ × Stored)) → IfSome o IsStored → found ≡ option_map volume_entry o → v ≡ option_map (λ e. e.1) o) }
-    ensures refused { IsErrOf result Refused → (o : Option (ℕ × Stored)) → IfSome o IsReadable → found ≢ option_map volume_entry o }
+pub(crate) fn volume_of(alloc: Global, found: Option<Row>) -> Result<Option<Volume>, TablesFault>
+    ensures ok { IfOk result (λ v. (o : Option (ℕ × Stored)) → IfSome o IsStored
+        → found ≡ option_map volume_entry o → v ≡ option_map (λ e. e.1) o) }
+    ensures refused { IsErrOf result Refused → (o : Option (ℕ × Stored)) → IfSome o IsReadable
+        → found ≢ option_map volume_entry o }
     ensures exact { IfOk result (λ v. IsReadOf ShowsVolume found v) }
 {
     match found {
@@ -98,26 +106,30 @@ pub(crate) fn volume_of(alloc: Global, found: Option<Row>) -> Result<Option<Volu
     }
 }
 
-fn cap_in(alloc: Global, row: &Row, at: usize) -> Result<CapKey, Fault>
-    ensures ok { IfOk result (λ key. (k : Key) → FitCaps (k ∷ []) → column row.now at ≡ Blob (caps_bytes (k ∷ [])) → key ≡ k) }
-    ensures refused { IsErrOf result Refused → (k : Key) → FitCaps (k ∷ []) → AreKnown (k ∷ []) → column row.now at ≢ Blob (caps_bytes (k ∷ [])) }
+fn cap_in(alloc: Global, row: &Row, at: usize) -> Result<CapKey, TablesFault>
+    ensures ok { IfOk result (λ key. (k : Key) → FitCaps (k ∷ [])
+        → column row.now at ≡ Blob (caps_bytes (k ∷ [])) → key ≡ k) }
+    ensures refused { IsErrOf result Refused → (k : Key) → FitCaps (k ∷ []) → AreKnown (k ∷ [])
+        → column row.now at ≢ Blob (caps_bytes (k ∷ [])) }
     ensures exact { IfOk result (λ key. HasKeys (column row.now at) (key ∷ [])) }
 {
     let mut keys = caps_in(alloc, row, at)?.into_vec();
     match keys.pop() {
         Some(key) if keys.is_empty() => Ok(key),
-        _ => Err(Fault::Refused),
+        _ => Err(TablesFault::Refused),
     }
 }
 
 /// The attachment that a row of those of its volume shows. A `readonly` that is neither 0 nor 1 is refused.
-pub(crate) fn attachment_from(alloc: Global, row: &Row) -> Result<Attachment, Fault>
-    ensures ok { IfOk result (λ a. (e : Place × Placed) → IsPlaced e → row.now ≡ node_entry e → a ≡ e.1) }
-    ensures refused { IsErrOf result Refused → (e : Place × Placed) → IsReadablePlace e → row.now ≢ node_entry e }
+pub(crate) fn attachment_from(alloc: Global, row: &Row) -> Result<Attachment, TablesFault>
+    ensures ok { IfOk result (λ a. (e : AttachmentKey × Placed) → IsPlaced e → row.now ≡ node_entry e
+        → a ≡ e.1) }
+    ensures refused { IsErrOf result Refused → (e : AttachmentKey × Placed) → IsReadablePlace e
+        → row.now ≢ node_entry e }
     ensures exact { IfOk result (λ a. ShowsAttachment row.now a) }
 {
     let Some(readonly) = flag_at(row, 2) else {
-        return Err(Fault::Refused);
+        return Err(TablesFault::Refused);
     };
     Ok(Attachment {
         node: text_in(row, 0)?,
@@ -127,9 +139,11 @@ pub(crate) fn attachment_from(alloc: Global, row: &Row) -> Result<Attachment, Fa
 }
 
 /// The volumes that rows show.
-pub(crate) fn volumes_from(alloc: Global, rows: &[Row]) -> Result<Items<Volume>, Fault>
-    ensures ok { IfOk result (λ vs. (es : List (ℕ × Stored)) → AllByRecursion IsStored es → rows.now ≡ map volume_entry es → vs ≡ map (λ e. e.1) es) }
-    ensures refused { IsErrOf result Refused → (es : List (ℕ × Stored)) → AllByRecursion IsReadable es → rows.now ≢ map volume_entry es }
+pub(crate) fn volumes_from(alloc: Global, rows: &[Row]) -> Result<Items<Volume>, TablesFault>
+    ensures ok { IfOk result (λ vs. (es : List (ℕ × Stored)) → AllByRecursion IsStored es
+        → rows.now ≡ map volume_entry es → vs ≡ map (λ e. e.1) es) }
+    ensures refused { IsErrOf result Refused → (es : List (ℕ × Stored)) → AllByRecursion IsReadable es
+        → rows.now ≢ map volume_entry es }
     ensures exact { IfOk result (λ vs. AreReadOf ShowsVolume rows.now vs) }
 {
     let mut volumes = Items::new(alloc);
@@ -140,9 +154,14 @@ pub(crate) fn volumes_from(alloc: Global, rows: &[Row]) -> Result<Items<Volume>,
 }
 
 /// The attachments that the rows of a volume show.
-pub(crate) fn attachments_from(alloc: Global, rows: &[Row]) -> Result<Items<Attachment>, Fault>
-    ensures ok { IfOk result (λ xs. (es : List (Place × Placed)) → AllByRecursion IsPlaced es → rows.now ≡ map node_entry es → xs ≡ map (λ e. e.1) es) }
-    ensures refused { IsErrOf result Refused → (es : List (Place × Placed)) → AllByRecursion IsReadablePlace es → rows.now ≢ map node_entry es }
+pub(crate) fn attachments_from(
+    alloc: Global,
+    rows: &[Row],
+) -> Result<Items<Attachment>, TablesFault>
+    ensures ok { IfOk result (λ xs. (es : List (AttachmentKey × Placed)) → AllByRecursion IsPlaced es
+        → rows.now ≡ map node_entry es → xs ≡ map (λ e. e.1) es) }
+    ensures refused { IsErrOf result Refused → (es : List (AttachmentKey × Placed))
+        → AllByRecursion IsReadablePlace es → rows.now ≢ map node_entry es }
     ensures exact { IfOk result (λ xs. AreReadOf ShowsAttachment rows.now xs) }
 {
     let mut attachments = Items::new(alloc);
@@ -153,7 +172,7 @@ pub(crate) fn attachments_from(alloc: Global, rows: &[Row]) -> Result<Items<Atta
 }
 
 /// The numbers in the first column.
-pub(crate) fn numbers_from(alloc: Global, rows: &[Row]) -> Result<Items<u64>, Fault>
+pub(crate) fn numbers_from(alloc: Global, rows: &[Row]) -> Result<Items<u64>, TablesFault>
     ensures ok { IfOk result (λ xs. (ns : List ℕ) → rows.now ≡ map (λ n. number_value n ∷ []) ns → xs ≡ ns) }
     ensures refused { IsErrOf result Refused → (ns : List ℕ) → rows.now ≢ map (λ n. number_value n ∷ []) ns }
     ensures exact { IfOk result (λ xs. AreReadOf ShowsNumber rows.now xs) }

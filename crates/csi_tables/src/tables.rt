@@ -4,12 +4,14 @@ ghost use Rattle.std.specs.Prelude.{◌≡◌, ◌≤◌, ◌^◌, false, IfOk, 
 ghost use Rattle.std.specs.FinMap.{get};
 ghost use Rattle.std.specs.Option.{option_map};
 ghost use Rattle.csi_keeper.specs.Listing.{listing};
-ghost use Rattle.csi_keeper.specs.State.{IsBounded, attached, attached_at, named, page, published_of_page, sizes, used};
+ghost use Rattle.csi_keeper.specs.State.{IsBounded, attached, attached_at, count_at, named, page, published_of_page, sizes, used};
 
 use crate::changes::{NUMBERS, make};
-use crate::health::Health;
+use crate::fault::store_answer;
 use crate::read;
-use csi_keeper::{Attachment, CapKey, Change, Keeper, Listed, StoreFault, Totals, Usage, Volume};
+use csi_keeper::{
+    Attachment, CapKey, Change, Health, Keeper, Listed, StoreFault, Totals, Usage, Volume,
+};
 use csi_types::{Items, Text};
 use sqlite::{Alter, Connection};
 use std::alloc::Global;
@@ -24,8 +26,8 @@ use std::alloc::Global;
 /// read of a number from 2^63 on, which no row has, asks for no memory.
 ///
 /// All of that is promised while the database has returned what was written to it: while the store's
-/// `HasCleanDisk` holds as the call ends. A call is one transaction, a removal and a listing two; what a pool has used
-/// is told from memory, without one.
+/// `HasCleanDisk` holds as the call ends. A call is one transaction, a removal and a listing two; what a pool
+/// has used is told from memory, without one.
 #[derive(Drop)]
 pub struct Tables<S: Alter> {
     pub(crate) conn: Connection<S>,
@@ -44,10 +46,7 @@ impl<S: Alter> Tables<S> {
         Tables {
             conn,
             totals,
-            health: Health {
-                refusals: 0,
-                is_down: false,
-            },
+            health: Health::new(),
         }
     }
 
@@ -72,42 +71,46 @@ impl<S: Alter> Keeper for Tables<S> {
     }
 
     fn next_number(&mut self) -> Result<u64, StoreFault>
-        ensures reads { Reads (tables_model S.Store self.old) (tables_model S.Store self.new) result (λ s n. n ≡ s.next) }
+        ensures reads { Reads (tables_model S.Store self.old) (tables_model S.Store self.new) result
+            (λ s n. n ≡ s.next) }
         ensures exact { IfOk result (λ n. TellsNext S.Store self.old.conn self.new.conn n) }
         ensures refused { TablesRefuses S.Store self.old self.new ⊥ result }
         ensures limit { self.new.conn.step_limit ≡ self.old.conn.step_limit }
     {
-        self.health.begin()?;
+        self.health.start_call()?;
         let answer = read::next_number(&mut self.conn);
-        self.health.end(answer)
+        self.health.finish_call(store_answer(answer))
     }
 
     fn by_name(&mut self, alloc: Global, name: &str) -> Result<Option<Volume>, StoreFault>
-        ensures reads { Reads (tables_model S.Store self.old) (tables_model S.Store self.new) result (λ s v. v ≡ named s name.now) }
+        ensures reads { Reads (tables_model S.Store self.old) (tables_model S.Store self.new) result
+            (λ s v. v ≡ named s name.now) }
         ensures refused { TablesRefuses S.Store self.old self.new ⊥ result }
         ensures limit { self.new.conn.step_limit ≡ self.old.conn.step_limit }
     {
-        self.health.begin()?;
+        self.health.start_call()?;
         let answer = read::by_name(alloc, &mut self.conn, name);
-        self.health.end(answer)
+        self.health.finish_call(store_answer(answer))
     }
 
     fn by_number(&mut self, alloc: Global, number: u64) -> Result<Option<Volume>, StoreFault>
-        ensures reads { Reads (tables_model S.Store self.old) (tables_model S.Store self.new) result (λ s v. v ≡ get s.volumes number) }
+        ensures reads { Reads (tables_model S.Store self.old) (tables_model S.Store self.new) result
+            (λ s v. v ≡ get s.volumes number) }
         ensures refused { TablesRefuses S.Store self.old self.new ⊥ result }
         ensures limit { self.new.conn.step_limit ≡ self.old.conn.step_limit }
         ensures error_only_if { 2 ^ 63 ≤ number → OnErr result (IsTrue self.old.health.is_down) }
     {
-        self.health.begin()?;
+        self.health.start_call()?;
         if number >= NUMBERS {
             return Ok(None);
         }
         let answer = read::by_number(alloc, &mut self.conn, number);
-        self.health.end(answer)
+        self.health.finish_call(store_answer(answer))
     }
 
     fn caps_of(&mut self, alloc: Global, number: u64) -> Result<Option<Items<CapKey>>, StoreFault>
-        ensures reads { Reads (tables_model S.Store self.old) (tables_model S.Store self.new) result (λ s keys. keys ≡ option_map (λ v. v.caps) (get s.volumes number)) }
+        ensures reads { Reads (tables_model S.Store self.old) (tables_model S.Store self.new) result
+            (λ s keys. keys ≡ option_map (λ v. v.caps) (get s.volumes number)) }
         ensures refused { TablesRefuses S.Store self.old self.new ⊥ result }
         ensures limit { self.new.conn.step_limit ≡ self.old.conn.step_limit }
         ensures error_only_if { 2 ^ 63 ≤ number → OnErr result (IsTrue self.old.health.is_down) }
@@ -119,60 +122,76 @@ impl<S: Alter> Keeper for Tables<S> {
     }
 
     fn attachments(&mut self, alloc: Global, number: u64) -> Result<Items<Attachment>, StoreFault>
-        ensures reads { Reads (tables_model S.Store self.old) (tables_model S.Store self.new) result (λ s xs. xs ≡ attached s number) }
+        ensures reads { Reads (tables_model S.Store self.old) (tables_model S.Store self.new) result
+            (λ s xs. xs ≡ attached s number) }
         ensures refused { TablesRefuses S.Store self.old self.new ⊥ result }
         ensures limit { self.new.conn.step_limit ≡ self.old.conn.step_limit }
         ensures error_only_if { 2 ^ 63 ≤ number → OnErr result (IsTrue self.old.health.is_down) }
     {
-        self.health.begin()?;
+        self.health.start_call()?;
         if number >= NUMBERS {
             return Ok(Items::new(alloc));
         }
         let answer = read::attachments(alloc, &mut self.conn, number);
-        self.health.end(answer)
+        self.health.finish_call(store_answer(answer))
     }
 
     fn attached_at(&mut self, alloc: Global, node: &str) -> Result<Items<u64>, StoreFault>
-        ensures reads { Reads (tables_model S.Store self.old) (tables_model S.Store self.new) result (λ s xs. xs ≡ attached_at s node.now) }
+        ensures reads { Reads (tables_model S.Store self.old) (tables_model S.Store self.new) result
+            (λ s xs. xs ≡ attached_at s node.now) }
         ensures refused { TablesRefuses S.Store self.old self.new ⊥ result }
         ensures limit { self.new.conn.step_limit ≡ self.old.conn.step_limit }
     {
-        self.health.begin()?;
+        self.health.start_call()?;
         let answer = read::attached_at(alloc, &mut self.conn, node);
-        self.health.end(answer)
+        self.health.finish_call(store_answer(answer))
+    }
+
+    // The numbers are read, by the index of nodes: no count is kept.
+    fn count_at(&mut self, alloc: Global, node: &Text) -> Result<u64, StoreFault>
+        ensures reads { Reads (tables_model S.Store self.old) (tables_model S.Store self.new) result
+            (λ s n. n ≡ count_at s node.now) }
+        ensures refused { TablesRefuses S.Store self.old self.new ⊥ result }
+        ensures limit { self.new.conn.step_limit ≡ self.old.conn.step_limit }
+    {
+        let numbers = self.attached_at(alloc, node.as_str())?;
+        Ok(numbers.len() as u64)
     }
 
     fn sizes_in(&mut self, alloc: Global, pool: &str) -> Result<Items<u64>, StoreFault>
-        ensures reads { Reads (tables_model S.Store self.old) (tables_model S.Store self.new) result (λ s xs. xs ≡ sizes s pool.now) }
+        ensures reads { Reads (tables_model S.Store self.old) (tables_model S.Store self.new) result
+            (λ s xs. xs ≡ sizes s pool.now) }
         ensures refused { TablesRefuses S.Store self.old self.new ⊥ result }
         ensures limit { self.new.conn.step_limit ≡ self.old.conn.step_limit }
     {
-        self.health.begin()?;
+        self.health.start_call()?;
         let answer = read::sizes_in(alloc, &mut self.conn, pool);
-        self.health.end(answer)
+        self.health.finish_call(store_answer(answer))
     }
 
     fn used_in(&mut self, pool: &Text) -> Result<Usage, StoreFault>
-        ensures reads { Reads (tables_model S.Store self.old) (tables_model S.Store self.new) result (λ s u. u ≡ used s pool.now) }
+        ensures reads { Reads (tables_model S.Store self.old) (tables_model S.Store self.new) result
+            (λ s u. u ≡ used s pool.now) }
         ensures error_only_if { OnErr result (IsTrue self.old.health.is_down) }
         ensures limit { self.new.conn.step_limit ≡ self.old.conn.step_limit }
     {
-        self.health.begin()?;
+        self.health.start_call()?;
         Ok(self.totals.usage(pool))
     }
 
     fn page(&mut self, alloc: Global, after: u64, count: u32) -> Result<Items<Volume>, StoreFault>
-        ensures reads { Reads (tables_model S.Store self.old) (tables_model S.Store self.new) result (λ s xs. xs ≡ page s after count) }
+        ensures reads { Reads (tables_model S.Store self.old) (tables_model S.Store self.new) result
+            (λ s xs. xs ≡ page s after count) }
         ensures refused { TablesRefuses S.Store self.old self.new ⊥ result }
         ensures limit { self.new.conn.step_limit ≡ self.old.conn.step_limit }
         ensures error_only_if { 2 ^ 63 ≤ after → OnErr result (IsTrue self.old.health.is_down) }
     {
-        self.health.begin()?;
+        self.health.start_call()?;
         if after >= NUMBERS {
             return Ok(Items::new(alloc));
         }
         let answer = read::page(alloc, &mut self.conn, after, count);
-        self.health.end(answer)
+        self.health.finish_call(store_answer(answer))
     }
 
     fn published_nodes(
@@ -181,17 +200,18 @@ impl<S: Alter> Keeper for Tables<S> {
         after: u64,
         count: u32,
     ) -> Result<Items<Items<Text>>, StoreFault>
-        ensures reads { Reads (tables_model S.Store self.old) (tables_model S.Store self.new) result (λ s xs. xs ≡ published_of_page s after count) }
+        ensures reads { Reads (tables_model S.Store self.old) (tables_model S.Store self.new) result
+            (λ s xs. xs ≡ published_of_page s after count) }
         ensures refused { TablesRefuses S.Store self.old self.new ⊥ result }
         ensures limit { self.new.conn.step_limit ≡ self.old.conn.step_limit }
         ensures error_only_if { 2 ^ 63 ≤ after → OnErr result (IsTrue self.old.health.is_down) }
     {
-        self.health.begin()?;
+        self.health.start_call()?;
         if after >= NUMBERS {
             return Ok(Items::new(alloc));
         }
         let answer = read::published_nodes(alloc, &mut self.conn, after, count);
-        self.health.end(answer)
+        self.health.finish_call(store_answer(answer))
     }
 
     fn listing(
@@ -200,31 +220,34 @@ impl<S: Alter> Keeper for Tables<S> {
         after: u64,
         count: u32,
     ) -> Result<Items<Listed>, StoreFault>
-        ensures reads { Reads (tables_model S.Store self.old) (tables_model S.Store self.new) result (λ s xs. xs ≡ listing s after count) }
+        ensures reads { Reads (tables_model S.Store self.old) (tables_model S.Store self.new) result
+            (λ s xs. xs ≡ listing s after count) }
         ensures refused { TablesRefuses S.Store self.old self.new ⊥ result }
         ensures limit { self.new.conn.step_limit ≡ self.old.conn.step_limit }
         ensures error_only_if { 2 ^ 63 ≤ after → OnErr result (IsTrue self.old.health.is_down) }
     {
-        self.health.begin()?;
+        self.health.start_call()?;
         if after >= NUMBERS {
             return Ok(Items::new(alloc));
         }
         let answer = read::listing(alloc, &mut self.conn, after, count);
-        self.health.end(answer)
+        self.health.finish_call(store_answer(answer))
     }
 
     fn apply(&mut self, alloc: Global, change: &Change) -> Result<(), StoreFault>
         requires { IsBounded change.now }
-        ensures applies { Applies (tables_model S.Store self.old) (tables_model S.Store self.new) change.now result }
+        ensures applies { Applies (tables_model S.Store self.old)
+            (tables_model S.Store self.new) change.now result }
         ensures stops { OnErr result (IsTrue self.new.health.is_down) }
-        ensures refused { TablesRefuses S.Store self.old self.new (refuses_change S.Store self.old change.now) result }
+        ensures refused { TablesRefuses S.Store self.old self.new
+            (refuses_change S.Store self.old change.now) result }
         ensures limit { self.new.conn.step_limit ≡ self.old.conn.step_limit }
     {
-        if let Err(fault) = self.health.begin() {
+        if let Err(fault) = self.health.start_call() {
             return Err(fault);
         }
         let answer = make(alloc, &mut self.conn, &mut self.totals, change);
-        self.health.end_change(answer)
+        self.health.finish_change(store_answer(answer))
     }
 
     fn apply_owned(&mut self, alloc: Global, change: Change) -> Result<(), StoreFault>

@@ -1,5 +1,5 @@
 -- What restoring volume after volume makes of a copy.
-use Rattle.std.proofs.Common.{◌≡◌, ◌∙◌, inl, inr, ap, sym, subst, cond, arith, refl, ℕ, zero, suc, ◌+◌, ◌-◌, ◌<◌, ◌≤◌, max, nat_lt, not, ◌==◌, List, [], ◌∷◌, ◌++◌, length, get_or, map, find, take, Bool, true, false, T, Option, Some, None, IsSome, Ordering, eqb-true, eq-eqb}
+use Rattle.std.proofs.Common.{◌≡◌, ◌∙◌, inl, inr, ap, sym, subst, cond, append-nil, arith, length-append, refl, ℕ, zero, suc, ◌+◌, ◌-◌, ◌<◌, ◌≤◌, max, nat_lt, not, ◌==◌, List, [], ◌∷◌, ◌++◌, length, get_or, map, find, take, Bool, true, false, T, Option, Some, None, IsSome, Ordering, eqb-true, eq-eqb}
 use Rattle.std.proofs.Math.Nat.{sub-add-eq-max}
 use Rattle.std.proofs.lemmas.Bool.Decides.{leb_tells}
 use Rattle.std.proofs.lemmas.Cmp.{tied_itself}
@@ -13,7 +13,7 @@ use Rattle.csi_types.specs.Maps.{same_text}
 use Rattle.csi_config.specs.declared.config.Config.{Config}
 use Rattle.csi_keeper.specs.Invariant.{IsInvariant}
 use Rattle.csi_memory.specs.Restoring.{CanRestore, from_number, restored}
-use Rattle.csi_keeper.specs.State.{State, Place, place_cmp, attached, beyond, changed, named, page, published, Allows, first_state}
+use Rattle.csi_keeper.specs.State.{State, AttachmentKey, attachment_key_cmp, attached, beyond, changed, named, page, published, Allows, first_state}
 use Rattle.csi_keeper.specs.Texts.{Text}
 use Rattle.csi_keeper.specs.declared.change.Change.TheVariants.{Attach}
 use Rattle.csi_keeper.specs.declared.volume.Attachment.{Attachment}
@@ -47,8 +47,8 @@ module _ (s : State) (n : ℕ) where
   kept_volumes : (q : ℕ) → fin.get (up_to s n).volumes q ≡ cond (not (nat_lt n q)) (fin.get s.volumes q) None
   kept_volumes q = fin.get-retain_keys s.volumes (λ k. not (nat_lt n k)) q (λ x t. ap (λ (k : ℕ). not (nat_lt n k)) (sym (fin.nat_cmp-IsAntisymmetric q x t)))
 
-  kept_places : (q : Place) → fin.get (up_to s n).attachments q ≡ cond (not (nat_lt n q.0)) (fin.get s.attachments q) None
-  kept_places q = fin.get-retain_keys s.attachments (λ p. not (nat_lt n p.0)) q (λ x t. ap (λ (p : Place). not (nat_lt n p.0)) (sym (place_exact q x t)))
+  kept_places : (q : AttachmentKey) → fin.get (up_to s n).attachments q ≡ cond (not (nat_lt n q.0)) (fin.get s.attachments q) None
+  kept_places q = fin.get-retain_keys s.attachments (λ p. not (nat_lt n p.0)) q (λ x t. ap (λ (p : AttachmentKey). not (nat_lt n p.0)) (sym (place_exact q x t)))
 
   kept_volume : (k : ℕ) (w : Volume) → fin.get (up_to s n).volumes k ≡ Some w → (k ≤ n) × (fin.get s.volumes k ≡ Some w)
   kept_volume k w e = go (not (nat_lt n k)) refl (sym (kept_volumes k) ∙ e)
@@ -67,7 +67,7 @@ module _ (config : Config) (s : State) (inv : IsInvariant config s) where
       go true t None e = refl
       go true t (Some v) e = absurd (let given = (inv.volumes q v e).given.0 in let low = kept 0 q t in omega (arith, given, low))
 
-  no_place : (q : Place) → None ≡ fin.get (up_to s 0).attachments q
+  no_place : (q : AttachmentKey) → None ≡ fin.get (up_to s 0).attachments q
   no_place q = go (not (nat_lt 0 q.0)) refl (fin.get s.attachments q) refl ∙ sym (kept_places s 0 q)
     where
       go : (b : Bool) → not (nat_lt 0 q.0) ≡ b → (o : Option Attachment) → fin.get s.attachments q ≡ o → None ≡ cond b o None
@@ -78,7 +78,7 @@ module _ (config : Config) (s : State) (inv : IsInvariant config s) where
   pub begins : first_state 1 ≡ up_to s 0
   begins =
       let volumes : fin.empty ≡ (up_to s 0).volumes = fin.same_map nat_cmp_total fin.nat_cmp-IsAntisymmetric _ _ (λ q. fin.get-empty nat_cmp q ∙ no_volume q) in
-      let places : fin.empty ≡ (up_to s 0).attachments = fin.same_map place_total place_exact _ _ (λ q. fin.get-empty place_cmp q ∙ no_place q) in
+      let places : fin.empty ≡ (up_to s 0).attachments = fin.same_map place_total place_exact _ _ (λ q. fin.get-empty attachment_key_cmp q ∙ no_place q) in
       λ i. record { next = 1; volumes = volumes i; attachments = places i }
 
 -- ---- a volume more
@@ -168,35 +168,35 @@ module _ {K X : Type 0} {R : K → K → Ordering} (o : IsTotalOrder R) (exact :
       go true t (Some x) u = absurd (let z : eq_by_cmp R q e.0 ≡ false = head_apart e es q x rises u in cc (t, z))
 
 -- attachments whose places are theirs
-abbrev ArePlaced : ℕ → List (Place × Attachment) → Type 0
+abbrev ArePlaced : ℕ → List (AttachmentKey × Attachment) → Type 0
 ArePlaced k es = AllByRecursion (λ e. e.0 ≡ (k, e.1.node)) es
 
-attached_put : (t : State) (k : ℕ) (es : List (Place × Attachment)) → ArePlaced k es → attached_each t k (map (λ e. e.1) es) ≡ record t { attachments = put_each place_total place_exact t.attachments es }
+attached_put : (t : State) (k : ℕ) (es : List (AttachmentKey × Attachment)) → ArePlaced k es → attached_each t k (map (λ e. e.1) es) ≡ record t { attachments = put_each place_total place_exact t.attachments es }
 attached_put t k [] all = refl
 attached_put t k (e ∷ es) all =
     attached_put (changed t (Attach k e.1)) k es all.1
-    ∙ ap (λ (p : Place). record t { attachments = put_each place_total place_exact (fin.insert t.attachments p e.1) es }) (sym all.0)
+    ∙ ap (λ (p : AttachmentKey). record t { attachments = put_each place_total place_exact (fin.insert t.attachments p e.1) es }) (sym all.0)
 
-allows_each : (t : State) (k : ℕ) (es : List (Place × Attachment)) → ArePlaced k es → T (fin.is_sorted place_cmp es) → IsSome (fin.get t.volumes k)
-    → ((q : Place) (x : Attachment) → fin.find place_cmp q es ≡ Some x → fin.get t.attachments q ≡ None) → AllowsEach t k (map (λ e. e.1) es)
+allows_each : (t : State) (k : ℕ) (es : List (AttachmentKey × Attachment)) → ArePlaced k es → T (fin.is_sorted attachment_key_cmp es) → IsSome (fin.get t.volumes k)
+    → ((q : AttachmentKey) (x : Attachment) → fin.find attachment_key_cmp q es ≡ Some x → fin.get t.attachments q ≡ None) → AllowsEach t k (map (λ e. e.1) es)
 allows_each t k [] all rises some fresh = tt
 allows_each t k (e ∷ es) all rises some fresh = (
-  (some, subst (λ (p : Place). fin.get t.attachments p ≡ None) all.0 (fresh e.0 e.1 (ap (λ d. cond d (Some e.1) (fin.find place_cmp e.0 es)) (ap is_eq (tied_itself place_total e.0))))),
-  allows_each (changed t (Attach k e.1)) k es all.1 (both (below_all place_cmp e.0 es) (fin.is_sorted place_cmp es) rises).1 some (λ q x f.
-      let far : eq_by_cmp place_cmp q e.0 ≡ false = head_apart place_total place_exact e es q x rises f in
-      subst (λ (p : Place). fin.get (fin.insert t.attachments p e.1) q ≡ None) all.0
+  (some, subst (λ (p : AttachmentKey). fin.get t.attachments p ≡ None) all.0 (fresh e.0 e.1 (ap (λ d. cond d (Some e.1) (fin.find attachment_key_cmp e.0 es)) (ap is_eq (tied_itself place_total e.0))))),
+  allows_each (changed t (Attach k e.1)) k es all.1 (both (below_all attachment_key_cmp e.0 es) (fin.is_sorted attachment_key_cmp es) rises).1 some (λ q x f.
+      let far : eq_by_cmp attachment_key_cmp q e.0 ≡ false = head_apart place_total place_exact e es q x rises f in
+      subst (λ (p : AttachmentKey). fin.get (fin.insert t.attachments p e.1) q ≡ None) all.0
       (fin.get-insert place_total t.attachments e.0 e.1 q ∙ ap (λ b. cond b (Some e.1) (fin.get t.attachments q)) far
-      ∙ fresh q x (ap (λ b. cond b (Some e.1) (fin.find place_cmp q es)) far ∙ f))),
+      ∙ fresh q x (ap (λ b. cond b (Some e.1) (fin.find attachment_key_cmp q es)) far ∙ f))),
 )
 
 module _ (config : Config) (s : State) (n : ℕ) (v : Volume) (inv : IsInvariant config s) (next : IsNext s n v) where
-  abbrev own : fin.FinMap place_cmp Attachment
+  abbrev own : fin.FinMap attachment_key_cmp Attachment
   own = fin.retain_keys s.attachments (λ p. p.0 == v.number)
 
-  get_own : (q : Place) → fin.get own q ≡ cond (q.0 == v.number) (fin.get s.attachments q) None
-  get_own q = fin.get-retain_keys s.attachments (λ p. p.0 == v.number) q (λ x t. ap (λ (p : Place). p.0 == v.number) (sym (place_exact q x t)))
+  get_own : (q : AttachmentKey) → fin.get own q ≡ cond (q.0 == v.number) (fin.get s.attachments q) None
+  get_own q = fin.get-retain_keys s.attachments (λ p. p.0 == v.number) q (λ x t. ap (λ (p : AttachmentKey). p.0 == v.number) (sym (place_exact q x t)))
 
-  own_place : (q : Place) (a : Attachment) → fin.get own q ≡ Some a → (q.0 ≡ v.number) × (fin.get s.attachments q ≡ Some a)
+  own_place : (q : AttachmentKey) (a : Attachment) → fin.get own q ≡ Some a → (q.0 ≡ v.number) × (fin.get s.attachments q ≡ Some a)
   own_place q a e = go (q.0 == v.number) refl (sym (get_own q) ∙ e)
     where
       go : (b : Bool) → (q.0 == v.number) ≡ b → cond b (fin.get s.attachments q) None ≡ Some a → (q.0 ≡ v.number) × (fin.get s.attachments q ≡ Some a)
@@ -204,25 +204,25 @@ module _ (config : Config) (s : State) (n : ℕ) (v : Volume) (inv : IsInvariant
       go false t h = absurd (none_some a h)
 
   placed : ArePlaced v.number (fin.entries own)
-  placed = all_entries place_total place_exact (λ (q : Place) (a : Attachment). q ≡ (v.number, a.node)) own (λ q a e.
+  placed = all_entries place_total place_exact (λ (q : AttachmentKey) (a : Attachment). q ≡ (v.number, a.node)) own (λ q a e.
       let is = own_place q a e in
       let at : a.node ≡ q.1 = (inv.attachments q.0 q.1 a is.1).at in
       λ i. (is.0 i, sym at i))
 
   is_own : attached s v.number ≡ map (λ e. e.1) (fin.entries own)
-  is_own = ap (map (λ (e : Place × Attachment). e.1)) (sym (entries_retained place_total place_exact s.attachments (λ p. p.0 == v.number)))
+  is_own = ap (map (λ (e : AttachmentKey × Attachment). e.1)) (sym (entries_retained place_total place_exact s.attachments (λ p. p.0 == v.number)))
 
   stands_half : IsSome (fin.get (half config s n v inv next).volumes v.number)
   stands_half = subst (λ (o : Option Volume). IsSome o) (sym (kept_volumes s v.number v.number ∙ ap (λ b. cond b (fin.get s.volumes v.number) None) (below v.number v.number (omega arith)) ∙ next.stands)) refl
 
-  fresh : (q : Place) (x : Attachment) → fin.find place_cmp q (fin.entries own) ≡ Some x → fin.get (up_to s n).attachments q ≡ None
+  fresh : (q : AttachmentKey) (x : Attachment) → fin.find attachment_key_cmp q (fin.entries own) ≡ Some x → fin.get (up_to s n).attachments q ≡ None
   fresh q x f =
       let is = own_place q x (fin.get-entries own q ∙ f) in
       let greater = next.greater in
       let here = is.0 in
       kept_places s n q ∙ ap (λ b. cond b (fin.get s.attachments q) None) (above n q.0 (omega (arith, greater, here)))
 
-  all_places : (q : Place) → fin.get (put_each place_total place_exact (up_to s n).attachments (fin.entries own)) q ≡ fin.get (up_to s v.number).attachments q
+  all_places : (q : AttachmentKey) → fin.get (put_each place_total place_exact (up_to s n).attachments (fin.entries own)) q ≡ fin.get (up_to s v.number).attachments q
   all_places q =
       get_put place_total place_exact (up_to s n).attachments (fin.entries own) (fin.entries_sorted own) q
       ∙ ap (λ o. or_else o (fin.get (up_to s n).attachments q)) (sym (fin.get-entries own q) ∙ get_own q)
@@ -372,7 +372,7 @@ module _ (config : Config) (s : State) (inv : IsInvariant config s) where
       row q None e = no_choice (not (nat_lt n q))
       row q (Some w) e = ap (λ b. cond b (Some w) None) (below n q (last q w e))
 
-      place : (q : Place) (o : Option Attachment) → fin.get s.attachments q ≡ o → cond (not (nat_lt n q.0)) o None ≡ o
+      place : (q : AttachmentKey) (o : Option Attachment) → fin.get s.attachments q ≡ o → cond (not (nat_lt n q.0)) o None ≡ o
       place q None e = no_choice (not (nat_lt n q.0))
       place q (Some a) e = let on = inv.attachments q.0 q.1 a e in ap (λ b. cond b (Some a) None) (below n q.0 (last q.0 on.volume on.stands))
 
@@ -387,6 +387,19 @@ module _ (config : Config) (s : State) (inv : IsInvariant config s) where
       let exact : n + 1 - s.next + s.next ≡ s.next = omega (arith, low) in
       let next : max (n + 1) s.next ≡ s.next = sym (sub-add-eq-max (n + 1) s.next) ∙ exact in
       λ i. record { next = next i; volumes = s.volumes; attachments = s.attachments }
+
+-- where a list is taken apart at a volume, it stands at a place
+pub stands_at : (done rest vs : List Volume) (v : Volume) → done ++ v ∷ rest ≡ vs → (length done < length vs) × (v ≡ get_or vs (length done) v)
+stands_at done rest vs v is = subst (λ (ws : List Volume). (length done < length ws) × (v ≡ get_or ws (length done) v)) is (go done)
+  where
+    go : (xs : List Volume) → (length xs < length (xs ++ v ∷ rest)) × (v ≡ get_or (xs ++ v ∷ rest) (length xs) v)
+    go [] = (omega arith, refl)
+    go (x ∷ xs) = let r = go xs in (let low = r.0 in omega (arith, low), r.1)
+
+-- where so many were given as there are, all were
+pub all_given : (done left vs : List Volume) → done ++ left ≡ vs → length done ≡ length vs → done ≡ vs
+all_given done [] vs is size = sym (append-nil done) ∙ is
+all_given done (v ∷ left) vs is size = absurd (let more = ap length is in omega (arith, length-append done (v ∷ left), more, size))
 
 -- ---- one more of a list
 

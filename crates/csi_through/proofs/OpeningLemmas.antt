@@ -1,4 +1,4 @@
--- What a keeper over a memory and a log has at first.
+-- What a keeper over a memory and a change store has at first.
 use Rattle.std.proofs.Common.{◌≡◌, ap, arith, sym, subst, false}
 use Rattle.csi_memory.specs.Holding.{Holds, mem_model}
 use Rattle.csi_keeper.specs.Keeper.{IsQuiet}
@@ -7,17 +7,17 @@ use Rattle.csi_keeper.specs.State.{State}
 use Rattle.csi_memory.specs.declared.mem.MemKeeper.{MemKeeper}
 use Rattle.csi_through.specs.Copying.{IsCopy}
 use Rattle.csi_through.specs.Through.{Opens, through_model}
-use Rattle.csi_through.specs.declared.log.Logged.{Logged}
+use Rattle.csi_through.specs.declared.change_store.KeeperChanges.{KeeperChanges}
 use Rattle.csi_through.specs.declared.through.Through.{Through}
 
 -- over a copy of a keeper, and the keeper
-pub opens : {K : Type 0} (model : K → Model State) (old keeper : K) (memory : MemKeeper) (t : Through MemKeeper (Logged K))
+pub opens : {K : Type 0} (model : K → Model State) (old keeper : K) (memory : MemKeeper) (t : Through MemKeeper (KeeperChanges K))
     → IsQuiet (model old) (model keeper) → IsCopy (model old) (model keeper) memory
-    → t.memory ≡ memory → t.log.keeper ≡ keeper → t.health.refusals ≡ 0 → t.health.is_down ≡ false
-    → Opens (model old) (through_model mem_model (λ (logged : Logged K). model logged.keeper) t)
+    → t.memory ≡ memory → t.change_store.keeper ≡ keeper → t.health.refusals ≡ 0 → t.health.is_down ≡ false
+    → Opens (model old) (through_model mem_model (λ (logged : KeeperChanges K). model logged.keeper) t)
 opens model old keeper memory t quiet copy is_memory is_keeper none up =
-    let same : model t.log.keeper ≡ model keeper = ap model is_keeper in
-    let alike : (model t.log.keeper).doubt ≡ (model keeper).doubt = ap (λ (m : Model State). m.doubt) same in
+    let same : model t.change_store.keeper ≡ model keeper = ap model is_keeper in
+    let alike : (model t.change_store.keeper).doubt ≡ (model keeper).doubt = ap (λ (m : Model State). m.doubt) same in
     let clean = quiet.clean in
     record {
       clean = omega (arith, clean, alike);

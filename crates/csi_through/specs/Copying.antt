@@ -62,10 +62,12 @@ last_number n (v ∷ vs) = last_number v.number vs
 abbrev pub AreNodes : State → List Volume → List (List Text) → Type 0
 AreNodes s volumes nodes = nodes ≡ map (λ v. published s v.number) volumes
 
--- Of each State of the invariant that the keeper may have had, the memory had all up to a number, and has all up to the last of the volumes that come next.
+-- Of each State of the invariant that the keeper may have had, the memory had all up to a number, and has all
+-- up to the last of the volumes that come next.
 abbrev pub CopiesTo : Model State → Model State → MemKeeper → MemKeeper → ℕ → List Volume → List (List Text) → ℕ → Type 0
 CopiesTo old new memory copy after volumes nodes last =
-    new.doubt ≡ 0 → (config : Config) (s : State) → old.holds s → IsInvariant config s → AreNext s after volumes → AreNodes s volumes nodes → Holds memory (up_to s after)
+    new.doubt ≡ 0 → (config : Config) (s : State) → old.holds s → IsInvariant config s → AreNext s after volumes → AreNodes s volumes nodes
+    → Holds memory (up_to s after)
     → (last ≡ last_number after volumes) × Holds copy (up_to s last)
 
 -- it had nothing, and has all; the next number is the one behind the last
@@ -82,14 +84,17 @@ IsCopy old new copy = new.doubt ≡ 0 → (config : Config) (s : State) → old.
 abbrev pub IsWhole : Model State → Model State → Type 0
 IsWhole old new = new.doubt ≡ 0 → (s : State) → old.holds s → IsNumbered s.next
 
--- Why a read of the keeper gave nothing, or there was no memory. That it is down is told only where it is; and of each State of the invariant of which P is so,
--- a refusal is one that the keeper counted, and nothing else is counted.
+-- Why a read of the keeper gave nothing, or there was no memory. That it is down is told only where it is;
+-- and of each State of the invariant of which P is so, a refusal is one that the keeper counted, and nothing
+-- else is counted.
 pub record IsToldFor (P : State → Type 0) (old new : Model State) (fault : StoreFault) : Type 0 where
   pub down : fault ≡ Down → IsTrue old.is_down
-  pub count : new.doubt ≡ 0 → (config : Config) (s : State) → old.holds s → IsInvariant config s → P s → new.refusals ≡ count_after {X = Unit {0}} old.refusals (Err fault)
+  pub count : new.doubt ≡ 0 → (config : Config) (s : State) → old.holds s → IsInvariant config s → P s
+      → new.refusals ≡ count_after {X = Unit {0}} old.refusals (Err fault)
 
--- Why there is no copy: that the keeper is down is told where it is, and nowhere else; and of a State of the invariant a refusal is one that the keeper counted, and
--- nothing else is counted.
+-- Why there is no copy: that the keeper is down is told where it is, and nowhere else; and of a State of the
+-- invariant a refusal is one that the keeper counted, and nothing else is counted.
 pub record IsWhy (old new : Model State) (fault : StoreFault) : Type 0 where
   pub down : (fault ≡ Down) ↔ IsTrue old.is_down
-  pub count : new.doubt ≡ 0 → (config : Config) (s : State) → old.holds s → IsInvariant config s → new.refusals ≡ count_after {X = Unit {0}} old.refusals (Err fault)
+  pub count : new.doubt ≡ 0 → (config : Config) (s : State) → old.holds s → IsInvariant config s
+      → new.refusals ≡ count_after {X = Unit {0}} old.refusals (Err fault)

@@ -1,4 +1,4 @@
--- What contracts see of a keeper over a memory and a log.
+-- What contracts see of a keeper over a memory and a change store.
 use Rattle.std.specs.Prelude.{◌≡◌, ◌+◌, ◌≤◌, true, false, Err}
 use Rattle.csi_config.specs.declared.config.Config.{Config}
 use Rattle.csi_keeper.specs.Invariant.{IsInvariant}
@@ -9,14 +9,15 @@ use Rattle.csi_keeper.specs.declared.change.Change.{Change}
 use Rattle.csi_keeper.specs.declared.change.StoreFault.{StoreFault}
 use Rattle.csi_through.specs.declared.through.Through.{Through}
 
--- The log has the State, and so has the memory, unless it is behind. A stop leaves what it leaves of the log.
+-- The change store has the State, and so has the memory, unless it is behind. A stop leaves what it leaves of
+-- the change store.
 abbrev pub through_model : {M D : Type 0} → (M → Model State) → (D → Model State) → Through M D → Model State
-through_model memory log t = record {
-  holds = λ s. (log t.log).holds s × (t.health.is_current ≡ true → (memory t.memory).holds s);
-  doubt = (log t.log).doubt + (memory t.memory).doubt;
+through_model memory change_store t = record {
+  holds = λ s. (change_store t.change_store).holds s × (t.is_current ≡ true → (memory t.memory).holds s);
+  doubt = (change_store t.change_store).doubt + (memory t.memory).doubt;
   refusals = t.health.refusals;
-  survivors = (log t.log).survivors;
-  tied = (log t.log).tied;
+  survivors = (change_store t.change_store).survivors;
+  tied = (change_store t.change_store).tied;
   is_down = t.health.is_down;
 }
 
@@ -24,7 +25,8 @@ through_model memory log t = record {
 abbrev pub HasMissed : Model State → Model State → Change → Type 0
 HasMissed old new change = (fault : StoreFault) × Applies {X = Unit {0}} old new change (Err fault)
 
--- opened over a keeper: it has the keeper's States of the invariant, nothing more is left by a stop, and it is not down
+-- opened over a keeper: it has the keeper's States of the invariant, nothing more is left by a stop, and it
+-- is not down
 pub record Opens (old new : Model State) : Type 0 where
   pub clean : old.doubt ≤ new.doubt
   pub state : new.doubt ≡ 0 → (config : Config) (s : State) → old.holds s → IsInvariant config s → new.holds s

@@ -25,7 +25,8 @@ fn attach_each(
     number: u64,
     attachments: Items<Attachment>,
 ) -> Result<(), StoreFault>
-    ensures attached { OnOk result ((s : State) → Holds memory.old s → AllowsEach s number attachments → Holds memory.new (attached_each s number attachments)) }
+    ensures attached { OnOk result ((s : State) → Holds memory.old s → AllowsEach s number attachments
+        → Holds memory.new (attached_each s number attachments)) }
     ensures fault { IfErr result (λ fault. fault ≡ NoMemory) }
 {
     for attachment in attachments.into_vec() {
@@ -48,24 +49,27 @@ fn is_held(volume: &Volume) -> bool
     (volume.number < MAX_NUMBER) & (volume.bytes <= MAX_POOL_BYTES)
 }
 
-// A volume with its attachments, after those that the memory has. One that it cannot hold is refused, not left out.
+// A volume with its attachments, after those that the memory has. One that it cannot hold is refused, not
+// left out.
 fn restore(
     alloc: Global,
     memory: &mut MemKeeper,
-    volume: &Volume,
+    volume: Volume,
     attachments: Items<Attachment>,
 ) -> Result<(), StoreFault>
-    ensures given { OnOk result ((s : State) → Holds memory.old s → CanRestore s volume.now → AllowsEach (restored s volume.now) volume.now.number attachments
-        → Holds memory.new (attached_each (restored s volume.now) volume.now.number attachments)) }
-    ensures held { OnOk result (IsHeld volume.now) }
+    ensures given { OnOk result ((s : State) → Holds memory.old s → CanRestore s volume
+        → AllowsEach (restored s volume) volume.number attachments
+        → Holds memory.new (attached_each (restored s volume) volume.number attachments)) }
+    ensures held { OnOk result (IsHeld volume) }
     ensures up { IfErr result (λ fault. fault ≢ Down) }
-    ensures fault { IfErr result (λ fault. IsHeld volume.now → fault ≡ NoMemory) }
+    ensures fault { IfErr result (λ fault. IsHeld volume → fault ≡ NoMemory) }
 {
-    if !is_held(volume) {
+    if !is_held(&volume) {
         return Err(StoreFault::Refused);
     }
+    let number = volume.number;
     memory.restore(alloc, volume)?;
-    attach_each(alloc, memory, volume.number, attachments)
+    attach_each(alloc, memory, number, attachments)
 }
 
 // Whether a volume of a page is published at a node; also where that is not told.
@@ -86,7 +90,8 @@ fn attachments_of<K: Keeper>(
     is_published: bool,
 ) -> Result<Items<Attachment>, StoreFault>
     ensures quiet { IsQuiet (K.model keeper.old) (K.model keeper.new) }
-    ensures value { IfOk result (λ rows. (K.model keeper.new).doubt ≡ 0 → (s : State) → (K.model keeper.old).holds s
+    ensures value { IfOk result (λ rows. (K.model keeper.new).doubt ≡ 0 → (s : State)
+        → (K.model keeper.old).holds s
         → (is_published ≡ false → attached s number ≡ []) → rows ≡ attached s number) }
     ensures count { (K.model keeper.new).refusals ≡ count_after (K.model keeper.old).refusals result }
     ensures down { result ≡ Err Down → IsTrue (K.model keeper.old).is_down }
@@ -97,29 +102,33 @@ fn attachments_of<K: Keeper>(
     keeper.attachments(alloc, number)
 }
 
-// The volumes of a page with their attachments, behind the number of the volume before them. The number of the last one.
+// The volumes of a page with their attachments, after the number of the volume before them. They are moved
+// into the memory. The number of the last one.
 fn restore_page<K: Keeper>(
     alloc: Global,
     keeper: &mut K,
     memory: &mut MemKeeper,
     after: u64,
-    volumes: &[Volume],
+    volumes: Items<Volume>,
     nodes: &[Items<Text>],
 ) -> Result<u64, StoreFault>
     ensures quiet { IsQuiet (K.model keeper.old) (K.model keeper.new) }
-    ensures copies { IfOk result (λ last. CopiesTo (K.model keeper.old) (K.model keeper.new) memory.old memory.new after volumes.now nodes.now last) }
-    ensures last { IfOk result (λ last. last ≡ last_number after volumes.now) }
-    ensures held { OnOk result (AllByRecursion IsHeld volumes.now) }
+    ensures copies { IfOk result (λ last. CopiesTo (K.model keeper.old)
+        (K.model keeper.new) memory.old memory.new after volumes nodes.now last) }
+    ensures last { IfOk result (λ last. last ≡ last_number after volumes) }
+    ensures held { OnOk result (AllByRecursion IsHeld volumes) }
     ensures count { OnOk result ((K.model keeper.new).refusals ≡ (K.model keeper.old).refusals) }
-    ensures why { IfErr result (λ fault. IsToldFor (λ s. AreNext s after volumes.now) (K.model keeper.old) (K.model keeper.new) fault) }
+    ensures why { IfErr result (λ fault. IsToldFor (λ s. AreNext s after volumes) (K.model keeper.old)
+        (K.model keeper.new) fault) }
 {
     let mut last = after;
     let mut index = 0;
-    for volume in volumes {
+    for volume in volumes.into_vec() {
+        let number = volume.number;
         let published = is_published(nodes, index);
-        let attachments = attachments_of(alloc, keeper, volume.number, published)?;
+        let attachments = attachments_of(alloc, keeper, number, published)?;
         restore(alloc, memory, volume, attachments)?;
-        last = volume.number;
+        last = number;
         index += 1;
     }
     Ok(last)
@@ -142,31 +151,26 @@ fn restore_all<K: Keeper>(
             return Ok(());
         }
         let nodes = keeper.published_nodes(alloc, after, PAGE)?;
-        after = restore_page(
-            alloc,
-            keeper,
-            memory,
-            after,
-            volumes.as_slice(),
-            nodes.as_slice(),
-        )?;
+        after = restore_page(alloc, keeper, memory, after, volumes, nodes.as_slice())?;
     }
     Err(StoreFault::Refused)
 }
 
-/// A copy in memory of what a keeper has, by reads alone. It takes two reads for 1,000 volumes, and one for each that
-/// is published.
+/// A copy in memory of what a keeper has, by reads alone. It takes two reads for 1,000 volumes, and one for
+/// each that is published.
 ///
-/// Of each State of the invariant that the keeper may have, the copy has the same, while the keeper's doubt is 0.
+/// Of each State of the invariant that the keeper may have, the copy has the same, while the keeper's doubt
+/// is 0.
 ///
 /// # Errors
 ///
-/// What the keeper answers, or want of memory; `Refused` also where a number or a size is none that a volume has,
-/// as only a store gives that does not tell the truth. So of a State of the invariant each refusal is the keeper's.
+/// What the keeper answers, or want of memory; `Refused` also where a number or a size is none that a volume
+/// has, as only a store gives that does not tell the truth. So of a State of the invariant each refusal is
+/// the keeper's.
 pub(crate) fn copy_of<K: Keeper>(alloc: Global, keeper: &mut K) -> Result<MemKeeper, StoreFault>
     ensures quiet { IsQuiet (K.model keeper.old) (K.model keeper.new) }
     ensures copy { IfOk result (λ memory. IsCopy (K.model keeper.old) (K.model keeper.new) memory) }
-    ensures whole { OnOk result (IsWhole (K.model keeper.old) (K.model keeper.new)) }
+    ensures complete { OnOk result (IsWhole (K.model keeper.old) (K.model keeper.new)) }
     ensures why { IfErr result (λ fault. IsWhy (K.model keeper.old) (K.model keeper.new) fault) }
 {
     let next = keeper.next_number()?;

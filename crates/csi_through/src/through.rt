@@ -1,35 +1,68 @@
-//! A keeper over a memory and a log.
+//! A keeper over a memory and a change store.
 
 ghost use Rattle.std.specs.FinMap.{get};
 ghost use Rattle.std.specs.Option.{option_map};
-ghost use Rattle.std.specs.Prelude.{◌≡◌, true, false, IfErr, IfOk, IsTrue, OnErr, OnOk};
+ghost use Rattle.std.specs.Prelude.{◌≡◌, ◌≢◌, ◌↔◌, true, false, Err, IfErr, IfOk, IsTrue, OnErr, OnOk};
 ghost use Rattle.csi_memory.specs.Holding.{mem_model};
-ghost use Rattle.csi_keeper.specs.Keeper.{Applies, IsQuiet, Reads};
+ghost use Rattle.csi_keeper.specs.Keeper.{Applies, IsQuiet, Reads, count_after};
 ghost use Rattle.csi_keeper.specs.Listing.{listing};
-ghost use Rattle.csi_keeper.specs.State.{IsBounded, attached, attached_at, named, page, published_of_page, sizes, used};
+ghost use Rattle.csi_keeper.specs.State.{IsBounded, attached, attached_at, count_at, named, page, published_of_page, sizes, used};
+ghost use Rattle.csi_keeper.specs.declared.change.StoreFault.TheVariants.{Down, NoMemory};
 ghost use Rattle.csi_through.specs.Copying.{IsCopy, IsWhy};
 ghost use Rattle.csi_through.specs.Through.{HasMissed, Opens, through_model};
 
+use crate::change_store::{ChangeStore, KeeperChanges};
 use crate::copying::copy_of;
-use crate::health::Health;
-use crate::log::{Log, Logged};
-use csi_keeper::{Attachment, CapKey, Change, Keeper, PageFold, StoreFault, Usage, Volume};
+use csi_keeper::{Attachment, CapKey, Change, Health, Keeper, PageFold, StoreFault, Usage, Volume};
 use csi_memory::MemKeeper;
 use csi_types::{Items, Text};
 use std::alloc::Global;
 
-/// A keeper that reads from a memory, and has each change made by a log first.
+// Starts a call. A keeper whose memory is behind the change store refuses each.
+fn start_call(health: &mut Health, is_current: bool) -> Result<(), StoreFault>
+    ensures down { (result ≡ Err Down) ↔ IsTrue health.old.is_down }
+    ensures fault { result ≢ Err NoMemory }
+    ensures current { OnOk result (is_current ≡ true) }
+    ensures count { health.new.refusals ≡ count_after health.old.refusals result }
+    ensures stays { health.new.is_down ≡ health.old.is_down }
+{
+    health.start_call()?;
+    if !is_current {
+        return health.finish_call(Err(StoreFault::Refused));
+    }
+    Ok(())
+}
+
+// Starts a change, as any call. Where it may not be made, each further call is answered `Down`.
+fn start_change(health: &mut Health, is_current: bool) -> Result<(), StoreFault>
+    ensures down { (result ≡ Err Down) ↔ IsTrue health.old.is_down }
+    ensures fault { result ≢ Err NoMemory }
+    ensures current { OnOk result (is_current ≡ true) }
+    ensures count { health.new.refusals ≡ count_after health.old.refusals result }
+    ensures stays { OnOk result (health.new.is_down ≡ health.old.is_down) }
+    ensures stops { OnErr result (health.new.is_down ≡ true) }
+{
+    health.start_call()?;
+    if !is_current {
+        return health.finish_change(Err(StoreFault::Refused));
+    }
+    Ok(())
+}
+
+/// A keeper that reads from a memory, and has each change made by a change store first.
 ///
-/// The log decides: its State is the State, and what a stop leaves is what the log leaves. After a
-/// change that was refused, also for memory, each further call is answered `Down`.
+/// The change store decides: its State is the State, and what a stop leaves is what the change store leaves.
+/// After a change that was refused, also for memory, each further call is answered `Down`.
 ///
-/// A change that the log made is made, also where the memory has no room for it: it is answered `Ok`.
-/// The memory is behind then, so each further read is answered `Refused`, until the keeper is opened
+/// A change that the change store made is made, also where the memory has no room for it: it is answered
+/// `Ok`. The memory is behind then, so each further read is answered `Refused`, until the keeper is opened
 /// again; a further change is refused and not tried, and with it the keeper is down.
 pub struct Through<M, D> {
     memory: M,
-    log: D,
+    change_store: D,
     health: Health,
+    // The memory has each change that the change store has.
+    is_current: bool,
 }
 
 // Written out, so that what drops one has one call for it, and its proof no branch for each of its parts.
@@ -37,26 +70,26 @@ impl<M: Drop, D: Drop> Drop for Through<M, D> {
     fn drop(self) {
         let Through {
             memory: _memory,
-            log: _log,
+            change_store: _log,
             health: _health,
+            is_current: _,
         } = self;
     }
 }
 
-impl<M: Keeper, D: Log> Through<M, D> {
-    /// Over a memory and a log of the same State. Where they have none in common, nothing is promised.
-    pub fn new(memory: M, log: D) -> Through<M, D>
-        ensures over { (result.memory ≡ memory) × (result.log ≡ log) }
-        ensures fresh { (result.health.refusals ≡ 0) × (result.health.is_current ≡ true) × (result.health.is_down ≡ false) }
+impl<M: Keeper, D: ChangeStore> Through<M, D> {
+    /// Over a memory and a change store of the same State. Where they have none in common, nothing is
+    /// promised.
+    pub fn new(memory: M, change_store: D) -> Through<M, D>
+        ensures over { (result.memory ≡ memory) × (result.change_store ≡ change_store) }
+        ensures fresh { (result.health.refusals ≡ 0) × (result.is_current ≡ true)
+            × (result.health.is_down ≡ false) }
     {
         Through {
             memory,
-            log,
-            health: Health {
-                refusals: 0,
-                is_current: true,
-                is_down: false,
-            },
+            change_store,
+            health: Health::new(),
+            is_current: true,
         }
     }
 
@@ -68,12 +101,12 @@ impl<M: Keeper, D: Log> Through<M, D> {
         self.health.is_down
     }
 
-    /// Whether the memory has each change that the log has. Where not, each further call is answered
+    /// Whether the memory has each change that the change store has. Where not, each further call is answered
     /// a fault.
     pub fn is_current(&self) -> bool
-        ensures { result ≡ self.now.health.is_current }
+        ensures { result ≡ self.now.is_current }
     {
-        self.health.is_current
+        self.is_current
     }
 }
 
@@ -86,32 +119,36 @@ pub struct NotCopied<K> {
     pub keeper: K,
 }
 
-impl<K: Keeper> Through<MemKeeper, Logged<K>> {
-    /// Over a copy in memory of what a keeper has, and the keeper. It takes two reads for 1,000 volumes, and one
-    /// for each that is published.
+impl<K: Keeper> Through<MemKeeper, KeeperChanges<K>> {
+    /// Over a copy in memory of what a keeper has, and the keeper. It takes two reads for 1,000 volumes, and
+    /// one for each that is published.
     ///
-    /// Each State of the invariant that the keeper may have is the State, and a stop leaves what it would leave of
-    /// the keeper. The memory has each change that the log has.
+    /// Each State of the invariant that the keeper may have is the State, and a stop leaves what it would
+    /// leave of the keeper. The memory has each change that the change store has.
     ///
     /// # Errors
     ///
     /// What the keeper answers, or want of memory; the keeper's State stays.
-    pub fn over(alloc: Global, mut keeper: K) -> Result<Through<MemKeeper, Logged<K>>, NotCopied<K>>
-        ensures current { IfOk result (λ through. through.health.is_current ≡ true) }
-        ensures opens { IfOk result (λ through. Opens (K.model keeper) (through_model mem_model (λ logged. K.model logged.keeper) through)) }
+    pub fn over(
+        alloc: Global,
+        mut keeper: K,
+    ) -> Result<Through<MemKeeper, KeeperChanges<K>>, NotCopied<K>>
+        ensures current { IfOk result (λ through. through.is_current ≡ true) }
+        ensures opens { IfOk result (λ through. Opens (K.model keeper)
+            (through_model mem_model (λ logged. K.model logged.keeper) through)) }
         ensures stays { IfErr result (λ error. IsQuiet (K.model keeper) (K.model error.keeper)) }
         ensures why { IfErr result (λ error. IsWhy (K.model keeper) (K.model error.keeper) error.fault) }
     {
         match copy_of(alloc, &mut keeper) {
-            Ok(memory) => Ok(Through::new(memory, Logged::new(keeper))),
+            Ok(memory) => Ok(Through::new(memory, KeeperChanges::new(keeper))),
             Err(fault) => Err(NotCopied { fault, keeper }),
         }
     }
 }
 
-impl<D: Log + Drop> Through<MemKeeper, D> {
-    /// Over a copy in memory of what a keeper has, and a log of the same State. It takes two reads for 1,000
-    /// volumes, and one for each that is published.
+impl<D: ChangeStore + Drop> Through<MemKeeper, D> {
+    /// Over a copy in memory of what a keeper has, and a change store of the same State. It takes two reads
+    /// for 1,000 volumes, and one for each that is published.
     ///
     /// # Errors
     ///
@@ -119,34 +156,37 @@ impl<D: Log + Drop> Through<MemKeeper, D> {
     pub fn copied<K: Keeper>(
         alloc: Global,
         keeper: &mut K,
-        log: D,
+        change_store: D,
     ) -> Result<Through<MemKeeper, D>, StoreFault>
         ensures quiet { IsQuiet (K.model keeper.old) (K.model keeper.new) }
-        ensures copy { IfOk result (λ through. IsCopy (K.model keeper.old) (K.model keeper.new) through.memory) }
+        ensures copy { IfOk result (λ through. IsCopy (K.model keeper.old)
+            (K.model keeper.new) through.memory) }
         ensures why { IfErr result (λ fault. IsWhy (K.model keeper.old) (K.model keeper.new) fault) }
-        ensures log { IfOk result (λ through. through.log ≡ log) }
-        ensures fresh { IfOk result (λ through. (through.health.refusals ≡ 0) × (through.health.is_current ≡ true) × (through.health.is_down ≡ false)) }
+        ensures change_store { IfOk result (λ through. through.change_store ≡ change_store) }
+        ensures fresh { IfOk result (λ through. (through.health.refusals ≡ 0) × (through.is_current ≡ true)
+            × (through.health.is_down ≡ false)) }
     {
         let memory = copy_of(alloc, keeper)?;
-        Ok(Through::new(memory, log))
+        Ok(Through::new(memory, change_store))
     }
 }
 
 impl<M: Drop, D> Through<M, D> {
-    /// The log, with each change that was made.
-    pub fn into_log(self) -> D
-        ensures { result ≡ self.log }
+    /// The change store, with each change that was made.
+    pub fn into_change_store(self) -> D
+        ensures { result ≡ self.change_store }
     {
         let Through {
             memory: _memory,
-            log,
+            change_store,
             health: _health,
+            is_current: _,
         } = self;
-        log
+        change_store
     }
 }
 
-impl<M: Keeper, D: Log> Keeper for Through<M, D> {
+impl<M: Keeper, D: ChangeStore> Keeper for Through<M, D> {
     ghost model = { through_model M.model D.model };
 
     fn refusals(&self) -> u64 {
@@ -154,84 +194,104 @@ impl<M: Keeper, D: Log> Keeper for Through<M, D> {
     }
 
     fn next_number(&mut self) -> Result<u64, StoreFault>
-        ensures reads { Reads (through_model M.model D.model self.old) (through_model M.model D.model self.new) result (λ s n. n ≡ s.next) }
-        ensures current { self.new.health.is_current ≡ self.old.health.is_current }
+        ensures reads { Reads (through_model M.model D.model self.old)
+            (through_model M.model D.model self.new) result (λ s n. n ≡ s.next) }
+        ensures current { self.new.is_current ≡ self.old.is_current }
     {
-        self.health.begin()?;
+        start_call(&mut self.health, self.is_current)?;
         let answer = self.memory.next_number();
-        self.health.end(answer)
+        self.health.finish_call(answer)
     }
 
     fn by_name(&mut self, alloc: Global, name: &str) -> Result<Option<Volume>, StoreFault>
-        ensures reads { Reads (through_model M.model D.model self.old) (through_model M.model D.model self.new) result (λ s v. v ≡ named s name.now) }
-        ensures current { self.new.health.is_current ≡ self.old.health.is_current }
+        ensures reads { Reads (through_model M.model D.model self.old)
+            (through_model M.model D.model self.new) result (λ s v. v ≡ named s name.now) }
+        ensures current { self.new.is_current ≡ self.old.is_current }
     {
-        self.health.begin()?;
+        start_call(&mut self.health, self.is_current)?;
         let answer = self.memory.by_name(alloc, name);
-        self.health.end(answer)
+        self.health.finish_call(answer)
     }
 
     fn by_number(&mut self, alloc: Global, number: u64) -> Result<Option<Volume>, StoreFault>
-        ensures reads { Reads (through_model M.model D.model self.old) (through_model M.model D.model self.new) result (λ s v. v ≡ get s.volumes number) }
-        ensures current { self.new.health.is_current ≡ self.old.health.is_current }
+        ensures reads { Reads (through_model M.model D.model self.old)
+            (through_model M.model D.model self.new) result (λ s v. v ≡ get s.volumes number) }
+        ensures current { self.new.is_current ≡ self.old.is_current }
     {
-        self.health.begin()?;
+        start_call(&mut self.health, self.is_current)?;
         let answer = self.memory.by_number(alloc, number);
-        self.health.end(answer)
+        self.health.finish_call(answer)
     }
 
     fn caps_of(&mut self, alloc: Global, number: u64) -> Result<Option<Items<CapKey>>, StoreFault>
-        ensures reads { Reads (through_model M.model D.model self.old) (through_model M.model D.model self.new) result (λ s keys. keys ≡ option_map (λ v. v.caps) (get s.volumes number)) }
-        ensures current { self.new.health.is_current ≡ self.old.health.is_current }
+        ensures reads { Reads (through_model M.model D.model self.old)
+            (through_model M.model D.model self.new) result
+            (λ s keys. keys ≡ option_map (λ v. v.caps) (get s.volumes number)) }
+        ensures current { self.new.is_current ≡ self.old.is_current }
     {
-        self.health.begin()?;
+        start_call(&mut self.health, self.is_current)?;
         let answer = self.memory.caps_of(alloc, number);
-        self.health.end(answer)
+        self.health.finish_call(answer)
     }
 
     fn attachments(&mut self, alloc: Global, number: u64) -> Result<Items<Attachment>, StoreFault>
-        ensures reads { Reads (through_model M.model D.model self.old) (through_model M.model D.model self.new) result (λ s xs. xs ≡ attached s number) }
-        ensures current { self.new.health.is_current ≡ self.old.health.is_current }
+        ensures reads { Reads (through_model M.model D.model self.old)
+            (through_model M.model D.model self.new) result (λ s xs. xs ≡ attached s number) }
+        ensures current { self.new.is_current ≡ self.old.is_current }
     {
-        self.health.begin()?;
+        start_call(&mut self.health, self.is_current)?;
         let answer = self.memory.attachments(alloc, number);
-        self.health.end(answer)
+        self.health.finish_call(answer)
     }
 
     fn attached_at(&mut self, alloc: Global, node: &str) -> Result<Items<u64>, StoreFault>
-        ensures reads { Reads (through_model M.model D.model self.old) (through_model M.model D.model self.new) result (λ s xs. xs ≡ attached_at s node.now) }
-        ensures current { self.new.health.is_current ≡ self.old.health.is_current }
+        ensures reads { Reads (through_model M.model D.model self.old)
+            (through_model M.model D.model self.new) result (λ s xs. xs ≡ attached_at s node.now) }
+        ensures current { self.new.is_current ≡ self.old.is_current }
     {
-        self.health.begin()?;
+        start_call(&mut self.health, self.is_current)?;
         let answer = self.memory.attached_at(alloc, node);
-        self.health.end(answer)
+        self.health.finish_call(answer)
+    }
+
+    fn count_at(&mut self, alloc: Global, node: &Text) -> Result<u64, StoreFault>
+        ensures reads { Reads (through_model M.model D.model self.old)
+            (through_model M.model D.model self.new) result (λ s n. n ≡ count_at s node.now) }
+        ensures current { self.new.is_current ≡ self.old.is_current }
+    {
+        start_call(&mut self.health, self.is_current)?;
+        let answer = self.memory.count_at(alloc, node);
+        self.health.finish_call(answer)
     }
 
     fn sizes_in(&mut self, alloc: Global, pool: &str) -> Result<Items<u64>, StoreFault>
-        ensures reads { Reads (through_model M.model D.model self.old) (through_model M.model D.model self.new) result (λ s xs. xs ≡ sizes s pool.now) }
-        ensures current { self.new.health.is_current ≡ self.old.health.is_current }
+        ensures reads { Reads (through_model M.model D.model self.old)
+            (through_model M.model D.model self.new) result (λ s xs. xs ≡ sizes s pool.now) }
+        ensures current { self.new.is_current ≡ self.old.is_current }
     {
-        self.health.begin()?;
+        start_call(&mut self.health, self.is_current)?;
         let answer = self.memory.sizes_in(alloc, pool);
-        self.health.end(answer)
+        self.health.finish_call(answer)
     }
 
     fn used_in(&mut self, pool: &Text) -> Result<Usage, StoreFault>
-        ensures reads { Reads (through_model M.model D.model self.old) (through_model M.model D.model self.new) result (λ s u. u ≡ used s pool.now) }
-        ensures current { self.new.health.is_current ≡ self.old.health.is_current }
+        ensures reads { Reads (through_model M.model D.model self.old)
+            (through_model M.model D.model self.new) result (λ s u. u ≡ used s pool.now) }
+        ensures current { self.new.is_current ≡ self.old.is_current }
     {
-        self.health.begin()?;
+        start_call(&mut self.health, self.is_current)?;
         let answer = self.memory.used_in(pool);
-        self.health.end(answer)
+        self.health.finish_call(answer)
     }
 
     fn page(&mut self, alloc: Global, after: u64, count: u32) -> Result<Items<Volume>, StoreFault>
-        ensures reads { Reads (through_model M.model D.model self.old) (through_model M.model D.model self.new) result (λ s xs. xs ≡ page s after count) }
-        ensures current { self.new.health.is_current ≡ self.old.health.is_current }
+        ensures reads { Reads (through_model M.model D.model self.old)
+            (through_model M.model D.model self.new) result (λ s xs. xs ≡ page s after count) }
+        ensures current { self.new.is_current ≡ self.old.is_current }
     {
-        self.health.begin()?;
+        start_call(&mut self.health, self.is_current)?;
         let answer = self.memory.page(alloc, after, count);
-        self.health.end(answer)
+        self.health.finish_call(answer)
     }
 
     fn published_nodes(
@@ -240,12 +300,13 @@ impl<M: Keeper, D: Log> Keeper for Through<M, D> {
         after: u64,
         count: u32,
     ) -> Result<Items<Items<Text>>, StoreFault>
-        ensures reads { Reads (through_model M.model D.model self.old) (through_model M.model D.model self.new) result (λ s xs. xs ≡ published_of_page s after count) }
-        ensures current { self.new.health.is_current ≡ self.old.health.is_current }
+        ensures reads { Reads (through_model M.model D.model self.old)
+            (through_model M.model D.model self.new) result (λ s xs. xs ≡ published_of_page s after count) }
+        ensures current { self.new.is_current ≡ self.old.is_current }
     {
-        self.health.begin()?;
+        start_call(&mut self.health, self.is_current)?;
         let answer = self.memory.published_nodes(alloc, after, count);
-        self.health.end(answer)
+        self.health.finish_call(answer)
     }
 
     #[inline(always)]
@@ -256,41 +317,47 @@ impl<M: Keeper, D: Log> Keeper for Through<M, D> {
         count: u32,
         fold: &mut F,
     ) -> Result<(), StoreFault>
-        ensures folded { Reads (through_model M.model D.model self.old) (through_model M.model D.model self.new) result (λ s _. F.folds fold.old (listing s after count) fold.new) }
+        ensures folded { Reads (through_model M.model D.model self.old)
+            (through_model M.model D.model self.new) result
+            (λ s _. F.folds fold.old (listing s after count) fold.new) }
         ensures kept { F.keeps fold.old fold.new }
-        ensures current { self.new.health.is_current ≡ self.old.health.is_current }
+        ensures current { self.new.is_current ≡ self.old.is_current }
     {
-        self.health.begin()?;
+        start_call(&mut self.health, self.is_current)?;
         let answer = self.memory.fold_page(alloc, after, count, fold);
-        self.health.end(answer)
+        self.health.finish_call(answer)
     }
 
     fn apply(&mut self, alloc: Global, change: &Change) -> Result<(), StoreFault>
         requires { IsBounded change.now }
-        ensures applies { Applies (through_model M.model D.model self.old) (through_model M.model D.model self.new) change.now result }
+        ensures applies { Applies (through_model M.model D.model self.old)
+            (through_model M.model D.model self.new) change.now result }
         ensures stops { OnErr result (IsTrue self.new.health.is_down) }
-        ensures current { OnOk result (self.new.health.is_current ≡ false → HasMissed (M.model self.old.memory) (M.model self.new.memory) change.now) }
+        ensures current { OnOk result (self.new.is_current ≡ false
+            → HasMissed (M.model self.old.memory) (M.model self.new.memory) change.now) }
     {
-        self.health.begin_change()?;
-        let answer = self.log.commit(alloc, change);
-        self.health.end_change(answer)?;
+        start_change(&mut self.health, self.is_current)?;
+        let answer = self.change_store.commit(alloc, change);
+        self.health.finish_change(answer)?;
         if self.memory.apply(alloc, change).is_err() {
-            self.health.fall_behind();
+            self.is_current = false;
         }
         Ok(())
     }
 
     fn apply_owned(&mut self, alloc: Global, change: Change) -> Result<(), StoreFault>
         requires { IsBounded change }
-        ensures applies { Applies (through_model M.model D.model self.old) (through_model M.model D.model self.new) change result }
+        ensures applies { Applies (through_model M.model D.model self.old)
+            (through_model M.model D.model self.new) change result }
         ensures stops { OnErr result (IsTrue self.new.health.is_down) }
-        ensures current { OnOk result (self.new.health.is_current ≡ false → HasMissed (M.model self.old.memory) (M.model self.new.memory) change) }
+        ensures current { OnOk result (self.new.is_current ≡ false
+            → HasMissed (M.model self.old.memory) (M.model self.new.memory) change) }
     {
-        self.health.begin_change()?;
-        let made = self.log.commit(alloc, &change);
-        self.health.end_change(made)?;
+        start_change(&mut self.health, self.is_current)?;
+        let made = self.change_store.commit(alloc, &change);
+        self.health.finish_change(made)?;
         if self.memory.apply_owned(alloc, change).is_err() {
-            self.health.fall_behind();
+            self.is_current = false;
         }
         Ok(())
     }

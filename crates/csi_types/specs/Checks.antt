@@ -1,6 +1,7 @@
 -- The checks of a request's arguments: what each call requires of its fields (CSI specification, the
 -- section of each call, and 'Size Limits'). The first line of the table that holds is answered.
-use Rattle.std.specs.Prelude.{ℕ, ℤ, pos, negsuc, ◌+◌, ◌==◌, Bool, true, false, not, ◌||◌, ◌&&◌, nat_lt, nat_le, List, [], ◌∷◌, ◌++◌, length, sum_by, Option, None, Some, option_to_list}
+use Rattle.std.specs.Prelude.{ℕ, ℤ, pos, negsuc, ◌+◌, ◌==◌, Bool, true, false, not, ◌||◌, ◌&&◌, nat_lt, nat_le, List, [], ◌∷◌, ◌++◌, length, sum_by}
+use Rattle.std.specs.Prelude.{Option, None, Some, option_to_list}
 use Rattle.std.specs.FinMap.{entries, len}
 use Rattle.std.specs.List.{list_any}
 use Rattle.csi_types.specs.declared.capability.Access.{Access}
@@ -10,9 +11,13 @@ use Rattle.csi_types.specs.declared.capability.Mount.{Mount}
 use Rattle.csi_types.specs.declared.capacity.CapacityRange.{CapacityRange}
 use Rattle.csi_types.specs.declared.limits.TheConstants.{MAX_ACCESS_MODE, MAX_TEXT_BYTES, MAX_NODE_ID_BYTES, MAX_MOUNT_FLAGS_BYTES, MAX_MAP_BYTES}
 use Rattle.csi_types.specs.declared.reason.Reason.{Reason}
-use Rattle.csi_types.specs.declared.reason.Reason.TheVariants.{NameMissing, NameTooLong, NameBanned, CapabilityMissing, AccessTypeMissing, AccessModeUnknown, CapabilityNotSupported, CapacityNegative, MapTooLarge, TextTooLong, SourceNotSupported, TopologyKeysAlike, PreferredNotRequisite, VolumeIdMissing, NodeIdMissing, MaxEntriesNegative, MutableMissing}
+use Rattle.csi_types.specs.declared.reason.Reason.TheVariants.{NameMissing, NameTooLong, NameBanned, CapabilityMissing, AccessTypeMissing}
+use Rattle.csi_types.specs.declared.reason.Reason.TheVariants.{AccessModeUnknown, CapabilityNotSupported, CapacityNegative, MapTooLarge, TextTooLong}
+use Rattle.csi_types.specs.declared.reason.Reason.TheVariants.{SourceNotSupported, TopologyKeysAlike, PreferredNotRequisite, VolumeIdMissing}
+use Rattle.csi_types.specs.declared.reason.Reason.TheVariants.{NodeIdMissing, MaxEntriesNegative, MutableMissing}
 use Rattle.csi_types.specs.declared.requests.Request.{Request}
-use Rattle.csi_types.specs.declared.requests.Request.TheVariants.{PluginInfo, PluginCapabilities, Probe, ControllerCapabilities, Create, Delete, Publish, Unpublish, Validate, List as Listing, Capacity, Modify}
+use Rattle.csi_types.specs.declared.requests.Request.TheVariants.{PluginInfo, PluginCapabilities, Probe, ControllerCapabilities, Create, Delete}
+use Rattle.csi_types.specs.declared.requests.Request.TheVariants.{Publish, Unpublish, Validate, List as Listing, Capacity, Modify}
 use Rattle.csi_types.specs.declared.topology.Requirement.{Requirement}
 use Rattle.csi_types.specs.Lines.{first_line}
 use Rattle.csi_types.specs.Maps.{TextMap}
@@ -22,7 +27,8 @@ use Rattle.csi_types.specs.Topology.{has_alike_keys, same_topology}
 -- Capabilities
 
 -- a mode is given, and is one of SINGLE_NODE_WRITER 1, SINGLE_NODE_READER_ONLY 2, MULTI_NODE_READER_ONLY 3,
--- MULTI_NODE_SINGLE_WRITER 4, MULTI_NODE_MULTI_WRITER 5, SINGLE_NODE_SINGLE_WRITER 6, SINGLE_NODE_MULTI_WRITER 7
+-- MULTI_NODE_SINGLE_WRITER 4, MULTI_NODE_MULTI_WRITER 5, SINGLE_NODE_SINGLE_WRITER 6,
+-- SINGLE_NODE_MULTI_WRITER 7
 abbrev pub is_known_mode : Option ℤ → Bool
 is_known_mode None = false
 is_known_mode (Some (pos mode)) = nat_lt 0 mode && nat_le mode MAX_ACCESS_MODE

@@ -1,7 +1,8 @@
 -- Status codes (gRPC, 'Status codes and their use').
 use Rattle.std.specs.Prelude.{ℕ, List, codes}
 use Rattle.csi_types.specs.declared.code.Code.{Code}
-use Rattle.csi_types.specs.declared.code.Code.TheVariants.{Ok, InvalidArgument, NotFound, AlreadyExists, ResourceExhausted, FailedPrecondition, Aborted, OutOfRange, Unimplemented, Internal}
+use Rattle.csi_types.specs.declared.code.Code.TheVariants.{Ok, InvalidArgument, NotFound, AlreadyExists, ResourceExhausted, FailedPrecondition}
+use Rattle.csi_types.specs.declared.code.Code.TheVariants.{Aborted, OutOfRange, Unimplemented, Internal}
 
 -- the number of a code
 abbrev pub number_of : Code → ℕ

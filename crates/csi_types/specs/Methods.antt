@@ -2,7 +2,9 @@
 use Rattle.std.specs.Prelude.{ℕ, List, [], ◌∷◌, ◌++◌, Option, Some, None, codes, find}
 use Rattle.std.specs.Str.{bytes_eq}
 use Rattle.csi_types.specs.declared.method.Method.{Method}
-use Rattle.csi_types.specs.declared.method.Method.TheVariants.{GetPluginInfo, GetPluginCapabilities, Probe, CreateVolume, DeleteVolume, ControllerPublishVolume, ControllerUnpublishVolume, ValidateVolumeCapabilities, ListVolumes, GetCapacity, ControllerGetCapabilities, ControllerModifyVolume}
+use Rattle.csi_types.specs.declared.method.Method.TheVariants.{GetPluginInfo, GetPluginCapabilities, Probe, CreateVolume, DeleteVolume}
+use Rattle.csi_types.specs.declared.method.Method.TheVariants.{ControllerPublishVolume, ControllerUnpublishVolume, ValidateVolumeCapabilities}
+use Rattle.csi_types.specs.declared.method.Method.TheVariants.{ListVolumes, GetCapacity, ControllerGetCapabilities, ControllerModifyVolume}
 
 -- the path of a method
 abbrev pub path_of : Method → List ℕ

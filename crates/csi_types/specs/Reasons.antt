@@ -3,7 +3,13 @@ use Rattle.std.specs.Prelude.{ℕ, List, codes}
 use Rattle.csi_types.specs.declared.code.Code.{Code}
 use Rattle.csi_types.specs.declared.code.Code.TheVariants as code
 use Rattle.csi_types.specs.declared.reason.Reason.{Reason}
-use Rattle.csi_types.specs.declared.reason.Reason.TheVariants.{NameMissing, NameTooLong, NameBanned, CapabilityMissing, AccessTypeMissing, AccessModeUnknown, CapabilityNotSupported, CapacityNegative, MapTooLarge, TextTooLong, SourceNotSupported, TopologyKeysAlike, PreferredNotRequisite, VolumeIdMissing, NodeIdMissing, MaxEntriesNegative, MutableMissing, UnknownMethod, VolumeNotFound, NodeNotFound, VolumeNotCompatible, NoRoom, TooManyVolumes, NumbersUsedUp, OutOfRange, VolumeInUse, PublishedElsewhere, PublishedOtherwise, NodeFull, CapabilityNotOfVolume, BadToken, MutableTooLarge, ReplyTooLarge, OutOfMemory, StoreRefused, StoreDown}
+use Rattle.csi_types.specs.declared.reason.Reason.TheVariants.{NameMissing, NameTooLong, NameBanned, CapabilityMissing, AccessTypeMissing}
+use Rattle.csi_types.specs.declared.reason.Reason.TheVariants.{AccessModeUnknown, CapabilityNotSupported, CapacityNegative, MapTooLarge, TextTooLong}
+use Rattle.csi_types.specs.declared.reason.Reason.TheVariants.{SourceNotSupported, TopologyKeysAlike, PreferredNotRequisite, VolumeIdMissing}
+use Rattle.csi_types.specs.declared.reason.Reason.TheVariants.{NodeIdMissing, MaxEntriesNegative, MutableMissing, UnknownMethod, VolumeNotFound}
+use Rattle.csi_types.specs.declared.reason.Reason.TheVariants.{NodeNotFound, VolumeNotCompatible, NoRoom, TooManyVolumes, NumbersUsedUp, OutOfRange}
+use Rattle.csi_types.specs.declared.reason.Reason.TheVariants.{VolumeInUse, PublishedElsewhere, PublishedOtherwise, NodeFull, CapabilityNotOfVolume}
+use Rattle.csi_types.specs.declared.reason.Reason.TheVariants.{BadToken, MutableTooLarge, ReplyTooLarge, OutOfMemory, StoreRefused, StoreDown}
 
 -- the code and the text of each refusal
 abbrev pub answer_of : Reason → Code × List ℕ

@@ -1,9 +1,9 @@
 -- What a text is, wherever its bytes stand.
 use Rattle.std.specs.Prelude.{ℕ, List}
 use Rattle.std.specs.String.{string_bytes}
-use Rattle.csi_types.specs.declared.text.Kept.{Kept}
-use Rattle.csi_types.specs.declared.text.Kept.TheVariants.{Short, Long}
+use Rattle.csi_types.specs.declared.text.TextStorage.{TextStorage}
+use Rattle.csi_types.specs.declared.text.TextStorage.TheVariants.{Short, Long}
 
-abbrev pub kept_bytes : Kept → List ℕ
+abbrev pub kept_bytes : TextStorage → List ℕ
 kept_bytes (Short short alloc) = short.bytes
 kept_bytes (Long string) = string_bytes string

@@ -39,7 +39,8 @@ impl<T> Boxed<T> {
 }
 
 impl<T: Drop> Boxed<T> {
-    /// Takes memory for a value. Where it is refused, the value is let go. Who calls it knows which value of an enum it is, so no more is moved.
+    /// Takes memory for a value. Where it is refused, the value is let go. Who calls it knows which value of
+    /// an enum it is, so no more is moved.
     #[inline(always)]
     pub fn new(alloc: Global, value: T) -> Result<Boxed<T>, AllocError>
         ensures { IfOk result (λ boxed. boxed ≡ value) }

@@ -1,13 +1,16 @@
 //! The values of the Container Storage Interface (CSI 1.x, Identity and Controller services).
 //!
-//! Plain structs and enums, a module a subject, over four small types: [`Text`], [`Items`], [`Map`] and [`Boxed`]. Contracts see a `Text` as its
-//! bytes, an `Items` as a list, a `Map` as a finite map in byte order of its keys and a `Boxed` as the value that it keeps, so the declared type of
-//! a message is itself the record that the definitions speak of: there is no second set of types for proofs.
+//! Plain structs and enums, a module a subject, over four small types: [`Text`], [`Items`], [`Map`] and
+//! [`Boxed`]. Contracts see a `Text` as its bytes, an `Items` as a list, a `Map` as a finite map in byte
+//! order of its keys and a `Boxed` as the value that it keeps, so the declared type of a message is itself
+//! the record that the definitions speak of: there is no second set of types for proofs.
 //!
-//! `specs/` also has what layers above need as facts about values: the table of argument checks (`Checks`), keys folded in ASCII, which
-//! capabilities are supported, the code and the text of each refusal. `topology.rt` compares topologies for all layers; `topology/segments.rt`
-//! puts the segments of one in the order of their folded keys, on the stack. A `Map` has its entries in a list as long as their keys rise,
-//! and then in a tree (`map/entering.rt`), so that no order of keys makes it slow; `map/entries.rt` goes over both.
+//! `specs/` also has what layers above need as facts about values: the table of argument checks (`Checks`),
+//! keys folded in ASCII, which capabilities are supported, the code and the text of each refusal.
+//! `topology.rt` compares topologies for all layers; `topology/segments.rt` puts the segments of one in the
+//! order of their folded keys, on the stack. A `Map` has its entries in a list as long as their keys rise,
+//! and then in a tree (`map/entering.rt`), so that no order of keys makes it slow; `map/entries.rt` goes over
+//! both.
 //!
 //! ```rust
 //! let mut parameters = Map::new(alloc);

@@ -178,7 +178,8 @@ impl fmt::Debug for Modify {
     }
 }
 
-/// The request of a call, by its method. The message of one that has fields is kept apart, so that a request is small wherever it goes.
+/// The request of a call, by its method. The message of one that has fields is kept apart, so that a request
+/// is small wherever it goes.
 #[derive(Debug)]
 pub enum Request {
     /// `GetPluginInfoRequest`, without fields.

@@ -10,12 +10,13 @@ use std::convert::AsStr;
 use std::fmt;
 use std::marker::Model;
 
-// The most bytes of a text that takes no memory: most ids, keys and names of pools have no more, and with room for more a text would take more than 32 bytes.
+// The most bytes of a text that takes no memory: most ids, keys and names of pools have no more, and with
+// room for more a text would take more than 32 bytes.
 const SHORT_BYTES: usize = 16;
 
 // Where a text stands.
 #[derive(Drop)]
-enum Kept {
+enum TextStorage {
     // In the value itself. What a longer text would be taken from is kept beside it.
     Short(ArrayString<SHORT_BYTES>, Global),
     // In memory of its own.
@@ -26,10 +27,11 @@ enum Kept {
 ///
 /// Texts are ordered by their bytes. One of at most 16 bytes takes no memory but its own 32 bytes.
 pub struct Text {
-    kept: Kept,
+    kept: TextStorage,
 }
 
-// Written out, so that what drops a text has one call for it, and its proof no branch for each place where a text may stand.
+// Written out, so that what drops a text has one call for it, and its proof no branch for each place where a
+// text may stand.
 impl Drop for Text {
     #[inline(always)]
     fn drop(self) {
@@ -52,7 +54,7 @@ impl Text {
         ensures { result ≡ [] }
     {
         Text {
-            kept: Kept::Short(ArrayString::new(), alloc),
+            kept: TextStorage::Short(ArrayString::new(), alloc),
         }
     }
 
@@ -61,8 +63,8 @@ impl Text {
         ensures { IfOk result (λ copy. copy ≡ text.now) }
     {
         let kept = match ArrayString::from(text) {
-            Ok(short) => Kept::Short(short, alloc),
-            Err(_) => Kept::Long(String::from_str(alloc, text)?),
+            Ok(short) => TextStorage::Short(short, alloc),
+            Err(_) => TextStorage::Long(String::from_str(alloc, text)?),
         };
         Ok(Text { kept })
     }
@@ -73,10 +75,10 @@ impl Text {
         ensures { IfOk result (λ copy. copy ≡ self.now) }
     {
         match &self.kept {
-            Kept::Short(short, _) => Ok(Text {
-                kept: Kept::Short(*short, alloc),
+            TextStorage::Short(short, _) => Ok(Text {
+                kept: TextStorage::Short(*short, alloc),
             }),
-            Kept::Long(string) => Self::from_str(alloc, string.as_str()),
+            TextStorage::Long(string) => Self::from_str(alloc, string.as_str()),
         }
     }
 
@@ -87,7 +89,7 @@ impl Text {
         let mut short = ArrayString::new();
         if short.try_push_str(first).is_ok() && short.try_push_str(second).is_ok() {
             return Ok(Text {
-                kept: Kept::Short(short, alloc),
+                kept: TextStorage::Short(short, alloc),
             });
         }
         let mut string = String::from_str(alloc, first)?;
@@ -100,7 +102,7 @@ impl Text {
         ensures { result ≡ string_bytes string }
     {
         Text {
-            kept: Kept::Long(string),
+            kept: TextStorage::Long(string),
         }
     }
 
@@ -111,14 +113,14 @@ impl Text {
         ensures err { OnErr result (self.new ≡ []) }
     {
         match &mut self.kept {
-            Kept::Short(short, alloc) => {
+            TextStorage::Short(short, alloc) => {
                 short.clear();
                 if short.try_push_str(text).is_err() {
-                    self.kept = Kept::Long(String::from_str(*alloc, text)?);
+                    self.kept = TextStorage::Long(String::from_str(*alloc, text)?);
                 }
                 Ok(())
             }
-            Kept::Long(string) => {
+            TextStorage::Long(string) => {
                 string.clear();
                 string.push_str(text)
             }
@@ -131,8 +133,8 @@ impl Text {
         ensures utf8 { IsUtf8 self.now }
     {
         match &self.kept {
-            Kept::Short(short, _) => short.as_str(),
-            Kept::Long(string) => string.as_str(),
+            TextStorage::Short(short, _) => short.as_str(),
+            TextStorage::Long(string) => string.as_str(),
         }
     }
 

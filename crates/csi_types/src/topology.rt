@@ -145,7 +145,8 @@ fn is_found(topology: &Map, segments: &[Segment<'_>], key: &Text, value: &Text) 
 
 // Whether bisection finds a segment; it may miss one whose key is like another's.
 fn is_among(segments: &[Segment<'_>], key: &Text, value: &Text) -> bool
-    ensures { result ≡ true → list_any (λ f. alike key.now f.0 && same_text value.now f.1) (map entry_of segments.now) ≡ true }
+    ensures { result ≡ true → list_any (λ f. alike key.now f.0 && same_text value.now f.1)
+        (map entry_of segments.now) ≡ true }
 {
     match segments.binary_search(&Segment { key, value }) {
         Ok(place) => value == segments[place].value,

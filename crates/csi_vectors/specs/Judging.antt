@@ -23,8 +23,8 @@ IsWhole TurnsSpent = ⊥
 IsWhole WriteFailed = ⊥
 IsWhole NoMemory = ⊥
 
--- all of the input was read as these calls, or all up to a malformed frame, whose refusal is then the last that is written; that the input ends inside a
--- frame is a fault only at its end
+-- all of the input was read as these calls, or all up to a malformed frame, whose refusal is then the last
+-- that is written; that the input ends inside a frame is a fault only at its end
 abbrev pub IsEnd : List ℕ → List ℕ → List CallBytes → List ℕ → Type 0
 IsEnd read left calls last =
     ((left ≡ []) × Stream read calls Clean × (last ≡ []))
@@ -39,7 +39,8 @@ abbrev pub MayCome : Config → Bool → Event → Type 0
 MayCome config false e = IsAnswered config e
 MayCome config true e = e.mark ≡ Unmarked
 
--- The replies of the volume machine from no volumes to the calls of the input were written. Some may have been refused for want of memory, but for those of a vector that fails.
+-- The replies of the volume machine from no volumes to the calls of the input were written. Some may have
+-- been refused for want of memory, but for those of a vector that fails.
 pub record IsWritten (config : Config) (failed : Bool) (input written : List ℕ) : Type 0 where
   pub events : List Event
   pub answered : AllByRecursion (MayCome config failed) events
@@ -53,4 +54,5 @@ pub record IsWritten (config : Config) (failed : Bool) (input written : List ℕ
 
 -- of the replies with which these bytes begin none refuses its call for want of memory
 abbrev pub IsUnrefused : List ℕ → Type 0
-IsUnrefused bytes = (rs : List ReplyBytes) (last : List ℕ) → AllByRecursion IsReply rs → bytes ≡ flat_map reply rs ++ last → AllByRecursion (λ r. r ≢ refused reason.OutOfMemory) rs
+IsUnrefused bytes = (rs : List ReplyBytes) (last : List ℕ) → AllByRecursion IsReply rs → bytes ≡ flat_map reply rs ++ last
+    → AllByRecursion (λ r. r ≢ refused reason.OutOfMemory) rs

@@ -35,7 +35,8 @@ abbrev pub told : Bool → List ℕ → List ℕ
 told true name = codes "FAIL " ++ name ++ codes "\n"
 told false name = codes "ok " ++ name ++ codes "\n"
 
--- a vector was run: a new server writes these bytes for its input, and it failed where they are not its output and no call was refused
+-- a vector was run: a new server writes these bytes for its input, and it failed where they are not its
+-- output and no call was refused
 pub record IsRun (config : Config) (text lines : List ℕ) (failed : Bool) : Type 0 where
   pub name : List ℕ
   pub input : List ℕ
@@ -61,7 +62,7 @@ abbrev pub Takes : Option (List ℕ) → Option (List ℕ) → List ℕ → Type
 Takes before after line = IfSome before (λ bytes. line ≡ take_through 10 bytes) × DropsThrough before after 10
 
 -- One line more: what was left and held before it, and what came of it.
-pub record Step (config : Config) (Before : Option (List ℕ) → Option (List ℕ) → Bool → Type 0) (left holds : Option (List ℕ)) (failed : Bool) : Type 0 where
+pub record LineStep (config : Config) (Before : Option (List ℕ) → Option (List ℕ) → Bool → Type 0) (left holds : Option (List ℕ)) (failed : Bool) : Type 0 where
   pub mid : Option (List ℕ)
   pub held : Option (List ℕ)
   pub already : Bool
@@ -80,16 +81,19 @@ pub record Step (config : Config) (Before : Option (List ℕ) → Option (List �
 -- So many lines were run, one after the other.
 abbrev pub AreRun : Config → Option (List ℕ) → Option (List ℕ) → ℕ → Option (List ℕ) → Option (List ℕ) → Bool → Type 0
 AreRun config unread held zero left holds failed = (left ≡ unread) × Keeps held holds × (failed ≡ false)
-AreRun config unread held (suc n) left holds failed = Step config (AreRun config unread held n) left holds failed
+AreRun config unread held (suc n) left holds failed = LineStep config (AreRun config unread held n) left holds failed
 
--- How a run ends. After a failed write or flush, which was that of a vector's line, the writer holds a prefix of that line after all lines before it.
+-- How a run ends. After a failed write or flush, which was that of a vector's line, the writer holds a prefix
+-- of that line after all lines before it.
 abbrev pub EndsAs : Config → Option (List ℕ) → Option (List ℕ) → Option (List ℕ) → VectorsEnd → Type 0
 EndsAs config unread held holds (Done failed) = (count : ℕ) × (left : Option (List ℕ)) × AreRun config unread held count left holds failed × IsAtEnd left
 EndsAs config unread held holds (BadLine number) = (count : ℕ) × (left : Option (List ℕ)) × (failed : Bool) × (after : Option (List ℕ)) × (line : List ℕ)
     × AreRun config unread held count left holds failed × Takes left after line × IsNoVector line × (number ≡ count + 1)
-EndsAs config unread held holds LinesSpent = (count : ℕ) × (left : Option (List ℕ)) × (failed : Bool) × AreRun config unread held count left holds failed × (count ≡ 2 ^ 64 - 1)
+EndsAs config unread held holds LinesSpent = (count : ℕ) × (left : Option (List ℕ)) × (failed : Bool)
+    × AreRun config unread held count left holds failed × (count ≡ 2 ^ 64 - 1)
 EndsAs config unread held holds ReadFailed = (count : ℕ) × (left : Option (List ℕ)) × (failed : Bool) × AreRun config unread held count left holds failed
-EndsAs config unread held holds WriteFailed = (count : ℕ) × (left : Option (List ℕ)) × (failed : Bool) × (after : Option (List ℕ)) × (line : List ℕ) × (before : Option (List ℕ)) × (text : List ℕ)
+EndsAs config unread held holds WriteFailed = (count : ℕ) × (left : Option (List ℕ)) × (failed : Bool) × (after : Option (List ℕ)) × (line : List ℕ)
+    × (before : Option (List ℕ)) × (text : List ℕ)
     × AreRun config unread held count left before failed × Takes left after line × IsTextOf line text × IsCut config text before holds
 EndsAs config unread held holds NoMemory = (count : ℕ) × (left : Option (List ℕ)) × (failed : Bool) × AreRun config unread held count left holds failed
 

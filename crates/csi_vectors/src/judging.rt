@@ -12,8 +12,8 @@ use csi_keeper::laws::first;
 use csi_memory::MemKeeper;
 use csi_server::{RunEnd, serve};
 use csi_types::Reason;
-use frames_core::laws::reply_read_back;
-use frames_core::{Reply, TakenReply, take_reply};
+use envelope::laws::reply_read_back;
+use envelope::{Reply, TakenReply, take_reply};
 use std::alloc::{AllocError, Global};
 
 // The number that the first volume gets.
@@ -21,7 +21,7 @@ const FIRST_NUMBER: u64 = 1;
 
 // Whether all was read, or all up to a malformed frame, and answered.
 fn is_whole(end: RunEnd) -> bool
-    ensures whole { IsTrue result → IsWhole end }
+    ensures true_only_if { IsTrue result → IsWhole end }
     ensures all { IsWhole end → IsTrue result }
 {
     matches!(end, RunEnd::Done | RunEnd::Malformed(_))
@@ -76,7 +76,8 @@ fn has_refusal(replies: &[u8]) -> bool
 ///
 /// Where memory was refused, also to a call of a vector whose output differs for that.
 pub fn passes(alloc: Global, config: &Config, vector: &Vector<'_>) -> Result<bool, AllocError>
-    ensures { IfOk result (λ ok. (bytes : List ℕ) × IsWritten config.now (not ok) vector.now.input.items bytes × (ok ≡ bytes_eq bytes vector.now.output.items)) }
+    ensures { IfOk result (λ ok. (bytes : List ℕ) × IsWritten config.now (not ok) vector.now.input.items bytes
+        × (ok ≡ bytes_eq bytes vector.now.output.items)) }
 {
     let bytes = written(alloc, config, &vector.input)?;
     let replies = bytes.as_slice();

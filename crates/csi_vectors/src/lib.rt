@@ -1,10 +1,10 @@
 //! Test vectors: streams of calls, each with all that a new server writes for it.
 //!
-//! `vector.rt` reads a line, `judging.rt` serves its input from a new server in memory and compares (`specs/Judging.antt` says what such a server writes),
-//! `running.rt` goes over lines.
+//! `vector.rt` reads a line, `judging.rt` serves its input from a new server in memory and compares
+//! (`specs/Judging.antt` says what such a server writes), `running.rt` goes over lines.
 //!
 //! ```rust
-//! let vector = Vector::of_line(alloc, line)?;
+//! let vector = Vector::parse(alloc, line)?;
 //! let is_passed = passes(alloc, &config, &vector)?;
 //! ```
 #![tactic(auto)]

@@ -27,7 +27,8 @@ pub enum VectorsEnd {
     LinesSpent,
     /// A read failed.
     ReadFailed,
-    /// A write or a flush failed, or a write was interrupted. The lines before were written, and of this one a part.
+    /// A write or a flush failed, or a write was interrupted. The lines before were written, and of this one
+    /// a part.
     WriteFailed,
     /// Memory was refused.
     NoMemory,
@@ -76,7 +77,8 @@ fn text_of(bytes: &[u8]) -> Result<&str, Halt>
     str::from_utf8(bytes).map_err(|_| Halt::BadLine)
 }
 
-// The line that says whether a vector failed. It is made before any of it is written, so that no part of it is written for want of memory.
+// The line that says whether a vector failed. It is made before any of it is written, so that no part of it
+// is written for want of memory.
 fn line_of(alloc: Global, name: &str, failed: bool) -> Result<Vec<u8>, AllocError>
     ensures { IfOk result (λ line. line.items ≡ told failed name.now) }
 {
@@ -94,15 +96,17 @@ fn run_text<W: Write>(
     text: &[u8],
     writer: &mut W,
 ) -> Result<bool, Halt>
-    ensures ok { IfOk result (λ failed. (lines : List ℕ) × IsDone config.now text.now lines failed × Appends (W.contents writer.old) (W.contents writer.new) lines) }
+    ensures ok { IfOk result (λ failed. (lines : List ℕ) × IsDone config.now text.now lines failed
+        × Appends (W.contents writer.old) (W.contents writer.new) lines) }
     ensures kept { IfErr result (λ halt. halt ≢ WriteFailed → W.contents writer.new ≡ W.contents writer.old) }
     ensures bad { IsErrOf result BadLine → IsNoText text.now }
-    ensures cut { IsErrOf result WriteFailed → IsCut config.now text.now (W.contents writer.old) (W.contents writer.new) }
+    ensures cut { IsErrOf result WriteFailed
+        → IsCut config.now text.now (W.contents writer.old) (W.contents writer.new) }
 {
     if is_skipped(text) {
         return Ok(false);
     }
-    let vector = Vector::of_line(alloc, text_of(text)?)?;
+    let vector = Vector::parse(alloc, text_of(text)?)?;
     let failed = !passes(alloc, config, &vector)?;
     let line = line_of(alloc, vector.name, failed)?;
     match send(writer, line.as_slice()) {
@@ -128,10 +132,13 @@ fn run_line<W: Write>(
     line: &[u8],
     writer: &mut W,
 ) -> Result<bool, Halt>
-    ensures ok { IfOk result (λ failed. (text lines : List ℕ) × IsTextOf line.now text × IsDone config.now text lines failed × Appends (W.contents writer.old) (W.contents writer.new) lines) }
+    ensures ok { IfOk result (λ failed. (text lines : List ℕ) × IsTextOf line.now text
+        × IsDone config.now text lines failed
+        × Appends (W.contents writer.old) (W.contents writer.new) lines) }
     ensures kept { IfErr result (λ halt. halt ≢ WriteFailed → W.contents writer.new ≡ W.contents writer.old) }
     ensures bad { IsErrOf result BadLine → IsNoVector line.now }
-    ensures cut { IsErrOf result WriteFailed → (text : List ℕ) × IsTextOf line.now text × IsCut config.now text (W.contents writer.old) (W.contents writer.new) }
+    ensures cut { IsErrOf result WriteFailed → (text : List ℕ) × IsTextOf line.now text
+        × IsCut config.now text (W.contents writer.old) (W.contents writer.new) }
 {
     run_text(alloc, config, without_end(line), writer)
 }
@@ -150,7 +157,7 @@ fn unread(error: &io::Error) -> VectorsEnd
 // Takes the next line with its end, in the place of the line before. Whether there is one.
 fn next_line<B: BufRead>(reader: &mut B, line: &mut Vec<u8>) -> Result<bool, VectorsEnd>
     ensures line { OnOk result (Takes (B.remaining reader.old) (B.remaining reader.new) line.new.items) }
-    ensures some { result ≡ Ok true → line.new.items ≢ [] }
+    ensures not_empty { result ≡ Ok true → line.new.items ≢ [] }
     ensures end { result ≡ Ok false → IsAtEnd (B.remaining reader.old) }
     ensures err { IfErr result (λ end. (end ≡ ends.NoMemory) ⊎ (end ≡ ends.ReadFailed)) }
 {
@@ -178,7 +185,8 @@ fn run_lines<B: BufRead, W: Write>(
     reader: &mut B,
     writer: &mut W,
 ) -> VectorsEnd
-    ensures { EndsAs config.now (B.remaining reader.old) (W.contents writer.old) (W.contents writer.new) result }
+    ensures { EndsAs config.now (B.remaining reader.old) (W.contents writer.old)
+        (W.contents writer.new) result }
 {
     let mut line = Vec::new(alloc);
     let mut failed = false;
@@ -197,7 +205,7 @@ fn run_lines<B: BufRead, W: Write>(
 }
 
 /// Runs the vectors of a text, a line each, under the sample configuration, and writes `ok NAME` or
-/// `FAIL NAME` for each, which is flushed at once. A line is what [`Vector::of_line`] takes; an empty
+/// `FAIL NAME` for each, which is flushed at once. A line is what [`Vector::parse`] takes; an empty
 /// one, and one that begins with `#`, whatever its bytes are, is skipped. A line that is no vector
 /// ends the run. At most 2^64 - 1 lines are run.
 pub fn run_vectors<R: Read, W: Write>(alloc: Global, reader: &mut R, writer: &mut W) -> VectorsEnd

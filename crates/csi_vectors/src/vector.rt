@@ -44,7 +44,7 @@ fn are_digits(bytes: &[u8]) -> bool
 
 // Whether hexadecimal digits of either case spell bytes; `-` is none.
 fn is_spelling(digits: &str) -> bool
-    ensures some { IsTrue result → IsSpelling digits.now }
+    ensures true_only_if { IsTrue result → IsSpelling digits.now }
     ensures none { IsSpelling digits.now → IsTrue result }
 {
     if digits == "-" {
@@ -77,10 +77,12 @@ impl<'a> Vector<'a> {
     /// # Errors
     ///
     /// Where the line is no vector; where it is one, and memory was refused.
-    pub fn of_line(alloc: Global, line: &'a str) -> Result<Vector<'a>, LineFault>
+    pub fn parse(alloc: Global, line: &'a str) -> Result<Vector<'a>, LineFault>
         ensures ok { IfOk result (λ v. IsLineOf line.now v.name.now v.input.items v.output.items) }
-        ensures refused { IsErrOf result NotVector → (name input output : List ℕ) → ¬ IsLineOf line.now name input output }
-        ensures memory { IsErrOf result NoMemory → (name input output : List ℕ) × IsLineOf line.now name input output }
+        ensures refused { IsErrOf result NotVector → (name input output : List ℕ)
+            → ¬ IsLineOf line.now name input output }
+        ensures memory { IsErrOf result NoMemory → (name input output : List ℕ)
+            × IsLineOf line.now name input output }
     {
         let Some((name, rest)) = line.split_once(' ') else {
             return Err(LineFault::NotVector);

@@ -12,7 +12,7 @@ use clap::ArgMatches;
 use command_line::is_decimal;
 use csi_client::{Received, ReceivedReply, call_again};
 use csi_types::Method;
-use frames_core::Reply;
+use envelope::Reply;
 use std::time::Duration;
 
 // More pages than there are volumes: a server that has more goes round in a ring.
@@ -70,7 +70,7 @@ fn received(
 }
 
 // Takes the reply that has a page. A refusal is the end, and shown; as JSON a page is shown with all others.
-fn take_page(
+fn add_page(
     rt: &HostRuntime,
     listing: &mut Listing,
     reply: &Reply<'_>,
@@ -82,7 +82,7 @@ fn take_page(
             return Ok(Some(ended));
         }
     }
-    listing.take_body(rt.alloc(), reply.body, is_json)?;
+    listing.add_body(rt.alloc(), reply.body, is_json)?;
     Ok(None)
 }
 
@@ -100,7 +100,7 @@ fn walk(
     for _ in 0..MOST_PAGES {
         let frame = page(rt.alloc(), arguments, &listing.token)?;
         let reply = received(rt, path, &frame, patience)?;
-        if let Some(ended) = take_page(rt, &mut listing, &reply.as_reply(), is_json)? {
+        if let Some(ended) = add_page(rt, &mut listing, &reply.as_reply(), is_json)? {
             return Ok(ended);
         }
         if listing.token.is_empty() {
@@ -110,11 +110,13 @@ fn walk(
     Err(Failure::NoEnd)
 }
 
-/// Makes a call on a socket, again while it is not answered, and shows its reply; of a listing all pages, if that is asked for.
+/// Makes a call on a socket, again while it is not answered, and shows its reply; of a listing all pages, if
+/// that is asked for.
 ///
 /// # Errors
 ///
-/// Where the arguments ask for no call, it is not answered, its reply is malformed, writing fails, or memory is refused.
+/// Where the arguments ask for no call, it is not answered, its reply is malformed, writing fails, or memory
+/// is refused.
 pub(crate) fn run(rt: &HostRuntime, arguments: &ArgMatches<'_>) -> Result<Ended, Failure> {
     let path = arguments.get_str("socket").unwrap_or("");
     let (method, frame) = called(rt.alloc(), arguments)?;

@@ -6,7 +6,7 @@ ghost use Rattle.csictl.specs.declared.failure.Failure.TheVariants.{NoMemory};
 
 use command_line::{ArgumentsFault, Cause, cause};
 use csi_types::Method;
-use frames_core::ReplyFault;
+use envelope::ReplyFault;
 use std::alloc::{AllocError, Global};
 use std::fmt::Display;
 use std::io::{self, ErrorKind};
@@ -117,15 +117,15 @@ impl From<AllocError> for Failure {
 
 impl Failure {
     /// Something of the system failed.
-    pub(crate) fn of_system(alloc: Global, name: &str, error: &io::Error) -> Failure {
+    pub(crate) fn system(alloc: Global, name: &str, error: &io::Error) -> Failure {
         match error.kind() {
             ErrorKind::OutOfMemory => Failure::NoMemory,
-            _ => Failure::of_name(alloc, name, error),
+            _ => Failure::named(alloc, name, error),
         }
     }
 
     /// A file or a socket failed.
-    pub(crate) fn of_name<T: Display>(alloc: Global, name: &str, why: &T) -> Failure {
+    pub(crate) fn named<T: Display>(alloc: Global, name: &str, why: &T) -> Failure {
         match cause(alloc, name, why) {
             Ok(cause) => Failure::System(cause),
             Err(_) => Failure::NoMemory,

@@ -13,7 +13,8 @@ use csi_types::{
 };
 use std::alloc::{AllocError, AllocFailed, Global};
 
-/// Why a field is not had. It is small, and so is what a function spells out that makes a message of many fields.
+/// Why a field is not had. It is small, and so is what a function spells out that makes a message of many
+/// fields.
 #[derive(Clone, Copy)]
 pub(crate) enum FieldFault {
     /// A pair has no `=`.

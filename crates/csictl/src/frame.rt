@@ -3,8 +3,8 @@
 use crate::failure::{Ended, Failure};
 use crate::message;
 use clap::ArgMatches;
-use csi_client::send;
 use csi_types::Method;
+use frames_core::send;
 use std::alloc::Global;
 
 /// The method and the frame of the call that the arguments ask for.
@@ -31,6 +31,6 @@ pub(crate) fn run(rt: &HostRuntime, arguments: &ArgMatches<'_>) -> Result<Ended,
     let (_, frame) = called(rt.alloc(), arguments)?;
     match send(&mut rt.stdout(), &frame) {
         Ok(()) => Ok(Ended::Done),
-        Err(error) => Err(Failure::of_system(rt.alloc(), "standard output", &error)),
+        Err(error) => Err(Failure::system(rt.alloc(), "standard output", &error)),
     }
 }

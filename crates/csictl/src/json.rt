@@ -3,13 +3,14 @@
 use csi_types::{
     Access, Capability, Confirmed, Entry, Items, Map as TextMap, Response, Text, VolumeInfo,
 };
-use frames_core::Reply;
+use envelope::Reply;
 use serde_json::{Map, Value, json};
 use std::alloc::{AllocError, Global};
 
 type Json = Result<Value, AllocError>;
 
-// The names of enumerations, by their numbers (CSI specification, 'GetPluginCapabilities', 'ControllerGetCapabilities', 'CreateVolume').
+// The names of enumerations, by their numbers (CSI specification, 'GetPluginCapabilities',
+// 'ControllerGetCapabilities', 'CreateVolume').
 const SERVICES: [&str; 4] = [
     "UNKNOWN",
     "CONTROLLER_SERVICE",

@@ -5,8 +5,9 @@ ghost use Rattle.std.specs.Prelude.{◌≡◌, ⊤};
 use crate::connection::Connection;
 use crate::failure::Failure;
 use command_line::say;
-use csi_client::{Exchanges, Line, Received, pause_millis, receive, send};
-use frames_core::ReplyFault;
+use csi_client::{Exchanges, Line, Received, pause_millis, receive};
+use envelope::ReplyFault;
+use frames_core::send;
 use std::io::{self, ErrorKind};
 use std::thread;
 use std::time::{Clock, Duration};
@@ -64,13 +65,13 @@ impl<'a> SocketLine<'a> {
     pub(crate) fn failure(&self) -> Failure {
         let alloc = self.rt.alloc();
         match &self.unanswered {
-            Some(why) => Failure::of_name(alloc, self.path, why),
-            None => Failure::of_name(alloc, self.path, &Unanswered::Closed),
+            Some(why) => Failure::named(alloc, self.path, why),
+            None => Failure::named(alloc, self.path, &Unanswered::Closed),
         }
     }
 
     // Says why the last try was not answered, and waits for the next one.
-    fn begin_again(&self, why: &Unanswered) {
+    fn report_and_wait(&self, why: &Unanswered) {
         let rt = self.rt;
         let tried = u32::try_from(self.exchanges.made).unwrap_or(u32::MAX);
         let turn = tried.saturating_add(1);
@@ -130,7 +131,7 @@ impl Line for SocketLine<'_> {
 
     fn exchange(&mut self, frame: &[u8]) -> Received {
         if let Some(why) = &self.unanswered {
-            self.begin_again(why);
+            self.report_and_wait(why);
         }
         let (received, why) = outcome(self.converse(frame));
         self.unanswered = why;

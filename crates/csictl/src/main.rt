@@ -15,11 +15,11 @@ mod run;
 mod show;
 mod vectors;
 
-use command_line::{say, take_closed};
+use command_line::{occupy_closed, say};
 use std::process::ExitCode;
 
 fn main(rt: HostRuntime) -> ExitCode {
-    let _standard = take_closed(&rt);
+    let _standard = occupy_closed(&rt);
     match run::run(&rt) {
         Ok(ended) => ExitCode::from(ended.status()),
         Err(failure) => {

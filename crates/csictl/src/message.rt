@@ -10,7 +10,7 @@ use csi_types::{
     Boxed, CreateVolume, DeleteVolume, GetCapacity, ListVolumes, Method, Modify, Publish, Request,
     Text, Unpublish, Validate, copy_text, method_named,
 };
-use frames_core::MAX_MESSAGE_BYTES;
+use envelope::MAX_MESSAGE_BYTES;
 use hex::FromHexError;
 use std::alloc::{AllocError, Global};
 

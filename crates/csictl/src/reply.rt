@@ -8,7 +8,7 @@ use crate::json;
 use csi_client::{put_body_lines, put_reply_line};
 use csi_codec::decode_response;
 use csi_types::{Entry, Items, Method, Response, Text, copy_text};
-use frames_core::Reply;
+use envelope::Reply;
 use pbmessage::DecodeFault;
 use serde_json::Value;
 use std::alloc::{AllocError, Global};
@@ -33,7 +33,7 @@ impl From<DecodeFault> for Failure {
 pub(crate) fn write(rt: &HostRuntime, shown: &[u8]) -> Result<(), Failure> {
     match rt.stdout().write_all(shown) {
         Ok(()) => Ok(()),
-        Err(error) => Err(Failure::of_system(rt.alloc(), "standard output", &error)),
+        Err(error) => Err(Failure::system(rt.alloc(), "standard output", &error)),
     }
 }
 
@@ -48,7 +48,8 @@ fn line(alloc: Global, value: &Value) -> Result<String, AllocError> {
 ///
 /// # Errors
 ///
-/// Where its body is no response of the method, and then its first line is shown; where it cannot be written, or memory is refused.
+/// Where its body is no response of the method, and then its first line is shown; where it cannot be written,
+/// or memory is refused.
 pub(crate) fn show_lines(
     rt: &HostRuntime,
     method: Method,
@@ -65,7 +66,8 @@ pub(crate) fn show_lines(
     Ok(Ended::with(reply.status != 0))
 }
 
-// What a body says, as a line of JSON. The response is lent, so that what owns one does nothing else that may fail.
+// What a body says, as a line of JSON. The response is lent, so that what owns one does nothing else that may
+// fail.
 fn body_line(alloc: Global, method: Method, body: &[u8]) -> Result<String, Failure> {
     match decode_response(alloc, method, body) {
         Ok(response) => response_line(alloc, &response),
@@ -120,7 +122,7 @@ impl Listing {
         }
     }
 
-    fn take(&mut self, alloc: Global, entries: &Items<Entry>) -> Result<(), AllocError> {
+    fn push_entries(&mut self, alloc: Global, entries: &Items<Entry>) -> Result<(), AllocError> {
         for entry in entries {
             self.entries.push(json::entry(alloc, entry)?)?;
         }
@@ -132,7 +134,7 @@ impl Listing {
     /// # Errors
     ///
     /// Where it is none, or goes on where it began itself, or memory is refused.
-    pub(crate) fn take_body(
+    pub(crate) fn add_body(
         &mut self,
         alloc: Global,
         body: &[u8],
@@ -147,7 +149,7 @@ impl Listing {
         }
         self.token = copy_text(alloc, token.as_str())?;
         if are_kept {
-            self.take(alloc, entries)?;
+            self.push_entries(alloc, entries)?;
         }
         Ok(())
     }

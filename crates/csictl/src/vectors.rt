@@ -14,8 +14,8 @@ fn outcome(alloc: Global, path: &str, end: VectorsEnd) -> Result<Ended, Failure>
             path: String::from_str(alloc, path)?,
             line,
         }),
-        VectorsEnd::LinesSpent => Err(Failure::of_name(alloc, path, &"it has too many lines")),
-        VectorsEnd::ReadFailed => Err(Failure::of_name(alloc, path, &"a read failed")),
+        VectorsEnd::LinesSpent => Err(Failure::named(alloc, path, &"it has too many lines")),
+        VectorsEnd::ReadFailed => Err(Failure::named(alloc, path, &"a read failed")),
         VectorsEnd::WriteFailed => Err(Failure::WriteFailed),
         VectorsEnd::NoMemory => Err(Failure::NoMemory),
     }
@@ -34,6 +34,6 @@ pub(crate) fn run(rt: &HostRuntime, arguments: &ArgMatches<'_>) -> Result<Ended,
             path,
             run_vectors(rt.alloc(), &mut file, &mut rt.stdout()),
         ),
-        Err(error) => Err(Failure::of_system(rt.alloc(), path, &error)),
+        Err(error) => Err(Failure::system(rt.alloc(), path, &error)),
     }
 }

@@ -6,9 +6,9 @@ use Rattle.sqlite.specs.Order.{Row}
 use Rattle.sqlite.specs.declared.types.Value.{Value}
 use Rattle.sqlite.specs.declared.types.Value.TheVariants.{Int}
 use Rattle.csi_keeper.specs.State.{State}
-use Rattle.csi_log.specs.Giving.{Gives, attachments_in, next_in, shown_volume, volumes_in}
-use Rattle.csi_log.specs.Pages.{PageItem, Meta, Volume, Attachment, Token, Skipped}
-use Rattle.csi_log.specs.Taking.{PutsAll, kept_attachment}
+use Rattle.csi_change_store.specs.Giving.{Gives, attachments_in, next_in, shown_volume, volumes_in}
+use Rattle.csi_change_store.specs.Pages.{PageItem, Meta, Volume, Attachment, Token, Skipped}
+use Rattle.csi_change_store.specs.Taking.{PutsAll, kept_attachment}
 use Rattle.csi_sql.specs.Making.{MakesTables}
 use Rattle.csi_sql.specs.Rows.{meta_row, seen_attachment, seen_meta, seen_volume}
 use Rattle.csi_sql.specs.declared.formats.TheConstants.{FIRST_FORMAT, LATEST_FORMAT}

@@ -1,4 +1,4 @@
--- What is read of a log, from its pages to a memory.
+-- What is read of a change store, from its pages to a memory.
 use Rattle.std.proofs.Common.{◌≡◌, ◌∙◌, sym, ap, subst, inl, inr, arith, ℕ, false, true, List}
 use Rattle.sqlite_disk.specs.contracts.memory.MemoryDisk.TheImpl as memory
 use Rattle.sqlite_disk.specs.declared.memory.Memory.{Memory}
@@ -13,11 +13,11 @@ use Rattle.csi_client.specs.declared.receiving.Received.{Received}
 use Rattle.csi_config.specs.declared.config.Config.{Config}
 use Rattle.csi_keeper.specs.Keeper.{IsQuiet}
 use Rattle.csi_keeper.specs.State.{State}
-use Rattle.csi_log.specs.Filling.{ReadsRows}
-use Rattle.csi_log.specs.Giving.{GivesRows}
-use Rattle.csi_log.specs.Pages.{Notes}
-use Rattle.csi_log.specs.Walking.{all_items}
-use Rattle.csi_log.specs.declared.remote.RemoteLog.{RemoteLog}
+use Rattle.csi_change_store.specs.Filling.{ReadsRows}
+use Rattle.csi_change_store.specs.Giving.{GivesRows}
+use Rattle.csi_change_store.specs.Pages.{Notes}
+use Rattle.csi_change_store.specs.Walking.{all_items}
+use Rattle.csi_change_store.specs.declared.remote.RemoteChangeStore.{RemoteChangeStore}
 use Rattle.csi_memory.specs.declared.mem.MemKeeper.{MemKeeper}
 use Rattle.csi_sql.specs.Tables.{no_schema, schema}
 use Rattle.csi_tables.specs.Holding.{IsEitherRows}
@@ -26,7 +26,7 @@ use Rattle.csi_tables.specs.Laws.{OneState}
 use Rattle.csi_tables.specs.declared.tables.Tables.{Tables}
 use Rattle.csi_through.specs.Copying.{IsCopy}
 use Rattle.csi_through.specs.declared.through.Through.{Through}
-use Rattle.csid.specs.Reading.{AreTaken, IsCopied, IsReadFrom, IsUnused, SettlesMeta}
+use Rattle.csid.specs.Reading.{AreTaken, IsCopied, IsReadFrom, IsUnused, ChecksMeta}
 use Rattle.csid.proofs.GivenLemmas.{given_back, moved}
 use Rattle.csid.proofs.MemoryLemmas.{undoubted}
 
@@ -40,7 +40,7 @@ rows_of db s ours (inr none) = absurd (not_none (sym ours ∙ none.0))
 
 module _ {S : Type 0} (g : Ghosts S) (config : Config) (conn : Held S) {P : Type 0} (exchanged : P → P → List ℕ → Received → Type 0) (old : P) where
   -- the tables that adoption makes of a connection with the rows of all pages
-  pub taken : GivesRows → OneState → (mid new : P) (notes : Notes) (filled : Held S) (t : Tables S g) → ReadsRows g conn filled exchanged old mid notes → SettlesMeta exchanged mid new notes
+  pub taken : GivesRows → OneState → (mid new : P) (notes : Notes) (filled : Held S) (t : Tables S g) → ReadsRows g conn filled exchanged old mid notes → ChecksMeta exchanged mid new notes
       → IsAdopted g config filled t → AreTaken g config conn exchanged old new t
   taken gives one mid new notes filled t rows settled adopted = record {
     asked = record { pages = rows.pages; notes = notes; mid = mid; read = rows.read; settled = settled };
@@ -62,7 +62,7 @@ module _ {S : Type 0} (g : Ghosts S) (config : Config) (conn : Held S) {P : Type
   }
 
   -- a memory that is a copy of the tables
-  copied_over : (t u : Tables S g) (through : Through MemKeeper (RemoteLog P)) → AreTaken g config conn exchanged old through.log.peer t → IsQuiet (tables_model g t) (tables_model g u)
+  copied_over : (t u : Tables S g) (through : Through MemKeeper (RemoteChangeStore P)) → AreTaken g config conn exchanged old through.change_store.peer t → IsQuiet (tables_model g t) (tables_model g u)
       → IsCopy (tables_model g t) (tables_model g u) through.memory → IsUnused through → IsCopied g config conn exchanged old through
   copied_over t u through it quiet copy unused = record {
     asked = it.asked;
@@ -74,16 +74,16 @@ module _ {S : Type 0} (g : Ghosts S) (config : Config) (conn : Held S) {P : Type
     unused = unused;
   }
 
-  pub copied : (t u : Tables S g) (through : Through MemKeeper (RemoteLog P)) (peer : P) (log : RemoteLog P) → AreTaken g config conn exchanged old peer t → IsQuiet (tables_model g t) (tables_model g u)
-      → IsCopy (tables_model g t) (tables_model g u) through.memory → through.log ≡ log → (log.peer ≡ peer) × (log.is_down ≡ false)
-      → (through.health.refusals ≡ 0) × (through.health.is_current ≡ true) × (through.health.is_down ≡ false) → IsCopied g config conn exchanged old through
-  copied t u through peer log it quiet copy over begun fresh =
-      copied_over t u through (subst (λ (p : P). AreTaken g config conn exchanged old p t) (sym (ap (λ (l : RemoteLog P). l.peer) over ∙ begun.0)) it) quiet copy
-      (record { refusals = fresh.0; current = fresh.1; up = fresh.2; log_up = ap (λ (l : RemoteLog P). l.is_down) over ∙ begun.1 })
+  pub copied : (t u : Tables S g) (through : Through MemKeeper (RemoteChangeStore P)) (peer : P) (change_store : RemoteChangeStore P) → AreTaken g config conn exchanged old peer t → IsQuiet (tables_model g t) (tables_model g u)
+      → IsCopy (tables_model g t) (tables_model g u) through.memory → through.change_store ≡ change_store → (change_store.peer ≡ peer) × (change_store.is_down ≡ false)
+      → (through.health.refusals ≡ 0) × (through.is_current ≡ true) × (through.health.is_down ≡ false) → IsCopied g config conn exchanged old through
+  copied t u through peer change_store it quiet copy over begun fresh =
+      copied_over t u through (subst (λ (p : P). AreTaken g config conn exchanged old p t) (sym (ap (λ (l : RemoteChangeStore P). l.peer) over ∙ begun.0)) it) quiet copy
+      (record { refusals = fresh.0; current = fresh.1; up = fresh.2; change_store_up = ap (λ (l : RemoteChangeStore P). l.is_down) over ∙ begun.1 })
 
 module _ (config : Config) {P : Type 0} (exchanged : P → P → List ℕ → Received → Type 0) (old : P) where
   -- over files in memory, where the database had no table
-  pub read_from : (conn : Held (FileStore Memory memory.ghosts)) (through : Through MemKeeper (RemoteLog P)) → (file_state conn).now.schema ≡ no_schema → IsCopied over_files config conn exchanged old through
+  pub read_from : (conn : Held (FileStore Memory memory.ghosts)) (through : Through MemKeeper (RemoteChangeStore P)) → (file_state conn).now.schema ≡ no_schema → IsCopied over_files config conn exchanged old through
       → IsReadFrom config exchanged old through
   read_from conn through none it = record {
     asked = it.asked;

@@ -22,7 +22,7 @@ use Rattle.csi_files.specs.Starting.{start_model}
 use Rattle.csid.specs.Statuses.{IsOrNoMemory}
 use Rattle.csid.specs.declared.failure.Failure.{Failure}
 use Rattle.csid.specs.declared.serving.Answered.{Answered}
-use Rattle.csid.specs.declared.serving.Place.{Place}
+use Rattle.csid.specs.declared.serving.TablesFile.{TablesFile}
 
 -- a failure of the tables, or want of memory
 abbrev pub Fails : Result Answered Failure → Type 0
@@ -52,14 +52,15 @@ module _ {D : Type 0} {g : disk.Ghosts D} where
   Says (Err (NoFiles error)) said = Fails said
   Says (Err (NotServed e)) said = SaysNotServed e said
 
-module _ {S : Type 0} (first : start.Ghosts S) (config : Config) (place : Place) (unread left held holds : Option (List ℕ)) where
+module _ {S : Type 0} (first : start.Ghosts S) (config : Config) (place : TablesFile) (unread left held holds : Option (List ℕ)) where
   abbrev File : Type 0
   File = Modelled Host S calls.ghosts first
 
   -- what calls came to over files that held what `first` says
   abbrev pub IsOutcome : Result (Closed File) (NotServedAt File over_calls) → Type 0
   IsOutcome (Ok closed) =
-      Serves (volumes config) (start_model (image_at first) closed.served.is_new) (seen config (files_model over_calls closed.files closed.served.refusals closed.served.is_down)) unread left held holds closed.served.end
+      Serves (volumes config) (start_model (image_at first) closed.served.is_new)
+      (seen config (files_model over_calls closed.files closed.served.refusals closed.served.is_down)) unread left held holds closed.served.end
   IsOutcome (Err e) = IsNotServedAt first config place.is_existing unread left held holds e
 
   -- The files were not opened, and nothing was read or written; or calls came to something, and that is said.

@@ -1,4 +1,5 @@
-//! `csid --check-config` and `csid --check-tables`: what a file has, or why it would be refused. Nothing is served, and nothing is changed.
+//! `csid --check-config` and `csid --check-tables`: what a file has, or why it would be refused. Nothing is
+//! served, and nothing is changed.
 
 ghost use Rattle.std.specs.Prelude.{◌≡◌, false};
 
@@ -7,7 +8,7 @@ use crate::console::Console;
 use crate::content::{Content, read_content};
 use crate::copy::open_copy;
 use crate::failure::Failure;
-use crate::tables::{check_standing, of_database, take};
+use crate::tables::{check_existing, database_failure, keeper_or_new};
 use csi_config::Config;
 use sqlite::{Alter, Connection};
 use std::fmt::{self, Display};
@@ -48,7 +49,8 @@ pub(crate) fn check_config(console: &Console<'_>, path: &str) -> Result<(), Fail
     tell(console.rt, &Summary { config: &config })
 }
 
-// What tables have that are adopted. It is read first, since an adoption makes them ones of the latest format.
+// What tables have that are adopted. It is read first, since an adoption makes them ones of the latest
+// format.
 fn adopted<S: Alter + Drop>(
     console: &Console<'_>,
     path: &str,
@@ -58,10 +60,10 @@ fn adopted<S: Alter + Drop>(
     requires { conn.in_transaction ≡ false }
 {
     let content = read_content(&mut conn);
-    let _tables = take(console, path, conn, config, true)?;
+    let _tables = keeper_or_new(console, path, conn, config, true)?;
     match content {
         Ok(content) => Ok(content),
-        Err(error) => Err(of_database(console.rt.alloc(), path, &error)),
+        Err(error) => Err(database_failure(console.rt.alloc(), path, &error)),
     }
 }
 
@@ -80,7 +82,7 @@ pub(crate) fn check_tables(
     if path.is_empty() {
         return Err(Failure::NoTablesPath);
     }
-    check_standing(rt, path)?;
+    check_existing(rt, path)?;
     let content = adopted(console, path, open_copy(rt, path)?, &config)?;
     tell(rt, &content)
 }

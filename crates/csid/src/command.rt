@@ -44,7 +44,7 @@ pub(crate) struct Serving<'a> {
     /// The file of the tables, where no log has the volumes.
     pub(crate) tables: &'a str,
     /// The socket of the log that has the volumes.
-    pub(crate) log: Option<&'a str>,
+    pub(crate) change_store: Option<&'a str>,
     /// The tables have to stand.
     pub(crate) is_existing: bool,
     /// Reads are those of the file.
@@ -188,7 +188,8 @@ const NUMBERS: [(&str, &str); 2] = [
     ("idle", "--idle <SECONDS>"),
 ];
 
-/// An option whose number is given otherwise than in decimal digits alone, as it is shown, and that number: `clap` takes a sign.
+/// An option whose number is given otherwise than in decimal digits alone, as it is shown, and that number:
+/// `clap` takes a sign.
 pub(crate) fn odd_number<'a>(matches: &ArgMatches<'a>) -> Option<(&'static str, &'a str)> {
     let (_, arguments) = matches.subcommand()?;
     for (name, shown) in NUMBERS {
@@ -215,11 +216,11 @@ pub(crate) fn odd_store<'a>(matches: &ArgMatches<'a>) -> Option<&'static str> {
 }
 
 // What the arguments behind `serve` ask for.
-fn asked_of_serve<'a>(arguments: &ArgMatches<'a>) -> Serving<'a> {
+fn serve_task<'a>(arguments: &ArgMatches<'a>) -> Serving<'a> {
     Serving {
         socket: arguments.get_str("socket").unwrap_or(""),
         tables: arguments.get_str("tables").unwrap_or(""),
-        log: arguments.get_str("log"),
+        change_store: arguments.get_str("log"),
         is_existing: arguments.get_flag("existing"),
         is_low_memory: arguments.get_flag("low-memory"),
         config: arguments.get_str("config"),
@@ -230,7 +231,7 @@ fn asked_of_serve<'a>(arguments: &ArgMatches<'a>) -> Serving<'a> {
 }
 
 // What the arguments without a subcommand ask for.
-fn asked_plainly<'a>(arguments: &ArgMatches<'a>) -> Task<'a> {
+fn plain_task<'a>(arguments: &ArgMatches<'a>) -> Task<'a> {
     if let Some(path) = arguments.get_str("check-config") {
         return Task::CheckConfig(path);
     }
@@ -249,15 +250,15 @@ fn asked_plainly<'a>(arguments: &ArgMatches<'a>) -> Task<'a> {
 }
 
 /// What arguments that [`read_arguments`] takes ask for.
-pub(crate) fn asked<'a>(matches: &ArgMatches<'a>) -> Task<'a> {
+pub(crate) fn task_of<'a>(matches: &ArgMatches<'a>) -> Task<'a> {
     match matches.subcommand() {
-        Some(("serve", arguments)) => Task::Serve(asked_of_serve(arguments)),
+        Some(("serve", arguments)) => Task::Serve(serve_task(arguments)),
         Some((_, arguments)) => Task::Pipe(Piped {
             config: arguments.get_str("config"),
             tables: arguments.get_str("tables"),
             is_existing: arguments.get_flag("existing"),
             is_low_memory: arguments.get_flag("low-memory"),
         }),
-        None => asked_plainly(matches),
+        None => plain_task(matches),
     }
 }

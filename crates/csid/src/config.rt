@@ -18,7 +18,7 @@ fn read_file(rt: &HostRuntime, path: &str) -> Result<Vec<u8>, Failure>
     match fs::read(rt, path) {
         Ok(bytes) => Ok(bytes),
         Err(error) if error.kind() == ErrorKind::OutOfMemory => Err(Failure::NoMemory),
-        Err(error) => Err(Failure::of_configuration(rt.alloc(), path, &error)),
+        Err(error) => Err(Failure::configuration(rt.alloc(), path, &error)),
     }
 }
 
@@ -29,7 +29,7 @@ fn config_of(alloc: Global, path: &str, bytes: &[u8]) -> Result<Config, Failure>
     match read_config(alloc, bytes) {
         Ok(config) => Ok(config),
         Err(ConfigError::NoMemory) => Err(Failure::NoMemory),
-        Err(error) => Err(Failure::of_configuration(alloc, path, &error)),
+        Err(error) => Err(Failure::configuration(alloc, path, &error)),
     }
 }
 
@@ -45,7 +45,8 @@ fn tell_unknown(console: &Console<'_>, path: &str, bytes: &[u8]) {
     }
 }
 
-/// The configuration of a file, or the sample. Keys that are not known are ignored, and said only if that is asked for.
+/// The configuration of a file, or the sample. Keys that are not known are ignored, and said only if that is
+/// asked for.
 ///
 /// # Errors
 ///

@@ -1,4 +1,5 @@
-//! Lines on standard error. No line is waited for: calls are answered also where nobody reads what is written there.
+//! Lines on standard error. No line is waited for: calls are answered also where nobody reads what is written
+//! there.
 
 ghost use Rattle.std.specs.Prelude.{◌<◌};
 ghost use Rattle.csid.specs.declared.console.TheConstants.{WAYS};
@@ -168,7 +169,8 @@ impl<'a> Console<'a> {
         has_caught_up
     }
 
-    /// Writes a line. One that cannot be written at once is dropped, and the next one that can comes after the number of those.
+    /// Writes a line. One that cannot be written at once is dropped, and the next one that can comes after
+    /// the number of those.
     pub(crate) fn say<T: Display>(&self, what: &T) {
         if !self.catch_up() || !self.put(what) {
             self.dropped.set(self.dropped.get().saturating_add(1));
@@ -204,7 +206,7 @@ impl<'a> Console<'a> {
     }
 
     /// Does that once a second is over.
-    pub(crate) fn settle(&self, now: Instant) {
+    pub(crate) fn finish_second(&self, now: Instant) {
         if self.left(now).is_none() {
             self.shown.set(0);
             if self.tally.get().total() > 0 {
@@ -224,8 +226,8 @@ impl<'a> Console<'a> {
     }
 
     /// Writes how a connection ended, or counts it where many have ended in this second.
-    pub(crate) fn tell_end<T: Display>(&self, ending: Ending, now: Instant, what: &T) {
-        self.settle(now);
+    pub(crate) fn report_end<T: Display>(&self, ending: Ending, now: Instant, what: &T) {
+        self.finish_second(now);
         let shown = self.shown.get();
         if shown < FEW {
             self.shown.set(shown + 1);

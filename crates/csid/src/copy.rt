@@ -6,7 +6,7 @@ ghost use Rattle.csid.specs.Statuses.{IsOrNoMemory};
 
 use crate::failure::Failure;
 use crate::memory::{files_of, open};
-use crate::tables::of_database;
+use crate::tables::database_failure;
 use sqlite::{Connection, Error, ErrorCode, FileStore, Files};
 use sqlite_disk::Memory;
 use std::alloc::Global;
@@ -19,7 +19,7 @@ const TRIES: usize = 10;
 const IS_WRITTEN: &str = "it is written all the time";
 
 // Why a file cannot be read.
-fn of_read(alloc: Global, path: &str, error: &io::Error) -> Failure
+fn read_failure(alloc: Global, path: &str, error: &io::Error) -> Failure
     ensures { IsOrNoMemory 4 result }
 {
     match error.kind() {
@@ -35,7 +35,7 @@ fn bytes_of(rt: &HostRuntime, path: &str) -> Result<Vec<u8>, Failure>
     match fs::read(rt, path) {
         Ok(bytes) => Ok(bytes),
         Err(error) if error.kind() == ErrorKind::NotFound => Ok(Vec::new(rt.alloc())),
-        Err(error) => Err(of_read(rt.alloc(), path, &error)),
+        Err(error) => Err(read_failure(rt.alloc(), path, &error)),
     }
 }
 
@@ -45,7 +45,7 @@ fn real_path(rt: &HostRuntime, path: &str) -> Result<String, Failure>
 {
     match fs::canonicalize(rt, path) {
         Ok(real) => Ok(String::from_str(rt.alloc(), real.as_str())?),
-        Err(error) => Err(of_read(rt.alloc(), path, &error)),
+        Err(error) => Err(read_failure(rt.alloc(), path, &error)),
     }
 }
 
@@ -56,14 +56,16 @@ fn beside(alloc: Global, real: &str, end: &str) -> Result<String, Failure>
     Ok(format!(in alloc; "{real}{end}")?)
 }
 
-// What a file and its log have at one moment. The file is read once more behind its log: where it was written meanwhile, both are read again.
-fn copied(rt: &HostRuntime, path: &str, log_path: &str) -> Result<Files<Memory>, Failure>
-    ensures usable { IfOk result (λ files. IsTrue (memory_is_usable files.log) × IsTrue (memory_is_usable files.db)) }
+// What a file and its log have at one moment. The file is read once more behind its log: where it was written
+// meanwhile, both are read again.
+fn copied(rt: &HostRuntime, path: &str, wal_path: &str) -> Result<Files<Memory>, Failure>
+    ensures usable { IfOk result (λ files. IsTrue (memory_is_usable files.log)
+        × IsTrue (memory_is_usable files.db)) }
     ensures failure { IfErr result (λ failure. IsOrNoMemory 4 failure) }
 {
     let mut db = bytes_of(rt, path)?;
     for _ in 0..TRIES {
-        let log = bytes_of(rt, log_path)?;
+        let log = bytes_of(rt, wal_path)?;
         let again = bytes_of(rt, path)?;
         if again == db {
             return files_of(rt.alloc(), log.as_slice(), db.as_slice());
@@ -73,16 +75,19 @@ fn copied(rt: &HostRuntime, path: &str, log_path: &str) -> Result<Files<Memory>,
     Err(Failure::of_tables(rt.alloc(), path, &IS_WRITTEN))
 }
 
-// Whether a journal has something to play back, which SQLite alone can do. The opening of the file itself refuses it too.
+// Whether a journal has something to play back, which SQLite alone can do. The opening of the file itself
+// refuses it too.
 fn is_hot(journal: &[u8]) -> bool {
     journal.first().is_some_and(|first| *first != 0)
 }
 
-/// A connection to a copy of a file and its log, by reads alone: no lock is taken, and nothing is made or changed on the disk.
+/// A connection to a copy of a file and its log, by reads alone: no lock is taken, and nothing is made or
+/// changed on the disk.
 ///
 /// # Errors
 ///
-/// Where the file cannot be read, is written all the time, or is no database; where a journal stands beside it; or where memory is refused.
+/// Where the file cannot be read, is written all the time, or is no database; where a journal stands beside
+/// it; or where memory is refused.
 pub(crate) fn open_copy(
     rt: &HostRuntime,
     path: &str,
@@ -94,7 +99,7 @@ pub(crate) fn open_copy(
     let journal = beside(rt.alloc(), real.as_str(), "-journal")?;
     if is_hot(bytes_of(rt, journal.as_str())?.as_slice()) {
         let error = Error::SqliteFailure(ErrorCode::CannotOpen);
-        return Err(of_database(rt.alloc(), path, &error));
+        return Err(database_failure(rt.alloc(), path, &error));
     }
     let log = beside(rt.alloc(), real.as_str(), "-wal")?;
     let files = copied(rt, real.as_str(), log.as_str())?;

@@ -6,7 +6,7 @@ ghost use Rattle.csid.specs.declared.failure.Failure.TheVariants.{NoMemory, Unus
 
 use command_line::{ArgumentsFault, Cause, cause};
 use csi_server::RunEnd;
-use frames_core::FrameFault;
+use envelope::FrameFault;
 use std::alloc::{AllocError, Global};
 use std::fmt::Display;
 use thiserror::Error;
@@ -109,7 +109,7 @@ impl Failure {
     }
 
     /// The configuration of a file cannot be had.
-    pub(crate) fn of_configuration<T: Display>(alloc: Global, path: &str, why: &T) -> Failure
+    pub(crate) fn configuration<T: Display>(alloc: Global, path: &str, why: &T) -> Failure
         ensures { IsOrNoMemory 3 result }
     {
         Failure::of(Resource::Configuration, cause(alloc, path, why))
@@ -147,31 +147,31 @@ impl Failure {
 
 /// Where calls come from and replies go to.
 #[derive(Clone, Copy)]
-pub(crate) enum Peer {
+pub(crate) enum Endpoint {
     Pipe,
     Connection,
 }
 
-impl Peer {
+impl Endpoint {
     // What is read.
     fn source(self) -> &'static str {
         match self {
-            Peer::Pipe => "standard input",
-            Peer::Connection => "a connection",
+            Endpoint::Pipe => "standard input",
+            Endpoint::Connection => "a connection",
         }
     }
 
     // What is written.
     fn sink(self) -> &'static str {
         match self {
-            Peer::Pipe => "standard output",
-            Peer::Connection => "a connection",
+            Endpoint::Pipe => "standard output",
+            Endpoint::Connection => "a connection",
         }
     }
 }
 
 /// What came of a run.
-pub(crate) fn outcome(peer: Peer, end: RunEnd) -> Result<(), Failure>
+pub(crate) fn outcome(peer: Endpoint, end: RunEnd) -> Result<(), Failure>
     ensures done { IfOk result (λ _. status_of end ≡ 0) }
     ensures failed { IfErr result (λ failure. failure_status failure ≡ status_of end) }
     ensures told { IfErr result (λ failure. end_of failure ≡ Some end) }

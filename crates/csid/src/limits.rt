@@ -2,7 +2,8 @@
 
 use std::time::{Duration, Instant};
 
-/// A call is whole so many seconds after its first byte, as far as its peer is waited for. A reply is taken in as many.
+/// A call is whole so many seconds after its first byte, as far as its peer is waited for. A reply is taken
+/// in as many.
 pub(crate) const CALL_SECONDS: u64 = 10;
 
 /// A peer may do nothing for so many seconds in any case, and no longer while another one has sent a call.

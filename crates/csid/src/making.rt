@@ -11,7 +11,8 @@ fn names_no_file(path: &str) -> bool {
     path == ":memory:" || path.starts_with("file:")
 }
 
-/// Makes a file that is missing, for its owner alone, whatever the process's mask is. What cannot be made so is left to the opening, which says why.
+/// Makes a file that is missing, for its owner alone, whatever the process's mask is. What cannot be made so
+/// is left to the opening, which says why.
 pub(crate) fn make_private(rt: &HostRuntime, path: &str) {
     if names_no_file(path) || !matches!(fs::exists(rt, path), Ok(false)) {
         return;

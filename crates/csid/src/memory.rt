@@ -7,7 +7,7 @@ ghost use Rattle.csi_sql.specs.Tables.{no_schema};
 ghost use Rattle.csid.specs.Statuses.{IsOrNoMemory};
 
 use crate::failure::Failure;
-use crate::tables::of_database;
+use crate::tables::database_failure;
 use sqlite::{Connection, FileStore, Files, Options};
 use sqlite_disk::{Disk, Memory};
 use std::alloc::Global;
@@ -34,8 +34,10 @@ fn in_memory(alloc: Global, bytes: &[u8]) -> Result<Memory, Failure>
 ///
 /// Where memory is refused.
 pub(crate) fn files_of(alloc: Global, log: &[u8], db: &[u8]) -> Result<Files<Memory>, Failure>
-    ensures usable { IfOk result (λ files. IsTrue (memory_is_usable files.log) × IsTrue (memory_is_usable files.db)) }
-    ensures bytes { IfOk result (λ files. (memory_bytes files.log ≡ log.now) × (memory_bytes files.db ≡ db.now)) }
+    ensures usable { IfOk result (λ files. IsTrue (memory_is_usable files.log)
+        × IsTrue (memory_is_usable files.db)) }
+    ensures bytes { IfOk result (λ files. (memory_bytes files.log ≡ log.now)
+        × (memory_bytes files.db ≡ db.now)) }
     ensures failure { IfErr result (λ failure. IsOrNoMemory 4 failure) }
 {
     let log = in_memory(alloc, log)?;
@@ -45,7 +47,8 @@ pub(crate) fn files_of(alloc: Global, log: &[u8], db: &[u8]) -> Result<Files<Mem
     })
 }
 
-/// A connection to the database that a file and its log hold; an empty one, where there is nothing in them. An error names the path.
+/// A connection to the database that a file and its log hold; an empty one, where there is nothing in them.
+/// An error names the path.
 ///
 /// # Errors
 ///
@@ -57,11 +60,12 @@ pub(crate) fn open(
 ) -> Result<Connection<FileStore<Memory>>, Failure>
     requires usable { IsTrue (memory_is_usable files.log) × IsTrue (memory_is_usable files.db) }
     ensures idle { IfOk result (λ conn. conn.in_transaction ≡ false) }
-    ensures blank { length (memory_bytes files.db) ≡ 0 → IfOk result (λ conn. (file_state conn).now.schema ≡ no_schema) }
+    ensures blank { length (memory_bytes files.db) ≡ 0
+        → IfOk result (λ conn. (file_state conn).now.schema ≡ no_schema) }
     ensures failure { IfErr result (λ failure. IsOrNoMemory 4 failure) }
 {
     match Connection::open_files(alloc, files, Options::new(SEED)) {
         Ok(conn) => Ok(conn),
-        Err((error, _)) => Err(of_database(alloc, path, &error)),
+        Err((error, _)) => Err(database_failure(alloc, path, &error)),
     }
 }

@@ -5,8 +5,8 @@ ghost use Rattle.std.specs.Prelude.{◌≡◌};
 use std::io::{self, ErrorKind, Write};
 use std::os::unix::net::UnixStream;
 
-/// Whether the peer has closed its end. Nothing can be written to it then, not even no byte, which is all that is tried. A peer that
-/// has closed only its sending half is there: it waits for replies.
+/// Whether the peer has closed its end. Nothing can be written to it then, not even no byte, which is all
+/// that is tried. A peer that has closed only its sending half is there: it waits for replies.
 pub(crate) fn has_gone(stream: &UnixStream) -> bool {
     let mut writer = stream;
     writer.write(&[]).is_err()

@@ -6,13 +6,14 @@ ghost use Rattle.csid.specs.Starting.{BeginsCall, BeginsNoCall, BeginsFault, May
 
 use crate::console::Ending;
 use crate::limits::{CALL_SECONDS, least, left_of};
-use frames_core::{FrameWhy, Taken, take_frame};
+use envelope::{FrameWhy, Taken, take_frame};
 use std::alloc::Global;
 use std::io::{self, ErrorKind, Read};
 use std::os::unix::net::UnixStream;
 use std::time::{Duration, Instant};
 
-/// With so many bytes of a first frame a connection is served: the rest is under way. So what waits takes little memory.
+/// With so many bytes of a first frame a connection is served: the rest is under way. So what waits takes
+/// little memory.
 const ENOUGH: usize = 4096;
 
 /// What the first bytes of a connection begin.
@@ -28,7 +29,7 @@ pub(crate) enum Start {
 
 /// What a look at a connection gave.
 #[derive(Clone, Copy)]
-pub(crate) enum Heard {
+pub(crate) enum PeerInput {
     /// Nothing has come.
     Nothing,
     /// Bytes, or the end of them.
@@ -63,9 +64,12 @@ impl Drop for Pending {
 
 // What the bytes begin that a connection has sent, up to its end or so far.
 fn start_of(sent: &[u8], has_ended: bool) -> Start
-    ensures call { result ≡ Start.Call → BeginsCall sent.now ⊎ ((has_ended ≡ false) × (ENOUGH ≤ length sent.now) × MayBeginCall sent.now) }
-    ensures no_call { result ≡ Start.NoCall → BeginsFault sent.now ⊎ ((has_ended ≡ true) × BeginsNoCall sent.now) }
-    ensures open { result ≡ Start.Open → (has_ended ≡ false) × (length sent.now < ENOUGH) × MayBeginCall sent.now }
+    ensures call { result ≡ Start.Call → BeginsCall sent.now
+        ⊎ ((has_ended ≡ false) × (ENOUGH ≤ length sent.now) × MayBeginCall sent.now) }
+    ensures no_call { result ≡ Start.NoCall → BeginsFault sent.now
+        ⊎ ((has_ended ≡ true) × BeginsNoCall sent.now) }
+    ensures open { result ≡ Start.Open → (has_ended ≡ false) × (length sent.now < ENOUGH)
+        × MayBeginCall sent.now }
 {
     match take_frame(sent) {
         Taken::Frame(..) => Start::Call,
@@ -94,7 +98,7 @@ impl Pending {
     }
 
     /// Whether it is told what the connection begins.
-    pub(crate) fn is_told(&self) -> bool {
+    pub(crate) fn is_known(&self) -> bool {
         matches!(self.start, Some(Start::Call | Start::NoCall))
     }
 
@@ -116,30 +120,31 @@ impl Pending {
     }
 
     // Takes a piece of what it sends, which is empty at the end.
-    fn take(&mut self, piece: &[u8], now: Instant) -> Heard {
+    fn accept(&mut self, piece: &[u8], now: Instant) -> PeerInput {
         if self.sent.extend_from_slice(piece).is_err() {
-            return Heard::Lost;
+            return PeerInput::Lost;
         }
         self.since = now;
         self.begun = Some(self.begun.unwrap_or(now));
         self.start = Some(start_of(self.sent.as_slice(), piece.is_empty()));
-        Heard::Something
+        PeerInput::Something
     }
 
-    /// Takes what has come, a piece of it. Once it is told what the connection begins, the rest is left to those who serve it.
-    pub(crate) fn hear(&mut self, now: Instant) -> Heard {
-        if self.is_told() {
-            return Heard::Nothing;
+    /// Takes what has come, a piece of it. Once it is told what the connection begins, the rest is left to
+    /// those who serve it.
+    pub(crate) fn receive(&mut self, now: Instant) -> PeerInput {
+        if self.is_known() {
+            return PeerInput::Nothing;
         }
         let mut piece = [0; ENOUGH];
         let mut stream = &self.stream;
         match stream.read(&mut piece) {
-            Ok(count) => self.take(piece.split_at(count).0, now),
+            Ok(count) => self.accept(piece.split_at(count).0, now),
             Err(error) if is_nothing(&error) => {
                 self.start = Some(Start::Open);
-                Heard::Nothing
+                PeerInput::Nothing
             }
-            Err(_) => Heard::Lost,
+            Err(_) => PeerInput::Lost,
         }
     }
 }

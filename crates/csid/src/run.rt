@@ -4,13 +4,13 @@ ghost use Rattle.std.specs.Prelude.{IfErr};
 ghost use Rattle.csid.specs.Statuses.{IsOrNoMemory};
 
 use crate::check::{check_config, check_tables};
-use crate::command::{Piped, Serving, Task, asked, odd_number, odd_store, read_arguments};
+use crate::command::{Piped, Serving, Task, odd_number, odd_store, read_arguments, task_of};
 use crate::config::configuration;
 use crate::console::Console;
-use crate::failure::{Failure, Peer, outcome};
-use crate::serving::{Answered, Place, Unheard, serve_place};
+use crate::failure::{Endpoint, Failure, outcome};
+use crate::serving::{Answered, SilentObserver, TablesFile, serve_file};
 use crate::socket::{listen, serve_all};
-use crate::tables::{check_log, check_standing, survey};
+use crate::tables::{check_existing, check_wal, survey};
 use clap::ArgMatches;
 use command_line::{ArgumentsFault, arguments};
 use csi_config::Config;
@@ -28,15 +28,17 @@ fn pipe_over_memory(rt: &HostRuntime, config: &Config) -> Result<(), Failure> {
     let mut reader = rt.stdin();
     let mut writer = rt.stdout();
     let end = serve(rt.alloc(), config, &mut keeper, &mut reader, &mut writer);
-    // The program ends, and gives its memory back whole: volume by volume 100,000 of them would take a twentieth of a second.
+    // The program ends, and gives its memory back whole: volume by volume 100,000 of them would take a
+    // twentieth of a second.
     forget(keeper);
-    outcome(Peer::Pipe, end)
+    outcome(Endpoint::Pipe, end)
 }
 
-// How the calls of standard input ended, and the file after them: both are said, and the program ends with what became of the file.
+// How the calls of standard input ended, and the file after them: both are said, and the program ends with
+// what became of the file.
 fn ended(console: &Console<'_>, answered: Answered) -> Result<(), Failure> {
     let Answered { served, unclosed } = answered;
-    let ended = outcome(Peer::Pipe, served.end);
+    let ended = outcome(Endpoint::Pipe, served.end);
     let Some(closing) = unclosed else {
         return ended;
     };
@@ -53,18 +55,18 @@ fn pipe_over_tables(
     path: &str,
     pipe: &Piped<'_>,
 ) -> Result<(), Failure> {
-    let place = Place {
+    let place = TablesFile {
         path,
         is_existing: pipe.is_existing,
         is_low_memory: pipe.is_low_memory,
     };
     let mut reader = console.rt.stdin();
     let mut writer = console.rt.stdout();
-    let answered = serve_place(
+    let answered = serve_file(
         console.rt,
         config,
         &place,
-        &Unheard,
+        &SilentObserver,
         &mut reader,
         &mut writer,
     )?;
@@ -84,28 +86,28 @@ fn answer_pipe(console: &Console<'_>, pipe: &Piped<'_>) -> Result<(), Failure> {
 fn check_serving(rt: &HostRuntime, serving: &Serving<'_>) -> Result<(), Failure>
     ensures { IfErr result (λ failure. IsOrNoMemory 4 failure) }
 {
-    if serving.log.is_some() {
+    if serving.change_store.is_some() {
         return Ok(());
     }
     if serving.tables.is_empty() {
         return Err(Failure::NoTablesPath);
     }
     if serving.is_existing {
-        check_standing(rt, serving.tables)
+        check_existing(rt, serving.tables)
     } else {
-        check_log(rt, serving.tables)
+        check_wal(rt, serving.tables)
     }
 }
 
-// A socket, and then what the tables have is said. The socket is made first, so that the file of a server that
-// runs is left alone.
+// A socket, and then what the tables have is said. The socket is made first, so that the file of a server
+// that runs is left alone.
 fn listen_over(
     console: &Console<'_>,
     config: &Config,
     serving: &Serving<'_>,
 ) -> Result<(), Failure> {
     let listener = listen(console.rt, serving.socket, serving.group)?;
-    if serving.log.is_none() {
+    if serving.change_store.is_none() {
         survey(console, serving.tables, config, serving.is_existing);
     }
     serve_all(console, config, serving, listener)
@@ -143,7 +145,7 @@ fn obey(console: &Console<'_>, arguments: &ArgMatches<'_>) -> Result<(), Failure
     if let Some(why) = odd_store(arguments) {
         return Err(refused_store(console.rt.alloc(), why));
     }
-    match asked(arguments) {
+    match task_of(arguments) {
         Task::Pipe(pipe) => answer_pipe(console, &pipe),
         Task::Serve(serving) => listening(console, &serving),
         Task::CheckConfig(path) => check_config(console, path),

@@ -1,11 +1,12 @@
-//! Calls over the tables in a file. `csi_files` opens, adopts, serves and closes them; here the words for that and the status are chosen.
+//! Calls over the tables in a file. `csi_files` opens, adopts, serves and closes them; here the words for
+//! that and the status are chosen.
 
 ghost use Rattle.std.specs.Prelude.{◌≡◌, None};
 ghost use Rattle.csid.specs.Serving.{IsAnswered, Says, SaysNotServed};
 
+use crate::existing::{FileFault, opening_bytes};
 use crate::failure::Failure;
-use crate::standing::{Fault, opening_bytes};
-use crate::tables::{of_adoption, of_database, of_reading, prepare};
+use crate::tables::{adoption_failure, database_failure, prepare, store_failure};
 use csi_config::Config;
 use csi_files::{Closed, NotServed, NotServedAt, Observer, ServeOptions, Served, serve_path};
 use sqlite::{Start, Unknown};
@@ -15,7 +16,7 @@ use std::io::{Read, Write};
 
 /// Where the volumes are.
 #[derive(Clone, Copy)]
-pub(crate) struct Place<'a> {
+pub(crate) struct TablesFile<'a> {
     /// The file.
     pub(crate) path: &'a str,
     /// Whether it must have tables. Where it need not, new ones are made.
@@ -29,7 +30,8 @@ pub(crate) struct Place<'a> {
 pub(crate) struct Answered {
     /// What came of the calls.
     pub(crate) served: Served,
-    /// Why the file was not closed after them, if that failed. What was committed is in the log next to it then.
+    /// Why the file was not closed after them, if that failed. What was committed is in the log next to it
+    /// then.
     pub(crate) unclosed: Option<Failure>,
 }
 
@@ -46,7 +48,7 @@ impl Answered {
 }
 
 // What came of calls where the files were opened, and not closed after the calls.
-fn of_not_served<D: Disk + Drop>(
+fn not_served_failure<D: Disk + Drop>(
     alloc: Global,
     path: &str,
     outcome: &NotServed<D>,
@@ -54,20 +56,20 @@ fn of_not_served<D: Disk + Drop>(
     ensures { SaysNotServed outcome.now result }
 {
     match outcome {
-        NotServed::NotOpened(error, _) => Err(of_database(alloc, path, error)),
-        NotServed::Blank(_) => Err(Failure::of_tables(alloc, path, &Fault::Blank)),
-        NotServed::NotAdopted(fault, _) => Err(of_adoption(alloc, path, fault)),
-        NotServed::NotCopied(fault, _) => Err(of_reading(alloc, path, *fault)),
+        NotServed::NotOpened(error, _) => Err(database_failure(alloc, path, error)),
+        NotServed::Blank(_) => Err(Failure::of_tables(alloc, path, &FileFault::Blank)),
+        NotServed::NotAdopted(fault, _) => Err(adoption_failure(alloc, path, fault)),
+        NotServed::NotCopied(fault, _) => Err(store_failure(alloc, path, *fault)),
         NotServed::Left(served, _) => Ok(Answered::of(*served)),
         NotServed::NotClosed(served, error, _) => Ok(Answered {
             served: *served,
-            unclosed: Some(of_database(alloc, path, error)),
+            unclosed: Some(database_failure(alloc, path, error)),
         }),
     }
 }
 
 // What came of calls over the files at a path.
-fn of_outcome<D: Disk + Drop>(
+fn outcome_failure<D: Disk + Drop>(
     alloc: Global,
     path: &str,
     outcome: Result<Closed<D>, NotServedAt<D>>,
@@ -76,15 +78,15 @@ fn of_outcome<D: Disk + Drop>(
 {
     match &outcome {
         Ok(closed) => Ok(Answered::of(closed.served)),
-        Err(NotServedAt::NoFiles(error)) => Err(of_database(alloc, path, error)),
-        Err(NotServedAt::NotServed(error)) => of_not_served(alloc, path, error),
+        Err(NotServedAt::NoFiles(error)) => Err(database_failure(alloc, path, error)),
+        Err(NotServedAt::NotServed(error)) => not_served_failure(alloc, path, error),
     }
 }
 
 /// Where nobody is told how calls are served: the replies are the same.
-pub(crate) struct Unheard;
+pub(crate) struct SilentObserver;
 
-impl Observer for Unheard {
+impl Observer for SilentObserver {
     fn made(&self) {}
 
     fn uncopied(&self) {}
@@ -94,16 +96,17 @@ impl Observer for Unheard {
 fn serve_from<S: Start, O: Observer, R: Read, W: Write>(
     rt: &HostRuntime,
     config: &Config,
-    place: &Place<'_>,
+    place: &TablesFile<'_>,
     start: S,
     observer: &O,
     reader: &mut R,
     writer: &mut W,
 ) -> Result<Answered, Failure>
     ensures { IsAnswered S.Start config.now place.now
-        (R.remaining reader.old) (R.remaining reader.new) (W.contents writer.old) (W.contents writer.new) result }
+        (R.remaining reader.old) (R.remaining reader.new) (W.contents writer.old)
+        (W.contents writer.new) result }
 {
-    let Place {
+    let TablesFile {
         path,
         is_existing,
         is_low_memory,
@@ -117,7 +120,7 @@ fn serve_from<S: Start, O: Observer, R: Read, W: Write>(
         reserve: opening_bytes(rt, path),
     };
     let outcome = serve_path(rt, config, path, start, &options, observer, reader, writer);
-    of_outcome(rt.alloc(), path, outcome)
+    outcome_failure(rt.alloc(), path, outcome)
 }
 
 /// Serves calls over the tables in a file.
@@ -125,10 +128,10 @@ fn serve_from<S: Start, O: Observer, R: Read, W: Write>(
 /// # Errors
 ///
 /// Why no call was served: the tables cannot be had, or memory is refused.
-pub(crate) fn serve_place<O: Observer, R: Read, W: Write>(
+pub(crate) fn serve_file<O: Observer, R: Read, W: Write>(
     rt: &HostRuntime,
     config: &Config,
-    place: &Place<'_>,
+    place: &TablesFile<'_>,
     observer: &O,
     reader: &mut R,
     writer: &mut W,

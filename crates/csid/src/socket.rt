@@ -3,18 +3,18 @@
 ghost use Rattle.std.specs.Prelude.{IfErr};
 ghost use Rattle.csid.specs.Statuses.{IsOrNoMemory};
 
+use crate::change_store::{ChangeStoreLeadership, OpenChangeStore, open_change_store};
 use crate::command::Serving;
 use crate::console::{Console, Ending};
-use crate::failure::{Failure, Peer, outcome};
+use crate::failure::{Endpoint, Failure, outcome};
 use crate::group::group_number;
-use crate::log::{LogLeadership, OpenLog, open_log};
 use crate::peer::{Always, GuardedWriter, Leadership, has_gone};
 use crate::pending::{Pending, Start};
 use crate::run::FIRST_NUMBER;
-use crate::serving::{Answered, Place, serve_place};
+use crate::serving::{Answered, TablesFile, serve_file};
 use crate::tables::NEW_TABLES;
 use crate::turn::Turn;
-use crate::waiting::{Waiting, tell_ending};
+use crate::waiting::{Waiting, report_ending};
 use csi_config::Config;
 use csi_files::{Observer, Served};
 use csi_keeper::Keeper;
@@ -94,19 +94,21 @@ pub(crate) fn listen(
 
 // Says how a run of calls ended.
 fn tell_run(console: &Console<'_>, ending: Ending, now: Instant, end: RunEnd) {
-    if let Err(failure) = outcome(Peer::Connection, end) {
-        console.tell_end(ending, now, &failure);
+    if let Err(failure) = outcome(Endpoint::Connection, end) {
+        console.report_end(ending, now, &failure);
     }
 }
 
 // Says how a connection ended, whose peer was waited for no longer, or not.
-fn tell_end(console: &Console<'_>, ending: Option<Ending>, is_cut: bool, end: RunEnd) {
+fn report_end(console: &Console<'_>, ending: Option<Ending>, is_cut: bool, end: RunEnd) {
     let Ok(now) = Instant::now(console.rt) else {
         return;
     };
     match (end, ending) {
-        (RunEnd::ReadFailed, Some(ending)) => tell_ending(console, ending, now),
-        (RunEnd::WriteFailed, _) if is_cut => console.say(&"the log does not lead any more"),
+        (RunEnd::ReadFailed, Some(ending)) => report_ending(console, ending, now),
+        (RunEnd::WriteFailed, _) if is_cut => console.say(
+            &"the change store does not lead any more",
+        ),
         (RunEnd::Malformed(_), _) => tell_run(console, Ending::Malformed, now, end),
         _ => tell_run(console, Ending::Failed, now, end),
     }
@@ -135,7 +137,8 @@ fn turn_of<'a>(
     }
 }
 
-// Answers the calls of one connection over a keeper, until it ends or a log does not lead any more. Whether that is why it ended.
+// Answers the calls of one connection over a keeper, until it ends or a change store does not lead any more.
+// Whether that is why it ended.
 fn serve_one<K: Keeper, L: Leadership + Drop>(
     service: &Service<'_>,
     waiting: &mut Waiting,
@@ -155,11 +158,12 @@ fn serve_one<K: Keeper, L: Leadership + Drop>(
         &mut reader,
         &mut writer,
     );
-    tell_end(service.console, turn.ending.get(), writer.is_cut, end);
+    report_end(service.console, turn.ending.get(), writer.is_cut, end);
     writer.is_cut
 }
 
-// Refuses what a connection has sent, which begins no call: so no volume is asked for, and the tables are not opened.
+// Refuses what a connection has sent, which begins no call: so no volume is asked for, and the tables are not
+// opened.
 fn refuse_peer(service: &Service<'_>, waiting: &mut Waiting, peer: &Pending) {
     match MemKeeper::new(service.console.rt.alloc(), FIRST_NUMBER) {
         Ok(mut keeper) => {
@@ -210,7 +214,8 @@ fn tell_served(console: &Console<'_>, path: &str, served: &Served) {
     }
 }
 
-// Opens the tables for a connection, answers its calls over them, and closes them; where they cannot be opened, no call is answered. What went wrong is said.
+// Opens the tables for a connection, answers its calls over them, and closes them; where they cannot be
+// opened, no call is answered. What went wrong is said.
 fn answer_over_tables<R: Read, W: Write>(
     service: &Service<'_>,
     ending: &Cell<Option<Ending>>,
@@ -222,7 +227,7 @@ fn answer_over_tables<R: Read, W: Write>(
         config,
         serving,
     } = *service;
-    let place = Place {
+    let place = TablesFile {
         path: serving.tables,
         is_existing: serving.is_existing,
         is_low_memory: serving.is_low_memory,
@@ -231,9 +236,9 @@ fn answer_over_tables<R: Read, W: Write>(
         console,
         path: serving.tables,
     };
-    let failure = match serve_place(console.rt, config, &place, &announcer, reader, writer) {
+    let failure = match serve_file(console.rt, config, &place, &announcer, reader, writer) {
         Ok(Answered { served, unclosed }) => {
-            tell_end(console, ending.get(), false, served.end);
+            report_end(console, ending.get(), false, served.end);
             tell_served(console, serving.tables, &served);
             unclosed
         }
@@ -244,7 +249,8 @@ fn answer_over_tables<R: Read, W: Write>(
     }
 }
 
-// Answers the calls of a connection over the tables, which are opened for it. The next connection opens them again.
+// Answers the calls of a connection over the tables, which are opened for it. The next connection opens them
+// again.
 fn serve_over_tables<'a>(service: &'a Service<'a>, waiting: &'a mut Waiting, peer: &'a Pending) {
     let Some(turn) = turn_of(service.console, waiting, peer) else {
         return;
@@ -255,24 +261,25 @@ fn serve_over_tables<'a>(service: &'a Service<'a>, waiting: &'a mut Waiting, pee
     answer_over_tables(service, ending, &mut reader, &mut writer);
 }
 
-/// The log, if volumes are in one.
-struct KnownLog {
+/// The change store, if volumes are in one.
+struct KnownChangeStore {
     /// It, as it was read; none, where it could not be had.
-    open: Option<OpenLog>,
+    open: Option<OpenChangeStore>,
     /// Why it could not be had, as it was said last; nothing, where it was had since.
     said: String,
 }
 
-impl Drop for KnownLog {
+impl Drop for KnownChangeStore {
     fn drop(self) {
-        let KnownLog {
+        let KnownChangeStore {
             open: _open,
             said: _said,
         } = self;
     }
 }
 
-// Says why the log cannot be had, unless that was said last: where another program leads, each connection finds it so.
+// Says why the change store cannot be had, unless that was said last: where another program leads, each
+// connection finds it so.
 fn say_why(console: &Console<'_>, said: &mut String, failure: &Failure) {
     let Ok(text) = format!(in console.rt.alloc(); "{failure}") else {
         console.say(failure);
@@ -284,32 +291,32 @@ fn say_why(console: &Console<'_>, said: &mut String, failure: &Failure) {
     }
 }
 
-// The log as it stands, or read anew where it does not stand.
-fn standing_log(
+// The change store as it stands, or read anew where it does not stand.
+fn existing_change_store(
     console: &Console<'_>,
     config: &Config,
     path: &str,
-    log: Option<OpenLog>,
-) -> Result<OpenLog, Failure> {
-    if let Some(open) = log {
+    change_store: Option<OpenChangeStore>,
+) -> Result<OpenChangeStore, Failure> {
+    if let Some(open) = change_store {
         if open.stands(console.rt.alloc()) {
             return Ok(open);
         }
     }
-    open_log(console, config, path)
+    open_change_store(console, config, path)
 }
 
-// Answers the calls of a connection over a log, and gives the log back.
+// Answers the calls of a connection over a change store, and gives the change store back.
 fn serve_open(
     service: &Service<'_>,
     waiting: &mut Waiting,
     path: &str,
-    mut open: OpenLog,
+    mut open: OpenChangeStore,
     peer: &Pending,
-) -> OpenLog {
+) -> OpenChangeStore {
     // What was read at its opening says nothing of a reply.
     open.is_asked.set(false);
-    let leading = LogLeadership {
+    let leading = ChangeStoreLeadership {
         stream: &open.stream,
         is_asked: &open.is_asked,
         alloc: service.console.rt.alloc(),
@@ -318,7 +325,7 @@ fn serve_open(
     if open.keeper.is_down() {
         service.console.say_of(
             path,
-            &"a change was refused by the log, or nobody knows of it, or there was no memory; from then on the connection was told that the store is down",
+            &"a change was refused by the change store, or nobody knows of it, or there was no memory; from then on the connection was told that the store is down",
         );
     } else if !open.keeper.is_current() {
         service.console.say_of(path, &IS_BEHIND);
@@ -326,22 +333,22 @@ fn serve_open(
     open
 }
 
-// Answers the calls of one connection over a log. Where it cannot be had, the connection is closed unanswered, and the next one tries
-// again.
-fn serve_over_log(
+// Answers the calls of one connection over a change store. Where it cannot be had, the connection is closed
+// unanswered, and the next one tries again.
+fn serve_over_change_store(
     service: &Service<'_>,
     waiting: &mut Waiting,
     path: &str,
-    log: &mut KnownLog,
+    change_store: &mut KnownChangeStore,
     peer: &Pending,
 ) {
     let console = service.console;
-    match standing_log(console, service.config, path, log.open.take()) {
+    match existing_change_store(console, service.config, path, change_store.open.take()) {
         Ok(open) => {
-            log.said.clear();
-            log.open = Some(serve_open(service, waiting, path, open, peer));
+            change_store.said.clear();
+            change_store.open = Some(serve_open(service, waiting, path, open, peer));
         }
-        Err(failure) => say_why(console, &mut log.said, &failure),
+        Err(failure) => say_why(console, &mut change_store.said, &failure),
     }
 }
 
@@ -349,11 +356,11 @@ fn serve_over_log(
 fn serve_over_store(
     service: &Service<'_>,
     waiting: &mut Waiting,
-    log: &mut KnownLog,
+    change_store: &mut KnownChangeStore,
     peer: &Pending,
 ) {
-    match service.serving.log {
-        Some(path) => serve_over_log(service, waiting, path, log, peer),
+    match service.serving.change_store {
+        Some(path) => serve_over_change_store(service, waiting, path, change_store, peer),
         None => serve_over_tables(service, waiting, peer),
     }
 }
@@ -364,36 +371,42 @@ fn tell_gone(console: &Console<'_>, peer: &Pending) {
         return;
     }
     if let Ok(now) = Instant::now(console.rt) {
-        tell_ending(console, Ending::Gone, now);
+        report_ending(console, Ending::Gone, now);
     }
 }
 
 // Answers the calls of one connection, if somebody is there. Who has gone, as after a call that was given up
 // while another was answered, costs no opening of the tables.
-fn serve_peer(service: &Service<'_>, waiting: &mut Waiting, log: &mut KnownLog, peer: &Pending) {
+fn serve_peer(
+    service: &Service<'_>,
+    waiting: &mut Waiting,
+    change_store: &mut KnownChangeStore,
+    peer: &Pending,
+) {
     if has_gone(&peer.stream) {
         tell_gone(service.console, peer);
     } else if matches!(peer.start, Some(Start::NoCall)) {
         refuse_peer(service, waiting, peer);
     } else {
-        serve_over_store(service, waiting, log, peer);
+        serve_over_store(service, waiting, change_store, peer);
     }
 }
 
-// The log as it is at the start, if volumes are to be in one. Where it cannot be had, that is said, and the first connection tries again.
-fn first_log(service: &Service<'_>) -> KnownLog {
+// The change store as it is at the start, if volumes are to be in one. Where it cannot be had, that is said,
+// and the first connection tries again.
+fn first_change_store(service: &Service<'_>) -> KnownChangeStore {
     let console = service.console;
-    let mut log = KnownLog {
+    let mut change_store = KnownChangeStore {
         open: None,
         said: String::new(console.rt.alloc()),
     };
-    if let Some(path) = service.serving.log {
-        match open_log(console, service.config, path) {
-            Ok(open) => log.open = Some(open),
-            Err(failure) => say_why(console, &mut log.said, &failure),
+    if let Some(path) = service.serving.change_store {
+        match open_change_store(console, service.config, path) {
+            Ok(open) => change_store.open = Some(open),
+            Err(failure) => say_why(console, &mut change_store.said, &failure),
         }
     }
-    log
+    change_store
 }
 
 // Answers the calls of connections as they come, until all are taken or the socket fails.
@@ -405,10 +418,10 @@ fn serve_each(service: &Service<'_>, listener: UnixListener) -> io::Result<()> {
         serving.connections,
         serving.idle,
     )?;
-    let mut log = first_log(service);
+    let mut change_store = first_change_store(service);
     for _ in 0..serving.connections {
         match waiting.next(service.console)? {
-            Some(peer) => serve_peer(service, &mut waiting, &mut log, &peer),
+            Some(peer) => serve_peer(service, &mut waiting, &mut change_store, &peer),
             None => return Ok(()),
         }
     }

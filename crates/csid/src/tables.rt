@@ -10,9 +10,9 @@ ghost use Rattle.csid.specs.Taking.{IsTakenFrom};
 
 use crate::console::Console;
 use crate::content::{Content, read_content};
+use crate::existing::{FileFault, fault_of_existing, fault_of_wal};
 use crate::failure::Failure;
 use crate::making::make_private;
-use crate::standing::{Fault, fault_of_log, fault_of_standing};
 use csi_adoption::{AdoptError, AdoptFault, adopt};
 use csi_config::Config;
 use csi_files::laws::found_again;
@@ -27,7 +27,7 @@ use std::alloc::Global;
 pub(crate) const NEW_TABLES: &str = "no tables stood there, and new ones were made";
 
 /// Why a file cannot be opened, read or closed.
-pub(crate) fn of_database(alloc: Global, path: &str, error: &Error) -> Failure
+pub(crate) fn database_failure(alloc: Global, path: &str, error: &Error) -> Failure
     ensures { IsOrNoMemory 4 result }
 {
     match error {
@@ -37,7 +37,7 @@ pub(crate) fn of_database(alloc: Global, path: &str, error: &Error) -> Failure
 }
 
 // Whether a file was found to be without fault.
-fn of_standing(alloc: Global, path: &str, fault: Option<Fault>) -> Result<(), Failure>
+fn existing_failure(alloc: Global, path: &str, fault: Option<FileFault>) -> Result<(), Failure>
     ensures { IfErr result (λ failure. IsOrNoMemory 4 failure) }
 {
     match fault {
@@ -46,26 +46,28 @@ fn of_standing(alloc: Global, path: &str, fault: Option<Fault>) -> Result<(), Fa
     }
 }
 
-/// Looks whether a file that must have tables has some, as far as that is seen without an opening. Nothing is changed.
+/// Looks whether a file that must have tables has some, as far as that is seen without an opening. Nothing is
+/// changed.
 ///
 /// # Errors
 ///
 /// Where it has none, or memory is refused.
-pub(crate) fn check_standing(rt: &HostRuntime, path: &str) -> Result<(), Failure>
+pub(crate) fn check_existing(rt: &HostRuntime, path: &str) -> Result<(), Failure>
     ensures { IfErr result (λ failure. IsOrNoMemory 4 failure) }
 {
-    of_standing(rt.alloc(), path, fault_of_standing(rt, path))
+    existing_failure(rt.alloc(), path, fault_of_existing(rt, path))
 }
 
-/// Looks whether new tables may be made in a file that has none, as far as that is seen without an opening. Nothing is changed.
+/// Looks whether new tables may be made in a file that has none, as far as that is seen without an opening.
+/// Nothing is changed.
 ///
 /// # Errors
 ///
 /// Where the file has no byte and its log has changes, or memory is refused.
-pub(crate) fn check_log(rt: &HostRuntime, path: &str) -> Result<(), Failure>
+pub(crate) fn check_wal(rt: &HostRuntime, path: &str) -> Result<(), Failure>
     ensures { IfErr result (λ failure. IsOrNoMemory 4 failure) }
 {
-    of_standing(rt.alloc(), path, fault_of_log(rt, path))
+    existing_failure(rt.alloc(), path, fault_of_wal(rt, path))
 }
 
 /// Looks at a file before it is opened, and makes one that is missing and may be made, for its owner alone.
@@ -80,9 +82,9 @@ pub(crate) fn prepare(rt: &HostRuntime, path: &str, is_existing: bool) -> Result
         return Err(Failure::NoTablesPath);
     }
     if is_existing {
-        return check_standing(rt, path);
+        return check_existing(rt, path);
     }
-    check_log(rt, path)?;
+    check_wal(rt, path)?;
     make_private(rt, path);
     Ok(())
 }
@@ -99,12 +101,12 @@ fn connect<S: Start>(
 {
     match open_path(rt, path, start) {
         Ok(conn) => Ok(conn),
-        Err(error) => Err(of_database(rt.alloc(), path, &error)),
+        Err(error) => Err(database_failure(rt.alloc(), path, &error)),
     }
 }
 
 /// Why the tables in a file were not adopted.
-pub(crate) fn of_adoption(alloc: Global, path: &str, fault: &AdoptFault) -> Failure
+pub(crate) fn adoption_failure(alloc: Global, path: &str, fault: &AdoptFault) -> Failure
     ensures { IsOrNoMemory 4 result }
 {
     match fault {
@@ -118,7 +120,7 @@ pub(crate) fn of_adoption(alloc: Global, path: &str, fault: &AdoptFault) -> Fail
 /// # Errors
 ///
 /// Where the tables are refused, or memory is.
-pub(crate) fn keep<S: Alter + Drop>(
+pub(crate) fn keeper_over<S: Alter + Drop>(
     rt: &HostRuntime,
     path: &str,
     conn: Connection<S>,
@@ -130,16 +132,17 @@ pub(crate) fn keep<S: Alter + Drop>(
 {
     match adopt(rt.alloc(), conn, config) {
         Ok(tables) => Ok(tables),
-        Err(AdoptError { fault, .. }) => Err(of_adoption(rt.alloc(), path, &fault)),
+        Err(AdoptError { fault, .. }) => Err(adoption_failure(rt.alloc(), path, &fault)),
     }
 }
 
-/// A keeper over the tables on a connection. Where there are none, they are made, and that is said; where there must be some, a connection without is refused.
+/// A keeper over the tables on a connection. Where there are none, they are made, and that is said; where
+/// there must be some, a connection without is refused.
 ///
 /// # Errors
 ///
 /// Where the tables are refused, or memory is.
-pub(crate) fn take<S: Alter + Drop>(
+pub(crate) fn keeper_or_new<S: Alter + Drop>(
     console: &Console<'_>,
     path: &str,
     conn: Connection<S>,
@@ -152,16 +155,17 @@ pub(crate) fn take<S: Alter + Drop>(
 {
     let is_new = conn.schema().tables.is_empty();
     if is_new & is_existing {
-        return Err(Failure::of_tables(console.rt.alloc(), path, &Fault::Blank));
+        return Err(Failure::of_tables(console.rt.alloc(), path, &FileFault::Blank));
     }
-    let kept = keep(console.rt, path, conn, config);
+    let kept = keeper_over(console.rt, path, conn, config);
     if is_new & kept.is_ok() {
         console.say_of(path, &NEW_TABLES);
     }
     kept
 }
 
-// Copies what was committed into the file itself, and closes it. Where that fails, nothing is lost: it stays in the log beside the file.
+// Copies what was committed into the file itself, and closes it. Where that fails, nothing is lost: it stays
+// in the log beside the file.
 fn disconnect<D: Disk + Drop>(
     alloc: Global,
     path: &str,
@@ -171,12 +175,12 @@ fn disconnect<D: Disk + Drop>(
 {
     match conn.close() {
         Ok(()) => Ok(()),
-        Err(error) => Err(of_database(alloc, path, &error)),
+        Err(error) => Err(database_failure(alloc, path, &error)),
     }
 }
 
 /// Why what tables have was not read into memory.
-pub(crate) fn of_reading(alloc: Global, path: &str, fault: StoreFault) -> Failure
+pub(crate) fn store_failure(alloc: Global, path: &str, fault: StoreFault) -> Failure
     ensures { IsOrNoMemory 4 result }
 {
     match fault {
@@ -186,10 +190,10 @@ pub(crate) fn of_reading(alloc: Global, path: &str, fault: StoreFault) -> Failur
 }
 
 /// Says what tables have.
-pub(crate) fn tell_content(console: &Console<'_>, path: &str, content: Result<Content, Error>) {
+pub(crate) fn report_content(console: &Console<'_>, path: &str, content: Result<Content, Error>) {
     match content {
         Ok(content) => console.say_of(path, &content),
-        Err(error) => console.say(&of_database(console.rt.alloc(), path, &error)),
+        Err(error) => console.say(&database_failure(console.rt.alloc(), path, &error)),
     }
 }
 
@@ -207,10 +211,11 @@ fn take_from<S: Start>(
     found_again::<FileFrom<S>>(config);
     prepare(console.rt, path, is_existing)?;
     let conn = connect(console.rt, path, start)?;
-    take(console, path, conn, config, is_existing)
+    keeper_or_new(console, path, conn, config, is_existing)
 }
 
-// Opens and judges the tables in a file, looks what they have, and closes the file. What they have is said, and why the file could not be closed.
+// Opens and judges the tables in a file, looks what they have, and closes the file. What they have is said,
+// and why the file could not be closed.
 fn look_over(
     console: &Console<'_>,
     path: &str,
@@ -226,11 +231,12 @@ fn look_over(
     if let Err(failure) = disconnect(rt.alloc(), path, conn) {
         console.say(&failure);
     }
-    tell_content(console, path, content);
+    report_content(console, path, content);
     Ok(())
 }
 
-/// Opens and judges the tables in a file once, and says what they have, or why they cannot be had. The file is closed by then.
+/// Opens and judges the tables in a file once, and says what they have, or why they cannot be had. The file
+/// is closed by then.
 pub(crate) fn survey(console: &Console<'_>, path: &str, config: &Config, is_existing: bool) {
     if let Err(failure) = look_over(console, path, config, is_existing) {
         console.say(&failure);

@@ -1,4 +1,5 @@
-//! The turn of a connection: its calls are read and its replies written, and once it would wait long, those who wait meanwhile are looked at.
+//! The turn of a connection: its calls are read and its replies written, and once it would wait long, those
+//! who wait meanwhile are looked at.
 
 use crate::console::{Console, Ending};
 use crate::limits::{CALL_SECONDS, WANTED_SECONDS, least, left_of};
@@ -55,8 +56,9 @@ fn begin(since: &Cell<Since>, now: Instant) -> Option<Instant> {
 }
 
 impl<'a> Turn<'a> {
-    /// The turn of a connection that has sent something. A read or a write of its stream takes a second at most from here on: so long is a peer
-    /// waited for in any case, and only then it is looked who else waits.
+    /// The turn of a connection that has sent something. A read or a write of its stream takes a second at
+    /// most from here on: so long is a peer waited for in any case, and only then it is looked who else
+    /// waits.
     ///
     /// # Errors
     ///
@@ -81,8 +83,8 @@ impl<'a> Turn<'a> {
         })
     }
 
-    // How much longer the peer may do nothing, a second after it was waited for first, or why it may not: it may so for as long as `idle` says, and no
-    // longer than that second while another one is to be served.
+    // How much longer the peer may do nothing, a second after it was waited for first, or why it may not: it
+    // may so for as long as `idle` says, and no longer than that second while another one is to be served.
     fn patience(&self, waiting: &Waiting, now: Instant) -> Result<Option<Duration>, Ending> {
         let second = Duration::from_secs(WANTED_SECONDS);
         let wanted = waiting.has_ready().then_some(second);

@@ -1,8 +1,9 @@
-//! The connections that wait to be served. All are looked at, so that one that sends nothing keeps no other one waiting.
+//! The connections that wait to be served. All are looked at, so that one that sends nothing keeps no other
+//! one waiting.
 
 use crate::console::{Console, Ending};
 use crate::limits::{CALL_SECONDS, least};
-use crate::pending::{Heard, Pending, Start};
+use crate::pending::{PeerInput, Pending, Start};
 use mio::unix::SourceFd;
 use mio::{Events, Interest, Poll, Token};
 use std::alloc::Global;
@@ -79,12 +80,13 @@ impl Display for Ended {
 }
 
 /// Says that a connection ended so.
-pub(crate) fn tell_ending(console: &Console<'_>, ending: Ending, now: Instant) {
-    console.tell_end(ending, now, &Ended(ending));
+pub(crate) fn report_ending(console: &Console<'_>, ending: Ending, now: Instant) {
+    console.report_end(ending, now, &Ended(ending));
 }
 
 impl Waiting {
-    /// Nobody yet; so many connections are taken from the socket, and none of them waits for its peer longer than so many seconds.
+    /// Nobody yet; so many connections are taken from the socket, and none of them waits for its peer longer
+    /// than so many seconds.
     ///
     /// # Errors
     ///
@@ -116,7 +118,7 @@ impl Waiting {
 
     /// Whether one that waits has sent what it is served for.
     pub(crate) fn has_ready(&self) -> bool {
-        self.pending.iter().any(|one| one.is_told())
+        self.pending.iter().any(|one| one.is_known())
     }
 
     /// Has a wait also end when a connection that was taken from here can be written.
@@ -150,7 +152,7 @@ impl Waiting {
     fn close_oldest(&mut self, console: &Console<'_>, now: Instant) {
         if let Some(place) = self.oldest() {
             let _ = self.pending.remove(place);
-            tell_ending(console, Ending::Crowded, now);
+            report_ending(console, Ending::Crowded, now);
         }
     }
 
@@ -174,7 +176,8 @@ impl Waiting {
         }
     }
 
-    // Where the system gives no further connection while some wait, as for want of descriptors, half of them make room.
+    // Where the system gives no further connection while some wait, as for want of descriptors, half of them
+    // make room.
     fn make_room(
         &mut self,
         console: &Console<'_>,
@@ -209,23 +212,23 @@ impl Waiting {
 
     // Looks at a connection. Nothing, where it goes on waiting, or how it ended.
     fn ending_of(&mut self, one: &mut Pending, now: Instant) -> Option<Ending> {
-        match one.hear(now) {
-            Heard::Something => {
+        match one.receive(now) {
+            PeerInput::Something => {
                 self.is_stirring = true;
                 None
             }
-            Heard::Lost => Some(Ending::Failed),
-            Heard::Nothing if one.is_told() => None,
-            Heard::Nothing => one.patience(self.idle, now).err(),
+            PeerInput::Lost => Some(Ending::Failed),
+            PeerInput::Nothing if one.is_known() => None,
+            PeerInput::Nothing => one.patience(self.idle, now).err(),
         }
     }
 
     // Looks at each connection, in order.
-    fn hear_all(&mut self, console: &Console<'_>, now: Instant) {
+    fn receive_all(&mut self, console: &Console<'_>, now: Instant) {
         for _ in 0..self.pending.len() {
             if let Some(mut one) = self.pending.pop_front() {
                 match self.ending_of(&mut one, now) {
-                    Some(ending) => tell_ending(console, ending, now),
+                    Some(ending) => report_ending(console, ending, now),
                     None => {
                         let _ = self.pending.push_back(one);
                     }
@@ -235,8 +238,8 @@ impl Waiting {
     }
 
     // The oldest connection of which is told what it begins.
-    fn take_ready(&mut self) -> Option<Pending> {
-        let place = self.pending.iter().position(|it| it.is_told())?;
+    fn pop_ready(&mut self) -> Option<Pending> {
+        let place = self.pending.iter().position(|it| it.is_known())?;
         self.pending.remove(place)
     }
 
@@ -244,7 +247,7 @@ impl Waiting {
     fn patience(&self, now: Instant) -> Option<Duration> {
         let mut longest = None;
         for one in self.pending.iter() {
-            if !one.is_told() {
+            if !one.is_known() {
                 let left = one.patience(self.idle, now).unwrap_or(Some(Duration::ZERO));
                 longest = least(longest, left);
             }
@@ -259,13 +262,14 @@ impl Waiting {
     /// Where the socket gives no connection while none waits.
     pub(crate) fn look(&mut self, console: &Console<'_>, now: Instant) -> io::Result<()> {
         self.is_stirring = false;
-        console.settle(now);
+        console.finish_second(now);
         let accepted = self.accept_some(console, now);
-        self.hear_all(console, now);
+        self.receive_all(console, now);
         accepted
     }
 
-    /// Waits until something comes, one that waits may wait no longer, or so long a time is over. Where the last look found something, it does not.
+    /// Waits until something comes, one that waits may wait no longer, or so long a time is over. Where the
+    /// last look found something, it does not.
     ///
     /// # Errors
     ///
@@ -283,7 +287,8 @@ impl Waiting {
         self.poll.poll(&mut self.events, least(longest, own))
     }
 
-    /// The next connection of which is told what it begins, the oldest first; none where no further one is taken.
+    /// The next connection of which is told what it begins, the oldest first; none where no further one is
+    /// taken.
     ///
     /// # Errors
     ///
@@ -292,7 +297,7 @@ impl Waiting {
         for _ in 0..u64::MAX {
             let now = Instant::now(console.rt)?;
             self.look(console, now)?;
-            if let Some(ready) = self.take_ready() {
+            if let Some(ready) = self.pop_ready() {
                 return Ok(Some(ready));
             }
             if self.left == 0 && self.pending.is_empty() {

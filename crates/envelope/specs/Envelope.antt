@@ -40,7 +40,8 @@ reply_bytes_of r = record { status = r.status; text = r.text.now; body = r.body.
 abbrev pub IsTextByte : ℕ → Type 0
 IsTextByte byte = (32 ≤ byte) × (byte ≤ 126)
 
--- the status codes of gRPC that a reply has: OK, INVALID_ARGUMENT, NOT_FOUND, ALREADY_EXISTS, RESOURCE_EXHAUSTED, FAILED_PRECONDITION, ABORTED, OUT_OF_RANGE, UNIMPLEMENTED, INTERNAL
+-- the status codes of gRPC that a reply has: OK, INVALID_ARGUMENT, NOT_FOUND, ALREADY_EXISTS,
+-- RESOURCE_EXHAUSTED, FAILED_PRECONDITION, ABORTED, OUT_OF_RANGE, UNIMPLEMENTED, INTERNAL
 abbrev pub statuses : List ℕ
 statuses = 0 ∷ 3 ∷ 5 ∷ 6 ∷ 8 ∷ 9 ∷ 10 ∷ 11 ∷ 12 ∷ 13 ∷ []
 

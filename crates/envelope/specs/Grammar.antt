@@ -1,6 +1,6 @@
--- How a frame is read, be it of a call or of a reply: docs/PROTOCOL.md, "Envelope" and "Streams" (own).
--- Both are a text behind its length, a flag, and a body behind its length. The text of a call is its path, its body
--- the message; before the text of a reply stands its status.
+-- How a frame is read, be it of a call or of a reply: docs/PROTOCOL.md, "Envelope" and "Streams" (own). Both
+-- are a text behind its length, a flag, and a body behind its length. The text of a call is its path, its
+-- body the message; before the text of a reply stands its status.
 use Rattle.std.specs.Prelude.{ℕ, zero, suc, false, ◌≡◌, ◌≢◌, ◌+◌, ◌*◌, ◌<◌, ◌≤◌, List, [], ◌++◌, length, slice_index, ◌⊎◌}
 use Rattle.envelope.specs.declared.kind.Kind.{Kind}
 use Rattle.envelope.specs.declared.kind.Kind.TheVariants.{Calls, Replies}
@@ -78,10 +78,13 @@ HasPart kind part = Unit {0}
 -- the byte at this place breaks the table of a frame, in this part of it
 unfoldable pub Breaks : Kind → List ℕ → Part → ℕ → Type 0
 Breaks kind bytes Status at = (at ≡ 0) × HasBadStatus kind bytes
-Breaks kind bytes TextLength at = (at ≡ lead kind) × (lead kind + 2 ≤ length bytes) × ((text_length kind bytes < least_text kind) ⊎ (most_text kind (slice_index bytes 0) < text_length kind bytes))
-Breaks kind bytes Text at = (lead kind + 2 ≤ at) × (at < lead kind + 2 + text_length kind bytes) × (at < length bytes) × ¬ IsGoodByte kind (slice_index bytes at)
+Breaks kind bytes TextLength at = (at ≡ lead kind) × (lead kind + 2 ≤ length bytes)
+    × ((text_length kind bytes < least_text kind) ⊎ (most_text kind (slice_index bytes 0) < text_length kind bytes))
+Breaks kind bytes Text at = (lead kind + 2 ≤ at) × (at < lead kind + 2 + text_length kind bytes) × (at < length bytes)
+    × ¬ IsGoodByte kind (slice_index bytes at)
 Breaks kind bytes Flag at = (at ≡ lead kind + 2 + text_length kind bytes) × (at < length bytes) × (slice_index bytes at ≢ 0)
-Breaks kind bytes BodyLength at = (at ≡ lead kind + 3 + text_length kind bytes) × (at + 4 ≤ length bytes) × (most_body kind (slice_index bytes 0) < body_length kind bytes)
+Breaks kind bytes BodyLength at = (at ≡ lead kind + 3 + text_length kind bytes) × (at + 4 ≤ length bytes)
+    × (most_body kind (slice_index bytes 0) < body_length kind bytes)
 Breaks kind bytes Missing at = ⊥
 
 -- the rest of a stream breaks the table nowhere

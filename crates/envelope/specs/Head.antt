@@ -41,7 +41,8 @@ Says kind bytes said = IsItem kind said × (bytes ≡ spelling kind said)
 
 -- what a frame that is whole says
 abbrev pub item_in : (kind : Kind) → List ℕ → Item kind
-item_in kind bytes = item kind (slice_index bytes 0) (take (text_length kind bytes) (drop (lead kind + 2) bytes)) (drop (lead kind + 7 + text_length kind bytes) bytes)
+item_in kind bytes = item kind (slice_index bytes 0) (take (text_length kind bytes) (drop (lead kind + 2) bytes))
+    (drop (lead kind + 7 + text_length kind bytes) bytes)
 
 -- a frame's bytes have not all come
 unfoldable pub IsShort : Kind → List ℕ → Type 0

@@ -1,4 +1,5 @@
--- The reasons why bytes are no reply, by the part of a frame that is wrong: docs/PROTOCOL.md, "Streams" (own).
+-- The reasons why bytes are no reply, by the part of a frame that is wrong: docs/PROTOCOL.md, "Streams"
+-- (own).
 use Rattle.envelope.specs.declared.reply_fault.ReplyWhy.{ReplyWhy}
 use Rattle.envelope.specs.declared.reply_fault.ReplyWhy.TheVariants.{BadStatus, BadTextLength, BadText, BadFlag, BadBodyLength, EndOfInput}
 use Rattle.envelope.specs.declared.kind.Part.{Part}

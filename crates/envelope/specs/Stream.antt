@@ -81,7 +81,8 @@ KeepsEnd calls others Clean other = Unit {0}
 KeepsEnd calls others (Fault why place) other = (others ≡ calls) × (other ≡ Fault why place)
 KeepsEnd calls others Open other = Unit {0}
 
--- however the bytes and longer bytes are read, the longer ones have the calls of the bytes first, and keep a fault
+-- however the bytes and longer bytes are read, the longer ones have the calls of the bytes first, and keep a
+-- fault
 abbrev pub KeepsReading : List ℕ → List ℕ → Type 0
 KeepsReading bytes more =
     (calls others : List CallBytes) (end other : End) → Stream bytes calls end → Stream (bytes ++ more) others other

@@ -10,13 +10,15 @@ ghost use Rattle.envelope.specs.Texts.{fault_words};
 use crate::kind::{Kind, Part};
 use thiserror::Error;
 
-/// The fault of a stream of frames, be they calls ([`FrameFault`]) or replies ([`ReplyFault`](crate::ReplyFault)).
+/// The fault of a stream of frames, be they calls ([`FrameFault`]) or replies
+/// ([`ReplyFault`](crate::ReplyFault)).
 pub trait Fault: Copy + Drop {
     ghost use Rattle.std.specs.Prelude.{ℕ};
     ghost use Rattle.envelope.specs.declared.kind.Kind.{Kind};
     ghost use Rattle.envelope.specs.declared.kind.Part.{Part};
 
-    // The kind of the frames, the part that is wrong, where it is, and the fault of an input that ends inside a frame.
+    // The kind of the frames, the part that is wrong, where it is, and the fault of an input that ends inside
+    // a frame.
     ghost kind: { Kind };
 
     ghost wrong_part: { Self → Part };

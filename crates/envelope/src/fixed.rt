@@ -64,10 +64,15 @@ impl<const N: usize> Fixed<N> {
     }
 }
 
-/// All that stands before the body in the frame of a reply with status 0, for a body of so many bytes: [`REPLY_HEAD_BYTES`].
+/// All that stands before the body in the frame of a reply with status 0, for a body of so many bytes:
+/// [`REPLY_HEAD_BYTES`].
 #[tactic(auto, unfolding(crate::specs::Envelope::reply))]
 pub fn reply_head(body_len: u32) -> FixedFrame
-    ensures spelled { (body : List ℕ) → length body ≡ body_len → result ++ body ≡ reply (record { status = 0; text = []; body = body }) }
+    ensures spelled { (body : List ℕ) → length body ≡ body_len → result ++ body ≡ reply (record {
+      status = 0;
+      text = [];
+      body = body;
+    }) }
     ensures long { length result ≡ REPLY_HEAD_BYTES }
 {
     let mut frame = FixedFrame::new();

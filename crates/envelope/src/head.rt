@@ -48,7 +48,8 @@ impl Head {
     /// What they say, where all bytes before the body are there; nothing where one is missing.
     #[inline(always)]
     pub fn read(kind: Kind, bytes: &[u8]) -> Option<Head>
-        ensures { MatchOption result (length bytes.now < lead kind + 7 + text_length kind bytes.now) (IsHead kind bytes.now) }
+        ensures { MatchOption result (length bytes.now < lead kind + 7 + text_length kind bytes.now)
+            (IsHead kind bytes.now) }
     {
         let lead = kind.lead();
         if bytes.len() < lead + 7 {
@@ -64,7 +65,8 @@ impl Head {
         })
     }
 
-    /// How many bytes the whole frame has. The head is one that [`read`](Head::read) gave, which is within both bounds.
+    /// How many bytes the whole frame has. The head is one that [`read`](Head::read) gave, which is within
+    /// both bounds.
     pub fn frame_bytes(self) -> usize
         requires { (self.body_at < 65544) × (self.body_length < 4294967296) }
         ensures { result ≡ self.body_at + self.body_length }
@@ -161,7 +163,8 @@ fn broken(part: Part, at: usize, size: usize) -> Look
 // The first byte that no text has, of those from here on that the text has.
 #[inline(always)]
 fn bad_byte(kind: Kind, bytes: &[u8], from: usize, end: usize) -> Option<usize>
-    ensures { MatchOption result (AreGoodBytes kind bytes.now from end (length bytes.now)) (λ at. IsBadByte kind bytes.now from end at) }
+    ensures { MatchOption result (AreGoodBytes kind bytes.now from end (length bytes.now))
+        (λ at. IsBadByte kind bytes.now from end at) }
 {
     let least = kind.least_byte();
     let first = from.max(kind.lead() + 2);
@@ -190,7 +193,8 @@ fn parts(kind: Kind, bytes: &[u8]) -> (&[u8], &[u8])
     (text, body)
 }
 
-/// The call of a whole frame, lent from its bytes: they break nothing ([`look_at`]) and are all there ([`is_whole`]).
+/// The call of a whole frame, lent from its bytes: they break nothing ([`look_at`]) and are all there
+/// ([`is_whole`]).
 #[inline(always)]
 pub fn call_of(bytes: &[u8]) -> Call<'_>
     requires { IsUnbroken Calls bytes.now × IsWhole Calls bytes.now }
@@ -200,7 +204,8 @@ pub fn call_of(bytes: &[u8]) -> Call<'_>
     Call { path, message }
 }
 
-/// The reply of a whole frame, lent from its bytes: they break nothing ([`look_at`]) and are all there ([`is_whole`]).
+/// The reply of a whole frame, lent from its bytes: they break nothing ([`look_at`]) and are all there
+/// ([`is_whole`]).
 #[tactic(auto, unfolding(crate::specs::Head::IsWhole))]
 pub fn reply_of(bytes: &[u8]) -> Reply<'_>
     requires { IsUnbroken Replies bytes.now × IsWhole Replies bytes.now }

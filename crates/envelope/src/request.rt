@@ -14,7 +14,10 @@ use std::alloc::AllocError;
 #[tactic(auto, unfolding(crate::specs::Envelope::frame))]
 pub fn put_request(out: &mut Vec<u8>, path: &[u8], message: &[u8]) -> Result<(), AllocError>
     requires { IsCall (record { path = path.now; message = message.now }) }
-    ensures ok { OnOk result (out.new.items ≡ out.old.items ++ frame (record { path = path.now; message = message.now })) }
+    ensures ok { OnOk result (out.new.items ≡ out.old.items ++ frame (record {
+      path = path.now;
+      message = message.now;
+    })) }
     ensures err { OnErr result (out.new.items ≡ out.old.items) }
 {
     out.reserve(7 + path.len() + message.len())?;

@@ -18,8 +18,8 @@ pub enum Taken<'a> {
 
 /// The first frame of these bytes, or the fault that stands in its place.
 ///
-/// The bytes are all that is left of the input, so a frame that has begun and is not whole is the fault `EndOfInput`.
-/// Takes no memory, and looks at no byte of the message.
+/// The bytes are all that is left of the input, so a frame that has begun and is not whole is the fault
+/// `EndOfInput`. Takes no memory, and looks at no byte of the message.
 pub fn take_frame(bytes: &[u8]) -> Taken<'_>
     ensures { TakesFirst bytes.now result }
 {

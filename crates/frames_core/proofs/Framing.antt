@@ -1,16 +1,16 @@
 -- What a framer's invariant says.
-use Rattle.std.proofs.Common.{◌-◌, ◌++◌, ◌≡◌, ℕ, ◌+◌, ◌<◌, ◌^◌, List, [], length, take, Option, Some, None, refl, sym, ap, subst, arith, length-append, inl, inr, ◌⊎◌}
-use Rattle.std.specs.Prelude.{is_some, true, false}
+use Rattle.std.proofs.Common.{◌-◌, ◌++◌, ◌≡◌, ℕ, ◌+◌, ◌<◌, ◌^◌, List, [], length, take, Option, Some, None, refl, sym, ap, subst, ◌∙◌, arith, length-append, inl, inr, ◌⊎◌}
+use Rattle.std.specs.Prelude.{Bool, IsTrue, false}
 use Rattle.std.proofs.lemmas.List.{length-take}
 use Rattle.envelope.specs.declared.kind.Kind.{Kind}
 use Rattle.envelope.specs.declared.kind.Part.{Part}
+use Rattle.envelope.specs.declared.kind.Part.TheVariants.{Missing}
 use Rattle.envelope.specs.declared.head.Flaw.{Flaw}
 use Rattle.frames_core.specs.declared.prefix.Prefix.{Prefix}
-use Rattle.frames_core.specs.Framer.{CutterState}
 use Rattle.envelope.specs.Grammar.{BreaksFirst, FaultAt, IsUnbroken, IsUnfinished, BeginsFrame, IsFrame}
 use Rattle.envelope.specs.Head.{IsShort, IsWhole, most_frame}
 use Rattle.frames_core.specs.Prefix.{TakesPrefix, Stands}
-use Rattle.frames_core.specs.Holding.{Holds, IsBreakIn}
+use Rattle.frames_core.specs.Holding.{Holds, IsBreakIn, Marks}
 use Rattle.frames_core.specs.facts.Feeding.{none_some}
 use Rattle.envelope.specs.facts.Breaking.{BreaksFirst-longer, nil_unbroken}
 use Rattle.envelope.specs.facts.Frames.{IsBytes, fault_of_break, fault_no_frame, frame_begins, is_unfinished, nil_short, short_room, whole_frame}
@@ -22,11 +22,6 @@ empty_holds kind part at past few = record { few = omega arith; faults = (nil_un
 pub known_none : {F : Type 0} (kind : Kind) (part : F → Part) (at : F → ℕ) (past : ℕ) (held : List ℕ) (known : Option F) → Holds kind part at past held known → BeginsFrame kind held → known ≡ None
 known_none kind part at past held None h b = refl
 known_none kind part at past held (Some f) h b = absurd (fault_no_frame kind held (part f) (at f - past) h.faults.1 b)
-
--- no frame begins where none is answered
-pub frameless : {F : Type 0} (kind : Kind) (part : F → Part) (at : F → ℕ) (past : ℕ) (held : List ℕ) (known : Option F) → Holds kind part at past held known → (known ≡ None → IsUnbroken kind held × IsShort kind held) → BeginsFrame kind held → ⊥
-frameless kind part at past held None h none b = let n = none refl in (is_unfinished kind held n.0 n.1).frameless b
-frameless kind part at past held (Some f) h none b = fault_no_frame kind held (part f) (at f - past) h.faults.1 b
 
 pub frame_of : (kind : Kind) (held : List ℕ) → IsFrame kind held → BeginsFrame kind held
 frame_of kind held f = frame_begins kind held f.0 f.1 f.2
@@ -52,25 +47,56 @@ known_break kind past held part place at h is =
     let same : place ≡ at - past = omega arith in
     (omega arith, λ more. subst (λ (k : ℕ). BreaksFirst kind (held ++ more) part k) same (BreaksFirst-longer kind held more part place h))
 
-pub known_some : {X : Type 0} (o p : Option X) → true ≡ is_some o → o ≡ p → p ≡ None → ⊥
-known_some None p some is none = absurd cc
-known_some (Some x) p some is none = absurd cc
+-- ---- whether a whole frame is held
 
-pub known_no : {X : Type 0} (o p : Option X) → false ≡ is_some o → o ≡ p → p ≡ None
-known_no None p unknown is = sym is
-known_no (Some x) p unknown is = absurd cc
+-- where the mark is false, no frame begins
+pub unmarked : {F : Type 0} (kind : Kind) (part : F → Part) (at : F → ℕ) (past : ℕ) (held : List ℕ) (known : Option F)
+    (mark : Bool) → Holds kind part at past held known → Marks kind held known mark → mark ≡ false
+    → BeginsFrame kind held → ⊥
+unmarked kind part at past held None mark h m off b =
+    (is_unfinished kind held h.faults.0 (m.short off refl)).frameless b
+unmarked kind part at past held (Some f) mark h m off b =
+    fault_no_frame kind held (part f) (at f - past) h.faults.1 b
 
--- where no fault is known, a frame that begins is whole, and what is whole is a frame
-pub begun_whole : {F : Type 0} (kind : Kind) (part : F → Part) (at : F → ℕ) (past : ℕ) (held : List ℕ) (known : Option F) → Holds kind part at past held known → known ≡ None → BeginsFrame kind held → IsWhole kind held
-begun_whole kind part at past held None h none b = elim h.faults.1 [
-  | inl short ↦ absurd ((is_unfinished kind held h.faults.0 short).frameless b)
-  | inr whole ↦ whole
-]
-begun_whole kind part at past held (Some f) h none b = absurd cc
+-- where it is true, the bytes are a frame
+pub marked : {F : Type 0} (kind : Kind) (part : F → Part) (at : F → ℕ) (past : ℕ) (held : List ℕ) (known : Option F)
+    (mark : Bool) → Holds kind part at past held known → Marks kind held known mark → IsTrue mark
+    → IsBytes held → IsFrame kind held
+marked kind part at past held None mark h m on fits = whole_frame kind held fits h.faults.0 (m.whole on).1
+marked kind part at past held (Some f) mark h m on fits = let none = (m.whole on).0 in absurd cc
 
-pub whole_of : {F : Type 0} (kind : Kind) (part : F → Part) (at : F → ℕ) (past : ℕ) (held : List ℕ) (known : Option F) → Holds kind part at past held known → known ≡ None → IsBytes held → IsWhole kind held → IsFrame kind held
-whole_of kind part at past held None h none fits whole = whole_frame kind held fits h.faults.0 whole
-whole_of kind part at past held (Some f) h none fits whole = absurd cc
+pub nothing_marked : {F : Type 0} (kind : Kind) (known : Option F) → Marks kind [] known false
+nothing_marked kind known = record { whole = λ on. absurd cc; short = λ off none. nil_short kind }
+
+-- a fault leaves no whole frame
+pub fault_unmarked : {F G : Type 0} (kind : Kind) (held : List ℕ) (flaw : Option F) (f : F) (g : G) (mark : Bool)
+    → flaw ≡ Some f → Marks kind held flaw mark → Marks kind held (Some g) mark
+fault_unmarked kind held flaw f g mark is m = record {
+  whole = λ on. let none = sym is ∙ (m.whole on).0 in absurd cc;
+  short = λ off none. absurd cc;
+}
+
+-- nor does the end of an input, before which the bytes were short of one
+pub cut_unmarked : {F : Type 0} (kind : Kind) (held : List ℕ) (known : Option F) (g : F) (mark : Bool)
+    → IsShort kind held → Marks kind held known mark → Marks kind held (Some g) mark
+unfolding IsShort IsWhole
+cut_unmarked kind held known g mark short m = record {
+  whole = λ on. let w = (m.whole on).1 in absurd (short w.0 (omega (arith, w.1)));
+  short = λ off none. absurd cc;
+}
+
+-- the fault of an input that ends there
+pub holds_cut : {F : Type 0} (kind : Kind) (part : F → Part) (at : F → ℕ) (past : ℕ) (held : List ℕ) (f : F)
+    → past + length held < 2 ^ 63 → (held ≡ [] → ⊥) → IsUnbroken kind held → IsShort kind held
+    → part f ≡ Missing → at f ≡ past + length held → Holds kind part at past held (Some f)
+holds_cut kind part at past held f few some unbroken short missing is = record {
+  few = few;
+  faults = (
+    omega arith,
+    subst (λ (p : Part). FaultAt kind held p (at f - past)) (sym missing)
+        (omega arith, (some, is_unfinished kind held unbroken short)),
+  );
+}
 
 -- what may yet become a frame has fewer bytes than the longest one
 pub open_few : (kind : Kind) (held : List ℕ) → IsBytes held → IsUnbroken kind held × (IsShort kind held ⊎ IsWhole kind held) → IsUnfinished kind held → length held < most_frame kind
@@ -78,12 +104,6 @@ open_few kind held fits stands open_ = elim stands.1 [
   | inl short ↦ short_room kind held stands.0 short
   | inr whole ↦ absurd (open_.frameless (frame_of kind held (whole_frame kind held fits stands.0 whole)))
 ]
-
--- no frame begins where a fault is known or nothing is whole
-pub none_begins : {F : Type 0} (kind : Kind) (part : F → Part) (at : F → ℕ) (s : CutterState F) → Holds kind part at s.past s.held s.fault → (s.fault ≡ None → IsWhole kind s.held → ⊥) → BeginsFrame kind s.held → ⊥
-none_begins kind part at s h none begins =
-    let unknown = known_none kind part at s.past s.held s.fault h begins in
-    none unknown (begun_whole kind part at s.past s.held s.fault h unknown begins)
 
 -- ---- what is taken of a piece
 
@@ -113,3 +133,9 @@ settled_whole kind old piece new prefix t e fits less =
       | inl whole ↦ whole_frame kind new fits stands.0 whole
       | inr some ↦ absurd (none_some prefix.flaw e some)
     ]
+
+-- the mark that was made, for one kind under two names
+pub marks_then : (k kind : Kind) (old piece new : List ℕ) (prefix : Prefix) → k ≡ kind
+    → TakesPrefix k old piece new prefix → Marks kind new prefix.flaw prefix.whole
+marks_then k kind old piece new prefix same t =
+    (subst (λ (k : Kind). TakesPrefix k old piece new prefix) same t).marks

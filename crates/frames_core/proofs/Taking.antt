@@ -1,6 +1,6 @@
 -- What a framer takes of a piece.
 use Rattle.std.proofs.Common.{◌≡◌, ℕ, ◌+◌, ◌-◌, ◌<◌, ◌≤◌, List, [], ◌++◌, length, take, drop, get_or, Some, None, refl, sym, ap, subst, ◌∙◌, arith, length-append, append_assoc, inl, inr, ◌⊎◌}
-use Rattle.std.specs.Prelude.{min}
+use Rattle.std.specs.Prelude.{Bool, IsTrue, false, min, true, ◌≢◌}
 use Rattle.std.proofs.lemmas.List.{take-append-drop, length-take, length-drop, take-take, take_at, append-nil}
 use Rattle.std.proofs.lemmas.Bool.{cases_lt}
 use Rattle.std.proofs.Math.Seq.{take-append-add, take-add}
@@ -78,7 +78,7 @@ whole_later kind old all n prefix short w =
           absurd (short (omega (arith, whole.0)) (omega (arith, whole.1)))
     ]
 
-pub takes_broken : (kind : Kind) (old piece all new : List ℕ) (h n count : ℕ) (f : Flaw) → all ≡ old ++ take h piece → IsUnbroken kind old → BrokenPrefix kind all f n → new ≡ take n all → count ≡ n - length old → TakesPrefix kind old piece new (record { count = count; flaw = Some f })
+pub takes_broken : (kind : Kind) (old piece all new : List ℕ) (h n count : ℕ) (f : Flaw) → all ≡ old ++ take h piece → IsUnbroken kind old → BrokenPrefix kind all f n → new ≡ take n all → count ≡ n - length old → TakesPrefix kind old piece new (record { count = count; flaw = Some f; whole = false })
 takes_broken kind old piece all new h n count f is unbroken b new-is count-is =
     let prefix : take (length old) all ≡ old = ap (λ (x : List ℕ). take (length old) x) is ∙ take_at old (take h piece) (length old) refl in
     let len : length all ≡ length old + length (take h piece) = ap length is ∙ length-append old (take h piece) in
@@ -97,10 +97,11 @@ takes_broken kind old piece all new h n count f is unbroken b new-is count-is =
       least = least_broken kind old piece count f.part f.at (omega arith) within (subst (IsUnbroken kind) cut-1 b2.before) breaks;
       stands = subst (λ (x : List ℕ). BreaksFirst kind x f.part f.at) (sym held) breaks;
       all = λ less. inr refl;
+      marks = record { whole = λ on. absurd cc; short = λ off none. absurd cc };
       idle = λ none. absurd (omega arith);
     }
 
-pub takes_whole : (kind : Kind) (old piece all new : List ℕ) (h n count : ℕ) → all ≡ old ++ take h piece → IsShort kind old → WholePrefix kind all n → new ≡ take n all → count ≡ n - length old → TakesPrefix kind old piece new (record { count = count; flaw = None })
+pub takes_whole : (kind : Kind) (old piece all new : List ℕ) (h n count : ℕ) → all ≡ old ++ take h piece → IsShort kind old → WholePrefix kind all n → new ≡ take n all → count ≡ n - length old → TakesPrefix kind old piece new (record { count = count; flaw = None; whole = true })
 takes_whole kind old piece all new h n count is short w new-is count-is =
     let prefix : take (length old) all ≡ old = ap (λ (x : List ℕ). take (length old) x) is ∙ take_at old (take h piece) (length old) refl in
     let len : length all ≡ length old + length (take h piece) = ap length is ∙ length-append old (take h piece) in
@@ -118,6 +119,7 @@ takes_whole kind old piece all new h n count is short w new-is count-is =
       least = least_whole kind old piece count within unbroken whole;
       stands = rw held (unbroken, inr whole);
       all = λ less. inl (rw held whole);
+      marks = record { whole = λ on. (refl, rw held whole); short = λ off none. absurd cc };
       idle = λ none. refl;
     }
 
@@ -149,23 +151,42 @@ longer_or_whole kind bytes more miss all misses few =
     (λ less a b. omega arith, λ same. (omega arith, omega arith))
 
 -- what is held with more of the message
-pub record Longer (kind : Kind) (new : List ℕ) (last : Type 0) : Type 0 where
+pub record Longer (kind : Kind) (new : List ℕ) (last less : Type 0) : Type 0 where
   pub unbroken : IsUnbroken kind new
   pub or : IsShort kind new ⊎ IsWhole kind new
   pub whole : last → IsWhole kind new
+  pub short : less → IsShort kind new
 
-longer : (kind : Kind) (bytes more : List ℕ) (miss : ℕ) → IsUnbroken kind bytes → IsShort kind bytes → Misses kind bytes miss → length more ≤ miss → (length bytes < lead kind + 7 + text_length kind bytes → more ≡ []) → Longer kind (bytes ++ more) ((lead kind + 7 + text_length kind bytes ≤ length bytes) × (length more ≡ miss))
+-- where the head is there and the frame is not whole, some of the body is missing
+some_missing : (kind : Kind) (bytes : List ℕ) (miss : ℕ) → lead kind + 7 + text_length kind bytes ≤ length bytes
+    → IsShort kind bytes → Misses kind bytes miss → 0 < miss
+unfolding IsShort
+some_missing kind bytes miss all short misses =
+    elim (cases_lt 0 miss) [
+      | inl some ↦ some
+      | inr none ↦ absurd (short all (omega (arith, misses.body all)))
+    ]
+
+longer : (kind : Kind) (bytes more : List ℕ) (miss : ℕ) → IsUnbroken kind bytes → IsShort kind bytes → Misses kind bytes miss → length more ≤ miss → (length bytes < lead kind + 7 + text_length kind bytes → more ≡ [])
+    → Longer kind (bytes ++ more) ((lead kind + 7 + text_length kind bytes ≤ length bytes) × (length more ≡ miss))
+    (0 < miss → length more < miss)
 longer kind bytes more miss unbroken short misses few none =
     elim (cases_lt (length bytes) (lead kind + 7 + text_length kind bytes)) [
       | inl less ↦
           let e : bytes ++ more ≡ bytes = ap (λ (x : List ℕ). bytes ++ x) (none less) ∙ append-nil bytes in
-          record { unbroken = subst (IsUnbroken kind) (sym e) unbroken; or = inl (subst (IsShort kind) (sym e) short); whole = λ last. absurd (omega (arith, last.0)) }
+          record {
+            unbroken = subst (IsUnbroken kind) (sym e) unbroken;
+            or = inl (subst (IsShort kind) (sym e) short);
+            whole = λ last. absurd (omega (arith, last.0));
+            short = λ less. subst (IsShort kind) (sym e) short;
+          }
       | inr all ↦
           let l = longer_or_whole kind bytes more miss all misses few in
           record {
             unbroken = unbroken_longer kind bytes more unbroken all;
             or = elim (cases_lt (length more) miss) [ inl less ↦ inl (l.0 less) | inr enough ↦ inr (l.1 (omega arith)) ];
             whole = λ last. l.1 last.1;
+            short = λ less. l.0 (less (some_missing kind bytes miss all short misses));
           }
     ]
 
@@ -176,8 +197,11 @@ least_longer kind old piece n within unbroken or k lt =
       | inr whole ↦ least_whole kind old piece n within unbroken whole k lt
     ]
 
-pub takes_short : (kind : Kind) (old piece all new : List ℕ) (h j miss count : ℕ) → all ≡ old ++ take h piece → h ≡ min (length piece) (most_head kind - length old) → IsUnbroken kind all → IsShort kind all → Misses kind all miss → j ≡ min (length (drop h piece)) miss → new ≡ all ++ take j (drop h piece) → count ≡ h + j → TakesPrefix kind old piece new (record { count = count; flaw = None })
-takes_short kind old piece all new h j miss count is h-is unbroken short misses j-is new-is count-is =
+pub takes_short : (kind : Kind) (old piece all new : List ℕ) (h j miss count : ℕ) (whole : Bool)
+    → all ≡ old ++ take h piece → h ≡ min (length piece) (most_head kind - length old) → IsUnbroken kind all → IsShort kind all → Misses kind all miss → j ≡ min (length (drop h piece)) miss → new ≡ all ++ take j (drop h piece)
+    → count ≡ h + j → (IsTrue whole → (0 < miss) × (j ≡ miss)) → (whole ≡ false → 0 < miss → j ≢ miss)
+    → TakesPrefix kind old piece new (record { count = count; flaw = None; whole = whole })
+takes_short kind old piece all new h j miss count whole is h-is unbroken short misses j-is new-is count-is on off =
     let more = take j (drop h piece) in
     let long : length more ≡ j = omega (arith, length-take j (drop h piece)) in
     let rest = length-drop h piece in
@@ -197,5 +221,22 @@ takes_short kind old piece all new h j miss count is h-is unbroken short misses 
         elim (cases_lt (length all) (lead kind + 7 + text_length kind all)) [ inl few ↦ absurd (omega (arith, text_short_of kind all unbroken (omega arith), head_fits kind (get_or all 0 0))) | inr enough ↦ enough ],
         omega arith,
       )));
+      marks = record {
+        whole = λ is-whole. (
+          refl,
+          subst (IsWhole kind) (sym new-is) (l.whole (
+            elim (cases_lt (length all) (lead kind + 7 + text_length kind all)) [
+              | inl few ↦ absurd (omega (arith, misses.head few, (on is-whole).0))
+              | inr enough ↦ enough
+            ],
+            omega (arith, (on is-whole).1),
+          )),
+        );
+        short = λ not-whole none. subst (IsShort kind) (sym new-is) (l.short (λ some.
+            elim (cases_lt (length more) miss) [
+              | inl lt ↦ lt
+              | inr le ↦ absurd (off not-whole some (omega arith))
+            ]));
+      };
       idle = λ none. refl;
     }

@@ -5,6 +5,7 @@ use Rattle.frames_core.specs.declared.prefix.Prefix.{Prefix}
 use Rattle.envelope.specs.declared.head.Flaw.{Flaw}
 use Rattle.envelope.specs.Grammar.{lead, text_length, body_length, IsUnbroken, IsUnfinished, BreaksFirst}
 use Rattle.envelope.specs.Head.{IsShort, IsWhole}
+use Rattle.frames_core.specs.Holding.{Marks}
 
 -- what the bytes are with those that were taken
 abbrev pub Stands : Kind → List ℕ → Option Flaw → Type 0
@@ -17,6 +18,7 @@ pub record TakesPrefix (kind : Kind) (old piece new : List ℕ) (prefix : Prefix
   pub least : (k : ℕ) → k < prefix.count → IsUnfinished kind (old ++ take k piece)
   pub stands : Stands kind new prefix.flaw
   pub all : prefix.count < length piece → IsWhole kind new ⊎ IsSome prefix.flaw
+  pub marks : Marks kind new prefix.flaw prefix.whole
   pub idle : prefix.count ≡ 0 → prefix.flaw ≡ None
 
 -- nothing is missing while the body's length isn't known

@@ -7,11 +7,12 @@ ghost use Rattle.frames_core.specs.Holding.{IsBreakIn, IsFaultIn};
 ghost use Rattle.frames_core.specs.Framer.{CutterState, begun, IsSettledAs, IsCutShortAs, cut_with};
 
 use crate::prefix::{each_fits, take_prefix};
-use envelope::{Call, Fault, FrameFault, Part, Reply, ReplyFault, call_of, is_whole, reply_of};
+use envelope::{Call, Fault, FrameFault, Part, Reply, ReplyFault, call_of, reply_of};
 use std::alloc::{AllocError, Global};
 use std::marker::Model;
 
-/// Cuts a stream of bytes that comes in any pieces into its frames, which are calls where `F` is [`FrameFault`], and replies where it is [`ReplyFault`].
+/// Cuts a stream of bytes that comes in any pieces into its frames, which are calls where `F` is
+/// [`FrameFault`], and replies where it is [`ReplyFault`].
 ///
 /// One buffer for the longest frame is reserved by `new`, and no later call takes memory.
 /// Contracts see it as three things: how many bytes the frames have that were given up (`past`), the bytes
@@ -21,6 +22,8 @@ pub struct Cutter<F: Fault> {
     buffer: Vec<u8>,
     past: u64,
     known: Option<F>,
+    // Whether the bytes held are a whole frame, so that its head is not read again.
+    whole: bool,
 }
 
 /// Cuts a stream into its calls: its buffer has [`MAX_FRAME_BYTES`](envelope::MAX_FRAME_BYTES) bytes.
@@ -33,13 +36,15 @@ impl<F: Fault> Model for Cutter<F> {
     ghost use Rattle.std.specs.Prelude.{◌≤◌, vec_capacity};
     ghost use Rattle.frames_core.specs.Framer.{CutterState};
     ghost use Rattle.envelope.specs.Head.{most_frame};
-    ghost use Rattle.frames_core.specs.Holding.{Holds};
+    ghost use Rattle.frames_core.specs.Holding.{Holds, Marks};
 
     ghost Value = { CutterState F };
 
     ghost view = { λ f. record { past = f.past; held = f.buffer.items; fault = f.known } };
 
-    ghost invariant = { λ f. (most_frame F.kind ≤ vec_capacity f.buffer) × Holds F.kind F.wrong_part F.place f.past f.buffer.items f.known };
+    ghost invariant = { λ f. (most_frame F.kind ≤ vec_capacity f.buffer)
+        × Holds F.kind F.wrong_part F.place f.past f.buffer.items f.known
+        × Marks F.kind f.buffer.items f.known f.whole };
 }
 
 impl<F: Fault> Cutter<F> {
@@ -53,6 +58,7 @@ impl<F: Fault> Cutter<F> {
             buffer,
             past: 0,
             known: None,
+            whole: false,
         })
     }
 
@@ -67,7 +73,8 @@ impl<F: Fault> Cutter<F> {
     /// The fault of the stream, once it is known, with its place counted from the start of the stream.
     pub fn fault(&self) -> Option<F>
         ensures value { result ≡ self.now.fault }
-        ensures exact { MatchOption result (IsUnbroken F.kind self.now.held) (λ f. IsFaultIn F.kind self.now.past self.now.held (F.wrong_part f) (F.place f)) }
+        ensures exact { MatchOption result (IsUnbroken F.kind self.now.held)
+            (λ f. IsFaultIn F.kind self.now.past self.now.held (F.wrong_part f) (F.place f)) }
     {
         self.known
     }
@@ -75,36 +82,38 @@ impl<F: Fault> Cutter<F> {
     // The bytes of the frame that is whole, if one is, and what is known where none is.
     #[inline(always)]
     fn whole_frame(&self) -> Option<&[u8]>
-        ensures some { IfSome result (λ bytes. (bytes.now ≡ self.now.held) × IsUnbroken F.kind bytes.now × IsWhole F.kind bytes.now × (self.now.fault ≡ None)) }
+        ensures value { IfSome result (λ bytes. (bytes.now ≡ self.now.held) × IsUnbroken F.kind bytes.now
+            × IsWhole F.kind bytes.now × (self.now.fault ≡ None)) }
         ensures frame { IsTrue (is_some result) → IsFrame F.kind self.now.held }
         ensures none { IsNone result → ¬ BeginsFrame F.kind self.now.held }
-        ensures short { IsNone result → self.now.fault ≡ None → IsUnbroken F.kind self.now.held × IsShort F.kind self.now.held }
+        ensures short { IsNone result → self.now.fault ≡ None → IsUnbroken F.kind self.now.held
+            × IsShort F.kind self.now.held }
     {
-        if self.known.is_some() {
+        if !self.whole {
             return None;
         }
         let held = self.buffer.as_slice();
         each_fits(held);
-        if !is_whole(F::kind(), held) {
-            return None;
-        }
         Some(held)
     }
 
     /// Gives up the frame that is whole, so that the next one can be taken. Without one nothing changes.
     #[inline(always)]
     pub fn next_frame(&mut self)
-        ensures given_up { IsFrame F.kind self.old.held → self.new ≡ record { past = self.old.past + length self.old.held; held = []; fault = None } }
+        ensures given_up { IsFrame F.kind self.old.held
+            → self.new ≡ record { past = self.old.past + length self.old.held; held = []; fault = None } }
         ensures open { IsFrame F.kind self.old.held → IsUnfinished F.kind self.new.held }
         ensures kept { ¬ IsFrame F.kind self.old.held → self.new ≡ self.old }
     {
         if self.whole_frame().is_some() {
             self.past += self.buffer.len() as u64;
             self.buffer.clear();
+            self.whole = false;
         }
     }
 
-    /// Says that the input ends here. A frame that has begun and is not whole is then the fault `EndOfInput`; otherwise nothing changes.
+    /// Says that the input ends here. A frame that has begun and is not whole is then the fault `EndOfInput`;
+    /// otherwise nothing changes.
     pub fn end(&mut self)
         ensures ends { IsCutShortAs F.kind self.old → self.new ≡ cut_with F.cut_at self.old }
         ensures kept { ¬ IsCutShortAs F.kind self.old → self.new ≡ self.old }
@@ -118,12 +127,14 @@ impl<F: Fault> Cutter<F> {
     #[inline(always)]
     fn is_settled(&self) -> bool
         ensures settled { IsTrue result → IsSettledAs F.kind self.now }
-        ensures open { (result ≡ false) → (self.now.fault ≡ None) × IsUnbroken F.kind self.now.held × IsShort F.kind self.now.held }
+        ensures open { (result ≡ false) → (self.now.fault ≡ None) × IsUnbroken F.kind self.now.held
+            × IsShort F.kind self.now.held }
     {
         self.known.is_some() || self.whole_frame().is_some()
     }
 
-    /// Takes bytes of the piece up to the end of one frame, or up to the byte at which a fault is known, and says how many.
+    /// Takes bytes of the piece up to the end of one frame, or up to the byte at which a fault is known, and
+    /// says how many.
     ///
     /// All bytes taken and the piece are fewer than 2^63.
     #[inline(always)]
@@ -132,13 +143,17 @@ impl<F: Fault> Cutter<F> {
         ensures within { result ≤ length piece.now }
         ensures past { self.new.past ≡ self.old.past }
         ensures held { self.new.held ≡ self.old.held ++ take result piece.now }
-        // It takes the least prefix of the piece that completes a frame or makes a fault known, else all of it.
+        // It takes the least prefix of the piece that completes a frame or makes a fault known, else all of
+        // it.
         ensures least { (k : ℕ) → k < result → IsUnfinished F.kind (self.old.held ++ take k piece.now) }
         ensures all { result < length piece.now → IsSettledAs F.kind self.new }
         // A fault that it makes known is of the bytes, and not of an end of the input.
-        ensures known { self.old.fault ≡ None → IfSome self.new.fault (λ f. IsBreakIn F.kind self.new.past self.new.held (F.wrong_part f) (F.place f)) }
+        ensures known { self.old.fault ≡ None
+            → IfSome self.new.fault (λ f. IsBreakIn F.kind self.new.past self.new.held (F.wrong_part f)
+            (F.place f)) }
         // What may yet become a frame is shorter than the longest one.
-        ensures few { self.new.fault ≡ None → IsUnfinished F.kind self.new.held → length self.new.held < most_frame F.kind }
+        ensures few { self.new.fault ≡ None → IsUnfinished F.kind self.new.held
+            → length self.new.held < most_frame F.kind }
         // Nothing is taken while a frame stands or after a fault.
         ensures settled { IsSettledAs F.kind self.old → result ≡ 0 }
         ensures idle { result ≡ 0 → self.new ≡ self.old }
@@ -148,6 +163,7 @@ impl<F: Fault> Cutter<F> {
         }
         let prefix = take_prefix(F::kind(), &mut self.buffer, piece);
         each_fits(self.buffer.as_slice());
+        self.whole = prefix.whole;
         if let Some(flaw) = prefix.flaw {
             self.known = Some(F::of(flaw.part, self.past + flaw.at as u64));
         }
@@ -158,7 +174,8 @@ impl<F: Fault> Cutter<F> {
 impl Cutter<FrameFault> {
     /// The call whose frame is whole, if one is, lent from the buffer.
     pub fn frame(&self) -> Option<Call<'_>>
-        ensures { MatchOption result (¬ BeginsFrame Calls self.now.held) (λ call. IsCall (bytes_of call) × (self.now.held ≡ frame (bytes_of call))) }
+        ensures { MatchOption result (¬ BeginsFrame Calls self.now.held) (λ call. IsCall (bytes_of call)
+            × (self.now.held ≡ frame (bytes_of call))) }
     {
         Some(call_of(self.whole_frame()?))
     }
@@ -167,7 +184,8 @@ impl Cutter<FrameFault> {
 impl Cutter<ReplyFault> {
     /// The reply whose frame is whole, if one is, lent from the buffer.
     pub fn reply(&self) -> Option<Reply<'_>>
-        ensures { MatchOption result (¬ BeginsFrame Replies self.now.held) (λ r. IsReply (reply_bytes_of r) × (self.now.held ≡ reply (reply_bytes_of r))) }
+        ensures { MatchOption result (¬ BeginsFrame Replies self.now.held) (λ r. IsReply (reply_bytes_of r)
+            × (self.now.held ≡ reply (reply_bytes_of r))) }
     {
         Some(reply_of(self.whole_frame()?))
     }

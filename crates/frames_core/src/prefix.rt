@@ -1,4 +1,5 @@
-ghost use Rattle.std.specs.Prelude.{◌≡◌, ℕ, ◌+◌, ◌<◌, ◌≤◌, ◌++◌, length, slice_index, min, vec_len, vec_capacity};
+ghost use Rattle.std.specs.Prelude.{◌≡◌, ◌≢◌, ℕ, ◌+◌, ◌<◌, ◌≤◌, ◌++◌, false, IsTrue, length};
+ghost use Rattle.std.specs.Prelude.{slice_index, min, vec_len, vec_capacity};
 ghost use Rattle.frames_core.specs.Prefix.{TakesPrefix, Misses};
 ghost use Rattle.envelope.specs.Grammar.{IsUnbroken};
 ghost use Rattle.envelope.specs.Head.{IsShort, most_frame};
@@ -12,11 +13,14 @@ pub(crate) struct Prefix {
     pub count: usize,
     /// What the last of them breaks, with its place in the bytes held.
     pub flaw: Option<Flaw>,
+    /// Whether the bytes held are then a whole frame.
+    pub whole: bool,
 }
 
 /// Takes bytes of the piece up to the end of one frame, or up to the byte that breaks the table.
 ///
-/// What may be the head is appended, looked at and cut back to where the frame or the break ends; the body then comes as one copy.
+/// What may be the head is appended, looked at and cut back to where the frame or the break ends; the body
+/// then comes as one copy.
 #[inline(always)]
 pub(crate) fn take_prefix(kind: Kind, buffer: &mut Vec<u8>, piece: &[u8]) -> Prefix
     requires room { most_frame kind ≤ vec_capacity buffer.old }
@@ -37,6 +41,7 @@ pub(crate) fn take_prefix(kind: Kind, buffer: &mut Vec<u8>, piece: &[u8]) -> Pre
             Prefix {
                 count: size - before,
                 flaw: Some(flaw),
+                whole: false,
             }
         }
         Look::Whole(size) => {
@@ -44,14 +49,17 @@ pub(crate) fn take_prefix(kind: Kind, buffer: &mut Vec<u8>, piece: &[u8]) -> Pre
             Prefix {
                 count: size - before,
                 flaw: None,
+                whole: true,
             }
         }
         Look::Short => {
-            let (more, _) = rest.split_at(at_most(rest.len(), missing(kind, buffer.as_slice())));
+            let missing = missing(kind, buffer.as_slice());
+            let (more, _) = rest.split_at(at_most(rest.len(), missing));
             append(buffer, more);
             Prefix {
                 count: head.len() + more.len(),
                 flaw: None,
+                whole: are_all(more.len(), missing),
             }
         }
     }
@@ -78,6 +86,15 @@ fn append(buffer: &mut Vec<u8>, bytes: &[u8])
     if buffer.extend_from_slice(bytes).is_err() {
         unreachable!();
     }
+}
+
+// Whether so many are all that were missing: none were, until the length of the body is known.
+#[inline(always)]
+fn are_all(count: usize, missing: usize) -> bool
+    ensures all { IsTrue result → (0 < missing) × (count ≡ missing) }
+    ensures fewer { (result ≡ false) → 0 < missing → count ≢ missing }
+{
+    missing > 0 && count == missing
 }
 
 // How many bytes of the body are missing: 0 until its length is known.

@@ -26,8 +26,8 @@ fn put<W: Write>(writer: &mut W, bytes: &[u8]) -> io::Result<()>
 ///
 /// # Errors
 ///
-/// Where a write or the flush failed, or a write took nothing: then a prefix of the bytes was written, which may be none or all of them. An interrupted write is
-/// a failure.
+/// Where a write or the flush failed, or a write took nothing: then a prefix of the bytes was written, which
+/// may be none or all of them. An interrupted write is a failure.
 #[inline(always)]
 pub fn send<W: Write>(writer: &mut W, frame: &[u8]) -> io::Result<()>
     ensures all { OnOk result (Appends (W.contents writer.old) (W.contents writer.new) frame.now) }

@@ -1,6 +1,8 @@
--- The one spelling of a message: rising field numbers, minimal varints, default scalars and empty texts left out,
--- present messages written even when empty, map entries in byte order of their keys with both parts always written.
-use Rattle.std.specs.Prelude.{ℕ, ℤ, Bool, true, ◌&&◌, nat_lt, ◌<◌, ◌^◌, List, [], ◌∷◌, ◌++◌, map, length, Option, ◌==◌, if◌then◌else◌, option_to_list, IfSome, IsUtf8, FitsSigned}
+-- The one spelling of a message: rising field numbers, minimal varints, default scalars and empty texts left
+-- out, present messages written even when empty, map entries in byte order of their keys with both parts
+-- always written.
+use Rattle.std.specs.Prelude.{ℕ, ℤ, Bool, true, ◌&&◌, nat_lt, ◌<◌, ◌^◌, List, [], ◌∷◌, ◌++◌, map, length, Option, ◌==◌, if◌then◌else◌, option_to_list}
+use Rattle.std.specs.Prelude.{IfSome, IsUtf8, FitsSigned}
 use Rattle.std.specs.Int.{cast_unsigned, w32, w64}
 use Rattle.std.specs.List.{AllByRecursion}
 use Rattle.std.specs.FinMap.{entries}
@@ -108,7 +110,8 @@ map_row k m = Strings k (spelled canon_map_entry (entries m))
 abbrev pub presence_row : ℕ → Bool → Row
 presence_row k b = Strings k (presence b)
 
--- ---- what has a spelling: texts in UTF-8, numbers in the range of their type, and payloads whose length is a varint
+-- ---- what has a spelling: texts in UTF-8, numbers in the range of their type, and payloads whose length is
+-- a varint
 
 abbrev pub FitsText : List ℕ → Type 0
 FitsText t = IsUtf8 t × (length t < 2 ^ 64)

@@ -1,5 +1,5 @@
--- A message as a list of fields: which of them are good, how far a prefix of the bytes is a list of good fields,
--- and which value the bytes mean.
+-- A message as a list of fields: which of them are good, how far a prefix of the bytes is a list of good
+-- fields, and which value the bytes mean.
 use Rattle.std.specs.Prelude.{◌≡◌, ℕ, zero, suc, ◌≤◌, ◌<◌, List, [], ◌∷◌, length, take, Result, Ok, Err}
 use Rattle.std.specs.List.{AllByRecursion}
 use Rattle.pbwire.specs.declared.field.WireWhy.{WireWhy}

@@ -1,13 +1,13 @@
--- Which payloads of a message are good, by the numbers of their fields: a text is UTF-8 (Protocol Buffers language
--- guide, 'Scalar Value Types'), and an embedded message is by itself a list of good fields (encoding guide,
--- 'Length-Delimited Records').
+-- Which payloads of a message are good, by the numbers of their fields: a text is UTF-8 (Protocol Buffers
+-- language guide, 'Scalar Value Types'), and an embedded message is by itself a list of good fields (encoding
+-- guide, 'Length-Delimited Records').
 use Rattle.std.specs.Prelude.{ℕ, List, IfSome, IsUtf8, MatchBool, ◌==◌}
 use Rattle.pbwire.specs.Wire.{WireField}
 use Rattle.pbmessage.specs.Fields.{AreGood}
 use Rattle.pbmessage.specs.Views.{payload}
 
--- under which numbers a message has texts and embedded messages, and of which schema these are; a payload under any
--- other number is good whatever it is
+-- under which numbers a message has texts and embedded messages, and of which schema these are; a payload
+-- under any other number is good whatever it is
 pub data Schema : Type 0 where
   AnyPayload : Schema
   TextAt : ℕ → Schema → Schema

@@ -36,8 +36,8 @@ beside n (Some p) = Some (n, p)
 abbrev pub member_of : (ℕ → Bool) → WireField → Option (ℕ × List ℕ)
 member_of test e = if test e.number then beside e.number (payload e.part) else None
 
--- what stands in a message: the payloads and the varints of each number in order, and the payloads of all numbers
--- that pass a test
+-- what stands in a message: the payloads and the varints of each number in order, and the payloads of all
+-- numbers that pass a test
 pub record Views : Type 0 where
   pub payloads : ℕ → Payloads
   pub numbers : ℕ → List ℕ
@@ -72,7 +72,8 @@ i32 ns = cast_signed w32 (last_or 0 ns % 2 ^ 32)
 abbrev pub flag : List ℕ → Bool
 flag ns = not (last_or 0 ns == 0)
 
--- ---- embedded messages, whose occurrences are merged (encoding guide, 'Last One Wins' and 'Length-Delimited Records')
+-- ---- embedded messages, whose occurrences are merged (encoding guide, 'Last One Wins' and 'Length-Delimited
+-- Records')
 
 -- the fields of all the payloads, joined
 abbrev pub joined : Payloads → List WireField

@@ -1,12 +1,14 @@
 //! Messages of any type to and from bytes (Protocol Buffers, proto3).
 //!
-//! What bytes mean is a function of *views*: what stands under each field number of a list of fields, as the last text, all payloads, the
-//! joined fields of an embedded message, the last entry of each key, the member of a oneof. A message is three short definitions: which view
-//! gives each part of its value, its *schema* (under which numbers stand texts and embedded messages), and how the value is written. The trait
-//! [`Message`] carries the reading of any message and the trait [`Written`] its writing. Which messages there are is said by the crate above.
+//! What bytes mean is a function of *views*: what stands under each field number of a list of fields, as the
+//! last text, all payloads, the joined fields of an embedded message, the last entry of each key, the member
+//! of a oneof. A message is three short definitions: which view gives each part of its value, its *schema*
+//! (under which numbers stand texts and embedded messages), and how the value is written. The trait
+//! [`Message`] carries the reading of any message and the trait [`Written`] its writing. Which messages there
+//! are is said by the crate above.
 //!
-//! Reading takes two passes: one looks for faults and takes no memory, so a malformed message is never answered as want of memory; the other
-//! builds. Embedded messages are merged in place and written in place.
+//! Reading takes two passes: one looks for faults and takes no memory, so a malformed message is never
+//! answered as want of memory; the other builds. Embedded messages are merged in place and written in place.
 //!
 //! ```rust
 //! match decode_message::<Package, Message>(alloc, bytes) {

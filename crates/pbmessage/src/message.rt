@@ -1,4 +1,5 @@
-//! Reading a message of any type: first a pass that looks for faults and takes no memory, then one that builds.
+//! Reading a message of any type: first a pass that looks for faults and takes no memory, then one that
+//! builds.
 
 ghost use Rattle.std.specs.Prelude.{◌≡◌, ◌↔◌, ℕ, List, [], ◌∷◌, ◌++◌, IsTrue, OnOk, IfOk, IfErr, MatchOption};
 ghost use Rattle.pbwire.specs.Wire.{WireField};
@@ -16,8 +17,8 @@ use std::alloc::{AllocError, Global};
 /// A type that is read from the fields of a message.
 ///
 /// Its value is a function of what stands under each field number, so to read a message is to take its fields
-/// one after the other. `P` names the package of messages: a type of the crate that says how they are read, which need not be the one
-/// whose types their values are.
+/// one after the other. `P` names the package of messages: a type of the crate that says how they are read,
+/// which need not be the one whose types their values are.
 pub trait Message<P>: Drop {
     /// Under which numbers stand texts and embedded messages.
     ghost schema: { Schema };
@@ -45,7 +46,8 @@ pub trait Message<P>: Drop {
         payload: &[u8],
     ) -> Result<(), AllocError>
         requires { Good schema number payload.now }
-        ensures { OnOk result ((v : Views) → self.old ≡ of v → self.new ≡ of (with_payload number payload.now v)) };
+        ensures { OnOk result ((v : Views) → self.old ≡ of v
+            → self.new ≡ of (with_payload number payload.now v)) };
 }
 
 /// The text of a malformed message, up to the offset of its field, which follows in decimal.
@@ -54,9 +56,9 @@ pub const MALFORMED_MESSAGE: &str = "malformed message in the field at byte ";
 /// Why a message is not read. Want of memory is displayed as [`Reason::OutOfMemory`] is.
 #[derive(Clone, Copy, Debug, thiserror::Error)]
 pub enum DecodeFault {
-    /// The bytes mean no value: the field at this byte is malformed, holds a text that is not UTF-8, or holds an
-    /// embedded message that is malformed itself. The bytes before it are the longest prefix of the message that
-    /// is a list of good fields.
+    /// The bytes mean no value: the field at this byte is malformed, holds a text that is not UTF-8, or holds
+    /// an embedded message that is malformed itself. The bytes before it are the longest prefix of the
+    /// message that is a list of good fields.
     #[error("{}{at}", MALFORMED_MESSAGE)]
     Malformed {
         /// The offset of the field, in bytes from the start of the message.
@@ -82,7 +84,8 @@ fn merge_field<P, M: Message<P>>(
     field: &Field<'_>,
 ) -> Result<(), AllocError>
     requires { GoodField (Good M.schema) (wire_field_of field.now) }
-    ensures { OnOk result ((seen : List WireField) → message.old ≡ value_of M.of seen → message.new ≡ value_of M.of (seen ++ wire_field_of field.now ∷ [])) }
+    ensures { OnOk result ((seen : List WireField) → message.old ≡ value_of M.of seen
+        → message.new ≡ value_of M.of (seen ++ wire_field_of field.now ∷ [])) }
 {
     match field.value {
         Value::Varint(number) => message.merge_number(field.number, number),
@@ -94,7 +97,8 @@ fn merge_field<P, M: Message<P>>(
 
 /// The offset at which the bytes stop being a list of good fields, if they do. It takes no memory.
 pub fn first_fault<P, M: Message<P>>(bytes: &[u8]) -> Option<usize>
-    ensures { MatchOption result (AreGood (GoodField (Good M.schema)) bytes.now) (IsRefusedAt (GoodField (Good M.schema)) bytes.now) }
+    ensures { MatchOption result (AreGood (GoodField (Good M.schema)) bytes.now)
+        (IsRefusedAt (GoodField (Good M.schema)) bytes.now) }
 {
     spelled();
     let mut fields = Fields::new(bytes);
@@ -118,7 +122,8 @@ pub fn merge<P, M: Message<P>>(
     bytes: &[u8],
 ) -> Result<(), AllocError>
     requires { AreGood (GoodField (Good M.schema)) bytes.now }
-    ensures { OnOk result ((seen : List WireField) → message.old ≡ value_of M.of seen → message.new ≡ value_of M.of (seen ++ fields_of bytes.now)) }
+    ensures { OnOk result ((seen : List WireField) → message.old ≡ value_of M.of seen
+        → message.new ≡ value_of M.of (seen ++ fields_of bytes.now)) }
 {
     spelled();
     let mut fields = Fields::new(bytes);
@@ -139,7 +144,8 @@ pub fn read<P, M: Message<P>>(alloc: Global, bytes: &[u8]) -> Result<M, AllocErr
     Ok(message)
 }
 
-/// What the bytes mean. Faults are looked for first, so want of memory is answered only where they mean a value.
+/// What the bytes mean. Faults are looked for first, so want of memory is answered only where they mean a
+/// value.
 #[inline(always)]
 pub fn decode_message<P, M: Message<P>>(alloc: Global, bytes: &[u8]) -> Result<M, DecodeFault>
     ensures ok { IfOk result (Means (GoodField (Good M.schema)) (value_of M.of) bytes.now) }

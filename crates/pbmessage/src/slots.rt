@@ -53,7 +53,8 @@ pub fn merge_message<P, M: Message<P>>(
     payload: &[u8],
 ) -> Result<(), AllocError>
     requires { AreGood (GoodField (Good M.schema)) payload.now }
-    ensures { OnOk result ((ps : Payloads) → slot.old ≡ inner (value_of M.of) ps → slot.new ≡ inner (value_of M.of) (ps ++ payload.now ∷ [])) }
+    ensures { OnOk result ((ps : Payloads) → slot.old ≡ inner (value_of M.of) ps
+        → slot.new ≡ inner (value_of M.of) (ps ++ payload.now ∷ [])) }
 {
     match slot {
         Some(message) => merge(message, alloc, payload)?,
@@ -69,7 +70,8 @@ pub fn push_message<P, M: Message<P>>(
     payload: &[u8],
 ) -> Result<(), AllocError>
     requires { AreGood (GoodField (Good M.schema)) payload.now }
-    ensures { OnOk result ((ps : Payloads) → items.old ≡ messages (value_of M.of) ps → items.new ≡ messages (value_of M.of) (ps ++ payload.now ∷ [])) }
+    ensures { OnOk result ((ps : Payloads) → items.old ≡ messages (value_of M.of) ps
+        → items.new ≡ messages (value_of M.of) (ps ++ payload.now ∷ [])) }
 {
     items.push(read(alloc, payload)?)?;
     Ok(())
@@ -85,7 +87,8 @@ pub fn is_entry(payload: &[u8]) -> bool
 /// Enters an entry into a map, over an earlier one of the same key.
 pub fn merge_entry(map: &mut Map, alloc: Global, payload: &[u8]) -> Result<(), AllocError>
     requires { AreGood (GoodField (Good map_entry_schema)) payload.now }
-    ensures { OnOk result ((ps : Payloads) → map.old ≡ text_map ps → map.new ≡ text_map (ps ++ payload.now ∷ [])) }
+    ensures { OnOk result ((ps : Payloads) → map.old ≡ text_map ps
+        → map.new ≡ text_map (ps ++ payload.now ∷ [])) }
 {
     let (key, value) = read::<Entries, MapEntry>(alloc, payload)?;
     map.insert(key, value)

@@ -36,7 +36,7 @@ pub fn whole_or_none(
     written: Result<(), AllocError>,
 ) -> Result<(), AllocError>
     requires { from ≤ length out.old.items }
-    ensures same { result ≡ written }
+    ensures value { result ≡ written }
     ensures ok { OnOk result (out.new.items ≡ out.old.items) }
     ensures err { OnErr result (out.new.items ≡ take from out.old.items) }
 {
@@ -50,7 +50,8 @@ pub fn whole_or_none(
 #[tactic(auto, unfolding(crate::specs::Canon::row_fields))]
 fn put_str(out: &mut Vec<u8>, number: u32, text: &str) -> Result<(), AllocError>
     requires { (1 ≤ number) × (number < 2 ^ 29) }
-    ensures ok { OnOk result (out.new.items ≡ out.old.items ++ spellings (row_fields (text_row number text.now))) }
+    ensures ok { OnOk result (out.new.items
+        ≡ out.old.items ++ spellings (row_fields (text_row number text.now))) }
     ensures fitting { OnOk result (FitsText text.now) }
     ensures kept { Keeps out.old.items out.new.items }
 {
@@ -63,7 +64,8 @@ fn put_str(out: &mut Vec<u8>, number: u32, text: &str) -> Result<(), AllocError>
 /// Appends a text, unless it is empty.
 pub fn put_text(out: &mut Vec<u8>, number: u32, text: &Text) -> Result<(), AllocError>
     requires { (1 ≤ number) × (number < 2 ^ 29) }
-    ensures ok { OnOk result (out.new.items ≡ out.old.items ++ spellings (row_fields (text_row number text.now))) }
+    ensures ok { OnOk result (out.new.items
+        ≡ out.old.items ++ spellings (row_fields (text_row number text.now))) }
     ensures fitting { OnOk result (FitsText text.now) }
     ensures kept { Keeps out.old.items out.new.items }
 {
@@ -78,7 +80,8 @@ pub fn put_joined(
     second: &str,
 ) -> Result<(), AllocError>
     requires { (1 ≤ number) × (number < 2 ^ 29) }
-    ensures ok { OnOk result (out.new.items ≡ out.old.items ++ spellings (row_fields (text_row number (first.now ++ second.now)))) }
+    ensures ok { OnOk result (out.new.items
+        ≡ out.old.items ++ spellings (row_fields (text_row number (first.now ++ second.now)))) }
     ensures fitting { OnOk result (FitsText (first.now ++ second.now)) }
     ensures kept { Keeps out.old.items out.new.items }
 {
@@ -92,7 +95,8 @@ pub fn put_joined(
 #[tactic(auto, unfolding(crate::specs::Canon::row_fields))]
 pub fn put_texts(out: &mut Vec<u8>, number: u32, texts: &Items<Text>) -> Result<(), AllocError>
     requires { (1 ≤ number) × (number < 2 ^ 29) }
-    ensures ok { OnOk result (out.new.items ≡ out.old.items ++ spellings (row_fields (texts_row number texts.now))) }
+    ensures ok { OnOk result (out.new.items
+        ≡ out.old.items ++ spellings (row_fields (texts_row number texts.now))) }
     ensures fitting { OnOk result (FitsTexts texts.now) }
     ensures kept { Keeps out.old.items out.new.items }
 {
@@ -106,7 +110,8 @@ pub fn put_texts(out: &mut Vec<u8>, number: u32, texts: &Items<Text>) -> Result<
 #[tactic(auto, unfolding(crate::specs::Canon::row_fields))]
 pub fn put_signed(out: &mut Vec<u8>, number: u32, value: i64) -> Result<(), AllocError>
     requires { (1 ≤ number) × (number < 2 ^ 29) }
-    ensures ok { OnOk result (out.new.items ≡ out.old.items ++ spellings (row_fields (signed_row number value))) }
+    ensures ok { OnOk result (out.new.items
+        ≡ out.old.items ++ spellings (row_fields (signed_row number value))) }
     ensures kept { Keeps out.old.items out.new.items }
 {
     if value == 0 {
@@ -119,7 +124,8 @@ pub fn put_signed(out: &mut Vec<u8>, number: u32, value: i64) -> Result<(), Allo
 #[tactic(auto, unfolding(crate::specs::Canon::row_fields))]
 pub fn put_flag(out: &mut Vec<u8>, number: u32, flag: bool) -> Result<(), AllocError>
     requires { (1 ≤ number) × (number < 2 ^ 29) }
-    ensures ok { OnOk result (out.new.items ≡ out.old.items ++ spellings (row_fields (flag_row number flag))) }
+    ensures ok { OnOk result (out.new.items
+        ≡ out.old.items ++ spellings (row_fields (flag_row number flag))) }
     ensures kept { Keeps out.old.items out.new.items }
 {
     if !flag {
@@ -132,7 +138,8 @@ pub fn put_flag(out: &mut Vec<u8>, number: u32, flag: bool) -> Result<(), AllocE
 #[tactic(auto, unfolding(crate::specs::Canon::row_fields))]
 pub fn put_presence(out: &mut Vec<u8>, number: u32, present: bool) -> Result<(), AllocError>
     requires { (1 ≤ number) × (number < 2 ^ 29) }
-    ensures ok { OnOk result (out.new.items ≡ out.old.items ++ spellings (row_fields (presence_row number present))) }
+    ensures ok { OnOk result (out.new.items
+        ≡ out.old.items ++ spellings (row_fields (presence_row number present))) }
     ensures kept { Keeps out.old.items out.new.items }
 {
     if !present {
@@ -148,7 +155,8 @@ pub fn put_message<P, M: Written<P>>(
     message: &M,
 ) -> Result<(), AllocError>
     requires { (1 ≤ number) × (number < 2 ^ 29) }
-    ensures ok { OnOk result (out.new.items ≡ out.old.items ++ spellings (payload_fields number (bytes_of (M.canon message.now) ∷ []))) }
+    ensures ok { OnOk result (out.new.items
+        ≡ out.old.items ++ spellings (payload_fields number (bytes_of (M.canon message.now) ∷ []))) }
     ensures fitting { OnOk result (FitsInner M.fits M.canon message.now) }
     ensures kept { Keeps out.old.items out.new.items }
 {
@@ -167,7 +175,8 @@ pub fn put_option<P, M: Written<P>>(
     message: &Option<M>,
 ) -> Result<(), AllocError>
     requires { (1 ≤ number) × (number < 2 ^ 29) }
-    ensures ok { OnOk result (out.new.items ≡ out.old.items ++ spellings (row_fields (option_row M.canon number message.now))) }
+    ensures ok { OnOk result (out.new.items
+        ≡ out.old.items ++ spellings (row_fields (option_row M.canon number message.now))) }
     ensures fitting { OnOk result (FitsOption M.fits M.canon message.now) }
     ensures kept { Keeps out.old.items out.new.items }
 {
@@ -185,7 +194,8 @@ pub fn put_messages<P, M: Written<P>>(
     messages: &Items<M>,
 ) -> Result<(), AllocError>
     requires { (1 ≤ number) × (number < 2 ^ 29) }
-    ensures ok { OnOk result (out.new.items ≡ out.old.items ++ spellings (row_fields (messages_row M.canon number messages.now))) }
+    ensures ok { OnOk result (out.new.items
+        ≡ out.old.items ++ spellings (row_fields (messages_row M.canon number messages.now))) }
     ensures fitting { OnOk result (FitsMessages M.fits M.canon messages.now) }
     ensures kept { Keeps out.old.items out.new.items }
 {
@@ -199,7 +209,8 @@ pub fn put_messages<P, M: Written<P>>(
 #[tactic(auto, unfolding(crate::specs::Canon::row_fields))]
 pub fn put_map(out: &mut Vec<u8>, number: u32, map: &Map) -> Result<(), AllocError>
     requires { (1 ≤ number) × (number < 2 ^ 29) }
-    ensures ok { OnOk result (out.new.items ≡ out.old.items ++ spellings (row_fields (map_row number map.now))) }
+    ensures ok { OnOk result (out.new.items
+        ≡ out.old.items ++ spellings (row_fields (map_row number map.now))) }
     ensures fitting { OnOk result (FitsMap map.now) }
     ensures kept { Keeps out.old.items out.new.items }
 {
@@ -213,7 +224,8 @@ pub fn put_map(out: &mut Vec<u8>, number: u32, map: &Map) -> Result<(), AllocErr
 #[tactic(auto, using(crate::proofs::EntryLemmas::one_entry, crate::proofs::EntryLemmas::one_entry_fits), unfolding(crate::specs::Canon::row_fields))]
 pub fn put_single(out: &mut Vec<u8>, number: u32, key: &str, value: &str) -> Result<(), AllocError>
     requires { (1 ≤ number) × (number < 2 ^ 29) }
-    ensures ok { OnOk result (out.new.items ≡ out.old.items ++ spellings (row_fields (map_row number (insert empty key.now value.now)))) }
+    ensures ok { OnOk result (out.new.items
+        ≡ out.old.items ++ spellings (row_fields (map_row number (insert empty key.now value.now)))) }
     ensures fitting { OnOk result (FitsMap (insert empty key.now value.now)) }
     ensures kept { Keeps out.old.items out.new.items }
 {
@@ -224,7 +236,9 @@ pub fn put_single(out: &mut Vec<u8>, number: u32, key: &str, value: &str) -> Res
 #[tactic(auto, unfolding(crate::specs::Canon::row_fields))]
 fn put_map_entry(out: &mut Vec<u8>, number: u32, key: &str, value: &str) -> Result<(), AllocError>
     requires { (1 ≤ number) × (number < 2 ^ 29) }
-    ensures ok { OnOk result (out.new.items ≡ out.old.items ++ spellings (payload_fields number (bytes_of (canon_map_entry (key.now, value.now)) ∷ []))) }
+    ensures ok { OnOk result (out.new.items
+        ≡ out.old.items ++ spellings (payload_fields number
+        (bytes_of (canon_map_entry (key.now, value.now)) ∷ []))) }
     ensures fitting { OnOk result (FitsInner FitsMapEntry canon_map_entry (key.now, value.now)) }
     ensures kept { Keeps out.old.items out.new.items }
 {

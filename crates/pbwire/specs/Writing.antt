@@ -28,7 +28,13 @@ spellings es = flat_map spelling es
 -- an entry of a map of texts, its key and its value: an embedded message with the key as field 1 and
 -- the value as field 2, both always there (encoding guide, "Maps")
 abbrev pub map_entry : ℕ → List ℕ × List ℕ → WireField
-map_entry number kv = record { number = number; part = Payload (spelling (record { number = 1; part = Payload kv.0 }) ++ spelling (record { number = 2; part = Payload kv.1 })) }
+map_entry number kv = record {
+  number = number;
+  part = Payload (spelling (record {
+    number = 1;
+    part = Payload kv.0;
+  }) ++ spelling (record { number = 2; part = Payload kv.1 }));
+}
 
 -- the bytes of a key and a value that are lent
 abbrev pub bytes_of : Bor (List ℕ) × Bor (List ℕ) → List ℕ × List ℕ

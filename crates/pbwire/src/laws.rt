@@ -12,7 +12,8 @@ ghost use Rattle.pbwire.specs.Writing.{varint, spelling, spellings};
 pub fn spelled()
     ensures exactly { (bytes rest : List ℕ) (e : WireField) →
         (field_at bytes ≡ Ok (e, rest)) ↔ ((first : List ℕ) × Spells e first × (bytes ≡ first ++ rest)) }
-    ensures shorter { (bytes rest : List ℕ) (e : WireField) → field_at bytes ≡ Ok (e, rest) → length rest < length bytes }
+    ensures shorter { (bytes rest : List ℕ) (e : WireField) → field_at bytes ≡ Ok (e, rest)
+        → length rest < length bytes }
 {}
 
 /// A fault is met, for a reason, exactly where the table of faults has that reason for the bytes. At
@@ -20,7 +21,8 @@ pub fn spelled()
 #[inline(always)]
 pub fn faulted()
     ensures reason { (bytes : List ℕ) (why : WireWhy) → (field_at bytes ≡ Err why) ↔ Faults why bytes }
-    ensures only { (bytes : List ℕ) (why other : WireWhy) → Faults why bytes → Faults other bytes → why ≡ other }
+    ensures only { (bytes : List ℕ) (why other : WireWhy) → Faults why bytes → Faults other bytes
+        → why ≡ other }
     ensures spells_none { (bytes first rest : List ℕ) (why : WireWhy) (e : WireField) →
         Faults why bytes → bytes ≡ first ++ rest → Spells e first → ⊥ }
 {}
@@ -29,7 +31,8 @@ pub fn faulted()
 /// begins with the list's first field, and goes on with the others.
 #[inline(always)]
 pub fn listed()
-    ensures one { (es others : List WireField) (bytes : List ℕ) → AreFields es bytes → AreFields others bytes → es ≡ others }
+    ensures one { (es others : List WireField) (bytes : List ℕ) → AreFields es bytes → AreFields others bytes
+        → es ≡ others }
     ensures in_order { (e : WireField) (es : List WireField) (bytes : List ℕ) →
         AreFields (e ∷ es) bytes ↔ ((rest : List ℕ) × (field_at bytes ≡ Ok (e, rest)) × AreFields es rest) }
 {}
@@ -39,11 +42,13 @@ pub fn listed()
 /// exactly where its number and what it holds are in range.
 #[inline(always)]
 pub fn written()
-    ensures again { (e : WireField) (more : List ℕ) → FitsField e → field_at (spelling e ++ more) ≡ Ok (e, more) }
+    ensures again { (e : WireField) (more : List ℕ) → FitsField e
+        → field_at (spelling e ++ more) ≡ Ok (e, more) }
     ensures spells { (e : WireField) → FitsField e → Spells e (spelling e) }
     ensures fits { (e : WireField) (bytes : List ℕ) → Spells e bytes → FitsField e }
-    ensures whole { (es : List WireField) → All FitsField es → AreFields es (spellings es) }
-    ensures shortest { (e : WireField) (bytes : List ℕ) → Spells e bytes → length (spelling e) ≤ length bytes }
+    ensures fields { (es : List WireField) → All FitsField es → AreFields es (spellings es) }
+    ensures shortest { (e : WireField) (bytes : List ℕ) → Spells e bytes
+        → length (spelling e) ≤ length bytes }
 {}
 
 /// A field of an empty payload that ends at `from`, bytes behind it, and its length set to theirs, as
@@ -52,10 +57,11 @@ pub fn written()
 pub fn closed()
     ensures begins { (number from : ℕ) (old : List ℕ) →
         from ≡ length (old ++ spelling (record { number = number; part = Payload [] })) → 1 ≤ from }
-    ensures is { (number from : ℕ) (old bytes whole : List ℕ) →
+    ensures spelled { (number from : ℕ) (old bytes whole : List ℕ) →
         whole ≡ (old ++ spelling (record { number = number; part = Payload [] })) ++ bytes
         → from ≡ length (old ++ spelling (record { number = number; part = Payload [] }))
-        → take (from - 1) whole ++ (varint (length whole - from) ++ drop from whole) ≡ old ++ spelling (record { number = number; part = Payload bytes }) }
+        → take (from - 1) whole ++ (varint (length whole - from) ++ drop from whole)
+        ≡ old ++ spelling (record { number = number; part = Payload bytes }) }
 {}
 
 /// A number below 128 is a varint of one byte, which is the number.

@@ -58,7 +58,10 @@ pub fn varint_field(number: u32, value: u64) -> ArrayVec<u8, 20>
 /// Appends a field that holds a number (wire type 0). After an `Err` the vector is as it was.
 pub fn put_varint(out: &mut Vec<u8>, number: u32, value: u64) -> Result<(), AllocError>
     requires { (1 ≤ number) × (number < 2 ^ 29) }
-    ensures ok { OnOk result (out.new.items ≡ out.old.items ++ spelling (record { number = number; part = Number value })) }
+    ensures ok { OnOk result (out.new.items ≡ out.old.items ++ spelling (record {
+      number = number;
+      part = Number value;
+    })) }
     ensures err { OnErr result (out.new.items ≡ out.old.items) }
 {
     out.extend_from_slice(varint_field(number, value).as_slice())
@@ -79,7 +82,10 @@ fn append_both(out: &mut Vec<u8>, head: &[u8], bytes: &[u8]) -> Result<(), Alloc
 #[inline(never)]
 fn put_long_bytes(out: &mut Vec<u8>, number: u32, bytes: &[u8]) -> Result<(), AllocError>
     requires { (1 ≤ number) × (number < 2 ^ 29) }
-    ensures ok { OnOk result (out.new.items ≡ out.old.items ++ spelling (record { number = number; part = Payload bytes.now })) }
+    ensures ok { OnOk result (out.new.items ≡ out.old.items ++ spelling (record {
+      number = number;
+      part = Payload bytes.now;
+    })) }
     ensures err { OnErr result (out.new.items ≡ out.old.items) }
 {
     let head = head_of(number, 2, bytes.len() as u64);
@@ -91,7 +97,10 @@ fn put_long_bytes(out: &mut Vec<u8>, number: u32, bytes: &[u8]) -> Result<(), Al
 #[inline(always)]
 pub fn put_bytes(out: &mut Vec<u8>, number: u32, bytes: &[u8]) -> Result<(), AllocError>
     requires { (1 ≤ number) × (number < 2 ^ 29) }
-    ensures ok { OnOk result (out.new.items ≡ out.old.items ++ spelling (record { number = number; part = Payload bytes.now })) }
+    ensures ok { OnOk result (out.new.items ≡ out.old.items ++ spelling (record {
+      number = number;
+      part = Payload bytes.now;
+    })) }
     ensures err { OnErr result (out.new.items ≡ out.old.items) }
 {
     match short_head(number, bytes.len()) {
@@ -115,7 +124,8 @@ fn put_before(bytes: &mut [u8], head: &[u8])
 #[inline(always)]
 fn insert_before(out: &mut Vec<u8>, from: usize, head: &[u8]) -> Result<(), AllocError>
     requires { from ≤ length out.old.items }
-    ensures ok { OnOk result (out.new.items ≡ take from out.old.items ++ (head.now ++ drop from out.old.items)) }
+    ensures ok { OnOk result (out.new.items
+        ≡ take from out.old.items ++ (head.now ++ drop from out.old.items)) }
     ensures err { OnErr result (out.new.items ≡ out.old.items) }
 {
     out.extend_from_slice(head)?;
@@ -127,7 +137,8 @@ fn insert_before(out: &mut Vec<u8>, from: usize, head: &[u8]) -> Result<(), Allo
 #[inline(never)]
 fn close_long_bytes(out: &mut Vec<u8>, from: usize, len: usize) -> Result<(), AllocError>
     requires within { (1 ≤ from) × (from + len ≡ length out.old.items) }
-    ensures ok { OnOk result (out.new.items ≡ take (from - 1) out.old.items ++ (varint len ++ drop from out.old.items)) }
+    ensures ok { OnOk result (out.new.items
+        ≡ take (from - 1) out.old.items ++ (varint len ++ drop from out.old.items)) }
     ensures err { OnErr result (out.new.items ≡ out.old.items) }
 {
     let mut head = ArrayVec::<u8, 20>::new();
@@ -140,14 +151,16 @@ fn close_long_bytes(out: &mut Vec<u8>, from: usize, len: usize) -> Result<(), Al
     Ok(())
 }
 
-/// Ends a field whose payload was appended behind it (wire type 2): the field was put with an empty payload, and all
-/// bytes from `from` on, where it ended, become its payload. So an embedded message is written in place, and its
-/// length need not be known before; it moves only where the length takes more than one byte. After an `Err` the
-/// vector is as it was.
+/// Ends a field whose payload was appended behind it (wire type 2): the field was put with an empty payload,
+/// and all bytes from `from` on, where it ended, become its payload. So an embedded message is written in
+/// place, and its length need not be known before; it moves only where the length takes more than one byte.
+/// After an `Err` the vector is as it was.
 #[inline(always)]
 pub fn close_bytes(out: &mut Vec<u8>, from: usize) -> Result<(), AllocError>
     requires { (1 ≤ from) × (from ≤ length out.old.items) }
-    ensures ok { OnOk result (out.new.items ≡ take (from - 1) out.old.items ++ (varint (length out.old.items - from) ++ drop from out.old.items)) }
+    ensures ok { OnOk result (out.new.items
+        ≡ take (from - 1) out.old.items ++
+        (varint (length out.old.items - from) ++ drop from out.old.items)) }
     ensures err { OnErr result (out.new.items ≡ out.old.items) }
 {
     let len = out.len() - from;
@@ -183,7 +196,10 @@ fn append_joined(
     second: &[u8],
 ) -> Result<(), AllocError>
     requires { (1 ≤ number) × (number < 2 ^ 29) }
-    ensures ok { OnOk result (out.new.items ≡ out.old.items ++ spelling (record { number = number; part = Payload (first.now ++ second.now) })) }
+    ensures ok { OnOk result (out.new.items ≡ out.old.items ++ spelling (record {
+      number = number;
+      part = Payload (first.now ++ second.now);
+    })) }
     ensures err { OnErr result (take (length out.old.items) out.new.items ≡ out.old.items) }
 {
     put_bytes(out, number, &[])?;
@@ -193,8 +209,8 @@ fn append_joined(
     close_bytes(out, from)
 }
 
-/// Appends a field that holds bytes in two parts, one behind the other (wire type 2). After an `Err` the vector is as
-/// it was.
+/// Appends a field that holds bytes in two parts, one behind the other (wire type 2). After an `Err` the
+/// vector is as it was.
 pub fn put_joined(
     out: &mut Vec<u8>,
     number: u32,
@@ -202,7 +218,10 @@ pub fn put_joined(
     second: &[u8],
 ) -> Result<(), AllocError>
     requires { (1 ≤ number) × (number < 2 ^ 29) }
-    ensures ok { OnOk result (out.new.items ≡ out.old.items ++ spelling (record { number = number; part = Payload (first.now ++ second.now) })) }
+    ensures ok { OnOk result (out.new.items ≡ out.old.items ++ spelling (record {
+      number = number;
+      part = Payload (first.now ++ second.now);
+    })) }
     ensures err { OnErr result (out.new.items ≡ out.old.items) }
 {
     if first.len() < 64 && second.len() < 64 {
@@ -226,7 +245,9 @@ fn append_short_entry(
     value: &[u8],
 ) -> Result<(), AllocError>
     requires { length key.now + length value.now + 4 < 128 }
-    ensures ok { OnOk result (out.new.items ≡ out.old.items ++ (head.now ++ ((10 ∷ length key.now ∷ key.now) ++ (18 ∷ length value.now ∷ value.now)))) }
+    ensures ok { OnOk result (out.new.items
+        ≡ out.old.items ++ (head.now ++ ((10 ∷ length key.now ∷ key.now)
+        ++ (18 ∷ length value.now ∷ value.now)))) }
     ensures err { OnErr result (out.new.items ≡ out.old.items) }
 {
     out.reserve(head.len() + key.len() + value.len() + 4)?;
@@ -240,7 +261,8 @@ fn append_short_entry(
 // As `put_entry`, but what is written before an `Err` stays.
 fn append_entry(out: &mut Vec<u8>, number: u32, key: &[u8], value: &[u8]) -> Result<(), AllocError>
     requires { (1 ≤ number) × (number < 2 ^ 29) }
-    ensures ok { OnOk result (out.new.items ≡ out.old.items ++ spelling (map_entry number (key.now, value.now))) }
+    ensures ok { OnOk result (out.new.items
+        ≡ out.old.items ++ spelling (map_entry number (key.now, value.now))) }
     ensures err { OnErr result (take (length out.old.items) out.new.items ≡ out.old.items) }
 {
     put_bytes(out, number, &[])?;
@@ -254,7 +276,8 @@ fn append_entry(out: &mut Vec<u8>, number: u32, key: &[u8], value: &[u8]) -> Res
 /// field 2, both also where they are empty. After an `Err` the vector is as it was.
 pub fn put_entry(out: &mut Vec<u8>, number: u32, key: &[u8], value: &[u8]) -> Result<(), AllocError>
     requires { (1 ≤ number) × (number < 2 ^ 29) }
-    ensures ok { OnOk result (out.new.items ≡ out.old.items ++ spelling (map_entry number (key.now, value.now))) }
+    ensures ok { OnOk result (out.new.items
+        ≡ out.old.items ++ spelling (map_entry number (key.now, value.now))) }
     ensures err { OnErr result (out.new.items ≡ out.old.items) }
 {
     if key.len() < 64 && value.len() < 60 {

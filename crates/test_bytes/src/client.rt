@@ -3,7 +3,7 @@
 use crate::words::{first_word, named};
 use csi_client::{put_body_lines, put_reply_line};
 use csi_types::Method;
-use frames_core::{Reply, TakenReply, take_reply};
+use envelope::{Reply, TakenReply, take_reply};
 use pbmessage::DecodeFault;
 use std::alloc::Global;
 use test_kit::{RowFault, bytes_of};

@@ -16,8 +16,8 @@ use std::alloc::Global;
 use test_kit::{RowFault, bytes_of, bytes_text};
 use wire::{fields_answer, prefixes_answer, write_answer};
 
-/// The answer to a row: a method's name, a word that says what is asked, and the bytes of a message; or a word that has
-/// no method, and what it takes.
+/// The answer to a row: a method's name, a word that says what is asked, and the bytes of a message; or a
+/// word that has no method, and what it takes.
 pub(crate) fn answer(alloc: Global, row: &str) -> Result<String, RowFault> {
     let (name, rest) = first_word(row)?;
     match name {
@@ -34,7 +34,8 @@ pub(crate) fn answer(alloc: Global, row: &str) -> Result<String, RowFault> {
     }
 }
 
-// What is read is handed on at once to a function that does not spell out its type: so large a value is dear to own.
+// What is read is handed on at once to a function that does not spell out its type: so large a value is dear
+// to own.
 fn message_answer(
     alloc: Global,
     method: Method,

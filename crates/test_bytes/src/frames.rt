@@ -10,7 +10,7 @@ mod pieces;
 mod spelled;
 
 use crate::words::first_word;
-use frames_core::{MAX_MESSAGE_BYTES, MAX_PATH_BYTES, Taken, put_request, take_frame};
+use envelope::{MAX_MESSAGE_BYTES, MAX_PATH_BYTES, Taken, put_request, take_frame};
 use parts::{Kind, parts_answer, prefixes_answer};
 use pieces::{pieces_answer, steps_answer};
 use spelled::{head_answer, limits_answer, refusal_answer, texts_answer};

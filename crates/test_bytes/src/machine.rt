@@ -2,11 +2,13 @@
 
 use crate::words::{first_word, named};
 use csi_config::Config;
+use csi_keeper::Keeper;
 use csi_memory::MemKeeper;
-use csi_types::Method;
+use csi_types::{Method, Text};
 use std::alloc::Global;
 use test_kit::{
-    Answer, AnswerRow, Reply, RowFault, bytes_counted, bytes_of, config_with, number_of, reply_to,
+    AnswerRow, Reply, RowAnswer, RowFault, bytes_counted, bytes_of, config_with, number_of,
+    reply_to,
 };
 
 /// A configuration, and a keeper of the volumes that requests made under it.
@@ -38,6 +40,7 @@ impl Bench {
         match word {
             "begin" => self.begin(alloc, rest),
             "many" => self.answer_many(alloc, rest),
+            "count" => self.count(alloc, rest),
             "list" => {
                 let reply = self.reply(alloc, Method::ListVolumes, &bytes_of(alloc, rest)?);
                 reply.page_text(alloc)
@@ -52,6 +55,13 @@ impl Bench {
 
     fn reply(&mut self, alloc: Global, method: Method, message: &[u8]) -> Reply {
         reply_to(alloc, &self.config, &mut self.keeper, method, message)
+    }
+
+    // How many volumes the keeper counts at a node.
+    fn count(&mut self, alloc: Global, node: &str) -> Result<String, RowFault> {
+        let node = Text::from_str(alloc, node)?;
+        let count = self.keeper.count_at(alloc, &node)?;
+        Ok(format!(in alloc; "{count}")?)
     }
 
     // Begins anew, without volumes.
@@ -80,8 +90,8 @@ impl Bench {
 }
 
 impl AnswerRow for Bench {
-    fn answer_row(&mut self, rt: &HostRuntime, row: &str) -> Result<Answer, RowFault> {
-        Ok(Answer::Text(self.answer(rt.alloc(), row)?))
+    fn answer_row(&mut self, rt: &HostRuntime, row: &str) -> Result<RowAnswer, RowFault> {
+        Ok(RowAnswer::Text(self.answer(rt.alloc(), row)?))
     }
 }
 

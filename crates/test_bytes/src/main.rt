@@ -1,5 +1,6 @@
-//! Answers rows about bytes and what they mean: messages, frames, values, replies, requests, streams of calls that are served, and calls over a Unix
-//! socket with both of its ends in this process. What the rows of a section look like stands at its head in the file `stdin` of this crate.
+//! Answers rows about bytes and what they mean: messages, frames, values, replies, requests, streams of calls
+//! that are served, and calls over a Unix socket with both of its ends in this process. What the rows of a
+//! section look like stands at its head in the file `stdin` of this crate.
 #![tactic(auto)]
 
 mod client;
@@ -20,7 +21,7 @@ use std::fs;
 use std::io::Write;
 use std::os::unix::net::UnixListener;
 use std::process::ExitCode;
-use test_kit::{Answer, AnswerRow, AnswerSection, RowFault, Rows, answer_rows};
+use test_kit::{AnswerRow, AnswerSection, RowAnswer, RowFault, Rows, answer_rows};
 
 // The exit status where there is no socket.
 const SOCKET: u8 = 7;
@@ -36,16 +37,16 @@ enum Plain {
 }
 
 impl AnswerRow for Plain {
-    fn answer_row(&mut self, rt: &HostRuntime, row: &str) -> Result<Answer, RowFault> {
+    fn answer_row(&mut self, rt: &HostRuntime, row: &str) -> Result<RowAnswer, RowFault> {
         let alloc = rt.alloc();
         let text = match self {
             Plain::Codec => codec::answer(alloc, row)?,
             Plain::Frames => frames::answer(alloc, row)?,
             Plain::Types => types::answer(alloc, row)?,
             Plain::Tries => tries::answer(alloc, row)?,
-            Plain::Client => return Ok(Answer::Lines(client::answer(alloc, row)?)),
+            Plain::Client => return Ok(RowAnswer::Lines(client::answer(alloc, row)?)),
         };
-        Ok(Answer::Text(text))
+        Ok(RowAnswer::Text(text))
     }
 }
 

@@ -1,5 +1,5 @@
-//! Rows that put a stream of calls together and try it: it is served again and again, each time with something else cut short or
-//! refused, and what comes is compared with what the rows want.
+//! Rows that put a stream of calls together and try it: it is served again and again, each time with
+//! something else cut short or refused, and what comes is compared with what the rows want.
 
 mod again;
 mod compared;
@@ -16,7 +16,7 @@ use server::Server;
 use std::alloc::Global;
 use std::mem;
 use stream::Stream;
-use test_kit::{Answer, AnswerRow, RowFault, bytes_of};
+use test_kit::{AnswerRow, RowAnswer, RowFault, bytes_of};
 use trials::{Trials, kept_after_each};
 
 /// A configuration, and the stream that the rows put together so far.
@@ -35,7 +35,7 @@ impl Streams {
         })
     }
 
-    fn answer(&mut self, alloc: Global, row: &str) -> Result<Answer, RowFault> {
+    fn answer(&mut self, alloc: Global, row: &str) -> Result<RowAnswer, RowFault> {
         let (word, rest) = row.split_once(' ').ok_or(RowFault::NotRow)?;
         match word {
             "asks" => self.put_call(alloc, true, rest)?,
@@ -56,7 +56,7 @@ impl Streams {
             }
             _ => return Err(RowFault::NotRow),
         }
-        Ok(Answer::Nothing)
+        Ok(RowAnswer::Nothing)
     }
 
     fn put_call(&mut self, alloc: Global, asks: bool, words: &str) -> Result<(), RowFault> {
@@ -68,7 +68,7 @@ impl Streams {
 }
 
 impl AnswerRow for Streams {
-    fn answer_row(&mut self, rt: &HostRuntime, row: &str) -> Result<Answer, RowFault> {
+    fn answer_row(&mut self, rt: &HostRuntime, row: &str) -> Result<RowAnswer, RowFault> {
         self.answer(rt.alloc(), row)
     }
 }
@@ -91,7 +91,7 @@ fn text_of(word: &str) -> &str {
     if word == "-" { "" } else { word }
 }
 
-fn run(alloc: Global, server: Server<'_>, stream: &Stream) -> Result<Answer, RowFault> {
+fn run(alloc: Global, server: Server<'_>, stream: &Stream) -> Result<RowAnswer, RowFault> {
     let kept = kept_after_each(alloc, server, stream)?;
     let trials = Trials {
         alloc,
@@ -99,5 +99,5 @@ fn run(alloc: Global, server: Server<'_>, stream: &Stream) -> Result<Answer, Row
         stream,
         kept: &kept,
     };
-    Ok(Answer::Text(String::from_str(alloc, trials.all()?)?))
+    Ok(RowAnswer::Text(String::from_str(alloc, trials.all()?)?))
 }

@@ -3,15 +3,16 @@
 use crate::client::lines_of;
 use crate::machine::Bench;
 use crate::words::{first_word, named};
-use csi_client::{Received, put_call, receive, send};
+use csi_client::{Received, put_call, receive};
 use csi_server::serve;
 use csi_types::Method;
-use frames_core::MAX_MESSAGE_BYTES;
+use envelope::MAX_MESSAGE_BYTES;
+use frames_core::send;
 use std::alloc::Global;
 use std::io;
 use std::net::Shutdown;
 use std::os::unix::net::{UnixListener, UnixStream};
-use test_kit::{Answer, AnswerRow, RowFault, bytes_of, number_of};
+use test_kit::{AnswerRow, RowAnswer, RowFault, bytes_of, number_of};
 
 /// The file of the socket.
 pub(crate) const PATH: &str = "rows.sock";
@@ -25,7 +26,7 @@ pub(crate) struct Calls<'a> {
 
 impl AnswerRow for Calls<'_> {
     // The lines of the reply to a row's call, or to the first bytes of its frame.
-    fn answer_row(&mut self, rt: &HostRuntime, row: &str) -> Result<Answer, RowFault> {
+    fn answer_row(&mut self, rt: &HostRuntime, row: &str) -> Result<RowAnswer, RowFault> {
         let alloc = rt.alloc();
         let (most, call) = match row.strip_prefix("part ") {
             Some(part) => {
@@ -42,7 +43,7 @@ impl AnswerRow for Calls<'_> {
         match receive(alloc, &mut client) {
             Received::Reply(reply) => {
                 let lines = lines_of(alloc, Some(method), &reply.as_reply())?;
-                Ok(Answer::Lines(lines))
+                Ok(RowAnswer::Lines(lines))
             }
             Received::Nothing | Received::Failed => Err(RowFault::Refused("no reply")),
             Received::Malformed(_) => Err(RowFault::Refused("malformed")),
@@ -51,7 +52,8 @@ impl AnswerRow for Calls<'_> {
     }
 }
 
-// Sends bytes over a new connection, ends the writing, and serves it. How the run ended is seen in what is received.
+// Sends bytes over a new connection, ends the writing, and serves it. How the run ended is seen in what is
+// received.
 fn served(
     rt: &HostRuntime,
     listener: &UnixListener,

@@ -4,7 +4,7 @@ ghost use Rattle.std.specs.Prelude.{⊤};
 
 use crate::shown::displayed;
 use csi_client::{Exchanges, Line, Received, ReceivedReply, call_again, pause_millis};
-use frames_core::{ReplyFault, ReplyWhy};
+use envelope::{ReplyFault, ReplyWhy};
 use std::alloc::{AllocError, Global};
 use test_kit::{RowFault, number_at, word_at, words_of};
 

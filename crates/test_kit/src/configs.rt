@@ -56,7 +56,8 @@ pub fn nodes_of(alloc: Global, words: &[&str]) -> Result<Vec<Node>, RowFault> {
     Ok(nodes)
 }
 
-/// The configuration with the pools of `NAME BYTES ..`, and the nodes n1, n2 and n3 for two volumes each; a volume has 1 to 8 MiB.
+/// The configuration with the pools of `NAME BYTES ..`, and the nodes n1, n2 and n3 for two volumes each; a
+/// volume has 1 to 8 MiB.
 ///
 /// # Errors
 ///

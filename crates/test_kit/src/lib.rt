@@ -1,8 +1,10 @@
-//! What the programs of rows share: programs that answer each line of their input, and are compared with a stored output.
+//! What the programs of rows share: programs that answer each line of their input, and are compared with a
+//! stored output.
 //!
-//! A program has sections. A line `@ NAME` begins one; a line that is empty or begins with `#` stands for itself; each other line
-//! is a row, which the section answers. A [`RowFault`] stands in the place of an answer. What a section keeps from row to row lives as long as the section
-//! is answered: [`AnswerSection`] makes it, and lends it to [`Rows::answer`].
+//! A program has sections. A line `@ NAME` begins one; a line that is empty or begins with `#` stands for
+//! itself; each other line is a row, which the section answers. A [`RowFault`] stands in the place of an
+//! answer. What a section keeps from row to row lives as long as the section is answered: [`AnswerSection`]
+//! makes it, and lends it to [`Rows::answer`].
 //!
 //! ```text
 //! @ calls
@@ -24,5 +26,5 @@ pub use fault::RowFault;
 pub use notation::{NotationFault, bytes_counted, bytes_of};
 pub use parts::{bytes_text, number_at, number_of, put_part, word_at, words_of};
 pub use replies::{Reply, reply_to};
-pub use rows::{Answer, AnswerRow, AnswerSection, Rows, answer_rows};
+pub use rows::{AnswerRow, AnswerSection, RowAnswer, Rows, answer_rows};
 pub use texts::{map_of, text_at, texts_of};

@@ -1,10 +1,11 @@
 //! Bytes as people write them.
 //!
-//! Two hexadecimal digits are a byte, and a text between quotation marks is its bytes. Parentheses stand for the
-//! length of what is in them, as a varint, and then it, so `0a(61)` is `0a0161`. Square brackets group. `*N` behind
-//! a byte, a text or a group repeats it, so `61*3` is `616161`. In a group `#N` is how often it was repeated
-//! before, as N digits to the base 64 (1 to 3), each a byte of that value, and `#0` the same as a decimal text. Spaces are
-//! skipped, and `-` alone is no bytes. Digits are in lower case, and parentheses and brackets nest up to 11 deep.
+//! Two hexadecimal digits are a byte, and a text between quotation marks is its bytes. Parentheses stand for
+//! the length of what is in them, as a varint, and then it, so `0a(61)` is `0a0161`. Square brackets group.
+//! `*N` behind a byte, a text or a group repeats it, so `61*3` is `616161`. In a group `#N` is how often it
+//! was repeated before, as N digits to the base 64 (1 to 3), each a byte of that value, and `#0` the same as
+//! a decimal text. Spaces are skipped, and `-` alone is no bytes. Digits are in lower case, and parentheses
+//! and brackets nest up to 11 deep.
 ghost use Rattle.std.specs.Prelude.{◌≡◌, ◌<◌, ◌++◌, [], IfOk, IfSome, codes, length};
 
 use std::alloc::{AllocError, AllocFailed, Global};

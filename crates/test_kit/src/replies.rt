@@ -62,7 +62,8 @@ impl Reply {
         })
     }
 
-    /// The same of a listing, whose body is a page in words: how many entries it has, its token, and of each entry the id and the nodes.
+    /// The same of a listing, whose body is a page in words: how many entries it has, its token, and of each
+    /// entry the id and the nodes.
     ///
     /// # Errors
     ///

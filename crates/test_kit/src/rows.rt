@@ -12,7 +12,7 @@ const HEAD: &str = "@ ";
 
 /// What a row is answered.
 #[derive(Drop)]
-pub enum Answer {
+pub enum RowAnswer {
     /// Nothing: the row is not written either.
     Nothing,
     /// A text, which stands on the row's line.
@@ -28,7 +28,7 @@ pub trait AnswerRow {
     /// # Errors
     ///
     /// Where the row has none.
-    fn answer_row(&mut self, rt: &HostRuntime, row: &str) -> Result<Answer, RowFault>;
+    fn answer_row(&mut self, rt: &HostRuntime, row: &str) -> Result<RowAnswer, RowFault>;
 }
 
 /// What answers sections, one after the other.
@@ -71,12 +71,12 @@ impl<W: Write> Rows<'_, W> {
 fn write_answer<W: Write>(
     out: &mut W,
     row: &str,
-    answer: Result<Answer, RowFault>,
+    answer: Result<RowAnswer, RowFault>,
 ) -> io::Result<()> {
     match answer {
-        Ok(Answer::Nothing) => Ok(()),
-        Ok(Answer::Text(text)) => writeln!(out, "{row} -> {text}"),
-        Ok(Answer::Lines(lines)) => {
+        Ok(RowAnswer::Nothing) => Ok(()),
+        Ok(RowAnswer::Text(text)) => writeln!(out, "{row} -> {text}"),
+        Ok(RowAnswer::Lines(lines)) => {
             writeln!(out, "{row} ->")?;
             out.write_all(&lines)
         }

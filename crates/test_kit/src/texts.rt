@@ -1,7 +1,7 @@
 //! Texts, and what is made of texts, as words.
 //!
-//! A word is its text, `U+` and a hexadecimal number is the character of that number, and `-` is the empty text.
-//! `*N` behind a text or a character repeats it.
+//! A word is its text, `U+` and a hexadecimal number is the character of that number, and `-` is the empty
+//! text. `*N` behind a text or a character repeats it.
 
 use crate::fault::RowFault;
 use crate::parts::{number_of, word_at};

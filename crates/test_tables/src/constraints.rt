@@ -7,8 +7,8 @@ use crate::scans::Scan;
 use csi_config::Config;
 use csi_constraints::{
     AttachmentConstraint, BrokenConstraint, FirstApart, FirstBroken, FirstUnowned,
-    HasAttachmentKinds, HasCap, HasCaps, HasFlag, HasParams, HasVolumeKinds, IsAtNode, IsInPools,
-    IsNamed, IsNumbered, IsSized, RowName, RowTrial, Sure, VolumeConstraint,
+    HasAttachmentKinds, HasCap, HasCaps, HasFlag, HasParams, HasVolumeKinds, InfallibleTest,
+    IsAtNode, IsInPools, IsNamed, IsNumbered, IsSized, RowName, RowTrial, VolumeConstraint,
 };
 use csi_types::copy_text;
 use sqlite::{Alter, Connection};
@@ -82,30 +82,30 @@ fn ask_volumes<S: Alter>(
 ) -> Result<String, RowFault> {
     match word_at(words, 1)? {
         "kinds" => {
-            let test = Sure {
+            let test = InfallibleTest {
                 test: HasVolumeKinds,
             };
             ask(alloc, conn, Scan::Volumes, test, Words::Row)
         }
         "number" => {
             let next = number_at(words, 2)?;
-            let test = Sure {
+            let test = InfallibleTest {
                 test: IsNumbered { next },
             };
             ask_volume(alloc, conn, test, VolumeConstraint::Number)
         }
         "name" => {
-            let test = Sure { test: IsNamed };
+            let test = InfallibleTest { test: IsNamed };
             ask_volume(alloc, conn, test, VolumeConstraint::Name)
         }
         "pool" => {
-            let test = Sure {
+            let test = InfallibleTest {
                 test: IsInPools { config },
             };
             ask_volume(alloc, conn, test, VolumeConstraint::Pool)
         }
         "bytes" => {
-            let test = Sure { test: IsSized };
+            let test = InfallibleTest { test: IsSized };
             ask_volume(alloc, conn, test, VolumeConstraint::Bytes)
         }
         "caps" => ask_volume(alloc, conn, HasCaps { alloc }, VolumeConstraint::Caps),
@@ -135,7 +135,7 @@ fn ask_attachments<S: Alter>(
 ) -> Result<String, RowFault> {
     match constraint {
         "kinds" => {
-            let test = Sure {
+            let test = InfallibleTest {
                 test: HasAttachmentKinds,
             };
             ask(alloc, conn, Scan::Attachments, test, Words::Row)
@@ -146,13 +146,13 @@ fn ask_attachments<S: Alter>(
                 alloc,
                 conn,
                 Scan::Attachments,
-                Sure { test: HasFlag },
+                InfallibleTest { test: HasFlag },
                 words,
             )
         }
         "node" => {
             let words = Words::Attachment(AttachmentConstraint::Node);
-            let test = Sure {
+            let test = InfallibleTest {
                 test: IsAtNode { config },
             };
             ask(alloc, conn, Scan::Attachments, test, words)

@@ -1,4 +1,5 @@
-//! Runs of `csi_files` over files in memory: what is made of files that hold no database, and runs over disks that stop, are full, or lie.
+//! Runs of `csi_files` over files in memory: what is made of files that hold no database, and runs over disks
+//! that stop, are full, or lie.
 
 pub(crate) mod disks;
 mod laying;
@@ -8,7 +9,9 @@ use crate::stops;
 use disks::Lie;
 use laying::{Laid, lay, lay_each, lay_odd};
 use std::alloc::Global;
-use test_kit::{Answer, AnswerRow, RowFault, bytes_of, bytes_text, number_at, word_at, words_of};
+use test_kit::{
+    AnswerRow, RowAnswer, RowFault, bytes_of, bytes_text, number_at, word_at, words_of,
+};
 
 /// The files of the rows before, and the bytes of a database file that is made.
 #[derive(Drop)]
@@ -58,7 +61,8 @@ impl Bench {
         Ok(format!(in alloc; "{outcome}: {}", bytes_text(alloc, &replies)?)?)
     }
 
-    // The same of a database file of which a byte is read with bits turned: the one so many bytes after the first place where a text is. The files stay as they are.
+    // The same of a database file of which a byte is read with bits turned: the one so many bytes after the
+    // first place where a text is. The files stay as they are.
     fn lie(&mut self, alloc: Global, row: &str) -> Result<String, RowFault> {
         let (lie, calls) = row.split_once(" / ").ok_or(RowFault::NotRow)?;
         let words = words_of(alloc, lie)?;
@@ -95,7 +99,7 @@ impl Bench {
 }
 
 impl AnswerRow for Bench {
-    fn answer_row(&mut self, rt: &HostRuntime, row: &str) -> Result<Answer, RowFault> {
-        Ok(Answer::Text(self.answer(rt.alloc(), row)?))
+    fn answer_row(&mut self, rt: &HostRuntime, row: &str) -> Result<RowAnswer, RowFault> {
+        Ok(RowAnswer::Text(self.answer(rt.alloc(), row)?))
     }
 }

@@ -1,6 +1,7 @@
-//! Answers rows about tables: statements and scans over them, the constraints of what is stored in them, the volume machine over them, tables
-//! that are adopted or not, the tables in files of which the disk stopped in a call, and runs from files to files. What the rows of a section look
-//! like stands at its head in the file `stdin` of this crate.
+//! Answers rows about tables: statements and scans over them, the constraints of what is stored in them, the
+//! volume machine over them, tables that are adopted or not, the tables in files of which the disk stopped in
+//! a call, and runs from files to files. What the rows of a section look like stands at its head in the file
+//! `stdin` of this crate.
 #![tactic(auto)]
 
 mod adoption;
@@ -17,7 +18,7 @@ mod tables;
 
 use std::io::Write;
 use std::process::ExitCode;
-use test_kit::{Answer, AnswerRow, AnswerSection, RowFault, Rows, answer_rows};
+use test_kit::{AnswerRow, AnswerSection, RowAnswer, RowFault, Rows, answer_rows};
 
 // A section that keeps nothing from row to row.
 #[derive(Clone, Copy)]
@@ -28,8 +29,8 @@ enum Plain {
 }
 
 impl AnswerRow for Plain {
-    fn answer_row(&mut self, rt: &HostRuntime, row: &str) -> Result<Answer, RowFault> {
-        Ok(Answer::Text(match self {
+    fn answer_row(&mut self, rt: &HostRuntime, row: &str) -> Result<RowAnswer, RowFault> {
+        Ok(RowAnswer::Text(match self {
             Plain::Scans => scans::answer(rt.alloc(), row)?,
             Plain::Constraints => constraints::answer(rt.alloc(), row)?,
             Plain::Adoption => adoption::answer(rt.alloc(), row)?,
@@ -60,7 +61,8 @@ impl AnswerSection for Sections {
     }
 }
 
-// Answers the rows of a section that could begin. The large values that sections keep are owned here, where their types are not spelled out.
+// Answers the rows of a section that could begin. The large values that sections keep are owned here, where
+// their types are not spelled out.
 fn answer<W: Write, R: AnswerRow + Drop>(
     rt: &HostRuntime,
     rows: &mut Rows<'_, W>,

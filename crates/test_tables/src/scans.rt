@@ -7,7 +7,7 @@ mod scan;
 
 use crate::cells::or_none;
 use crate::database::{make, run, without_tables};
-use csi_constraints::{Each, Rising, TextSum, Weight};
+use csi_constraints::{FoldEach, Rising, TextSum, Weight};
 use csi_sql::is_our_schema;
 use folds::Showing;
 pub(crate) use scan::Scan;
@@ -142,7 +142,7 @@ fn summed<S: Alter>(
     scan: Scan,
     sums: Vec<TextSum>,
 ) -> Result<String, RowFault> {
-    let mut fold = Each { parts: sums };
+    let mut fold = FoldEach { parts: sums };
     scan.over(conn, &mut fold)?;
     sums_text(alloc, &fold.parts)
 }

@@ -9,7 +9,7 @@ use csi_sql::values::flag_at;
 use csi_sql::{changes, make_tables, reads};
 use sqlite::{Alter, Connection, Error as SqlError, MemStore, Row};
 use std::alloc::Global;
-use test_kit::{Answer, AnswerRow, RowFault, bytes_of, number_at, put_part, word_at, words_of};
+use test_kit::{AnswerRow, RowAnswer, RowFault, bytes_of, number_at, put_part, word_at, words_of};
 
 /// A database between two transactions. It does not know how it is stored, and nor do the proofs of its rows.
 #[derive(Drop)]
@@ -128,8 +128,8 @@ impl<S: Alter + Drop> Bench<S> {
 }
 
 impl<S: Alter + Drop> AnswerRow for Bench<S> {
-    fn answer_row(&mut self, rt: &HostRuntime, row: &str) -> Result<Answer, RowFault> {
-        Ok(Answer::Text(self.answer(rt.alloc(), row)?))
+    fn answer_row(&mut self, rt: &HostRuntime, row: &str) -> Result<RowAnswer, RowFault> {
+        Ok(RowAnswer::Text(self.answer(rt.alloc(), row)?))
     }
 }
 

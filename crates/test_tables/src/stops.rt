@@ -1,5 +1,5 @@
-//! A call is made again and again over the tables in two files, each time with the disk stopping at a later call of its own, and
-//! what the next start finds is compared.
+//! A call is made again and again over the tables in two files, each time with the disk stopping at a later
+//! call of its own, and what the next start finds is compared.
 
 mod disks;
 mod runs;
@@ -15,7 +15,7 @@ use runs::Wanted;
 use serving::{left_by, outcome_of};
 use sqlite_disk::{Files, Memory};
 use std::alloc::Global;
-use test_kit::{Answer, AnswerRow, RowFault, bytes_of, number_at};
+use test_kit::{AnswerRow, RowAnswer, RowFault, bytes_of, number_at};
 use trials::{Trials, Way};
 use troubled::{Trouble, left_of_troubled, lying};
 
@@ -46,7 +46,8 @@ impl Bench {
         })
     }
 
-    /// Serves calls by `csi_files` over the files, of which the database file may lie, and says what that came to.
+    /// Serves calls by `csi_files` over the files, of which the database file may lie, and says what that
+    /// came to.
     pub(crate) fn serve(
         &mut self,
         alloc: Global,
@@ -114,7 +115,8 @@ impl Bench {
         Ok(made.after)
     }
 
-    // Stops in a call. The words are how many calls of the disk a run stops later than the last one, and the call.
+    // Stops in a call. The words are how many calls of the disk a run stops later than the last one, and the
+    // call.
     fn stop(&mut self, alloc: Global, words: &str, way: Way) -> Result<String, RowFault> {
         let (step, call) = words.split_once(' ').ok_or(RowFault::NotRow)?;
         let step = number_at(&[step], 0)?;
@@ -133,7 +135,7 @@ impl Bench {
 }
 
 impl AnswerRow for Bench {
-    fn answer_row(&mut self, rt: &HostRuntime, row: &str) -> Result<Answer, RowFault> {
-        Ok(Answer::Text(self.answer(rt.alloc(), row)?))
+    fn answer_row(&mut self, rt: &HostRuntime, row: &str) -> Result<RowAnswer, RowFault> {
+        Ok(RowAnswer::Text(self.answer(rt.alloc(), row)?))
     }
 }

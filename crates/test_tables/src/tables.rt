@@ -15,7 +15,7 @@ use csi_types::{Method, method_named};
 use sqlite::{Alter, Connection, MemStore};
 use std::alloc::Global;
 use std::mem;
-use test_kit::{Answer, AnswerRow, RowFault, bytes_of, reply_to};
+use test_kit::{AnswerRow, RowAnswer, RowFault, bytes_of, reply_to};
 use words::numbers_in_words;
 
 /// The sample configuration, and a keeper of the volumes that requests made under it.
@@ -44,8 +44,8 @@ impl Bench {
 }
 
 impl AnswerRow for Bench {
-    fn answer_row(&mut self, rt: &HostRuntime, row: &str) -> Result<Answer, RowFault> {
-        Ok(Answer::Text(self.answer(rt.alloc(), row)?))
+    fn answer_row(&mut self, rt: &HostRuntime, row: &str) -> Result<RowAnswer, RowFault> {
+        Ok(RowAnswer::Text(self.answer(rt.alloc(), row)?))
     }
 }
 

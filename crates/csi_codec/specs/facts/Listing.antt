@@ -33,7 +33,8 @@ pub listing_none : response_bytes (response.List [] []) ≡ []
 listing_none = entries_only []
 
 -- one more entry
-pub listing_more : (es : List Entry) (e : Entry) → response_bytes (response.List (es ++ e ∷ []) []) ≡ response_bytes (response.List es []) ++ response_bytes (response.List (e ∷ []) [])
+pub listing_more : (es : List Entry) (e : Entry)
+    → response_bytes (response.List (es ++ e ∷ []) []) ≡ response_bytes (response.List es []) ++ response_bytes (response.List (e ∷ []) [])
 listing_more es e =
     entries_only (es ++ e ∷ [])
     ∙ ap spellings (more_fields es e)
@@ -41,5 +42,6 @@ listing_more es e =
     ∙ ap₂ (λ (xs ys : List ℕ). xs ++ ys) (sym (entries_only es)) (sym (entries_only (e ∷ [])))
 
 -- the token behind the entries
-pub listing_token : (es : List Entry) (token : List ℕ) → response_bytes (response.List es token) ≡ response_bytes (response.List es []) ++ response_bytes (response.List [] token)
+pub listing_token : (es : List Entry) (token : List ℕ)
+    → response_bytes (response.List es token) ≡ response_bytes (response.List es []) ++ response_bytes (response.List [] token)
 listing_token es token = in_parts es token ∙ ap₂ (λ (xs ys : List ℕ). xs ++ ys) (sym (entries_only es)) (sym (in_parts [] token))

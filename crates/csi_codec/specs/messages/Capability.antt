@@ -7,7 +7,8 @@ use Rattle.csi_types.specs.declared.capability.Access.TheVariants as variants
 use Rattle.csi_types.specs.declared.capability.Capability.{Capability}
 use Rattle.pbmessage.specs.Views.{Payloads, Views, text, joined, inner, one_of, value_of}
 use Rattle.pbmessage.specs.Schema.{Schema, AnyPayload, TextAt, MessageAt}
-use Rattle.pbmessage.specs.Canon.{Rows, Start, ◌▸◌, Strings, bytes_of, text_row, texts_row, option_row, FitsText, FitsTexts, FitsI32, FitsInner, FitsOption, FitsMessages}
+use Rattle.pbmessage.specs.Canon.{Rows, Start, ◌▸◌, Strings, bytes_of, text_row, texts_row, option_row, FitsText, FitsTexts, FitsI32, FitsInner}
+use Rattle.pbmessage.specs.Canon.{FitsOption, FitsMessages}
 use Rattle.csi_codec.specs.messages.Single.{enum_value_in, canon_number}
 
 -- ---- VolumeCapability.MountVolume { fs_type 1, mount_flags 2, volume_mount_group 3 }

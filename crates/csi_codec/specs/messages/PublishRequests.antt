@@ -1,5 +1,5 @@
--- `ControllerPublishVolumeRequest` and `ControllerUnpublishVolumeRequest` (CSI specification, csi.proto): what the fields mean, under which
--- numbers stand texts and embedded messages, and how a value is written.
+-- `ControllerPublishVolumeRequest` and `ControllerUnpublishVolumeRequest` (CSI specification, csi.proto):
+-- what the fields mean, under which numbers stand texts and embedded messages, and how a value is written.
 use Rattle.pbmessage.specs.Views.{Views, text, flag, inner, text_map, value_of}
 use Rattle.pbmessage.specs.Schema.{Schema, AnyPayload, TextAt, MessageAt, map_entry_schema}
 use Rattle.pbmessage.specs.Canon.{Rows, Start, ◌▸◌, text_row, flag_row, option_row, map_row, FitsText, FitsOption, FitsMap}
@@ -24,7 +24,8 @@ abbrev pub publish_schema : Schema
 publish_schema = TextAt 1 (TextAt 2 (MessageAt 3 capability_schema (MessageAt 5 map_entry_schema (MessageAt 6 map_entry_schema AnyPayload))))
 
 abbrev pub canon_publish : Publish → Rows
-canon_publish v = Start ▸ text_row 1 v.volume_id ▸ text_row 2 v.node_id ▸ option_row canon_capability 3 v.capability ▸ flag_row 4 v.readonly ▸ map_row 5 v.secrets ▸ map_row 6 v.context
+canon_publish v = Start ▸ text_row 1 v.volume_id ▸ text_row 2 v.node_id ▸ option_row canon_capability 3 v.capability ▸ flag_row 4 v.readonly ▸ map_row
+    5 v.secrets ▸ map_row 6 v.context
 
 abbrev pub FitsPublish : Publish → Type 0
 FitsPublish v = FitsText v.volume_id × FitsText v.node_id × FitsOption FitsCapability canon_capability v.capability × FitsMap v.secrets × FitsMap v.context

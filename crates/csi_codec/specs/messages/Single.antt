@@ -44,7 +44,8 @@ only_schema schema = MessageAt 1 schema AnyPayload
 abbrev pub canon_only : {V : Type 0} → (V → Rows) → Option V → Rows
 canon_only canon o = Start ▸ option_row canon 1 o
 
--- ---- lists of capabilities: GetPluginCapabilitiesResponse and ControllerGetCapabilitiesResponse { capabilities 1 }
+-- ---- lists of capabilities: GetPluginCapabilitiesResponse and ControllerGetCapabilitiesResponse {
+-- capabilities 1 }
 
 abbrev pub types_in : Views → List (Option ℤ)
 types_in v = messages (value_of (only_in enum_value_in)) (v.payloads 1)

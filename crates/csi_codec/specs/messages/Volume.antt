@@ -1,5 +1,5 @@
--- `Volume`, and what responses say of volumes (CSI specification, csi.proto): what the fields mean, under which
--- numbers stand texts and embedded messages, and how a value is written.
+-- `Volume`, and what responses say of volumes (CSI specification, csi.proto): what the fields mean, under
+-- which numbers stand texts and embedded messages, and how a value is written.
 use Rattle.std.specs.Prelude.{ℕ, List, [], ◌∷◌}
 use Rattle.csi_types.specs.declared.volume.VolumeInfo.{VolumeInfo}
 use Rattle.csi_types.specs.declared.volume.Entry.{Entry}
@@ -7,14 +7,20 @@ use Rattle.csi_types.specs.declared.volume.Confirmed.{Confirmed}
 use Rattle.csi_types.specs.Maps.{TextMap}
 use Rattle.pbmessage.specs.Views.{Views, text, i64, inner, messages, text_map, value_of}
 use Rattle.pbmessage.specs.Schema.{Schema, AnyPayload, TextAt, MessageAt, map_entry_schema}
-use Rattle.pbmessage.specs.Canon.{Rows, Start, ◌▸◌, bytes_of, text_row, texts_row, signed_row, option_row, messages_row, map_row, FitsText, FitsTexts, FitsI64, FitsOption, FitsMap}
+use Rattle.pbmessage.specs.Canon.{Rows, Start, ◌▸◌, bytes_of, text_row, texts_row, signed_row, option_row, messages_row, map_row, FitsText, FitsTexts}
+use Rattle.pbmessage.specs.Canon.{FitsI64, FitsOption, FitsMap}
 use Rattle.csi_codec.specs.messages.Capability.{capability_in, capability_schema, canon_capability, FitsCapabilities}
 use Rattle.csi_codec.specs.messages.Topology.{map_in, map_schema, canon_map, FitsTerms}
 
 -- ---- Volume { capacity_bytes 1, volume_id 2, volume_context 3, accessible_topology 5 }
 
 abbrev pub volume_in : Views → VolumeInfo
-volume_in v = record { bytes = i64 (v.numbers 1); id = text (v.payloads 2); context = text_map (v.payloads 3); topology = messages (value_of map_in) (v.payloads 5) }
+volume_in v = record {
+  bytes = i64 (v.numbers 1);
+  id = text (v.payloads 2);
+  context = text_map (v.payloads 3);
+  topology = messages (value_of map_in) (v.payloads 5);
+}
 
 abbrev pub volume_schema : Schema
 volume_schema = TextAt 2 (MessageAt 3 map_entry_schema (MessageAt 5 map_schema AnyPayload))
@@ -61,7 +67,11 @@ FitsEntry e = FitsOption FitsVolume canon_volume e.volume × FitsOption FitsText
 -- ---- ValidateVolumeCapabilitiesResponse.Confirmed { volume_context 1, volume_capabilities 2, parameters 3 }
 
 abbrev pub confirmed_in : Views → Confirmed
-confirmed_in v = record { context = text_map (v.payloads 1); capabilities = messages (value_of capability_in) (v.payloads 2); parameters = text_map (v.payloads 3) }
+confirmed_in v = record {
+  context = text_map (v.payloads 1);
+  capabilities = messages (value_of capability_in) (v.payloads 2);
+  parameters = text_map (v.payloads 3);
+}
 
 abbrev pub confirmed_schema : Schema
 confirmed_schema = MessageAt 1 map_entry_schema (MessageAt 2 capability_schema (MessageAt 3 map_entry_schema AnyPayload))

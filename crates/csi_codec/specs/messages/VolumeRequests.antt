@@ -1,5 +1,6 @@
--- `CreateVolumeRequest`, `DeleteVolumeRequest` and `ControllerModifyVolumeRequest` (CSI specification, csi.proto): what
--- the fields mean, under which numbers stand texts and embedded messages, and how a value is written.
+-- `CreateVolumeRequest`, `DeleteVolumeRequest` and `ControllerModifyVolumeRequest` (CSI specification,
+-- csi.proto): what the fields mean, under which numbers stand texts and embedded messages, and how a value is
+-- written.
 use Rattle.pbmessage.specs.Views.{Views, text, inner, messages, text_map, value_of, is_present}
 use Rattle.pbmessage.specs.Schema.{Schema, AnyPayload, TextAt, MessageAt, map_entry_schema}
 use Rattle.pbmessage.specs.Canon.{Rows, Start, ◌▸◌, text_row, option_row, messages_row, map_row, FitsText, FitsOption, FitsMap, presence_row}
@@ -26,13 +27,17 @@ create_in v = record {
 }
 
 abbrev pub create_schema : Schema
-create_schema = TextAt 1 (MessageAt 2 AnyPayload (MessageAt 3 capability_schema (MessageAt 4 map_entry_schema (MessageAt 5 map_entry_schema (MessageAt 6 AnyPayload (MessageAt 7 requirement_schema (MessageAt 8 map_entry_schema AnyPayload)))))))
+create_schema = TextAt 1 (MessageAt 2 AnyPayload
+    (MessageAt 3 capability_schema (MessageAt 4 map_entry_schema
+    (MessageAt 5 map_entry_schema (MessageAt 6 AnyPayload (MessageAt 7 requirement_schema (MessageAt 8 map_entry_schema AnyPayload)))))))
 
 abbrev pub canon_create : CreateVolume → Rows
-canon_create v = Start ▸ text_row 1 v.name ▸ option_row canon_range 2 v.range ▸ messages_row canon_capability 3 v.capabilities ▸ map_row 4 v.parameters ▸ map_row 5 v.secrets ▸ presence_row 6 v.source ▸ option_row canon_requirement 7 v.topology ▸ map_row 8 v.mutable
+canon_create v = Start ▸ text_row 1 v.name ▸ option_row canon_range 2 v.range ▸ messages_row canon_capability 3 v.capabilities ▸ map_row 4
+    v.parameters ▸ map_row 5 v.secrets ▸ presence_row 6 v.source ▸ option_row canon_requirement 7 v.topology ▸ map_row 8 v.mutable
 
 abbrev pub FitsCreate : CreateVolume → Type 0
-FitsCreate v = FitsText v.name × FitsOption FitsRange canon_range v.range × FitsCapabilities v.capabilities × FitsMap v.parameters × FitsMap v.secrets × FitsOption FitsRequirement canon_requirement v.topology × FitsMap v.mutable
+FitsCreate v = FitsText v.name × FitsOption FitsRange canon_range v.range × FitsCapabilities v.capabilities × FitsMap v.parameters × FitsMap v.secrets
+    × FitsOption FitsRequirement canon_requirement v.topology × FitsMap v.mutable
 
 -- ---- DeleteVolumeRequest { volume_id 1, secrets 2 }
 

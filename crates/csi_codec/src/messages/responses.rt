@@ -195,9 +195,13 @@ impl Message<Csi> for FreeCapacity {
     }
 }
 
-/// Appends a `GetPluginInfoResponse`. Where memory is refused a part of it may stand there, and so for the others.
+/// Appends a `GetPluginInfoResponse`. Where memory is refused a part of it may stand there, and so for the
+/// others.
 pub fn put_plugin_info(out: &mut Vec<u8>, name: &Text, version: &Text) -> Result<(), AllocError>
-    ensures ok { OnOk result (out.new.items ≡ out.old.items ++ bytes_of (canon_info (record { name = name.now; version = version.now }))) }
+    ensures ok { OnOk result (out.new.items ≡ out.old.items ++ bytes_of (canon_info (record {
+      name = name.now;
+      version = version.now;
+    }))) }
     ensures fitting { OnOk result (FitsInfo (record { name = name.now; version = version.now })) }
     ensures kept { Keeps out.old.items out.new.items }
 {
@@ -212,8 +216,15 @@ pub fn put_validation(
     confirmed: &Option<Confirmed>,
     message: &Text,
 ) -> Result<(), AllocError>
-    ensures ok { OnOk result (out.new.items ≡ out.old.items ++ bytes_of (canon_validation (record { confirmed = confirmed.now; message = message.now }))) }
-    ensures fitting { OnOk result (FitsValidation (record { confirmed = confirmed.now; message = message.now })) }
+    ensures ok { OnOk result (out.new.items
+        ≡ out.old.items ++ bytes_of (canon_validation (record {
+          confirmed = confirmed.now;
+          message = message.now;
+        }))) }
+    ensures fitting { OnOk result (FitsValidation (record {
+      confirmed = confirmed.now;
+      message = message.now;
+    })) }
     ensures kept { Keeps out.old.items out.new.items }
 {
     put_option(out, 1, confirmed)?;
@@ -227,7 +238,8 @@ pub fn put_listing(
     entries: &Items<Entry>,
     token: &Text,
 ) -> Result<(), AllocError>
-    ensures ok { OnOk result (out.new.items ≡ out.old.items ++ bytes_of (canon_listing (record { entries = entries.now; token = token.now }))) }
+    ensures ok { OnOk result (out.new.items
+        ≡ out.old.items ++ bytes_of (canon_listing (record { entries = entries.now; token = token.now }))) }
     ensures fitting { OnOk result (FitsListing (record { entries = entries.now; token = token.now })) }
     ensures kept { Keeps out.old.items out.new.items }
 {
@@ -242,7 +254,8 @@ pub fn put_free_capacity(
     available: i64,
     maximum: &Option<Int64Value>,
 ) -> Result<(), AllocError>
-    ensures ok { OnOk result (out.new.items ≡ out.old.items ++ bytes_of (canon_free (record { available = available; maximum = maximum.now }))) }
+    ensures ok { OnOk result (out.new.items
+        ≡ out.old.items ++ bytes_of (canon_free (record { available = available; maximum = maximum.now }))) }
     ensures fitting { OnOk result (FitsFree (record { available = available; maximum = maximum.now })) }
     ensures kept { Keeps out.old.items out.new.items }
 {

@@ -111,7 +111,8 @@ impl Message<Csi> for Int64Value {
     }
 }
 
-/// A message of one enum, field 1: `AccessMode`, `PluginCapability.Service` or `ControllerServiceCapability.RPC`.
+/// A message of one enum, field 1: `AccessMode`, `PluginCapability.Service` or
+/// `ControllerServiceCapability.RPC`.
 pub type EnumValue = i32;
 
 #[tactic(auto, using(pbmessage::specs::facts::Views::last_after, pbmessage::specs::facts::Views::signed_kept_32))]

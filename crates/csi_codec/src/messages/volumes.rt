@@ -71,7 +71,8 @@ impl Message<Csi> for Mount {
 // The mount with what a further occurrence has.
 fn merged(alloc: Global, mut mount: Mount, payload: &[u8]) -> Result<Mount, AllocError>
     requires { AreGood (GoodField (Good mount_schema)) payload.now }
-    ensures { IfOk result (λ new. (fs : List WireField) → mount ≡ value_of mount_in fs → new ≡ value_of mount_in (fs ++ fields_of payload.now)) }
+    ensures { IfOk result (λ new. (fs : List WireField) → mount ≡ value_of mount_in fs
+        → new ≡ value_of mount_in (fs ++ fields_of payload.now)) }
 {
     merge(&mut mount, alloc, payload)?;
     Ok(mount)
@@ -84,11 +85,12 @@ fn set_mount(slot: &mut Access, alloc: Global, mount: Mount) -> Result<(), Alloc
     Ok(())
 }
 
-/// Merges a mount with its earlier occurrences, back to where another member stood. Where memory is refused, no
-/// member is set.
+/// Merges a mount with its earlier occurrences, back to where another member stood. Where memory is refused,
+/// no member is set.
 fn merge_mount(slot: &mut Access, alloc: Global, payload: &[u8]) -> Result<(), AllocError>
     requires { AreGood (GoodField (Good mount_schema)) payload.now }
-    ensures { OnOk result ((ms : List (ℕ × List ℕ)) → slot.old ≡ access (one_of ms) → slot.new ≡ access (one_of (ms ++ (2, payload.now) ∷ []))) }
+    ensures { OnOk result ((ms : List (ℕ × List ℕ)) → slot.old ≡ access (one_of ms)
+        → slot.new ≡ access (one_of (ms ++ (2, payload.now) ∷ []))) }
 {
     match replace(slot, Access::Missing) {
         Access::Mount(before) => {

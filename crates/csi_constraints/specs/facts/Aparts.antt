@@ -40,8 +40,16 @@ apart_none earlier [] e = (tt, tt)
 apart_none earlier (r ∷ rows) e =
     let here = no_first (list_any (λ x. are_apart x r) earlier) r (first_apart (earlier ++ r ∷ []) rows) e in
     let rest = apart_none (earlier ++ r ∷ []) rows here.1 in (
-      (of_none (λ x. are_apart x r) earlier here.0, all_weaker (FarFrom (earlier ++ r ∷ [])) (FarFrom earlier) (λ x far. (all_front (λ y. are_apart y x ≡ false) earlier r far).0) rows rest.0),
-      (all_weaker (FarFrom (earlier ++ r ∷ [])) (λ x. are_apart r x ≡ false) (λ x far. (all_front (λ y. are_apart y x ≡ false) earlier r far).1) rows rest.0, rest.1),
+      (
+        of_none (λ x. are_apart x r) earlier here.0,
+        all_weaker (FarFrom (earlier ++ r ∷ [])) (FarFrom earlier)
+            (λ x far. (all_front (λ y. are_apart y x ≡ false) earlier r far).0) rows rest.0,
+      ),
+      (
+        all_weaker (FarFrom (earlier ++ r ∷ [])) (λ x. are_apart r x ≡ false)
+            (λ x far. (all_front (λ y. are_apart y x ≡ false) earlier r far).1) rows rest.0,
+        rest.1,
+      ),
     )
 
 none_apart : (earlier rows : List Row) → AllByRecursion (FarFrom earlier) rows → NoneApart rows → first_apart earlier rows ≡ None
@@ -49,7 +57,8 @@ none_apart earlier [] far none = refl
 none_apart earlier (r ∷ rows) far none =
     neither (list_any (λ x. are_apart x r) earlier) r (first_apart (earlier ++ r ∷ []) rows) (none_of (λ x. are_apart x r) earlier far.0)
     (none_apart (earlier ++ r ∷ []) rows
-    (all_both (FarFrom earlier) (λ x. are_apart r x ≡ false) (FarFrom (earlier ++ r ∷ [])) (λ x before here. all-append (λ y. are_apart y x ≡ false) earlier (r ∷ []) before (here, tt)) rows far.1 none.0) none.1)
+    (all_both (FarFrom earlier) (λ x. are_apart r x ≡ false) (FarFrom (earlier ++ r ∷ []))
+    (λ x before here. all-append (λ y. are_apart y x ≡ false) earlier (r ∷ []) before (here, tt)) rows far.1 none.0) none.1)
 
 far_from_none : (rows : List Row) → AllByRecursion (FarFrom []) rows
 far_from_none [] = tt

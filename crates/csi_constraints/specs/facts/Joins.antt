@@ -23,7 +23,8 @@ has_flat f (z ∷ xs) x y (inl e) k = has_left (f z) (flat_map f xs) y (subst (�
 has_flat f (z ∷ xs) x y (inr h) k = has_right (f z) (flat_map f xs) y (has_flat f xs x y h k)
 
 -- where all pass, and a row with no volume does not, each attachment has a volume with which it passes
-pub each_owned : (test : Row → Bool) → ((r : Row) → test (with_owner r []) ≡ false) → (attachments volumes rows : List Row) → IsPermutation (owners attachments volumes) rows → list_all test rows ≡ true
+pub each_owned : (test : Row → Bool) → ((r : Row) → test (with_owner r []) ≡ false) → (attachments volumes rows : List Row)
+    → IsPermutation (owners attachments volumes) rows → list_all test rows ≡ true
     → (r : Row) → Has attachments r → (v : Row) × Has volumes v × (owns r v ≡ true) × (test (with_owner r v) ≡ true)
 each_owned test none attachments volumes rows same all r has = go (filter (owns r) volumes) refl
   where
@@ -31,7 +32,9 @@ each_owned test none attachments volumes rows same all r has = go (filter (owns 
     passes y h = test_has test rows y all (has_permuted rows _ y (IsPermutation-sym _ _ same) h)
 
     at : (vs : List Row) → or_nulls (filter (owns r) volumes) ≡ vs → (v : Row) → Has vs v → test (with_owner r v) ≡ true
-    at vs e v h = passes (with_owner r v) (has_flat (λ r. map (with_owner r) (or_nulls (filter (owns r) volumes))) attachments r (with_owner r v) has (mapped_has (with_owner r) (or_nulls (filter (owns r) volumes)) v (subst (λ xs. Has xs v) (sym e) h)))
+    at vs e v h = passes (with_owner r v)
+        (has_flat (λ r. map (with_owner r) (or_nulls (filter (owns r) volumes))) attachments r (with_owner r v) has
+        (mapped_has (with_owner r) (or_nulls (filter (owns r) volumes)) v (subst (λ xs. Has xs v) (sym e) h)))
 
     go : (vs : List Row) → filter (owns r) volumes ≡ vs → (v : Row) × Has volumes v × (owns r v ≡ true) × (test (with_owner r v) ≡ true)
     go [] e = absurd (true≢false (sym (at ([] ∷ []) (ap or_nulls e) [] (inl refl)) ∙ none r))

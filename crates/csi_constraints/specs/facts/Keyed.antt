@@ -25,7 +25,8 @@ has_permuted xs ys x same = all_has (Has xs) ys x (all-permutation (Has xs) xs y
 abbrev Rise : ℕ → List Row → Type 0
 Rise at rows = IsAscending (λ a b. value_cmp a b ≡ Less) (map (λ r. column r at) rows)
 
-below_has : (at : ℕ) (v : Value) (rows : List Row) (x : Row) → AllByRecursion (λ w. value_cmp v w ≡ Less) (map (λ r. column r at) rows) → Has rows x → value_cmp v (column x at) ≡ Less
+below_has : (at : ℕ) (v : Value) (rows : List Row) (x : Row) → AllByRecursion (λ w. value_cmp v w ≡ Less) (map (λ r. column r at) rows) → Has rows x
+    → value_cmp v (column x at) ≡ Less
 below_has at v rows x all has = all_has (λ w. value_cmp v w ≡ Less) (map (λ r. column r at) rows) (column x at) all (mapped_has (λ r. column r at) rows x has)
 
 not_tied : (a b : Value) → value_cmp a b ≡ Less → is_eq (value_cmp a b) ≡ true → ⊥
@@ -38,8 +39,12 @@ not_tied_back a b less tied = true≢false (sym tied ∙ ap is_eq (value_cmp_tot
 same_row : (at : ℕ) (rows : List Row) (x y : Row) → Rise at rows → Has rows x → Has rows y → is_eq (value_cmp (column x at) (column y at)) ≡ true → x ≡ y
 same_row at [] x y up p q tied = absurd p
 same_row at (z ∷ rows) x y up (inl p) (inl q) tied = p ∙ sym q
-same_row at (z ∷ rows) x y up (inl p) (inr q) tied = absurd (not_tied (column x at) (column y at) (subst (λ u. value_cmp (column u at) (column y at) ≡ Less) (sym p) (below_has at (column z at) rows y up.0 q)) tied)
-same_row at (z ∷ rows) x y up (inr p) (inl q) tied = absurd (not_tied_back (column x at) (column y at) (subst (λ u. value_cmp (column u at) (column x at) ≡ Less) (sym q) (below_has at (column z at) rows x up.0 p)) tied)
+same_row at (z ∷ rows) x y up (inl p) (inr q) tied = absurd
+    (not_tied (column x at) (column y at)
+    (subst (λ u. value_cmp (column u at) (column y at) ≡ Less) (sym p) (below_has at (column z at) rows y up.0 q)) tied)
+same_row at (z ∷ rows) x y up (inr p) (inl q) tied = absurd
+    (not_tied_back (column x at) (column y at)
+    (subst (λ u. value_cmp (column u at) (column x at) ≡ Less) (sym q) (below_has at (column z at) rows x up.0 p)) tied)
 same_row at (z ∷ rows) x y up (inr p) (inr q) tied = same_row at rows x y up.1 p q tied
 
 pub keyed_attachments : (table rows : List Row) → IsInOrder (map keyed_attachment table) rows → IsRising 0 None rows → AreKeyed seen_attachment table
@@ -49,4 +54,5 @@ keyed_attachments table rows order rises = record {
 }
   where
     shown : (r : Row) → Has table r → Has rows (keyed_attachment r)
-    shown r has = has_permuted rows (map keyed_attachment table) (keyed_attachment r) (IsPermutation-sym _ _ order.same) (mapped_has keyed_attachment table r has)
+    shown r has = has_permuted rows (map keyed_attachment table) (keyed_attachment r) (IsPermutation-sym _ _ order.same)
+        (mapped_has keyed_attachment table r has)

@@ -38,7 +38,8 @@ strictly (x ∷ y ∷ rows) sorted none =
     let rest = strictly (y ∷ rows)
     (λ k d from below.
     let next : suc k + 1 ≡ suc (k + 1) = omega arith in
-    subst (λ n. is_lt (first_cmp (slice_index_or all n d) (slice_index_or (y ∷ rows) k d)) ≡ false) next (sorted (suc k) d (omega arith) (omega (arith, below))))
+    subst (λ n. is_lt (first_cmp (slice_index_or all n d) (slice_index_or (y ∷ rows) k d)) ≡ false) next
+    (sorted (suc k) d (omega arith) (omega (arith, below))))
     (λ k d below.
     let next : suc k + 1 ≡ suc (k + 1) = omega arith in
     subst (λ n. first_cmp (slice_index_or (y ∷ rows) k d) (slice_index_or all n d) ≢ Equal) next (none (suc k) d (omega (arith, below)))) in

@@ -5,9 +5,9 @@ use Rattle.std.specs.Option.{option_or}
 use Rattle.std.specs.declared.cmp.Ordering.TheVariants.{Less}
 use Rattle.sqlite.specs.Order.{value_cmp}
 use Rattle.sqlite.specs.Tree.{IsAscending}
-use Rattle.csi_constraints.specs.Apart.{AreLed}
+use Rattle.csi_constraints.specs.Apart.{AreCovered}
 use Rattle.csi_constraints.specs.Folds.{IsLast, Rises, values_from}
-use Rattle.csi_constraints.specs.declared.apart.Led.{Led}
+use Rattle.csi_constraints.specs.declared.apart.LastAttachment.{LastAttachment}
 
 pub still_sum : (sum : ℕ) → sum < 2 ^ 64 → sum ≡ min (sum + 0) (2 ^ 64 - 1)
 still_sum sum low = grind (arith)
@@ -34,6 +34,6 @@ pub still_found : {A : Type 0} (found : Option A) → found ≡ option_or found 
 still_found None = refl
 still_found (Some a) = refl
 
-pub none_led : (last : Option Led) → last ≡ None → AreLed last []
-none_led None e = tt
-none_led (Some led) e = absurd (cc)
+pub none_covered : (last : Option LastAttachment) → last ≡ None → AreCovered last []
+none_covered None e = tt
+none_covered (Some led) e = absurd (cc)

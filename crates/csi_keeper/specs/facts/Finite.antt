@@ -1,5 +1,6 @@
 -- Finite maps and the lists of their entries.
-use Rattle.std.proofs.Common.{◌≡◌, ◌∙◌, ◌⊎◌, inl, inr, ap, sym, subst, cond, arith, refl, length, List, [], ◌∷◌, filter, Bool, true, false, not, ◌&&◌, T, Option, Some, None, Ordering, Less, Equal, Greater}
+use Rattle.std.proofs.Common.{◌≡◌, ◌∙◌, ◌⊎◌, inl, inr, ap, sym, subst, cond, arith, refl, length, List, [], ◌∷◌, filter, Bool, true, false, not, ◌&&◌}
+use Rattle.std.proofs.Common.{T, Option, Some, None, Ordering, Less, Equal, Greater}
 use Rattle.std.specs.Cmp.{IsTotalOrder}
 use Rattle.std.specs.List.{AllByRecursion}
 use Rattle.std.specs.Ordering.{eq_by_cmp, is_eq, is_lt, ordering_reverse}
@@ -25,10 +26,11 @@ both false b h = absurd h
 module _ {K X : Type 0} {R : K → K → Ordering} (o : IsTotalOrder R) (exact : fin.IsAntisymmetric R) where
   -- what stands after one more
   pub inserted : (m : fin.FinMap R X) (k : K) (x : X) (q : K) (v : X) → fin.get (fin.insert m k x) q ≡ Some v → ((q ≡ k) × (x ≡ v)) ⊎ (fin.get m q ≡ Some v)
-  inserted m k x q v e = elim (eq_by_cmp R q k) as (λ b. eq_by_cmp R q k ≡ b → cond b (Some x) (fin.get m q) ≡ Some v → ((q ≡ k) × (x ≡ v)) ⊎ (fin.get m q ≡ Some v)) [
-    | true ↦ λ t h. inl (exact q k (tied _ t), same_some x v h)
-    | false ↦ λ t h. inr h
-  ] refl (sym (fin.get-insert o m k x q) ∙ e)
+  inserted m k x q v e = elim (eq_by_cmp R q k) as (λ b. eq_by_cmp R q k ≡ b → cond b (Some x) (fin.get m q) ≡ Some v → ((q ≡ k) × (x ≡ v))
+      ⊎ (fin.get m q ≡ Some v)) [
+        | true ↦ λ t h. inl (exact q k (tied _ t), same_some x v h)
+        | false ↦ λ t h. inr h
+      ] refl (sym (fin.get-insert o m k x q) ∙ e)
 
   -- another key keeps what it has
   pub insert_other : (m : fin.FinMap R X) (k : K) (x : X) (q : K) → (q ≡ k → ⊥) → fin.get (fin.insert m k x) q ≡ fin.get m q
@@ -92,7 +94,8 @@ module _ {K X : Type 0} {R : K → K → Ordering} (o : IsTotalOrder R) (exact :
 -- the entries of maps that keep some
 module _ {K X : Type 0} {R : K → K → Ordering} (o : IsTotalOrder R) (exact : fin.IsAntisymmetric R) where
   -- a map that keeps the entries whose keys pass
-  pub entries_kept : (m n : fin.FinMap R X) (p : K → Bool) → ((q : K) → fin.get n q ≡ cond (p q) (fin.get m q) None) → fin.entries n ≡ filter (λ e. p e.0) (fin.entries m)
+  pub entries_kept : (m n : fin.FinMap R X) (p : K → Bool) → ((q : K) → fin.get n q ≡ cond (p q) (fin.get m q) None)
+      → fin.entries n ≡ filter (λ e. p e.0) (fin.entries m)
   entries_kept m n p h =
       let es = filter (λ (e : K × X). p e.0) (fin.entries m) in
       let rises : T (fin.is_sorted R es) = is_sorted-where_key R p (fin.entries m) (fin.entries_sorted m) in
@@ -124,15 +127,18 @@ module _ {K X : Type 0} {R : K → K → Ordering} (o : IsTotalOrder R) (exact :
         | false ↦ λ t h. found_below x k v es two.1 h
       ] refl f
 
-  all_found : (P : K → X → Type 0) (es : List (K × X)) → T (fin.is_sorted R es) → ((k : K) (v : X) → fin.find R k es ≡ Some v → P k v) → AllByRecursion (λ e. P e.0 e.1) es
+  all_found : (P : K → X → Type 0) (es : List (K × X)) → T (fin.is_sorted R es) → ((k : K) (v : X) → fin.find R k es ≡ Some v → P k v)
+      → AllByRecursion (λ e. P e.0 e.1) es
   all_found P [] s h = tt
   all_found P (e ∷ es) s h =
       let two = both (below_all R e.0 es) (fin.is_sorted R es) s in (
         h e.0 e.1 (ap (λ d. cond d (Some e.1) (fin.find R e.0 es)) (ap is_eq (tied_itself o e.0))),
-        all_found P es two.1 (λ k v f. h k v (ap (λ d. cond d (Some e.1) (fin.find R k es)) (less_apart (R k e.0) (R e.0 k) (o.antisymm k e.0) (found_below e.0 k v es two.0 f)) ∙ f)),
+        all_found P es two.1 (λ k v f. h k v
+            (ap (λ d. cond d (Some e.1) (fin.find R k es)) (less_apart (R k e.0) (R e.0 k) (o.antisymm k e.0) (found_below e.0 k v es two.0 f)) ∙ f)),
       )
 
-  pub all_entries : (P : K → X → Type 0) (m : fin.FinMap R X) → ((k : K) (v : X) → fin.get m k ≡ Some v → P k v) → AllByRecursion (λ e. P e.0 e.1) (fin.entries m)
+  pub all_entries : (P : K → X → Type 0) (m : fin.FinMap R X) → ((k : K) (v : X) → fin.get m k ≡ Some v → P k v)
+      → AllByRecursion (λ e. P e.0 e.1) (fin.entries m)
   all_entries P m h = all_found P (fin.entries m) (fin.entries_sorted m) (λ k v f. h k v (fin.get-entries m k ∙ f))
 
 no_entries : {A : Type 0} (xs : List A) → length xs ≡ 0 → xs ≡ []

@@ -37,11 +37,16 @@ stands vs n m q v e = go (fin.get vs n) refl
     go None h = (v, e, inl refl)
     go (Some u) h = at (eq_by_cmp nat_cmp q n) refl
       where
-        at : (b : Bool) → eq_by_cmp nat_cmp q n ≡ b → (w : Volume) × (fin.get (fin.insert vs n (with_mutable m u)) q ≡ Some w) × ((w ≡ v) ⊎ ((q ≡ n) × (w ≡ with_mutable m v)))
+        at : (b : Bool) → eq_by_cmp nat_cmp q n ≡ b → (w : Volume) × (fin.get (fin.insert vs n (with_mutable m u)) q ≡ Some w)
+            × ((w ≡ v) ⊎ ((q ≡ n) × (w ≡ with_mutable m v)))
         at true t =
             let same : q ≡ n = fin.nat_cmp-IsAntisymmetric q n (tied _ t) in
-            let one : u ≡ v = same_some u v (sym h ∙ ap (fin.get vs) (sym same) ∙ e) in
-            (with_mutable m u, fin.get-insert nat_cmp_total vs n (with_mutable m u) q ∙ ap (λ b. cond b (Some (with_mutable m u)) (fin.get vs q)) t, inr (same, ap (with_mutable m) one))
+            let one : u ≡ v = same_some u v (sym h ∙ ap (fin.get vs) (sym same) ∙ e) in (
+              with_mutable m u,
+              fin.get-insert nat_cmp_total vs n (with_mutable m u) q
+                  ∙ ap (λ b. cond b (Some (with_mutable m u)) (fin.get vs q)) t,
+              inr (same, ap (with_mutable m) one),
+            )
         at false t = (v, fin.get-insert nat_cmp_total vs n (with_mutable m u) q ∙ ap (λ b. cond b (Some (with_mutable m u)) (fin.get vs q)) t ∙ e, inl refl)
 
 -- there are as many

@@ -9,7 +9,8 @@ use Rattle.csi_keeper.specs.State.{State, named}
 use Rattle.csi_keeper.specs.Texts.{Text}
 use Rattle.csi_keeper.specs.facts.Finite.{none_some, same_some}
 
-no_name : (es : List (ℕ × Volume)) (name : Text) (n : ℕ) (v : Volume) → find (λ v. same_text v.name name) (map (λ e. e.1) es) ≡ None → fin.find nat_cmp n es ≡ Some v → v.name ≡ name → ⊥
+no_name : (es : List (ℕ × Volume)) (name : Text) (n : ℕ) (v : Volume) → find (λ v. same_text v.name name) (map (λ e. e.1) es) ≡ None
+    → fin.find nat_cmp n es ≡ Some v → v.name ≡ name → ⊥
 no_name [] name n v none some is = none_some v some
 no_name (e ∷ es) name n v none some is = go (λ h k. no_name es name n v h k is) (same_text e.1.name name) refl (eq_by_cmp nat_cmp n e.0) none some
   where

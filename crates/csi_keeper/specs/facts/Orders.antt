@@ -5,11 +5,11 @@ use Rattle.std.specs.Cmp.{IsTotalOrder}
 use Rattle.std.specs.Ordering.{is_lt, nat_cmp, ordering_then}
 use Rattle.std.specs.FinMap.{IsAntisymmetric, nat_cmp-IsAntisymmetric, slice_cmp-IsAntisymmetric}
 use Rattle.std.proofs.lemmas.Cmp.{then_total, on_total, nat_cmp_total, nat_list_cmp_total}
-use Rattle.csi_keeper.specs.State.{Place, place_cmp}
+use Rattle.csi_keeper.specs.State.{AttachmentKey, attachment_key_cmp}
 use Rattle.csi_keeper.specs.Texts.{text_cmp}
 
-pub place_total : IsTotalOrder place_cmp
-place_total = then_total (on_total (λ (p : Place). p.0) nat_cmp_total) (on_total (λ (p : Place). p.1) nat_list_cmp_total)
+pub place_total : IsTotalOrder attachment_key_cmp
+place_total = then_total (on_total (λ (p : AttachmentKey). p.0) nat_cmp_total) (on_total (λ (p : AttachmentKey). p.1) nat_list_cmp_total)
 
 pub both_equal : (a b : Ordering) → ordering_then a b ≡ Equal → (a ≡ Equal) × (b ≡ Equal)
 both_equal Less b e = absurd (cc)
@@ -19,7 +19,7 @@ both_equal Greater b e = absurd (cc)
 pub text_exact : IsAntisymmetric text_cmp
 text_exact = slice_cmp-IsAntisymmetric nat_cmp-IsAntisymmetric
 
-pub place_exact : IsAntisymmetric place_cmp
+pub place_exact : IsAntisymmetric attachment_key_cmp
 place_exact a b e =
     let two = both_equal (nat_cmp a.0 b.0) (text_cmp a.1 b.1) e in
     let first : a.0 ≡ b.0 = nat_cmp-IsAntisymmetric a.0 b.0 two.0 in

@@ -21,10 +21,12 @@ use Rattle.csi_rules.specs.Topology.{is_reachable, terms}
 
 -- a volume of the name stands
 
--- the volume, whose pool has these segments, is as the request asks; a mutable parameter that is given has to be as it is now
+-- the volume, whose pool has these segments, is as the request asks; a mutable parameter that is given has to
+-- be as it is now
 abbrev pub is_compatible : TextMap → Volume → CreateVolume → Bool
 is_compatible segments v r =
-    is_reachable segments r.topology && has_size v.bytes r.range && have_keys v.caps r.capabilities && same_map v.params r.parameters && has_each v.mutable r.mutable
+    is_reachable segments r.topology && has_size v.bytes r.range && have_keys v.caps r.capabilities && same_map v.params r.parameters
+    && has_each v.mutable r.mutable
 
 abbrev pub again_at : TextMap → CreateVolume → Volume → Plan
 again_at segments r v =

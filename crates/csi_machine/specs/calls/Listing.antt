@@ -22,7 +22,8 @@ abbrev pub given : ℕ → Option ℕ → Option ℕ
 given next None = None
 given next (Some n) = if nat_le 1 n && nat_lt n next then Some n else None
 
--- the number after which a page begins; a token is the number of the last volume that was listed, which need not stand any more
+-- the number after which a page begins; a token is the number of the last volume that was listed, which need
+-- not stand any more
 abbrev pub start_of : ℕ → Text → Option ℕ
 start_of next token = if is_empty token then Some 0 else given next (number_of token)
 
@@ -55,7 +56,8 @@ entry_of config s v = entry_with config v (published s v.number)
 abbrev pub list_after : Config → State → ℕ → Option ℕ → Plan
 list_after config s most None = refuse BadToken
 list_after config s most (Some after) =
-    respond (response.List (map (entry_of config s) (listed s after most)) (token_for (last_of after (listed s after most)) (beyond s (last_of after (listed s after most)))))
+    respond (response.List (map (entry_of config s) (listed s after most))
+    (token_for (last_of after (listed s after most)) (beyond s (last_of after (listed s after most)))))
 
 abbrev pub list_volumes : Config → State → ListVolumes → Plan
 list_volumes config s r = list_after config s (whole r.max_entries) (start_of s.next r.token)

@@ -9,7 +9,7 @@ ghost use Rattle.csi_machine.specs.calls.Capacity.{is_served, served, greatest, 
 
 use crate::plan::{Plan, Planning, respond};
 use crate::planned::Planned;
-use crate::response::Answer;
+use crate::response::PlannedResponse;
 use csi_config::Config;
 use csi_config::laws::{pool_bytes_whole, sizes_whole};
 use csi_keeper::Keeper;
@@ -56,7 +56,7 @@ fn tell_capacity(alloc: Global, available: u64, maximum: u64) -> Result<Plan, Al
     requires maximum { maximum ≤ 2 ^ 62 }
     ensures { IfOk result (λ p. p ≡ tell_capacity available maximum) }
 {
-    Ok(respond(Answer::of(
+    Ok(respond(PlannedResponse::of(
         alloc,
         Response::Capacity {
             available: available as i64,

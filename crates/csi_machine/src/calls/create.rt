@@ -90,7 +90,8 @@ fn place_in<'a>(
     bytes: u64,
     pool: Option<&'a Pool>,
 ) -> Result<Creation<'a>, AllocError>
-    ensures { IfOk result (λ creation. plan_of creation ≡ place_in request.now number bytes (option_copied pool.entry)) }
+    ensures { IfOk result (λ creation. plan_of creation
+        ≡ place_in request.now number bytes (option_copied pool.entry)) }
 {
     let Some(pool) = pool else {
         return Ok(Creation::Refused(Reason::NoRoom));
@@ -106,7 +107,8 @@ fn place<'a>(
     request: &CreateVolume,
     bytes: u64,
 ) -> Result<Creation<'a>, AllocError>
-    ensures { IfOk result (λ creation. plan_of creation ≡ place (map room_value rooms.now) next request.now (Some bytes)) }
+    ensures { IfOk result (λ creation. plan_of creation
+        ≡ place (map room_value rooms.now) next request.now (Some bytes)) }
 {
     if count(rooms) >= MAX_VOLUMES {
         return Ok(Creation::Refused(Reason::TooManyVolumes));
@@ -128,7 +130,8 @@ fn fresh<'a>(
     request: &CreateVolume,
 ) -> Result<Creation<'a>, AllocError>
     ensures bounded { IfOk result (λ creation. IfSome (plan_of creation).change IsBounded) }
-    ensures value { IfOk result (λ creation. plan_of creation ≡ fresh config.now (map room_value rooms.now) next request.now) }
+    ensures value { IfOk result (λ creation. plan_of creation
+        ≡ fresh config.now (map room_value rooms.now) next request.now) }
 {
     sizes_whole(config);
     match size(config.sizes(), &request.range) {
@@ -152,7 +155,8 @@ fn create_fresh<'a, K: Keeper>(
     Ok(fresh(alloc, config, &rooms, next, request)?)
 }
 
-/// What a request comes to, by reads of the keeper alone; `nowhere` is an empty map, of segments where there are none.
+/// What a request comes to, by reads of the keeper alone; `nowhere` is an empty map, of segments where there
+/// are none.
 ///
 /// A volume of the name is answered again if it is as the request asks, and refused otherwise.
 /// Without one a volume is made in the chosen pool, unless the size is out of range, there are too
@@ -166,7 +170,8 @@ pub(crate) fn create<'a, K: Keeper>(
 ) -> Result<Creation<'a>, StoreFault>
     requires { nowhere.now ≡ empty }
     ensures bounded { IfOk result (λ creation. IfSome (plan_of creation).change IsBounded) }
-    ensures finds { Finds (K.model keeper.old) (K.model keeper.new) result (λ s creation. plan_of creation ≡ create config.now s request.now) }
+    ensures finds { Finds (K.model keeper.old) (K.model keeper.new) result
+        (λ s creation. plan_of creation ≡ create config.now s request.now) }
 {
     if let Some(volume) = keeper.by_name(alloc, request.name.as_str())? {
         return Ok(again(alloc, config, nowhere, request, volume)?);

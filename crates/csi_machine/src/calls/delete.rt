@@ -7,7 +7,7 @@ ghost use Rattle.csi_machine.specs.calls.Delete.{delete_volume, delete};
 
 use crate::plan::{Plan, Planning, make, refuse, respond};
 use crate::planned::Planned;
-use crate::response::Answer;
+use crate::response::PlannedResponse;
 use csi_config::Config;
 use csi_keeper::{Attachment, Change, Keeper};
 use csi_rules::caps_of;
@@ -22,7 +22,11 @@ fn delete_volume(alloc: Global, number: u64, attachments: &[Attachment]) -> Resu
     if !attachments.is_empty() {
         return Ok(refuse(Reason::VolumeInUse));
     }
-    make(alloc, Answer::deleted(), Change::RemoveVolume(number))
+    make(
+        alloc,
+        PlannedResponse::deleted(),
+        Change::RemoveVolume(number),
+    )
 }
 
 /// A volume that is attached is refused, one that does not stand is done with.
@@ -33,7 +37,7 @@ impl Planned for DeleteVolume {
 
     fn plan<K: Keeper>(&self, alloc: Global, _config: &Config, keeper: &mut K) -> Planning {
         let Some((number, _)) = caps_of(alloc, keeper, &self.volume_id)? else {
-            return Ok(respond(Answer::deleted()));
+            return Ok(respond(PlannedResponse::deleted()));
         };
         let attachments = keeper.attachments(alloc, number)?;
         Ok(delete_volume(alloc, number, attachments.as_slice())?)

@@ -1,4 +1,5 @@
-//! ListVolumes (CSI specification, 'ListVolumes'). A page is written as it is read: no response of its entries is made.
+//! ListVolumes (CSI specification, 'ListVolumes'). A page is written as it is read: no response of its
+//! entries is made.
 
 ghost use Rattle.std.specs.Prelude.{◌≡◌, ◌++◌, [], Some, Ok, OnOk};
 ghost use Rattle.pbmessage.specs.Kept.{Keeps};
@@ -7,7 +8,7 @@ ghost use Rattle.csi_types.specs.declared.responses.Response.TheVariants as resp
 ghost use Rattle.csi_keeper.specs.declared.change.StoreFault.{StoreFault as AnyFault};
 ghost use Rattle.csi_rules.specs.Finding.{Finds};
 ghost use Rattle.csi_rules.specs.Size.{whole};
-ghost use Rattle.csi_machine.specs.Verdicts.{Appended, IsTold, told_of};
+ghost use Rattle.csi_machine.specs.Verdicts.{Appended, IsReported, reported_of};
 ghost use Rattle.csi_machine.specs.Pages.{IsPage, token_when};
 ghost use Rattle.csi_machine.specs.calls.Listing.{start_of, entries_for, list_after, list_volumes};
 
@@ -45,7 +46,8 @@ fn entries_for(most: i32) -> u32
 
 // Appends the token of the next page, if there is one.
 fn put_token(alloc: Global, last: u64, is_more: bool, out: &mut Vec<u8>) -> Result<(), AllocError>
-    ensures ok { OnOk result (out.new.items ≡ out.old.items ++ response_bytes (response.List [] (token_when last is_more))) }
+    ensures ok { OnOk result (out.new.items
+        ≡ out.old.items ++ response_bytes (response.List [] (token_when last is_more))) }
     ensures kept { Keeps out.old.items out.new.items }
 {
     let token = if is_more {
@@ -66,7 +68,9 @@ fn write_page<K: Keeper>(
     page: &mut Page<'_>,
 ) -> Result<(), StoreFault>
     ensures finds { Finds (K.model keeper.old) (K.model keeper.new) result
-        (λ s _. page.old.places.items ≡ [] → IsPage page.old.config.now s page.old.last (whole most) page.old.body.items page.new.body.items) }
+        (λ s _. page.old.places.items ≡ []
+        → IsPage page.old.config.now s page.old.last
+        (whole most) page.old.body.items page.new.body.items) }
     ensures kept { Keeps page.old.body.items page.new.body.items }
 {
     keeper.fold_page(alloc, page.last, entries_for(most), page)?;
@@ -86,7 +90,9 @@ fn append_after<K: Keeper>(
     out: &mut Vec<u8>,
 ) -> Result<Verdict, StoreFault>
     ensures finds { Finds (K.model keeper.old) (K.model keeper.new) result
-        (λ s v. IsTold {E = AnyFault} (told_of (list_after config.now s (whole most) (Some after)).outcome) out.old.items out.new.items (Ok v)) }
+        (λ s v. IsReported {E = AnyFault}
+        (reported_of (list_after config.now s (whole most)
+        (Some after)).outcome) out.old.items out.new.items (Ok v)) }
     ensures appended { Appended out.old.items out.new.items result }
 {
     let from = out.len();
@@ -106,8 +112,8 @@ fn append_after<K: Keeper>(
     Ok(limit_body(out, from))
 }
 
-/// Appends the body of a page, or refuses its token. A page has at most 100 entries; its token is the number of its last
-/// volume, which need not stand any more when the next page is asked for.
+/// Appends the body of a page, or refuses its token. A page has at most 100 entries; its token is the number
+/// of its last volume, which need not stand any more when the next page is asked for.
 #[inline(always)]
 pub(crate) fn append_page<K: Keeper>(
     alloc: Global,
@@ -117,7 +123,9 @@ pub(crate) fn append_page<K: Keeper>(
     out: &mut Vec<u8>,
 ) -> Result<Verdict, StoreFault>
     ensures finds { Finds (K.model keeper.old) (K.model keeper.new) result
-        (λ s v. IsTold {E = AnyFault} (told_of (list_volumes config.now s request.now).outcome) out.old.items out.new.items (Ok v)) }
+        (λ s v. IsReported {E = AnyFault}
+        (reported_of (list_volumes config.now s request.now).outcome) out.old.items out.new.items
+        (Ok v)) }
     ensures appended { Appended out.old.items out.new.items result }
 {
     let next = keeper.next_number()?;

@@ -5,12 +5,12 @@ ghost use Rattle.std.specs.Option.{option_copied};
 ghost use Rattle.csi_keeper.specs.State.{IsBounded};
 ghost use Rattle.csi_rules.specs.Finding.{Finds};
 ghost use Rattle.csi_rules.specs.Ids.{number_of_id};
-ghost use Rattle.csi_machine.specs.calls.Publish.{is_at, publish_again, has_conflict, attach, publish, publish_node, publish_at, publish_key, asked_key};
+ghost use Rattle.csi_machine.specs.calls.Publish.{is_at, publish_again, has_conflict, attach, publish, publish_node, publish_at, publish_key, requested_key};
 ghost use Rattle.csi_keeper.specs.Lookup.{node_of};
 
 use crate::plan::{Plan, Planning, make, refuse, respond};
 use crate::planned::Planned;
-use crate::response::Answer;
+use crate::response::PlannedResponse;
 use csi_config::{Config, Node};
 use csi_keeper::{Attachment, CapKey, Change, Keeper, cap_key, coexist, has_key};
 use csi_rules::caps_of;
@@ -22,7 +22,7 @@ fn publish_again(key: &CapKey, readonly: bool, attachment: &Attachment) -> Plan
     ensures value { result ≡ publish_again key.now readonly attachment.now }
 {
     if attachment.cap == *key && attachment.readonly == readonly {
-        return respond(Answer::published(readonly));
+        return respond(PlannedResponse::published(readonly));
     }
     refuse(Reason::PublishedOtherwise)
 }
@@ -33,19 +33,21 @@ fn has_conflict(mine: &Attachment, attachments: &[Attachment]) -> bool
     attachments.iter().any(|other| !coexist(other, mine))
 }
 
-// A volume that stands, what it may be used as, where it is published, and a node with the volumes that are there.
+// A volume that stands, what it may be used as, where it is published, and a node with the count of the
+// volumes that are there.
 #[derive(Clone, Copy)]
 struct Target<'a> {
     number: u64,
     caps: &'a [CapKey],
     attachments: &'a [Attachment],
     node: &'a Node,
-    there: &'a [u64],
+    there: u64,
 }
 
 fn attach(alloc: Global, target: &Target, mine: Attachment) -> Result<Plan, AllocError>
     ensures bounded { IfOk result (λ p. IfSome p.change IsBounded) }
-    ensures value { IfOk result (λ p. p ≡ attach target.now.number target.now.caps.now target.now.attachments.now target.now.node.now target.now.there.now mine) }
+    ensures value { IfOk result (λ p. p ≡ attach target.now.number target.now.caps.now
+        target.now.attachments.now target.now.node.now target.now.there mine) }
 {
     if !has_key(target.caps, &mine.cap) {
         return Ok(refuse(Reason::CapabilityNotOfVolume));
@@ -53,10 +55,10 @@ fn attach(alloc: Global, target: &Target, mine: Attachment) -> Result<Plan, Allo
     if has_conflict(&mine, target.attachments) {
         return Ok(refuse(Reason::PublishedElsewhere));
     }
-    if target.there.len() as u64 >= target.node.max_volumes {
+    if target.there >= target.node.max_volumes {
         return Ok(refuse(Reason::NodeFull));
     }
-    let answer = Answer::published(mine.readonly);
+    let answer = PlannedResponse::published(mine.readonly);
     make(alloc, answer, Change::Attach(target.number, mine))
 }
 
@@ -79,7 +81,9 @@ fn publish_key(
     key: CapKey,
 ) -> Result<Plan, AllocError>
     ensures bounded { IfOk result (λ p. IfSome p.change IsBounded) }
-    ensures value { IfOk result (λ p. p ≡ publish_key target.now.number target.now.caps.now target.now.attachments.now target.now.node.now target.now.there.now request.now (find (is_at request.now.node_id) target.now.attachments.now) key) }
+    ensures value { IfOk result (λ p. p ≡ publish_key target.now.number target.now.caps.now
+        target.now.attachments.now target.now.node.now target.now.there request.now
+        (find (is_at request.now.node_id) target.now.attachments.now) key) }
 {
     if let Some(attachment) = attachment_at(target.attachments, &request.node_id) {
         return Ok(publish_again(&key, request.readonly, attachment));
@@ -92,8 +96,11 @@ fn publish_key(
     attach(alloc, target, mine)
 }
 
-fn asked_key(alloc: Global, capability: &Option<Capability>) -> Result<Option<CapKey>, AllocError>
-    ensures { IfOk result (λ k. k ≡ asked_key capability.now) }
+fn requested_key(
+    alloc: Global,
+    capability: &Option<Capability>,
+) -> Result<Option<CapKey>, AllocError>
+    ensures { IfOk result (λ k. k ≡ requested_key capability.now) }
 {
     match capability {
         Some(capability) => cap_key(alloc, capability),
@@ -103,9 +110,11 @@ fn asked_key(alloc: Global, capability: &Option<Capability>) -> Result<Option<Ca
 
 fn publish_at(alloc: Global, target: &Target, request: &Publish) -> Result<Plan, AllocError>
     ensures bounded { IfOk result (λ p. IfSome p.change IsBounded) }
-    ensures value { IfOk result (λ p. p ≡ publish_at target.now.number target.now.caps.now target.now.attachments.now target.now.node.now target.now.there.now request.now (asked_key request.now.capability)) }
+    ensures value { IfOk result (λ p. p ≡ publish_at target.now.number target.now.caps.now
+        target.now.attachments.now target.now.node.now target.now.there request.now
+        (requested_key request.now.capability)) }
 {
-    match asked_key(alloc, &request.capability)? {
+    match requested_key(alloc, &request.capability)? {
         Some(key) => publish_key(alloc, target, request, key),
         None => Ok(refuse(Reason::CapabilityNotOfVolume)),
     }
@@ -133,13 +142,13 @@ fn publish_node<K: Keeper>(
         return Ok(refuse(Reason::NodeNotFound));
     };
     let attachments = keeper.attachments(alloc, number)?;
-    let there = keeper.attached_at(alloc, request.node_id.as_str())?;
+    let there = keeper.count_at(alloc, &request.node_id)?;
     let target = Target {
         number,
         caps,
         attachments: attachments.as_slice(),
         node,
-        there: there.as_slice(),
+        there,
     };
     Ok(publish_at(alloc, &target, request)?)
 }

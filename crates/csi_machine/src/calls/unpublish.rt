@@ -8,7 +8,7 @@ ghost use Rattle.csi_machine.specs.calls.Unpublish.{detach_all, detach, unpublis
 use crate::calls::publish::attachment_at;
 use crate::plan::{Plan, Planning, make, respond};
 use crate::planned::Planned;
-use crate::response::Answer;
+use crate::response::PlannedResponse;
 use csi_config::Config;
 use csi_keeper::{Attachment, Change, Keeper};
 use csi_rules::number_of_id;
@@ -20,9 +20,13 @@ fn detach_all(alloc: Global, number: u64, attachments: &[Attachment]) -> Result<
     ensures value { IfOk result (λ p. p ≡ detach_all number attachments.now) }
 {
     if attachments.is_empty() {
-        return Ok(respond(Answer::unpublished()));
+        return Ok(respond(PlannedResponse::unpublished()));
     }
-    make(alloc, Answer::unpublished(), Change::DetachAll(number))
+    make(
+        alloc,
+        PlannedResponse::unpublished(),
+        Change::DetachAll(number),
+    )
 }
 
 // The plan for the attachments of one volume: an empty node id is each node.
@@ -39,10 +43,14 @@ fn detach(
         return detach_all(alloc, number, attachments);
     }
     if attachment_at(attachments, node).is_none() {
-        return Ok(respond(Answer::unpublished()));
+        return Ok(respond(PlannedResponse::unpublished()));
     }
     let node = copy_text(alloc, node.as_str())?;
-    make(alloc, Answer::unpublished(), Change::Detach(number, node))
+    make(
+        alloc,
+        PlannedResponse::unpublished(),
+        Change::Detach(number, node),
+    )
 }
 
 /// A volume that is not published there, or does not stand, is answered as one that was.
@@ -53,7 +61,7 @@ impl Planned for Unpublish {
 
     fn plan<K: Keeper>(&self, alloc: Global, _config: &Config, keeper: &mut K) -> Planning {
         let Some(number) = number_of_id(self.volume_id.as_str()) else {
-            return Ok(respond(Answer::unpublished()));
+            return Ok(respond(PlannedResponse::unpublished()));
         };
         let attachments = keeper.attachments(alloc, number)?;
         Ok(detach(alloc, number, &self.node_id, attachments.as_slice())?)

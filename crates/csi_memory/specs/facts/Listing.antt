@@ -1,5 +1,6 @@
 -- What a part of the rows shows of a State.
-use Rattle.std.proofs.Common.{◌≡◌, ◌∙◌, ap, ap₂, sym, cond, arith, refl, ℕ, ◌+◌, ◌-◌, ◌≤◌, ◌^◌, ◌==◌, nat_lt, List, [], ◌∷◌, ◌++◌, map, filter, take, length, Bool, true, false, ◌&&◌, not, Ordering, Less, Equal, Greater}
+use Rattle.std.proofs.Common.{◌≡◌, ◌∙◌, ap, ap₂, sym, cond, arith, refl, ℕ, ◌+◌, ◌-◌, ◌≤◌, ◌^◌, ◌==◌, nat_lt, List, [], ◌∷◌, ◌++◌, map, filter, take}
+use Rattle.std.proofs.Common.{length, Bool, true, false, ◌&&◌, not, Ordering, Less, Equal, Greater}
 use Rattle.std.specs.BTreeMap.Range.{entries_between, range_contains, is_past_end}
 use Rattle.std.specs.Cmp.{IsTotalOrder, nat_cmp_total, nat_cmp_is}
 use Rattle.std.specs.FinMap as fin
@@ -13,7 +14,7 @@ use Rattle.std.proofs.lemmas.List.{length-map}
 use Rattle.csi_keeper.specs.declared.volume.Attachment.{Attachment}
 use Rattle.csi_keeper.specs.declared.volume.Volume.{Volume}
 use Rattle.csi_memory.specs.Memory.{volumes_of, places_of, place_end}
-use Rattle.csi_keeper.specs.State.{Place, place_cmp}
+use Rattle.csi_keeper.specs.State.{AttachmentKey, attachment_key_cmp}
 use Rattle.csi_keeper.specs.facts.Finite.{none_listed}
 use Rattle.csi_keeper.specs.facts.Orders.{place_total}
 use Rattle.csi_keeper.specs.Texts.{Text, text_cmp}
@@ -28,14 +29,16 @@ map_append : {A B : Type 0} (f : A → B) (xs ys : List A) → map f (xs ++ ys) 
 map_append f [] ys = refl
 map_append f (x ∷ xs) ys = ap (λ zs. f x ∷ zs) (map_append f xs ys)
 
-pub page_full : {A B : Type 0} (f : A → B) (all some rest : List A) (copies : List B) (count : ℕ) → all ≡ some ++ rest → copies ≡ map f some → length copies ≤ count → count ≤ length copies → copies ≡ take count (map f all)
+pub page_full : {A B : Type 0} (f : A → B) (all some rest : List A) (copies : List B) (count : ℕ) → all ≡ some ++ rest → copies ≡ map f some
+    → length copies ≤ count → count ≤ length copies → copies ≡ take count (map f all)
 page_full f all some rest copies count e is most least =
     let same : count ≡ length copies = omega (arith, most, least) in
     sym (take_first copies (map f rest)) ∙ ap (λ n. take n (copies ++ map f rest)) (sym same)
     ∙ ap (λ xs. take count (xs ++ map f rest)) is ∙ ap (take count) (sym (map_append f some rest)) ∙ ap (λ xs. take count (map f xs)) (sym e)
 
 -- the first of a page, where there are as many as are asked for
-pub page_first : {Y A B : Type 0} (d : Y → A) (f : A → B) (all : List A) (some : List Y) (rest : List A) (count : ℕ) → all ≡ map d some ++ rest → length some ≡ count → map f (map d some) ≡ take count (map f all)
+pub page_first : {Y A B : Type 0} (d : Y → A) (f : A → B) (all : List A) (some : List Y) (rest : List A) (count : ℕ) → all ≡ map d some ++ rest
+    → length some ≡ count → map f (map d some) ≡ take count (map f all)
 page_first d f all some rest count e few =
     let many = length-map (map d some) f in
     let each = length-map some d in
@@ -61,7 +64,8 @@ filter_after p q h (x ∷ xs) = go (filter_after p q h xs) (q x) refl (p x) refl
     go more false t true u = let y = h x u in absurd (cc (t, y))
     go more false t false u = more
 
-sorted_rest : {K : Type 0} (R : K → K → Rattle.std.specs.declared.cmp.Ordering.Ordering) (k : K) (ks : List K) → IsStrictlySortedBy R (k ∷ ks) → IsStrictlySortedBy R ks
+sorted_rest : {K : Type 0} (R : K → K → Rattle.std.specs.declared.cmp.Ordering.Ordering) (k : K) (ks : List K) → IsStrictlySortedBy R (k ∷ ks)
+    → IsStrictlySortedBy R ks
 unfolding IsStrictlySortedBy
 sorted_rest R k ks h = h.1
 
@@ -82,7 +86,7 @@ module _ {K X : Type 0} {R : K → K → Rattle.std.specs.declared.cmp.Ordering.
 pub rows_are : (es : List (ℕ × Volume)) → IsStrictlySortedBy nat_cmp (keys_of es) → fin.entries (volumes_of es) ≡ es
 rows_are es h = entries_are nat_cmp_total es h
 
-pub places_are : (es : List (Place × Attachment)) → IsStrictlySortedBy place_cmp (keys_of es) → fin.entries (places_of es) ≡ es
+pub places_are : (es : List (AttachmentKey × Attachment)) → IsStrictlySortedBy attachment_key_cmp (keys_of es) → fin.entries (places_of es) ≡ es
 places_are es h = entries_are place_total es h
 
 above : (a q : ℕ) → range_contains nat_cmp (Excluded a) Unbounded q ≡ nat_lt a q
@@ -98,17 +102,18 @@ pub empty_first : (t : Text) → is_le (text_cmp [] t) ≡ true
 empty_first [] = refl
 empty_first (b ∷ t) = refl
 
-here : (n : ℕ) (q : Place) → (q.0 == n) ≡ true → range_contains place_cmp (Included (n, [])) (place_end n) q ≡ true
+here : (n : ℕ) (q : AttachmentKey) → (q.0 == n) ≡ true → range_contains attachment_key_cmp (Included (n, [])) (place_end n) q ≡ true
 here n q t =
     let is : q.0 ≡ n = eqb-true q.0 n t in
     let low : nat_cmp n q.0 ≡ Equal = sym (nat_cmp_is n q.0 Equal (sym is)) in
     let up : nat_cmp (n + 1) q.0 ≡ Greater = sym (nat_cmp_is (n + 1) q.0 Greater (omega (arith, is))) in
     ap₂ (λ (a b : Bool). a && b)
     (ap (λ r. is_le (ordering_then r (text_cmp [] q.1))) low ∙ empty_first q.1)
-    (elim (n == 2 ^ 64 - 1) as (λ b. not (is_past_end place_cmp (cond b Unbounded (Excluded (n + 1, []))) q) ≡ true) [
+    (elim (n == 2 ^ 64 - 1) as (λ b. not (is_past_end attachment_key_cmp (cond b Unbounded (Excluded (n + 1, []))) q) ≡ true) [
       | true ↦ refl
       | false ↦ ap (λ r. not (is_le (ordering_then r (text_cmp [] q.1)))) up
     ])
 
-pub place_rows : (es : List (Place × Attachment)) (n : ℕ) → filter (λ e. e.0.0 == n) (entries_between place_cmp (Included (n, [])) (place_end n) es) ≡ filter (λ e. e.0.0 == n) es
+pub place_rows : (es : List (AttachmentKey × Attachment)) (n : ℕ)
+    → filter (λ e. e.0.0 == n) (entries_between attachment_key_cmp (Included (n, [])) (place_end n) es) ≡ filter (λ e. e.0.0 == n) es
 place_rows es n = filter_after _ _ (λ e t. here n e.0 t) es

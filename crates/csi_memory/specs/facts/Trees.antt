@@ -8,7 +8,7 @@ use Rattle.std.specs.Ordering.{nat_cmp}
 use Rattle.csi_keeper.specs.declared.volume.Attachment.{Attachment}
 use Rattle.csi_keeper.specs.declared.volume.Volume.{Volume}
 use Rattle.csi_memory.specs.Memory.{volumes_of, places_of, IsSetAt}
-use Rattle.csi_keeper.specs.State.{Place, place_cmp}
+use Rattle.csi_keeper.specs.State.{AttachmentKey, attachment_key_cmp}
 use Rattle.csi_keeper.specs.facts.Orders.{place_total, place_exact}
 
 module _ {K X : Type 0} {R : K → K → Rattle.std.specs.declared.cmp.Ordering.Ordering} (o : IsTotalOrder R) (exact : fin.IsAntisymmetric R) where
@@ -38,8 +38,10 @@ one_volume es fs k v h = tree_insert nat_cmp_total fin.nat_cmp-IsAntisymmetric e
 pub no_volume : (es fs : List (ℕ × Volume)) (k : ℕ) → IsSetAt nat_cmp k None es fs → volumes_of fs ≡ fin.remove (volumes_of es) k
 no_volume es fs k h = tree_remove nat_cmp_total fin.nat_cmp-IsAntisymmetric es fs k h
 
-pub one_place : (es fs : List (Place × Attachment)) (k : Place) (v : Attachment) → IsSetAt place_cmp k (Some v) es fs → places_of fs ≡ fin.insert (places_of es) k v
+pub one_place : (es fs : List (AttachmentKey × Attachment)) (k : AttachmentKey) (v : Attachment) → IsSetAt attachment_key_cmp k (Some v) es fs
+    → places_of fs ≡ fin.insert (places_of es) k v
 one_place es fs k v h = tree_insert place_total place_exact es fs k v h
 
-pub no_place : (es fs : List (Place × Attachment)) (k : Place) → IsSetAt place_cmp k None es fs → places_of fs ≡ fin.remove (places_of es) k
+pub no_place : (es fs : List (AttachmentKey × Attachment)) (k : AttachmentKey) → IsSetAt attachment_key_cmp k None es fs
+    → places_of fs ≡ fin.remove (places_of es) k
 no_place es fs k h = tree_remove place_total place_exact es fs k h

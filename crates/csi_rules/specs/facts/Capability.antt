@@ -1,5 +1,6 @@
 -- Capability keys in order, and the keys of capabilities, one capability after the other.
-use Rattle.std.proofs.Common.{◌≡◌, ◌∙◌, ap, ap₂, sym, subst, refl, cond, arith, ℕ, ◌+◌, ◌<◌, ◌≤◌, Bool, true, false, ◌&&◌, ◌||◌, is_some, List, [], ◌∷◌, ◌++◌, map, length, take, get_or, Option, Some, None, T, Ordering, Less, Equal, Greater, append-nil}
+use Rattle.std.proofs.Common.{◌≡◌, ◌∙◌, ap, ap₂, sym, subst, refl, cond, arith, ℕ, ◌+◌, ◌<◌, ◌≤◌, Bool, true, false, ◌&&◌, ◌||◌, is_some, List, []}
+use Rattle.std.proofs.Common.{◌∷◌, ◌++◌, map, length, take, get_or, Option, Some, None, T, Ordering, Less, Equal, Greater, append-nil}
 use Rattle.std.specs.BTreeMap.{is_at}
 use Rattle.std.specs.BTreeSet.{insert_key}
 use Rattle.std.specs.FinMap as fin
@@ -24,7 +25,8 @@ entry k = (k, true)
 abbrev set_of : List CapKey → fin.FinMap key_cmp Bool
 set_of ks = fin.from_entries (map entry ks)
 
-find_push : (ks : List CapKey) (k q : CapKey) → fin.find key_cmp q (map entry (ks ++ k ∷ [])) ≡ cond (eq_by_cmp key_cmp q k) (Some true) (fin.find key_cmp q (map entry ks))
+find_push : (ks : List CapKey) (k q : CapKey)
+    → fin.find key_cmp q (map entry (ks ++ k ∷ [])) ≡ cond (eq_by_cmp key_cmp q k) (Some true) (fin.find key_cmp q (map entry ks))
 find_push [] k q = refl
 find_push (j ∷ ks) k q =
     ap (cond (eq_by_cmp key_cmp q j) (Some true)) (find_push ks k q)
@@ -70,21 +72,25 @@ pushed : (cs : List Capability) (c : Capability) → filter_map key_of (cs ++ c 
 pushed [] c = refl
 pushed (d ∷ cs) c = ap (cons_option (key_of d)) (pushed cs c) ∙ onto (key_of d) (filter_map key_of cs) (cons_option (key_of c) [])
 
-next_keys : (cs : List Capability) (i : ℕ) (d : Capability) → i < length cs → keys_of (take (i + 1) cs) ≡ ordered (filter_map key_of (take i cs) ++ cons_option (key_of (get_or cs i d)) [])
+next_keys : (cs : List Capability) (i : ℕ) (d : Capability) → i < length cs
+    → keys_of (take (i + 1) cs) ≡ ordered (filter_map key_of (take i cs) ++ cons_option (key_of (get_or cs i d)) [])
 next_keys cs i d h = ap keys_of (take_more cs i d h) ∙ ap ordered (pushed (take i cs) (get_or cs i d))
 
 -- the keys with one capability more: its key is added, if it has one
-pub keys_more : (cs : List Capability) (i : ℕ) (d : Capability) (k : CapKey) → i < length cs → Some k ≡ key_of (get_or cs i d) → keys_of (take (i + 1) cs) ≡ insert_key key_cmp (keys_of (take i cs)) k
+pub keys_more : (cs : List Capability) (i : ℕ) (d : Capability) (k : CapKey) → i < length cs → Some k ≡ key_of (get_or cs i d)
+    → keys_of (take (i + 1) cs) ≡ insert_key key_cmp (keys_of (take i cs)) k
 keys_more cs i d k h e =
     next_keys cs i d h ∙ ap (λ o. ordered (filter_map key_of (take i cs) ++ cons_option o [])) (sym e) ∙ ordered_push (filter_map key_of (take i cs)) k
 
-pub keys_same : (cs : List Capability) (i : ℕ) (d : Capability) → i < length cs → None ≡ key_of (get_or cs i d) → keys_of (take (i + 1) cs) ≡ keys_of (take i cs)
+pub keys_same : (cs : List Capability) (i : ℕ) (d : Capability) → i < length cs → None ≡ key_of (get_or cs i d)
+    → keys_of (take (i + 1) cs) ≡ keys_of (take i cs)
 keys_same cs i d h e =
     next_keys cs i d h ∙ ap (λ o. ordered (filter_map key_of (take i cs) ++ cons_option o [])) (sym e) ∙ ap ordered (append-nil (filter_map key_of (take i cs)))
 
 -- keys of no capabilities
 pub keys_none : fin.keys (fin.empty {X = Bool} {R = key_cmp}) ≡ []
-keys_none = zero_long (fin.keys (fin.empty {X = Bool} {R = key_cmp})) (length-map _ (λ (e : Entry). e.0) ∙ sym (fin.len-entries (fin.empty {X = Bool} {R = key_cmp})) ∙ fin.len-empty key_cmp Bool)
+keys_none = zero_long (fin.keys (fin.empty {X = Bool} {R = key_cmp}))
+    (length-map _ (λ (e : Entry). e.0) ∙ sym (fin.len-entries (fin.empty {X = Bool} {R = key_cmp})) ∙ fin.len-empty key_cmp Bool)
   where
     zero_long : (ks : List CapKey) → length ks ≡ 0 → ks ≡ []
     zero_long [] h = refl
@@ -192,5 +198,6 @@ has_no_wider ks = sym (has_same_none ks)
 pub has_one : (ks : List CapKey) (k : CapKey) → has_same ks (Some k) ≡ true → has_key ks (Some k) ≡ true
 has_one ks k e = ap (λ b. b || has_same ks (wider_key k)) e
 
-pub ordered_more : (ks : List CapKey) (i : ℕ) (d : CapKey) → i < length ks → ordered (take (i + 1) ks) ≡ insert_key key_cmp (ordered (take i ks)) (get_or ks i d)
+pub ordered_more : (ks : List CapKey) (i : ℕ) (d : CapKey) → i < length ks
+    → ordered (take (i + 1) ks) ≡ insert_key key_cmp (ordered (take i ks)) (get_or ks i d)
 ordered_more ks i d h = ap ordered (take_more ks i d h) ∙ ordered_push (take i ks) (get_or ks i d)

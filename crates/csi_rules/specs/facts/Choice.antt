@@ -1,5 +1,6 @@
 -- The first pair that fits, piece by piece.
-use Rattle.std.proofs.Common.{◌≡◌, ◌∙◌, ap, sym, cond, arith, refl, ℕ, ◌+◌, ◌<◌, suc, nat_le, add-one, List, [], ◌∷◌, ◌++◌, map, find, length, drop, get_or, Bool, true, false, ◌&&◌, Option, Some, None, option_map}
+use Rattle.std.proofs.Common.{◌≡◌, ◌∙◌, ap, sym, cond, arith, refl, ℕ, ◌+◌, ◌<◌, suc, nat_le, add-one, List, [], ◌∷◌, ◌++◌, map, find, length, drop}
+use Rattle.std.proofs.Common.{get_or, Bool, true, false, ◌&&◌, Option, Some, None, option_map}
 use Rattle.std.specs.FinMap.{empty}
 use Rattle.std.proofs.Math.Seq.{drop-cons}
 use Rattle.csi_types.specs.Maps.{TextMap}
@@ -36,18 +37,22 @@ abbrev pub first_for : List Room → TextMap → ℕ → Option Pool
 first_for rooms t n = option_map (λ r. r.0) (find (λ r. serves r.0.segments t && nat_le n (free r)) rooms)
 
 first_is : (rooms : List Room) (t : TextMap) (n : ℕ) → option_map (λ p. p.1.0) (find (fits n) (map (λ r. (t, r)) rooms)) ≡ first_for rooms t n
-first_is rooms t n = ap (option_map (λ (p : TextMap × Room). p.1.0)) (find_map (fits n) (λ r. (t, r)) rooms) ∙ map_map (λ (p : TextMap × Room). p.1.0) (λ r. (t, r)) (find (λ r. fits n (t, r)) rooms)
+first_is rooms t n = ap (option_map (λ (p : TextMap × Room). p.1.0)) (find_map (fits n) (λ r. (t, r)) rooms)
+    ∙ map_map (λ (p : TextMap × Room). p.1.0) (λ r. (t, r)) (find (λ r. fits n (t, r)) rooms)
 
 pub choice_one : (rooms : List Room) (t : TextMap) (n : ℕ) → choice rooms (t ∷ []) n ≡ first_for rooms t n
 choice_one rooms t n = ap (λ ps. option_map (λ (p : TextMap × Room). p.1.0) (find (fits n) ps)) (append-nil (map (λ r. (t, r)) rooms)) ∙ first_is rooms t n
 
-pub choice_cons : (rooms : List Room) (t : TextMap) (ts : List TextMap) (n : ℕ) → choice rooms (t ∷ ts) n ≡ or_else (choice rooms (t ∷ []) n) (choice rooms ts n)
+pub choice_cons : (rooms : List Room) (t : TextMap) (ts : List TextMap) (n : ℕ)
+    → choice rooms (t ∷ ts) n ≡ or_else (choice rooms (t ∷ []) n) (choice rooms ts n)
 choice_cons rooms t ts n =
     ap (option_map (λ (p : TextMap × Room). p.1.0)) (find_app (fits n) (map (λ r. (t, r)) rooms) (pairs ts rooms))
     ∙ map_or (λ p. p.1.0) (find (fits n) (map (λ r. (t, r)) rooms)) (find (fits n) (pairs ts rooms))
     ∙ ap (λ o. or_else o (choice rooms ts n)) (first_is rooms t n ∙ sym (choice_one rooms t n))
 
-pub choice_of_one : (rooms : List code.Room) (t : TextMap) (n : ℕ) → choice (map room_value rooms) (t ∷ []) n ≡ option_map (λ r. r.pool.now) (find (λ r. serves r.pool.now.segments t && nat_le n (free (room_value r))) rooms)
+pub choice_of_one : (rooms : List code.Room) (t : TextMap) (n : ℕ)
+    → choice (map room_value rooms) (t ∷ []) n
+    ≡ option_map (λ r. r.pool.now) (find (λ r. serves r.pool.now.segments t && nat_le n (free (room_value r))) rooms)
 choice_of_one rooms t n =
     choice_one (map room_value rooms) t n
     ∙ ap (option_map (λ (r : Room). r.0)) (find_map (λ r. serves r.0.segments t && nat_le n (free r)) room_value rooms)
@@ -69,12 +74,14 @@ ends-there None = refl
 ends-there (Some x) = refl
 
 -- the term at a place is tried, and then those after it
-pub choice_at : (rooms : List Room) (ts : List TextMap) (i n : ℕ) (d : TextMap) → i < length ts → choice rooms (drop i ts) n ≡ or_else (choice rooms (get_or ts i d ∷ []) n) (choice rooms (drop (i + 1) ts) n)
+pub choice_at : (rooms : List Room) (ts : List TextMap) (i n : ℕ) (d : TextMap) → i < length ts
+    → choice rooms (drop i ts) n ≡ or_else (choice rooms (get_or ts i d ∷ []) n) (choice rooms (drop (i + 1) ts) n)
 choice_at rooms ts i n d h =
     ap (λ l. choice rooms l n) (drop-cons ts i d h) ∙ choice_cons rooms (get_or ts i d) (drop (suc i) ts) n
     ∙ ap (λ k. or_else (choice rooms (get_or ts i d ∷ []) n) (choice rooms (drop k ts) n)) (sym (add-one i))
 
-pub choice_found : (rooms : List Room) (ts : List TextMap) (i n : ℕ) (d : TextMap) (p : Pool) → i < length ts → d ≡ get_or ts i d → Some p ≡ choice rooms (d ∷ []) n
+pub choice_found : (rooms : List Room) (ts : List TextMap) (i n : ℕ) (d : TextMap) (p : Pool) → i < length ts → d ≡ get_or ts i d
+    → Some p ≡ choice rooms (d ∷ []) n
     → choice rooms (drop i ts) n ≡ choice rooms ts n → Some p ≡ choice rooms ts n
 choice_found rooms ts i n d p h is here rest =
     ap (λ o. or_else o (choice rooms (drop (i + 1) ts) n)) (here ∙ ap (λ t. choice rooms (t ∷ []) n) is) ∙ sym (choice_at rooms ts i n d h) ∙ rest
@@ -87,7 +94,8 @@ choice_missed rooms ts i n d h is here rest =
 pub choice_first : (rooms : List Room) (ts us : List TextMap) (n : ℕ) (p : Pool) → Some p ≡ choice rooms ts n → Some p ≡ choice rooms (ts ++ us) n
 choice_first rooms ts us n p here = ap (λ o. or_else o (choice rooms us n)) here ∙ sym (choice_append rooms ts us n)
 
-pub choice_second : (rooms : List Room) (ts us : List TextMap) (n : ℕ) (o : Option Pool) → None ≡ choice rooms ts n → o ≡ choice rooms us n → o ≡ choice rooms (ts ++ us) n
+pub choice_second : (rooms : List Room) (ts us : List TextMap) (n : ℕ) (o : Option Pool) → None ≡ choice rooms ts n → o ≡ choice rooms us n
+    → o ≡ choice rooms (ts ++ us) n
 choice_second rooms ts us n o none here = here ∙ ap (λ o. or_else o (choice rooms us n)) none ∙ sym (choice_append rooms ts us n)
 
 pub or_empty_none : (rooms : List Room) (ts : List TextMap) (n : ℕ) → length ts ≡ 0 → choice rooms (or_empty ts) n ≡ choice rooms (empty ∷ []) n

@@ -11,11 +11,13 @@ use Rattle.csi_keeper.specs.declared.volume.Volume.{Volume}
 use Rattle.csi_rules.specs.Finding.{Finds, keys_found}
 
 -- what is told of a keeper that is down, where an answer tells more
-told_more : {X : Type 0} {P Q : X → Type 0} {is_down : Bool} (result : Result X StoreFault) → ((x : X) → P x → Q x) → TellsDown is_down P result → TellsDown is_down Q result
+told_more : {X : Type 0} {P Q : X → Type 0} {is_down : Bool} (result : Result X StoreFault) → ((x : X) → P x → Q x) → TellsDown is_down P result
+    → TellsDown is_down Q result
 told_more result f told = record { down = told.down; refused = told.refused; unasked = λ is. if_ok f result (told.unasked is) }
 
 -- what is found, as something else that it tells
-pub found_as : {X : Type 0} {P Q : State → X → Type 0} {a b : Model State} {result : Result X StoreFault} → ((s : State) (x : X) → P s x → Q s x) → Finds a b result P → Finds a b result Q
+pub found_as : {X : Type 0} {P Q : State → X → Type 0} {a b : Model State} {result : Result X StoreFault} → ((s : State) (x : X) → P s x → Q s x)
+    → Finds a b result P → Finds a b result Q
 found_as {result = result} f found = record {
   value = if_ok (λ x told d s h. f s x (told d s h)) result found.value;
   quiet = found.quiet;
@@ -24,7 +26,8 @@ found_as {result = result} f found = record {
 }
 
 -- what is made of what is found
-pub found_so : {X Y : Type 0} {P : State → X → Type 0} {Q : State → Y → Type 0} {a b : Model State} {x : X} {y : Y} → Finds a b (Ok x) P → ((s : State) → P s x → Q s y) → Finds a b (Ok y) Q
+pub found_so : {X Y : Type 0} {P : State → X → Type 0} {Q : State → Y → Type 0} {a b : Model State} {x : X} {y : Y} → Finds a b (Ok x) P
+    → ((s : State) → P s x → Q s y) → Finds a b (Ok y) Q
 found_so found f = record {
   value = λ d s h. f s (found.value d s h);
   quiet = found.quiet;
@@ -33,7 +36,8 @@ found_so found f = record {
 }
 
 -- what is found behind what was found
-pub found_then : {X Y : Type 0} {P : State → X → Type 0} {Q R : State → Y → Type 0} {a b c : Model State} {x : X} {result : Result Y StoreFault} → Finds a b (Ok x) P → Finds b c result Q
+pub found_then : {X Y : Type 0} {P : State → X → Type 0} {Q R : State → Y → Type 0} {a b c : Model State} {x : X} {result : Result Y StoreFault}
+    → Finds a b (Ok x) P → Finds b c result Q
     → ((s : State) → P s x → (y : Y) → Q s y → R s y) → Finds a c result R
 found_then {a = a} {b = b} {c = c} {result = result} read found f =
     let mid : c.doubt ≡ 0 → b.doubt ≡ 0 = λ d. let clean = found.quiet.clean in omega (arith, clean, d) in
@@ -63,7 +67,8 @@ none_found None none = refl
 none_found (Some found) none = absurd (cc)
 
 -- what is said of the keys that are found of a volume
-pub keys_so : {Y : Type 0} (f : Option (ℕ × Volume) → Y) (g : ℕ → List CapKey → Y) (o : Option (ℕ × Volume)) (n : ℕ) (keys : List CapKey) → ((m : ℕ) (v : Volume) → f (Some (m, v)) ≡ g m v.caps) → Some (n, keys) ≡ keys_found o → g n keys ≡ f o
+pub keys_so : {Y : Type 0} (f : Option (ℕ × Volume) → Y) (g : ℕ → List CapKey → Y) (o : Option (ℕ × Volume)) (n : ℕ) (keys : List CapKey)
+    → ((m : ℕ) (v : Volume) → f (Some (m, v)) ≡ g m v.caps) → Some (n, keys) ≡ keys_found o → g n keys ≡ f o
 keys_so f g None n keys so is = absurd (cc)
 keys_so {Y} f g (Some found) n keys so is = ap (λ (e : ℕ × List CapKey). g e.0 e.1) (same (n, keys) (found.0, found.1.caps) is) ∙ sym (so found.0 found.1)
   where

@@ -1,5 +1,6 @@
 -- Texts that are decimals of numbers, and ids.
-use Rattle.std.proofs.Common.{◌≡◌, ◌∙◌, inl, inr, ap, sym, subst, cond, refl, arith, ℕ, suc, ◌<◌, ◌^◌, nat_lt, List, Bool, true, false, ◌&&◌, Option, Some, None, Result, Ok, ◌++◌, take, drop, take-append-drop, codes}
+use Rattle.std.proofs.Common.{◌≡◌, ◌∙◌, inl, inr, ap, sym, subst, cond, refl, arith, ℕ, suc, ◌<◌, ◌^◌, nat_lt, List, Bool, true, false, ◌&&◌, Option}
+use Rattle.std.proofs.Common.{Some, None, Result, Ok, ◌++◌, take, drop, take-append-drop, codes}
 use Rattle.std.specs.Fmt.{decimal}
 use Rattle.std.specs.Str.Parse.{digits_value, ParsesUnsigned}
 use Rattle.std.proofs.lemmas.Bool.Decides.{leb_tells}
@@ -40,7 +41,8 @@ number_is text n e = go (nat_lt (digits_value 10 text) (2 ^ 64)) refl (same_text
     go true a true b h = subst (λ (m : ℕ). (m < 2 ^ 64) × (decimal m ≡ text)) (same n h) (below _ _ a, (bytes_decides _ text).0 b)
 
 -- a text that is not the decimal of what it is parsed as is none's
-pub no_decimal : {E : Type 0} (text : List ℕ) (r : Result ℕ E) → ParsesUnsigned 64 10 text r → ((n : ℕ) → r ≡ Ok n → same_text (decimal n) text ≡ false) → None ≡ number_of text
+pub no_decimal : {E : Type 0} (text : List ℕ) (r : Result ℕ E) → ParsesUnsigned 64 10 text r
+    → ((n : ℕ) → r ≡ Ok n → same_text (decimal n) text ≡ false) → None ≡ number_of text
 no_decimal text r parses none = go (number_of text) refl
   where
     go : (o : Option ℕ) → number_of text ≡ o → None ≡ o

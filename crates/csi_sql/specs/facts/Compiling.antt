@@ -1,4 +1,5 @@
--- What a text is compiled to, computed once: all else that is said of a fixed text under the schema follows from it.
+-- What a text is compiled to, computed once: all else that is said of a fixed text under the schema follows
+-- from it.
 use Rattle.std.proofs.Common.{◌≡◌, refl, sym, ap, subst, if◌then◌else◌, [], ◌∷◌, arith, codes, length, take, List, None, Ok, ℕ}
 use Rattle.sqlite.specs.Command.{Command}
 use Rattle.sqlite.specs.Command.TheVariants.{Select}
@@ -18,7 +19,15 @@ parameters count = take count (codes "?1" ∷ codes "?2" ∷ codes "?3" ∷ code
 
 -- one statement from the first byte of its text to the last, which returns nothing and does not read the time
 abbrev pub whole : List ℕ → Command → ℕ → Compiled
-whole text command count = record { command = command; returning = None; names = parameters count; formats = []; start = 0; end = length text; tail = length text }
+whole text command count = record {
+  command = command;
+  returning = None;
+  names = parameters count;
+  formats = [];
+  start = 0;
+  end = length text;
+  tail = length text;
+}
 
 -- what is computed: `refl` finds it, under `unfolding everything` of `sqlite_tied`
 pub record Compiles (text : List ℕ) (command : Command) (count : ℕ) : Type 0 where

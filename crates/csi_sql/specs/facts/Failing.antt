@@ -1,5 +1,6 @@
 -- What the connection's clauses say of an error, in the words of `Failing`.
-use Rattle.std.proofs.Common.{◌≡◌, ◌∙◌, ◌⊎◌, inl, inr, refl, sym, ap, subst, subst₂, ℕ, ◌≤◌, List, length, true, false, true≢false, [], append-nil, IsTrue, IsSome, Option, Ok, Err, Result, IfErr, IsErrAnd, OnErr, OnOk, arith}
+use Rattle.std.proofs.Common.{◌≡◌, ◌∙◌, ◌⊎◌, inl, inr, refl, sym, ap, subst, subst₂, ℕ, ◌≤◌, List, length, true, false, true≢false, [], append-nil}
+use Rattle.std.proofs.Common.{IsTrue, IsSome, Option, Ok, Err, Result, IfErr, IsErrAnd, OnErr, OnOk, arith}
 use Rattle.sqlite.specs.Calls.{IsWrite}
 use Rattle.sqlite.specs.Clock.{timed}
 use Rattle.sqlite.specs.Command.{Command}
@@ -11,7 +12,9 @@ use Rattle.sqlite.specs.Listing.{understood, reads_listing, IsSourceOf}
 use Rattle.sqlite.specs.Order.{Row}
 use Rattle.sqlite.specs.Query.{Query}
 use Rattle.sqlite.specs.Schema.{Schema}
-use Rattle.sqlite.specs.State.{State, HasCleanDisk, Executes, ExecutesIn, ExecutesInside, EndsScope, Fails, FailsToQuery, FailsToShow, HasCause, IsMisplaced, IsNoStatement, IsNotRun, IsRolledBack, KeepsCommit, KeepsCounts, RunsAlone, RunsCommand, Shows, Survives, shows_rows, store_error}
+use Rattle.sqlite.specs.State.{State, HasCleanDisk, Executes, ExecutesIn, ExecutesInside, EndsScope, Fails, FailsToQuery, FailsToShow, HasCause}
+use Rattle.sqlite.specs.State.{IsMisplaced, IsNoStatement, IsNotRun, IsRolledBack, KeepsCommit, KeepsCounts, RunsAlone, RunsCommand, Shows, Survives}
+use Rattle.sqlite.specs.State.{shows_rows, store_error}
 use Rattle.sqlite.specs.Steps.{FailsToCommit}
 use Rattle.sqlite.specs.Store.{Ghosts}
 use Rattle.sqlite.specs.Tree.{Trees}
@@ -47,7 +50,8 @@ fails_before P old mid new e up (at_limit is some) = at_limit is some
 fails_before P old mid new e up (as_refused why) = as_refused why
 
 -- what was done before it left the connection open
-pub fails_behind : (P Q : Error → Type 0) (old mid new : State) (e : Error) → old.faults ≤ mid.faults → IsTrue mid.is_open → mid.step_limit ≡ old.step_limit → (P e → Q e) → FailsFor P mid new e → FailsFor Q old new e
+pub fails_behind : (P Q : Error → Type 0) (old mid new : State) (e : Error) → old.faults ≤ mid.faults → IsTrue mid.is_open
+    → mid.step_limit ≡ old.step_limit → (P e → Q e) → FailsFor P mid new e → FailsFor Q old new e
 fails_behind P Q old mid new e up is_open limit f (for_memory is) = for_memory is
 fails_behind P Q old mid new e up is_open limit f (by_disk is more) = by_disk is (omega (arith, up, more))
 fails_behind P Q old mid new e up is_open limit f (as_shut is shut) = absurd (true≢false (sym is_open ∙ shut))
@@ -70,7 +74,8 @@ on_err (Err x) P h = h
 
 -- ---- what the store told
 
-caused : (P : Error → Type 0) (old new : State) (big : Type 0) (e : Error) (cause : StoreError) → (big → e ≡ SqliteFailure code.TooBig → P e) → e ≡ store_error cause → HasCause old new big cause → FailsFor P old new e
+caused : (P : Error → Type 0) (old new : State) (big : Type 0) (e : Error) (cause : StoreError) → (big → e ≡ SqliteFailure code.TooBig → P e)
+    → e ≡ store_error cause → HasCause old new big cause → FailsFor P old new e
 caused P old new big e OutOfMemory f is why = for_memory is
 caused P old new big e Io f is why = by_disk (rw is refl) why
 caused P old new big e Corrupt f is why = by_disk (rw is refl) why
@@ -78,7 +83,8 @@ caused P old new big e Full f is why = by_disk (rw is refl) why
 caused P old new big e Broken f is why = as_shut is why
 caused P old new big e Unstorable f is why = as_refused (f why is)
 
-pub store_fails : (P : Error → Type 0) (old new : State) (big : Type 0) (e : Error) → (big → e ≡ SqliteFailure code.TooBig → P e) → Fails old new big e → FailsFor P old new e
+pub store_fails : (P : Error → Type 0) (old new : State) (big : Type 0) (e : Error) → (big → e ≡ SqliteFailure code.TooBig → P e)
+    → Fails old new big e → FailsFor P old new e
 store_fails P old new big e f h = caused P old new big e h.0 f h.1 h.2
 
 -- inside a transaction a commit fails as the store does
@@ -97,7 +103,8 @@ abbrev pub IsAloneWrite : List ℕ → ℕ → Result Compiled CompileError → 
 IsAloneWrite text count (Ok c) = (length text ≤ c.tail) × (length c.names ≡ count) × (c.formats ≡ []) × IsWrite c.command × (shows_rows false c ≡ false)
 IsAloneWrite text count (Err e) = ⊥
 
-pub no_fault : (text : List ℕ) (params : Row) (s : State) (e : Error) → IsAlone text (length params) (understood s.now.schema text) → IsNoStatement s text params e → ⊥
+pub no_fault : (text : List ℕ) (params : Row) (s : State) (e : Error) → IsAlone text (length params) (understood s.now.schema text)
+    → IsNoStatement s text params e → ⊥
 no_fault text params s e alone (inl h) = subst (IsAlone text (length params)) h.1 alone
 no_fault text params s e alone (inr h) = let it = subst (IsAlone text (length params)) h.1 alone in elim h.2 [
   | inl more ↦ more.0 it.0
@@ -117,7 +124,8 @@ alone_write text count (Ok c) h = (h.0, h.1, h.2)
 alone_write text count (Err e) h = absurd h
 
 module _ (text : List ℕ) (params : Row) (old new : State) (e : Error) (alone : IsAloneWrite text (length params) (understood old.now.schema text)) where
-  command_fails : (c : Compiled) → understood old.now.schema text ≡ Ok c → (full : Row) → full ≡ params → RunsAlone false old new text c full (Err e) → FailsFor (SqlRefuses text params old) old new e
+  command_fails : (c : Compiled) → understood old.now.schema text ≡ Ok c → (full : Row) → full ≡ params → RunsAlone false old new text c full (Err e)
+      → FailsFor (SqlRefuses text params old) old new e
   command_fails c is full same h =
       let it = subst (IsAloneWrite text (length params)) is alone in
       let ran : RunsCommand old new text c params (Err e) = subst (λ p. RunsCommand old new text c p (Err e)) same (rw it.4 at h) in
@@ -131,7 +139,8 @@ module _ (text : List ℕ) (params : Row) (old new : State) (e : Error) (alone :
   unfolding ExecutesIn IsNotRun
   executes_fails (inl (inl none)) = absurd (no_fault text params old e (alone_write text _ _ alone) none.0)
   executes_fails (inl (inr failed)) = store_fails (SqlRefuses text params old) old new ⊥ e (λ none _. absurd none) failed
-  executes_fails (inr h) = command_fails h.0 h.1.is _ (ap (λ (f : List (List ℕ)). timed params f h.1.now) (subst (IsAloneWrite text (length params)) h.1.is alone).2 ∙ append-nil params) h.2
+  executes_fails (inr h) = command_fails h.0 h.1.is _
+      (ap (λ (f : List (List ℕ)). timed params f h.1.now) (subst (IsAloneWrite text (length params)) h.1.is alone).2 ∙ append-nil params) h.2
 
   pub write_fails : ExecutesInside 0 text params old new (Err e) → FailsFor (SqlRefuses text params old) old new e
   unfolding EndsScope
@@ -145,16 +154,20 @@ module _ (text : List ℕ) (params : Row) (old new : State) (e : Error) (alone :
 
 -- what such a text does inside a transaction, by the clauses of the call that ran it
 ran_step : (before : Schema) (Effect : Database → Database → Type 0) (text : List ℕ) (params : Row) (old new : State) (r : Result ℕ Error)
-    → ((count : ℕ) → old.now.schema ≡ before → Executes text params old new (Ok count) → Effect old.now new.now) → ExecutesInside 0 text params old new r → OnOk r (StepsFrom before Effect old new)
+    → ((count : ℕ) → old.now.schema ≡ before → Executes text params old new (Ok count) → Effect old.now new.now)
+    → ExecutesInside 0 text params old new r → OnOk r (StepsFrom before Effect old new)
 ran_step before Effect text params old new (Ok count) does h = record { shown = h.1; effect = λ has. does count has h.0 }
 ran_step before Effect text params old new (Err e) does h = tt
 
-ran_fails : (before : Schema) (text : List ℕ) (params : Row) → IsAloneWrite text (length params) (understood before text) → (old new : State) (r : Result ℕ Error)
+ran_fails : (before : Schema) (text : List ℕ) (params : Row) → IsAloneWrite text (length params) (understood before text)
+    → (old new : State) (r : Result ℕ Error)
     → ExecutesInside 0 text params old new r → FailsOver before (SqlRefuses text params) old new r
 ran_fails before text params alone old new (Ok count) h has = tt
-ran_fails before text params alone old new (Err e) h has = write_fails text params old new e (subst (λ s. IsAloneWrite text (length params) (understood s text)) (sym has) alone) h
+ran_fails before text params alone old new (Err e) h has = write_fails text params old new e
+    (subst (λ s. IsAloneWrite text (length params) (understood s text)) (sym has) alone) h
 
-pub runs_over : {S : Type 0} {g : Ghosts S} {old new : Held S} {before : Schema} {Effect : Database → Database → Type 0} (text : List ℕ) (params : Row) (r : Result ℕ Error)
+pub runs_over : {S : Type 0} {g : Ghosts S} {old new : Held S} {before : Schema} {Effect : Database → Database
+    → Type 0} (text : List ℕ) (params : Row) (r : Result ℕ Error)
     → IsAloneWrite text (length params) (understood before text)
     → ((old new : State) (count : ℕ) → old.now.schema ≡ before → Executes text params old new (Ok count) → Effect old.now new.now)
     → (HasCleanDisk (state g new) → IsTrue old.in_transaction → ExecutesInside 0 text params (state g old) (state g new) r) → LeavesNothingNew g old new
@@ -169,7 +182,8 @@ runs_over {g = g} {old = old} {new = new} {before = before} {Effect = Effect} te
 -- ---- a SELECT
 
 module _ (text : List ℕ) (params : Row) (old new : State) (e : Error) where
-  read_fails : (c : Compiled) → understood old.now.schema text ≡ Ok c → IsPlain (understood old.now.schema text) → (now : ℕ) → FailsToShow old new text c (timed params c.formats now) e c.returning → FailsFor (SqlRefusesToRead text params old) old new e
+  read_fails : (c : Compiled) → understood old.now.schema text ≡ Ok c → IsPlain (understood old.now.schema text) → (now : ℕ)
+      → FailsToShow old new text c (timed params c.formats now) e c.returning → FailsFor (SqlRefusesToRead text params old) old new e
   read_fails c is plain now h =
       let bare = subst IsPlain is plain in
       let it = rw (bare.0, bare.1, append-nil params) at h in
@@ -183,7 +197,10 @@ module _ (text : List ℕ) (params : Row) (old new : State) (e : Error) where
 
 -- a query over a database of the schema is refused for nothing but a limit on its steps
 abbrev pub IsNeverRefused : Schema → Row → Query → Type 0
-IsNeverRefused schema params q = (limit : Option ℕ) (db : Trees) (e : Error) → RefusesQuery limit (record { schema = schema; trees = db }) (record { lets = []; body = q }) params e → (e ≡ SqliteFailure code.OperationInterrupted) × IsSome limit
+IsNeverRefused schema params q = (limit : Option ℕ) (db : Trees) (e : Error) → RefusesQuery limit (record {
+  schema = schema;
+  trees = db;
+}) (record { lets = []; body = q }) params e → (e ≡ SqliteFailure code.OperationInterrupted) × IsSome limit
 
 -- what computes of a SELECT of a fixed text under a schema
 pub record IsSure (schema : Schema) (text : List ℕ) (params : Row) : Type 0 where
@@ -202,8 +219,17 @@ pub record IsSelect (schema : Schema) (text : List ℕ) (q : Query) : Type 0 whe
   pub plain : IsPlain (understood schema text)
   pub unlisted : reads_listing schema text ≡ false
 
-pub sure_of : {schema : Schema} {text : List ℕ} {q : Query} (params : Row) → IsSelect schema text q → IsAlone text (length params) (understood schema text) → IsNeverRefused schema params q → IsSure schema text params
-sure_of params it alone unrefused = record { query = _; names = it.names; is = it.is; plain = it.plain; unlisted = it.unlisted; alone = alone; unrefused = unrefused }
+pub sure_of : {schema : Schema} {text : List ℕ} {q : Query} (params : Row) → IsSelect schema text q
+    → IsAlone text (length params) (understood schema text) → IsNeverRefused schema params q → IsSure schema text params
+sure_of params it alone unrefused = record {
+  query = _;
+  names = it.names;
+  is = it.is;
+  plain = it.plain;
+  unlisted = it.unlisted;
+  alone = alone;
+  unrefused = unrefused;
+}
 
 -- what refuses a query whose types are right and that adds up nothing is the limit
 pub only_limit : {A B Over Limited : Type 0} → (A × (true ≡ false)) ⊎ ((B × (⊥ ⊎ Over)) ⊎ Limited) → (Over → ⊥) → Limited
@@ -219,7 +245,10 @@ module _ (schema : Schema) (text : List ℕ) (params : Row) (sure : IsSure schem
       let known : ◌≡◌ {A = Result Compiled CompileError} (Ok c) (understood schema text) = sym is ∙ ap (λ s. understood s text) has in
       let same : db ≡ old.now = subst (λ b. IsSourceOf b old.now db) (ap (λ s. reads_listing s text) has ∙ sure.unlisted) source in
       let asked : RefusesToRead old.step_limit (Select (record { lets = []; body = sure.query }) sure.names) old.now params e = subst₂ (λ k d. RefusesToRead old.step_limit k d params e) (ap command_of known ∙ sure.is) same why in
-      sure.unrefused old.step_limit old.now.trees e (subst (λ s. RefusesQuery old.step_limit (record { schema = s; trees = old.now.trees }) (record { lets = []; body = sure.query }) params e) has asked)
+      sure.unrefused old.step_limit old.now.trees e (subst (λ s. RefusesQuery old.step_limit (record {
+        schema = s;
+        trees = old.now.trees;
+      }) (record { lets = []; body = sure.query }) params e) has asked)
 
   pub sure_fails : FailsFor (SqlRefusesToRead text params old) old new e → FailsFor Unrefused old new e
   sure_fails (for_memory is) = for_memory is
@@ -234,7 +263,8 @@ abbrev CommitsIn : State → State → Type 0
 CommitsIn old new = IsTrue old.in_transaction × Shows old new old.now old.now false × KeepsCounts old new × (new.marks ≡ [])
 
 -- it begins with what the connection was
-pub fails_begun : {S : Type 0} (g : Ghosts S) (old : Held S) (P : Error → Type 0) (new : State) (e : Error) → FailsFor P (state g (record old { in_transaction = true })) new e → FailsFor P (state g old) new e
+pub fails_begun : {S : Type 0} (g : Ghosts S) (old : Held S) (P : Error → Type 0) (new : State) (e : Error)
+    → FailsFor P (state g (record old { in_transaction = true })) new e → FailsFor P (state g old) new e
 fails_begun g old P new e (for_memory is) = for_memory is
 fails_begun g old P new e (by_disk is more) = by_disk is more
 fails_begun g old P new e (as_shut is shut) = as_shut is shut
@@ -246,7 +276,8 @@ module _ {S : Type 0} (g : Ghosts S) (before : Schema) (old : Held S) where
   begun = state g (record old { in_transaction = true })
 
   -- a later part of it failed, behind a statement that was answered Ok
-  pub later_fails : (P Q : Error → Type 0) (Effect : Database → Database → Type 0) (mid : State) (new : State) (e : Error) → Survives begun mid (λ _. ⊥) → StepsFrom before Effect begun mid
+  pub later_fails : (P Q : Error → Type 0) (Effect : Database → Database → Type 0) (mid : State) (new : State) (e : Error)
+      → Survives begun mid (λ _. ⊥) → StepsFrom before Effect begun mid
       → (P e → Q e) → FailsFor P mid new e → FailsFor Q (state g old) new e
   later_fails P Q Effect mid new e left step f h = fails_begun g old Q new e (fails_behind P Q begun mid new e left.counts step.shown.is_open left.limit f h)
 
@@ -257,7 +288,8 @@ module _ {S : Type 0} (g : Ghosts S) (before : Schema) (old : Held S) where
     committed = λ is_open. (h.undone is_open).1 ∙ kept.committed (h.was_open is_open);
   }
 
-  committed : (Effect : Database → Database → Type 0) (mid new : State) (r : Result (Unit {0}) Error) → StepsFrom before Effect begun mid → OnOk r (CommitsIn mid new) → OnOk r (ChangesFrom before Effect (state g old) new)
+  committed : (Effect : Database → Database → Type 0) (mid new : State) (r : Result (Unit {0}) Error) → StepsFrom before Effect begun mid
+      → OnOk r (CommitsIn mid new) → OnOk r (ChangesFrom before Effect (state g old) new)
   committed Effect mid new (Ok x) step h = record {
     was_open = step.shown.was_open;
     is_open = h.1.is_open;
@@ -266,13 +298,15 @@ module _ {S : Type 0} (g : Ghosts S) (before : Schema) (old : Held S) where
   }
   committed Effect mid new (Err e) step h = tt
 
-  uncommitted : (Effect : Database → Database → Type 0) (mid new : State) (r : Result (Unit {0}) Error) → StepsFrom before Effect begun mid → KeepsCommit begun mid → IfErr r (FailsToCommit mid new)
+  uncommitted : (Effect : Database → Database → Type 0) (mid new : State) (r : Result (Unit {0}) Error) → StepsFrom before Effect begun mid
+      → KeepsCommit begun mid → IfErr r (FailsToCommit mid new)
       → OnErr r (IsUndone (state g old) new)
   uncommitted Effect mid new (Ok x) step kept h = tt
   uncommitted Effect mid new (Err e) step kept (inl failed) = undone_as mid new kept failed.3
   uncommitted Effect mid new (Err e) step kept (inr outside) = absurd (true≢false (sym step.shown.mode ∙ outside.1))
 
-  not_committed : (Q : Error → Type 0) (Effect : Database → Database → Type 0) (mid new : State) (r : Result (Unit {0}) Error) → Survives begun mid (λ _. ⊥) → StepsFrom before Effect begun mid → IfErr r (FailsToCommit mid new)
+  not_committed : (Q : Error → Type 0) (Effect : Database → Database → Type 0) (mid new : State) (r : Result (Unit {0}) Error)
+      → Survives begun mid (λ _. ⊥) → StepsFrom before Effect begun mid → IfErr r (FailsToCommit mid new)
       → IfErr r (FailsFor Q (state g old) new)
   not_committed Q Effect mid new (Ok x) left step h = tt
   not_committed Q Effect mid new (Err e) left step h = later_fails (λ _. ⊥) Q Effect mid new e left step absurd (commit_fails mid new e step.shown.mode h)
@@ -294,8 +328,10 @@ module _ {S : Type 0} (g : Ghosts S) (before : Schema) (old : Held S) where
   }
 
   -- the transaction whose first statement failed, once it was undone
-  pub undoes : {X Y : Type 0} {First Effect : Database → Database → Type 0} {Why Refuses : State → Error → Type 0} {mid new : Held S} (r : Result Y Error) (e : Error) → (Why begun e → Refuses (state g old) e)
-      → RunsOver g (record old { in_transaction = true }) mid {X = X} before First Why (Err e) → (end : Held S) → Dropped mid end → end ≡ new → IsErrAnd r (λ x. x ≡ e) → CommitsOver g old new before Effect Refuses r
+  pub undoes : {X Y : Type 0} {First Effect : Database → Database → Type 0} {Why Refuses : State → Error
+      → Type 0} {mid new : Held S} (r : Result Y Error) (e : Error) → (Why begun e → Refuses (state g old) e)
+      → RunsOver g (record old { in_transaction = true }) mid {X = X} before First Why (Err e) → (end : Held S) → Dropped mid end → end ≡ new
+      → IsErrAnd r (λ x. x ≡ e) → CommitsOver g old new before Effect Refuses r
   undoes {X = X} {Effect = Effect} {Why = Why} {Refuses = Refuses} {mid = mid} r e same ran end dropped at is =
       let left = dropped.survives in
       subst (λ (h : Held S). CommitsOver g old h before Effect Refuses r) at (record {
@@ -303,14 +339,18 @@ module _ {S : Type 0} (g : Ghosts S) (before : Schema) (old : Held S) where
         ok = λ clean. never_ok r e _ is;
         err = λ clean. on_err r _ (undone_as (state g mid) (state g end) (ran.kept (omega (arith, left.clean)) refl) (dropped.undone clean));
         failed = λ clean has. handed r e _ is (fails_weaker (Why begun) (Refuses (state g old)) (state g old) (state g end) e same
-            (fails_begun g old (Why begun) (state g end) e (fails_before (Why begun) begun (state g mid) (state g end) e left.counts (ran.failed (omega (arith, left.clean)) refl has))));
-        survives = survives_then (state g old) (state g mid) (state g end) (λ _. ⊥) (λ _. ⊥) (LeavesFrom before Effect (state g old)) (λ _ db none. absurd none) (λ _ db none. absurd none)
+            (fails_begun g old (Why begun) (state g end) e
+            (fails_before (Why begun) begun (state g mid) (state g end) e left.counts (ran.failed (omega (arith, left.clean)) refl has))));
+        survives = survives_then (state g old) (state g mid) (state g end) (λ _. ⊥) (λ _. ⊥) (LeavesFrom before Effect (state g old))
+            (λ _ db none. absurd none) (λ _ db none. absurd none)
             (survives_begin g old (state g mid) _ ran.survives) left;
       })
 
   -- the transaction whose one statement was answered Ok, once it was committed
-  pub commits : {X : Type 0} {Effect : Database → Database → Type 0} {Why Refuses : State → Error → Type 0} {mid new : Held S} {x : X} (r : Result (Unit {0}) Error)
-      → RunsOver g (record old { in_transaction = true }) mid before Effect Why (Ok x) → (end : Held S) → Committed mid end r → end ≡ new → CommitsOver g old new before Effect Refuses r
+  pub commits : {X : Type 0} {Effect : Database → Database → Type 0} {Why Refuses : State → Error
+      → Type 0} {mid new : Held S} {x : X} (r : Result (Unit {0}) Error)
+      → RunsOver g (record old { in_transaction = true }) mid before Effect Why (Ok x) → (end : Held S) → Committed mid end r → end ≡ new
+      → CommitsOver g old new before Effect Refuses r
   commits {Effect = Effect} {Refuses = Refuses} {mid = mid} r ran end done at =
       let left = done.survives in
       let earlier : HasCleanDisk (state g end) → HasCleanDisk (state g mid) = λ clean. omega (arith, left.clean) in
@@ -318,6 +358,7 @@ module _ {S : Type 0} (g : Ghosts S) (before : Schema) (old : Held S) where
         idle = done.ended;
         ok = λ clean. committed Effect (state g mid) (state g end) r (ran.ok (earlier clean) refl) (done.ok clean);
         err = λ clean. uncommitted Effect (state g mid) (state g end) r (ran.ok (earlier clean) refl) (ran.kept (earlier clean) refl) (done.err clean);
-        failed = λ clean has. not_committed (Refuses (state g old)) Effect (state g mid) (state g end) r ran.survives (ran.ok (earlier clean) refl) (done.err clean);
+        failed = λ clean has. not_committed (Refuses (state g old)) Effect (state g mid) (state g end) r ran.survives (ran.ok (earlier clean) refl)
+            (done.err clean);
         survives = survives_commit g before old (state g mid) (state g end) Effect ran.survives (λ clean. ran.ok clean refl) left;
       })

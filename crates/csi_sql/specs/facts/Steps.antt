@@ -37,7 +37,8 @@ cast_int n = either _ (Int n)
 
 -- a transaction leaves what it could leave before, or what its commit makes
 pub survives_commit : {S : Type 0} (g : store.Ghosts S) (before : Schema) (old : Held S) (mid new : State) (Effect : Database → Database → Type 0)
-    → Survives (state g (record old { in_transaction = true })) mid (λ _. ⊥) → (HasCleanDisk mid → StepsFrom before Effect (state g (record old { in_transaction = true })) mid)
+    → Survives (state g (record old { in_transaction = true })) mid (λ _. ⊥)
+    → (HasCleanDisk mid → StepsFrom before Effect (state g (record old { in_transaction = true })) mid)
     → Survives mid new (λ db. db ≡ mid.now.trees) → Survives (state g old) new (LeavesFrom before Effect (state g old))
 survives_commit g before old mid new Effect inside step end =
     survives_then (state g old) mid new (λ _. ⊥) (λ db. db ≡ mid.now.trees) (LeavesFrom before Effect (state g old)) (λ _ db none. absurd none)

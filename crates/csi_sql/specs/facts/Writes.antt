@@ -33,23 +33,36 @@ pub record Makes (old new : State) (edit : Edit) : Type 0 where
   pub sound : IsDatabase new.now
   pub made : Applies schema (mode_of old).keys old.now.trees edit new.now.trees
 
-module _ (text : List ℕ) (params : Row) (old new : State) (count : ℕ) (has : old.now.schema ≡ schema) (at : ℕ) (table : Table) (place : slice_get schema.tables at ≡ Some table) where
+module _ (text : List ℕ) (params : Row) (old new : State) (count : ℕ) (has : old.now.schema ≡ schema) (at : ℕ) (table : Table)
+    (place : slice_get schema.tables at ≡ Some table) where
   task : Task
   task = record { limit = old.step_limit; keys = (mode_of old).keys; schema = schema; table = table; params = params }
 
-  placed : (command : Command) (out : Tally × Database) → AtPlace (λ t. OnRows (record task { table = t }) (mode_of old) None command old.now.trees) (slice_get schema.tables at) (Ok out)
+  placed : (command : Command) (out : Tally × Database)
+      → AtPlace (λ t. OnRows (record task { table = t }) (mode_of old) None command old.now.trees) (slice_get schema.tables at) (Ok out)
       → OnRows task (mode_of old) None command old.now.trees (Ok out)
   unfolding task
   placed command out = subst (λ o. AtPlace (λ t. OnRows (record task { table = t }) (mode_of old) None command old.now.trees) o (Ok out)) place
 
-  changed : (command : Command) (tally : Tally) → Does old.step_limit (mode_of old) params old.now (statement_of text (understood schema text)) None command (Ok (tally, new.now))
-      → Does old.step_limit (mode_of old) params (record old.now { schema = schema }) (statement_of text (understood schema text)) None command (Ok (tally, new.now))
-  changed command tally = subst (λ s. Does old.step_limit (mode_of old) params (record old.now { schema = s }) (statement_of text (understood schema text)) None command (Ok (tally, new.now))) has
+  changed : (command : Command) (tally : Tally)
+      → Does old.step_limit (mode_of old) params old.now (statement_of text (understood schema text)) None command (Ok (tally, new.now))
+      → Does old.step_limit (mode_of old) params (record old.now { schema = schema }) (statement_of text (understood schema text)) None command
+      (Ok (tally, new.now))
+  changed command tally = subst (λ s. Does old.step_limit (mode_of old) params (record old.now { schema = s })
+      (statement_of text (understood schema text)) None command (Ok (tally, new.now))) has
 
   -- a query gave rows, and one edit of them was made, to which no foreign key added
-  edited : (q : Query) (edit : List Row → Edit) (wrote : List Row → List Row) (tally : Tally) → ((rows : List Row) → works schema (mode_of old).keys 0 (edit rows).table.tree (taken_by old.now.trees (edit rows)) (edit rows).news ≡ [])
+  edited : (q : Query) (edit : List Row → Edit) (wrote : List Row → List Row) (tally : Tally)
+      → ((rows : List Row) → works schema (mode_of old).keys 0 (edit rows).table.tree (taken_by old.now.trees (edit rows)) (edit rows).news ≡ [])
       → IsDatabase new.now
-      → Then {A = Written} (Then (Queried old.step_limit (record { schema = schema; trees = old.now.trees }) (record { lets = []; body = q }) params) (λ rows. Then (Edited schema (mode_of old).keys old.now.trees (edit rows)) (λ next. Gives (record { trees = next; rows = wrote rows; last = None }))))
+      → Then {A = Written} (Then (Queried old.step_limit (record { schema = schema; trees = old.now.trees }) (record {
+        lets = [];
+        body = q;
+      }) params) (λ rows. Then (Edited schema (mode_of old).keys old.now.trees (edit rows)) (λ next. Gives (record {
+        trees = next;
+        rows = wrote rows;
+        last = None;
+      }))))
       (Concludes task (mode_of old) None) (Ok (tally, new.now))
       → (shown : List Row) × IsAnswer q (overlay old.now.trees []) params shown × Makes old new (edit shown)
   unfolding task
@@ -64,7 +77,8 @@ module _ (text : List ℕ) (params : Row) (old new : State) (count : ℕ) (has :
         record {
           schema_is = ap (λ (d : Database). d.schema) now ∙ sym has;
           sound = sound;
-          made = subst (Applies schema (mode_of old).keys old.now.trees (edit asked.0)) (sym (ap (λ (d : Database). d.trees) now ∙ trees)) (one_step schema _ old.now.trees written.0 (edit asked.0) (alone asked.0) written.1);
+          made = subst (Applies schema (mode_of old).keys old.now.trees (edit asked.0)) (sym (ap (λ (d : Database). d.trees) now ∙ trees))
+              (one_step schema _ old.now.trees written.0 (edit asked.0) (alone asked.0) written.1);
         },
       )
 
@@ -74,7 +88,9 @@ module _ (text : List ℕ) (params : Row) (old new : State) (count : ℕ) (has :
   deleted q it h =
       let command = Delete at (record { lets = []; body = q }) in
       let w = runs_as text params old new schema has command it.is it.plain count h in
-      edited q (λ rows. edit_of old.now.trees table (ids_of rows) Given 0 []) (λ rows. taken_by old.now.trees (edit_of old.now.trees table (ids_of rows) Given 0 [])) w.tally (λ rows. refl) w.sound (placed command (w.tally, new.now) (changed command w.tally w.changed))
+      edited q (λ rows. edit_of old.now.trees table (ids_of rows) Given 0 [])
+      (λ rows. taken_by old.now.trees (edit_of old.now.trees table (ids_of rows) Given 0 [])) w.tally (λ rows. refl) w.sound
+      (placed command (w.tally, new.now) (changed command w.tally w.changed))
 
   -- the rows that are asked for are those that the row becomes, each behind the rowid that it had
   pub updated : (q : Query) → IsCommand text (Update at (record { lets = []; body = q })) → Executes text params old new (Ok count)
@@ -83,15 +99,21 @@ module _ (text : List ℕ) (params : Row) (old new : State) (count : ℕ) (has :
   updated q it h =
       let command = Update at (record { lets = []; body = q }) in
       let w = runs_as text params old new schema has command it.is it.plain count h in
-      edited q (λ rows. edit_of old.now.trees table (ids_of rows) Given 1 rows) (λ rows. (edit_of old.now.trees table (ids_of rows) Given 1 rows).news) w.tally (λ rows. refl) w.sound (placed command (w.tally, new.now) (changed command w.tally w.changed))
+      edited q (λ rows. edit_of old.now.trees table (ids_of rows) Given 1 rows)
+      (λ rows. (edit_of old.now.trees table (ids_of rows) Given 1 rows).news) w.tally (λ rows. refl) w.sound
+      (placed command (w.tally, new.now) (changed command w.tally w.changed))
 
 -- a table whose rowids are not counted, and with no default that reads the time
 abbrev pub plain_table : Table → Table
 plain_table t = record t { stamps = record { places = []; terms = []; formats = [] }; is_counted = false }
 
-module _ (text : List ℕ) (params : Row) (old new : State) (count : ℕ) (has : old.now.schema ≡ schema) (at : ℕ) (t : Table) (place : slice_get schema.tables at ≡ Some (plain_table t)) where
+module _ (text : List ℕ) (params : Row) (old new : State) (count : ℕ) (has : old.now.schema ≡ schema) (at : ℕ) (t : Table)
+    (place : slice_get schema.tables at ≡ Some (plain_table t)) where
   pub inserted : (from : Source) → IsCommand text (Insert at from) → Executes text params old new (Ok count)
-      → (rows : List Row) × IsSource (record { schema = schema; trees = old.now.trees }) (stamped (plain_table t) params) from rows × Makes old new (edit_of old.now.trees (plain_table t) [] Chosen 0 rows)
+      → (rows : List Row) × IsSource (record {
+        schema = schema;
+        trees = old.now.trees;
+      }) (stamped (plain_table t) params) from rows × Makes old new (edit_of old.now.trees (plain_table t) [] Chosen 0 rows)
   unfolding task
   inserted from it h =
       let command = Insert at from in

@@ -16,8 +16,9 @@ use sqlite_value::value::Value;
 
 // The places of the two sides of an `=` at a place.
 fn sides_at(nodes: &[Op], at: usize) -> Option<(usize, usize)>
-    ensures some { IfSome result (λ p. slice_get nodes.now at ≡ Some (Binary (Compare Eq ByBytes) p.0 p.1)) }
-    ensures none { result ≡ None → (a b : ℕ) → slice_get nodes.now at ≢ Some (Binary (Compare Eq ByBytes) a b) }
+    ensures value { IfSome result (λ p. slice_get nodes.now at ≡ Some (Binary (Compare Eq ByBytes) p.0 p.1)) }
+    ensures none { result ≡ None → (a b : ℕ)
+        → slice_get nodes.now at ≢ Some (Binary (Compare Eq ByBytes) a b) }
 {
     match nodes.get(at)? {
         Op::Binary(BinaryOp::Compare(CompareOp::Eq, Collation::Binary), a, b) => Some((*a, *b)),
@@ -53,7 +54,7 @@ fn says_key(nodes: &[Op], root: usize) -> bool
 }
 
 fn only_root(roots: &[usize]) -> Option<usize>
-    ensures some { IfSome result (λ r. roots.now ≡ r ∷ []) }
+    ensures value { IfSome result (λ r. roots.now ≡ r ∷ []) }
     ensures none { result ≡ None → (r : ℕ) → roots.now ≢ r ∷ [] }
 {
     let [root] = roots else {

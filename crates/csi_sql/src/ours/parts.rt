@@ -23,8 +23,8 @@ pub(super) fn are_places(places: &[usize], wanted: &[usize]) -> bool
 
 /// The index that SQL makes for a UNIQUE or a PRIMARY KEY.
 pub(super) fn is_index(index: &Index, name: &[u8], tree: u32, table: u32, columns: &[usize]) -> bool
-    ensures is { IsTrue result → index.now ≡ unique_index name.now tree table columns.now }
-    ensures whole { index.now ≡ unique_index name.now tree table columns.now → IsTrue result }
+    ensures true_only_if { IsTrue result → index.now ≡ unique_index name.now tree table columns.now }
+    ensures true_if { index.now ≡ unique_index name.now tree table columns.now → IsTrue result }
 {
     is_named(index.name.as_slice(), name)
         & are_places(index.columns.as_slice(), columns)
@@ -35,8 +35,8 @@ pub(super) fn is_index(index: &Index, name: &[u8], tree: u32, table: u32, column
 }
 
 pub(super) fn is_column(column: &Column, name: &[u8], kind: Kind, not_null: bool) -> bool
-    ensures is { IsTrue result → column.now ≡ plain_column name.now kind not_null }
-    ensures whole { column.now ≡ plain_column name.now kind not_null → IsTrue result }
+    ensures true_only_if { IsTrue result → column.now ≡ plain_column name.now kind not_null }
+    ensures true_if { column.now ≡ plain_column name.now kind not_null → IsTrue result }
 {
     is_named(column.name.as_slice(), name)
         & (column.kind == kind)
@@ -48,8 +48,8 @@ pub(super) fn is_column(column: &Column, name: &[u8], kind: Kind, not_null: bool
 
 // One key, over these columns.
 fn is_one_key(uniques: &Items<Items<usize>>, places: &[usize]) -> bool
-    ensures is { IsTrue result → uniques.now ≡ places.now ∷ [] }
-    ensures whole { uniques.now ≡ places.now ∷ [] → IsTrue result }
+    ensures true_only_if { IsTrue result → uniques.now ≡ places.now ∷ [] }
+    ensures true_if { uniques.now ≡ places.now ∷ [] → IsTrue result }
 {
     let [one] = uniques.as_slice() else {
         return false;
@@ -59,8 +59,8 @@ fn is_one_key(uniques: &Items<Items<usize>>, places: &[usize]) -> bool
 
 // One index, ascending in each of its columns.
 fn is_one_ascending(orders: &Items<Order>) -> bool
-    ensures is { IsTrue result → orders.now ≡ plain ∷ [] }
-    ensures whole { orders.now ≡ plain ∷ [] → IsTrue result }
+    ensures true_only_if { IsTrue result → orders.now ≡ plain ∷ [] }
+    ensures true_if { orders.now ≡ plain ∷ [] → IsTrue result }
 {
     let [one] = orders.as_slice() else {
         return false;
@@ -70,8 +70,8 @@ fn is_one_ascending(orders: &Items<Order>) -> bool
 
 /// A primary key, one other key, and no CHECK.
 pub(super) fn has_keys(table: &Table, primary: &[usize], unique: &[usize]) -> bool
-    ensures is { IsTrue result → HasKeys primary.now unique.now table.now }
-    ensures whole { HasKeys primary.now unique.now table.now → IsTrue result }
+    ensures true_only_if { IsTrue result → HasKeys primary.now unique.now table.now }
+    ensures true_if { HasKeys primary.now unique.now table.now → IsTrue result }
 {
     are_places(table.primary.as_slice(), primary)
         & is_one_key(&table.uniques, unique)
@@ -80,16 +80,16 @@ pub(super) fn has_keys(table: &Table, primary: &[usize], unique: &[usize]) -> bo
 }
 
 fn is_no_stamp(stamps: &Stamps) -> bool
-    ensures is { IsTrue result → stamps.now ≡ record { places = []; terms = []; formats = [] } }
-    ensures whole { stamps.now ≡ record { places = []; terms = []; formats = [] } → IsTrue result }
+    ensures true_only_if { IsTrue result → stamps.now ≡ record { places = []; terms = []; formats = [] } }
+    ensures true_if { stamps.now ≡ record { places = []; terms = []; formats = [] } → IsTrue result }
 {
     stamps.places.is_empty() & stamps.terms.roots.is_empty() & stamps.formats.is_empty()
 }
 
 /// A table of a name over a tree, with no reference, no computed default and no counter.
 pub(super) fn is_bare(table: &Table, name: &[u8], tree: u32) -> bool
-    ensures is { IsTrue result → IsBare name.now tree table.now }
-    ensures whole { IsBare name.now tree table.now → IsTrue result }
+    ensures true_only_if { IsTrue result → IsBare name.now tree table.now }
+    ensures true_if { IsBare name.now tree table.now → IsTrue result }
 {
     is_named(table.name.as_slice(), name)
         & (table.tree == tree)

@@ -8,8 +8,8 @@ use super::parts::{are_places, has_keys, is_bare, is_column};
 use sqlite_schema::schema::{Column, Kind, Table};
 
 fn are_meta_columns(columns: &[Column]) -> bool
-    ensures is { IsTrue result → columns.now ≡ meta.columns }
-    ensures whole { columns.now ≡ meta.columns → IsTrue result }
+    ensures true_only_if { IsTrue result → columns.now ≡ meta.columns }
+    ensures true_if { columns.now ≡ meta.columns → IsTrue result }
 {
     let [key, format, next] = columns else {
         return false;
@@ -20,8 +20,8 @@ fn are_meta_columns(columns: &[Column]) -> bool
 }
 
 fn are_volumes_columns(columns: &[Column]) -> bool
-    ensures is { IsTrue result → columns.now ≡ volumes.columns }
-    ensures whole { columns.now ≡ volumes.columns → IsTrue result }
+    ensures true_only_if { IsTrue result → columns.now ≡ volumes.columns }
+    ensures true_if { columns.now ≡ volumes.columns → IsTrue result }
 {
     let [number, name, bytes, pool, caps, params] = columns else {
         return false;
@@ -35,8 +35,8 @@ fn are_volumes_columns(columns: &[Column]) -> bool
 }
 
 fn are_attachments_columns(columns: &[Column]) -> bool
-    ensures is { IsTrue result → columns.now ≡ attachments.columns }
-    ensures whole { columns.now ≡ attachments.columns → IsTrue result }
+    ensures true_only_if { IsTrue result → columns.now ≡ attachments.columns }
+    ensures true_if { columns.now ≡ attachments.columns → IsTrue result }
 {
     let [number, node, cap, readonly] = columns else {
         return false;
@@ -48,8 +48,8 @@ fn are_attachments_columns(columns: &[Column]) -> bool
 }
 
 pub(super) fn is_meta(table: &Table) -> bool
-    ensures is { IsTrue result → table.now ≡ meta }
-    ensures whole { table.now ≡ meta → IsTrue result }
+    ensures true_only_if { IsTrue result → table.now ≡ meta }
+    ensures true_if { table.now ≡ meta → IsTrue result }
 {
     is_bare(table, b"meta", 0)
         & are_meta_columns(table.columns.as_slice())
@@ -61,8 +61,8 @@ pub(super) fn is_meta(table: &Table) -> bool
 }
 
 pub(super) fn is_volumes(table: &Table) -> bool
-    ensures is { IsTrue result → table.now ≡ record volumes { tree = 1 } }
-    ensures whole { table.now ≡ record volumes { tree = 1 } → IsTrue result }
+    ensures true_only_if { IsTrue result → table.now ≡ record volumes { tree = 1 } }
+    ensures true_if { table.now ≡ record volumes { tree = 1 } → IsTrue result }
 {
     is_bare(table, b"volumes", 1)
         & are_volumes_columns(table.columns.as_slice())
@@ -71,8 +71,8 @@ pub(super) fn is_volumes(table: &Table) -> bool
 }
 
 pub(super) fn is_attachments(table: &Table) -> bool
-    ensures is { IsTrue result → table.now ≡ record attachments { tree = 3 } }
-    ensures whole { table.now ≡ record attachments { tree = 3 } → IsTrue result }
+    ensures true_only_if { IsTrue result → table.now ≡ record attachments { tree = 3 } }
+    ensures true_if { table.now ≡ record attachments { tree = 3 } → IsTrue result }
 {
     is_bare(table, b"attachments", 3)
         & are_attachments_columns(table.columns.as_slice())

@@ -25,7 +25,8 @@ pub fn insert_attachment<S: Alter>(
     requires { volume < 2 ^ 63 }
     ensures same_reference { tx.new.conn.ghost_name ≡ tx.old.conn.ghost_name }
     ensures runs { let row = attachment_row volume node.now cap.now readonly in
-        RunsOver S.Store tx.old.conn.now tx.new.conn.now schema (AddsAttachment row) (RefusesAttachment row) result }
+        RunsOver S.Store tx.old.conn.now tx.new.conn.now schema (AddsAttachment row)
+        (RefusesAttachment row) result }
 {
     tx.execute(
         "INSERT INTO attachments (number, node, cap, readonly) VALUES (?1, ?2, ?3, ?4)",
@@ -58,7 +59,8 @@ pub fn delete_attachment<S: Alter>(tx: &mut Transaction<'_, S>, volume: u64, nod
 pub fn delete_attachments<S: Alter>(tx: &mut Transaction<'_, S>, volume: u64) -> Changed
     requires { volume < 2 ^ 63 }
     ensures same_reference { tx.new.conn.ghost_name ≡ tx.old.conn.ghost_name }
-    ensures runs { RunsOver S.Store tx.old.conn.now tx.new.conn.now schema (Drops 3 seen_attachment (is_of volume)) (RefusesDetachingAll volume) result }
+    ensures runs { RunsOver S.Store tx.old.conn.now tx.new.conn.now schema
+        (Drops 3 seen_attachment (is_of volume)) (RefusesDetachingAll volume) result }
 {
     tx.execute(
         "DELETE FROM attachments WHERE number = ?1",

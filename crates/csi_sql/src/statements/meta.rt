@@ -15,7 +15,8 @@ use sqlite::{Alter, Error, Row, Transaction};
 pub fn set_next<S: Alter>(tx: &mut Transaction<'_, S>, next: u64) -> Changed
     requires { next < 2 ^ 63 }
     ensures same_reference { tx.new.conn.ghost_name ≡ tx.old.conn.ghost_name }
-    ensures runs { RunsOver S.Store tx.old.conn.now tx.new.conn.now schema (SetsNext next) (RefusesNext next) result }
+    ensures runs { RunsOver S.Store tx.old.conn.now tx.new.conn.now schema (SetsNext next)
+        (RefusesNext next) result }
 {
     tx.execute("UPDATE meta SET next_number = ?1", &[integer(next)])
         .and(Ok(()))

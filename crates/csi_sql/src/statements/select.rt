@@ -58,7 +58,8 @@ pub(crate) fn select_rows<S: Alter>(
 ) -> Result<Vec<Row>, Error>
     requires { IsAsked read.now }
     ensures same_reference { tx.new.conn.ghost_name ≡ tx.old.conn.ghost_name }
-    ensures selects { Selects S.Store tx.old.conn.now tx.new.conn.now (λ db rows. Tells read.now db rows.items) NothingRefuses result }
+    ensures selects { Selects S.Store tx.old.conn.now tx.new.conn.now
+        (λ db rows. Tells read.now db rows.items) NothingRefuses result }
 {
     let text = text_of(read);
     match *read {

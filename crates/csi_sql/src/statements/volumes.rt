@@ -37,7 +37,8 @@ pub fn insert_volume<S: Alter>(tx: &mut Transaction<'_, S>, row: &VolumeRow<'_>)
     requires number { row.now.number < 2 ^ 63 }
     requires bytes { row.now.bytes < 2 ^ 63 }
     ensures same_reference { tx.new.conn.ghost_name ≡ tx.old.conn.ghost_name }
-    ensures runs { RunsOver S.Store tx.old.conn.now tx.new.conn.now schema (AddsVolume (lent_row row.now)) (RefusesVolume (lent_row row.now)) result }
+    ensures runs { RunsOver S.Store tx.old.conn.now tx.new.conn.now schema (AddsVolume (lent_row row.now))
+        (RefusesVolume (lent_row row.now)) result }
 {
     tx.execute(
         "INSERT INTO volumes (number, name, bytes, pool, caps, params) VALUES (?1, ?2, ?3, ?4, ?5, ?6)",
@@ -58,7 +59,8 @@ pub fn insert_volume<S: Alter>(tx: &mut Transaction<'_, S>, row: &VolumeRow<'_>)
 pub fn update_params<S: Alter>(tx: &mut Transaction<'_, S>, volume: u64, params: &[u8]) -> Changed
     requires { volume < 2 ^ 63 }
     ensures same_reference { tx.new.conn.ghost_name ≡ tx.old.conn.ghost_name }
-    ensures runs { RunsOver S.Store tx.old.conn.now tx.new.conn.now schema (SetsParams volume params.now) (RefusesParams volume params.now) result }
+    ensures runs { RunsOver S.Store tx.old.conn.now tx.new.conn.now schema (SetsParams volume params.now)
+        (RefusesParams volume params.now) result }
 {
     tx.execute(
         "UPDATE volumes SET params = ?2 WHERE number = ?1",
@@ -72,7 +74,8 @@ pub fn update_params<S: Alter>(tx: &mut Transaction<'_, S>, volume: u64, params:
 pub fn delete_volume<S: Alter>(tx: &mut Transaction<'_, S>, volume: u64) -> Changed
     requires { volume < 2 ^ 63 }
     ensures same_reference { tx.new.conn.ghost_name ≡ tx.old.conn.ghost_name }
-    ensures runs { RunsOver S.Store tx.old.conn.now tx.new.conn.now schema (Drops 1 seen_volume (is_numbered volume)) (RefusesRemoval volume) result }
+    ensures runs { RunsOver S.Store tx.old.conn.now tx.new.conn.now schema
+        (Drops 1 seen_volume (is_numbered volume)) (RefusesRemoval volume) result }
 {
     tx.execute("DELETE FROM volumes WHERE number = ?1", &[integer(volume)])
         .and(Ok(()))

@@ -22,7 +22,8 @@ pub(super) fn enter(
     value: Text,
 ) -> Result<(), AllocError>
     requires { IsRising (listed.old.items ++ tree.old.entries) }
-    ensures ok { OnOk result (listed.new.items ++ tree.new.entries ≡ put (slice_cmp nat_cmp) key value (listed.old.items ++ tree.old.entries)) }
+    ensures ok { OnOk result (listed.new.items ++ tree.new.entries
+        ≡ put (slice_cmp nat_cmp) key value (listed.old.items ++ tree.old.entries)) }
     ensures err { OnErr result (listed.new.items ++ tree.new.entries ≡ listed.old.items ++ tree.old.entries) }
 {
     if tree.is_empty() && is_beyond(&key, listed) {
@@ -38,7 +39,7 @@ pub(super) fn enter(
 fn is_beyond(key: &Text, listed: &[(Text, Text)]) -> bool
     requires { IsRising listed.now }
     ensures beyond { IsTrue result → AreBelow key.now listed.now }
-    ensures some { IsFalse result → 0 < length listed.now }
+    ensures not_empty { IsFalse result → 0 < length listed.now }
 {
     match listed.split_last() {
         Some((last, _)) => last.0 < *key,
@@ -65,7 +66,7 @@ fn move_from(
     tree: &mut BTreeMap<Text, Text>,
 ) -> Result<(), AllocError>
     requires { IsRising (listed.old.items ++ tree.old.entries) }
-    ensures same { listed.new.items ++ tree.new.entries ≡ listed.old.items ++ tree.old.entries }
+    ensures unchanged { listed.new.items ++ tree.new.entries ≡ listed.old.items ++ tree.old.entries }
     ensures ok { OnOk result (AreBelow key.now listed.new.items) }
 {
     while !is_beyond(key, listed) {
@@ -80,8 +81,8 @@ fn move_last(
     tree: &mut BTreeMap<Text, Text>,
 ) -> Result<(), AllocError>
     requires rising { IsRising (listed.old.items ++ tree.old.entries) }
-    requires some { 0 < length listed.old.items }
-    ensures same { listed.new.items ++ tree.new.entries ≡ listed.old.items ++ tree.old.entries }
+    requires not_empty { 0 < length listed.old.items }
+    ensures unchanged { listed.new.items ++ tree.new.entries ≡ listed.old.items ++ tree.old.entries }
     ensures moved { OnOk result (length listed.new.items + 1 ≡ length listed.old.items) }
 {
     let Some((key, value)) = listed.pop() else {

@@ -1,5 +1,6 @@
 -- What breaks a prefix of a stream breaks the longer stream, and the other way round once it is seen.
-use Rattle.std.proofs.Common.{◌≡◌, ℕ, ◌+◌, ◌-◌, ◌<◌, ◌≤◌, List, [], ◌++◌, length, take, drop, get_or, refl, sym, ap, ◌∙◌, arith, length-append, inl, inr, true, false}
+use Rattle.std.proofs.Common.{◌≡◌, ℕ, ◌+◌, ◌-◌, ◌<◌, ◌≤◌, List, [], ◌++◌, length, take, drop, get_or, refl, sym, ap, ◌∙◌, arith, length-append, inl}
+use Rattle.std.proofs.Common.{inr, true, false}
 use Rattle.std.proofs.lemmas.List.{get_or_append_left, take-append-drop, length-take}
 use Rattle.std.proofs.lemmas.Bool.{cases_lt}
 use Rattle.envelope.specs.declared.kind.Kind.{Kind}
@@ -24,7 +25,8 @@ text_length-append kind bytes more two =
     let first = get_or_append_left bytes more 0 (lead kind + 1) (omega arith) in
     rw (zero-th, first) refl
 
-pub body_length-append : (kind : Kind) (bytes more : List ℕ) → lead kind + 2 ≤ length bytes → lead kind + 7 + text_length kind bytes ≤ length bytes → body_length kind (bytes ++ more) ≡ body_length kind bytes
+pub body_length-append : (kind : Kind) (bytes more : List ℕ) → lead kind + 2 ≤ length bytes → lead kind + 7 + text_length kind bytes ≤ length bytes
+    → body_length kind (bytes ++ more) ≡ body_length kind bytes
 unfolding body_length
 body_length-append kind bytes more two all =
     let at = lead kind + 3 + text_length kind bytes in
@@ -68,7 +70,8 @@ Breaks-longer kind bytes more BodyLength at h =
     (omega (arith, h.0), omega (arith, h.1, length-append bytes more), omega (arith, h.2))
 Breaks-longer kind bytes more Missing at h = absurd h
 
-pub Breaks-shorter : (kind : Kind) (bytes more : List ℕ) (part : Part) (at : ℕ) → Breaks kind (bytes ++ more) part at → seen kind part at ≤ length bytes → Breaks kind bytes part at
+pub Breaks-shorter : (kind : Kind) (bytes more : List ℕ) (part : Part) (at : ℕ) → Breaks kind (bytes ++ more) part at
+    → seen kind part at ≤ length bytes → Breaks kind bytes part at
 unfolding Breaks
 Breaks-shorter kind bytes more Status at h s =
     let first = get_or_append_left bytes more 0 0 (omega arith) in
@@ -95,7 +98,8 @@ Breaks-shorter kind bytes more BodyLength at h s =
 Breaks-shorter kind bytes more Missing at h s = absurd h
 
 -- a break that the prefix doesn't have is seen with the last byte
-pub Breaks_last : (kind : Kind) (bytes : List ℕ) (part : Part) (at : ℕ) → 0 < length bytes → IsUnbroken kind (take (length bytes - 1) bytes) → Breaks kind bytes part at → seen kind part at ≡ length bytes
+pub Breaks_last : (kind : Kind) (bytes : List ℕ) (part : Part) (at : ℕ) → 0 < length bytes → IsUnbroken kind (take (length bytes - 1) bytes)
+    → Breaks kind bytes part at → seen kind part at ≡ length bytes
 unfolding IsUnbroken
 Breaks_last kind bytes part at some prefix h =
     let cut = length bytes - 1 in
@@ -108,7 +112,8 @@ Breaks_last kind bytes part at some prefix h =
     ]
 
 -- of two breaks that are seen with the same byte, neither has the lesser place
-seen_alike : (kind : Kind) (bytes : List ℕ) (part : Part) (at : ℕ) (other : Part) (place : ℕ) → Breaks kind bytes part at → Breaks kind bytes other place → seen kind part at ≡ length bytes → seen kind other place ≡ length bytes → at ≤ place
+seen_alike : (kind : Kind) (bytes : List ℕ) (part : Part) (at : ℕ) (other : Part) (place : ℕ) → Breaks kind bytes part at
+    → Breaks kind bytes other place → seen kind part at ≡ length bytes → seen kind other place ≡ length bytes → at ≤ place
 unfolding Breaks
 seen_alike kind bytes Missing at other place h g s t = absurd h
 seen_alike kind bytes part at Missing place h g s t = absurd g
@@ -134,15 +139,18 @@ seen_alike kind bytes BodyLength at Text place h g s t = omega (arith, h.0, g.1)
 seen_alike kind bytes BodyLength at Flag place h g s t = omega (arith, h.0, g.0)
 seen_alike kind bytes BodyLength at BodyLength place h g s t = omega arith
 
-pub BreaksFirst_last : (kind : Kind) (bytes : List ℕ) (part : Part) (at : ℕ) → 0 < length bytes → IsUnbroken kind (take (length bytes - 1) bytes) → Breaks kind bytes part at → BreaksFirst kind bytes part at
+pub BreaksFirst_last : (kind : Kind) (bytes : List ℕ) (part : Part) (at : ℕ) → 0 < length bytes → IsUnbroken kind (take (length bytes - 1) bytes)
+    → Breaks kind bytes part at → BreaksFirst kind bytes part at
 BreaksFirst_last kind bytes part at some prefix h = record {
   breaks = h;
-  least = λ other place g. seen_alike kind bytes part at other place h g (Breaks_last kind bytes part at some prefix h) (Breaks_last kind bytes other place some prefix g);
+  least = λ other place g. seen_alike kind bytes part at other place h g (Breaks_last kind bytes part at some prefix h)
+      (Breaks_last kind bytes other place some prefix g);
 }
 
 pub record LastIsRight (kind : Kind) (bytes : List ℕ) : Type 0 where
   pub status_right : length bytes ≡ 1 → 0 < lead kind → is_status (get_or bytes 0 0) ≡ true
-  pub text_length_right : length bytes ≡ lead kind + 2 → (least_text kind ≤ text_length kind bytes) × (text_length kind bytes ≤ most_text kind (get_or bytes 0 0))
+  pub text_length_right : length bytes ≡ lead kind + 2 → (least_text kind ≤ text_length kind bytes)
+      × (text_length kind bytes ≤ most_text kind (get_or bytes 0 0))
   pub text_right : lead kind + 3 ≤ length bytes → length bytes ≤ lead kind + 2 + text_length kind bytes → IsGoodByte kind (get_or bytes (length bytes - 1) 0)
   pub flag_right : length bytes ≡ lead kind + 3 + text_length kind bytes → get_or bytes (length bytes - 1) 0 ≡ 0
   pub body_length_right : length bytes ≡ lead kind + 7 + text_length kind bytes → body_length kind bytes ≤ most_body kind (get_or bytes 0 0)
@@ -151,7 +159,8 @@ pub record LastIsRight (kind : Kind) (bytes : List ℕ) : Type 0 where
 pub true_not_false : (number : ℕ) → is_status number ≡ true → is_status number ≡ false → ⊥
 true_not_false number yes_ no_ = let e : true ≡ false = sym yes_ ∙ no_ in cc
 
-right_not_broken : (kind : Kind) (bytes : List ℕ) (part : Part) (at : ℕ) → LastIsRight kind bytes → seen kind part at ≡ length bytes → Breaks kind bytes part at → ⊥
+right_not_broken : (kind : Kind) (bytes : List ℕ) (part : Part) (at : ℕ) → LastIsRight kind bytes → seen kind part at ≡ length bytes
+    → Breaks kind bytes part at → ⊥
 unfolding Breaks
 right_not_broken kind bytes Status at right s h =
     true_not_false (get_or bytes 0 0) (right.status_right (sym s) h.1.0) h.1.2
@@ -167,7 +176,8 @@ right_not_broken kind bytes BodyLength at right s h =
     let r = right.body_length_right (omega (arith, h.0)) in omega (arith, h.2)
 right_not_broken kind bytes Missing at right s h = h
 
-pub IsUnbroken_last : (kind : Kind) (bytes : List ℕ) → 0 < length bytes → IsUnbroken kind (take (length bytes - 1) bytes) → LastIsRight kind bytes → IsUnbroken kind bytes
+pub IsUnbroken_last : (kind : Kind) (bytes : List ℕ) → 0 < length bytes → IsUnbroken kind (take (length bytes - 1) bytes) → LastIsRight kind bytes
+    → IsUnbroken kind bytes
 unfolding IsUnbroken
 IsUnbroken_last kind bytes some prefix right part at h = right_not_broken kind bytes part at right (Breaks_last kind bytes part at some prefix h) h
 
@@ -181,7 +191,8 @@ nil_unbroken kind BodyLength at h = omega (arith, h.1)
 nil_unbroken kind Missing at h = h
 
 -- a break that comes no later than another needs no more bytes to be seen
-seen_no_later : (kind : Kind) (bytes : List ℕ) (part : Part) (at : ℕ) (other : Part) (place : ℕ) → Breaks kind bytes part at → Breaks kind bytes other place → place < at → seen kind other place ≤ seen kind part at
+seen_no_later : (kind : Kind) (bytes : List ℕ) (part : Part) (at : ℕ) (other : Part) (place : ℕ) → Breaks kind bytes part at
+    → Breaks kind bytes other place → place < at → seen kind other place ≤ seen kind part at
 unfolding Breaks
 seen_no_later kind bytes Missing at other place h g lt = absurd h
 seen_no_later kind bytes part at Missing place h g lt = absurd g

@@ -1,6 +1,8 @@
 -- A frame is what breaks nothing and has all of its bytes.
-use Rattle.std.proofs.Common.{◌≡◌, ◌≢◌, ℕ, zero, suc, ◌+◌, ◌-◌, ◌*◌, ◌<◌, ◌≤◌, ◌^◌, Bool, true, false, List, [], ◌∷◌, ◌++◌, length, take, drop, get_or, refl, sym, ap, subst, ◌∙◌, arith, length-append, append_assoc, inl, inr, All, add-zero}
-use Rattle.std.proofs.lemmas.List.{get_or_append_left, get_or-append-add, get_or-take, get_or-drop, get_or_past, get_or_default, take-append-drop, length-take, length-drop, drop-drop, drop_more, append-nil}
+use Rattle.std.proofs.Common.{◌≡◌, ◌≢◌, ℕ, zero, suc, ◌+◌, ◌-◌, ◌*◌, ◌<◌, ◌≤◌, ◌^◌, Bool, true, false, List, [], ◌∷◌, ◌++◌, length, take, drop}
+use Rattle.std.proofs.Common.{get_or, refl, sym, ap, subst, ◌∙◌, arith, length-append, append_assoc, inl, inr, All, add-zero}
+use Rattle.std.proofs.lemmas.List.{get_or_append_left, get_or-append-add, get_or-take, get_or-drop, get_or_past, get_or_default, take-append-drop}
+use Rattle.std.proofs.lemmas.List.{length-take, length-drop, drop-drop, drop_more, append-nil}
 use Rattle.std.proofs.lemmas.Bool.{cases_lt}
 use Rattle.std.proofs.lemmas.Nat.{be_bytes_2, be_bytes_4, from_be_bytes-to_be_bytes_2, from_be_bytes-to_be_bytes_4}
 use Rattle.std.specs.Int.{w16, w32, to_be_bytes, from_be_bytes}
@@ -9,7 +11,8 @@ use Rattle.envelope.specs.declared.kind.Kind.TheVariants.{Calls, Replies}
 use Rattle.envelope.specs.declared.kind.Part.{Part}
 use Rattle.envelope.specs.declared.kind.Part.TheVariants.{Status, TextLength, Text, Flag, BodyLength, Missing}
 use Rattle.envelope.specs.Envelope.{CallBytes, ReplyBytes, frame, reply, is_status}
-use Rattle.envelope.specs.Grammar.{Item, IsItem, spelling, lead, least_text, most_text, most_body, least_byte, IsGoodByte, text_length, body_length, HasBadStatus, Breaks, IsUnbroken, BreaksFirst, IsUnfinished, BeginsFrame, FaultAt, IsFrame, HasPart}
+use Rattle.envelope.specs.Grammar.{Item, IsItem, spelling, lead, least_text, most_text, most_body, least_byte, IsGoodByte, text_length, body_length}
+use Rattle.envelope.specs.Grammar.{HasBadStatus, Breaks, IsUnbroken, BreaksFirst, IsUnfinished, BeginsFrame, FaultAt, IsFrame, HasPart}
 use Rattle.envelope.specs.Head.{IsWhole, IsShort, Says, item, item_in, most_head, most_frame}
 use Rattle.envelope.specs.facts.Breaking.{true_not_false}
 
@@ -97,8 +100,13 @@ Parts_of kind bytes unbroken all = record {
   text_least = le_of_not (least_text kind) (text_length kind bytes) (λ lt. unbroken TextLength (lead kind) (refl, omega arith, inl lt));
   text_short = le_of_not (text_length kind bytes) (most_text kind (get_or bytes 0 0)) (λ lt. unbroken TextLength (lead kind) (refl, omega arith, inr lt));
   text_bytes = λ k two k-in. good_byte_of_not kind (get_or bytes k 0) (λ bad. unbroken Text k (two, k-in, omega arith, bad));
-  flag_zero = omega (arith, le_of_not (get_or bytes (lead kind + 2 + text_length kind bytes) 0) 0 (λ lt. unbroken Flag (lead kind + 2 + text_length kind bytes) (refl, omega arith, λ e. omega arith)));
-  body_short = le_of_not (body_length kind bytes) (most_body kind (get_or bytes 0 0)) (λ lt. unbroken BodyLength (lead kind + 3 + text_length kind bytes) (refl, omega arith, lt));
+  flag_zero = omega (
+    arith,
+    le_of_not (get_or bytes (lead kind + 2 + text_length kind bytes) 0) 0
+        (λ lt. unbroken Flag (lead kind + 2 + text_length kind bytes) (refl, omega arith, λ e. omega arith)),
+  );
+  body_short = le_of_not (body_length kind bytes) (most_body kind (get_or bytes 0 0))
+      (λ lt. unbroken BodyLength (lead kind + 3 + text_length kind bytes) (refl, omega arith, lt));
 }
 
 -- ---- a frame by its parts
@@ -107,7 +115,8 @@ Parts_of kind bytes unbroken all = record {
 spell : List ℕ → List ℕ → List ℕ → List ℕ → List ℕ
 spell first text third body = first ++ (text ++ (0 ∷ (third ++ body)))
 
-cut_in_five : (bytes : List ℕ) (n : ℕ) → 7 + n ≤ length bytes → get_or bytes (2 + n) 0 ≡ 0 → spell (take 2 bytes) (take n (drop 2 bytes)) (take 4 (drop (3 + n) bytes)) (drop (7 + n) bytes) ≡ bytes
+cut_in_five : (bytes : List ℕ) (n : ℕ) → 7 + n ≤ length bytes → get_or bytes (2 + n) 0 ≡ 0
+    → spell (take 2 bytes) (take n (drop 2 bytes)) (take 4 (drop (3 + n) bytes)) (drop (7 + n) bytes) ≡ bytes
 unfolding spell
 cut_in_five bytes n all zero-flag =
     let e3 : 3 + n + 4 ≡ 7 + n = omega arith in
@@ -123,7 +132,8 @@ cut_in_five bytes n all zero-flag =
     ∙ (ap (λ (x : List ℕ). take 2 bytes ++ x) rest-1 ∙ take-append-drop 2 bytes))
 
 -- a frame behind its status, by the bytes that its lengths are
-spelled_by : (text body : List ℕ) (n m : ℕ) (first third : List ℕ) → length text ≡ n → length body ≡ m → to_be_bytes w16 n ≡ first → to_be_bytes w32 m ≡ third → spell (to_be_bytes w16 (length text)) text (to_be_bytes w32 (length body)) body ≡ spell first text third body
+spelled_by : (text body : List ℕ) (n m : ℕ) (first third : List ℕ) → length text ≡ n → length body ≡ m → to_be_bytes w16 n ≡ first
+    → to_be_bytes w32 m ≡ third → spell (to_be_bytes w16 (length text)) text (to_be_bytes w32 (length body)) body ≡ spell first text third body
 spelled_by text body n m first third tl bl f t =
     ap (λ (x : List ℕ). spell x text (to_be_bytes w32 (length body)) body) (ap (λ (k : ℕ). to_be_bytes w16 k) tl ∙ f)
     ∙ ap (λ (x : List ℕ). spell first text x body) (ap (λ (k : ℕ). to_be_bytes w32 k) bl ∙ t)
@@ -133,7 +143,9 @@ abbrev pub status_bytes : Kind → ℕ → List ℕ
 status_bytes Calls status = []
 status_bytes Replies status = status ∷ []
 
-item_spelled : (kind : Kind) (status : ℕ) (text body : List ℕ) → spelling kind (item kind status text body) ≡ status_bytes kind status ++ spell (to_be_bytes w16 (length text)) text (to_be_bytes w32 (length body)) body
+item_spelled : (kind : Kind) (status : ℕ) (text body : List ℕ)
+    → spelling kind (item kind status text body)
+    ≡ status_bytes kind status ++ spell (to_be_bytes w16 (length text)) text (to_be_bytes w32 (length body)) body
 unfolding frame reply spell
 item_spelled Calls status text body = refl
 item_spelled Replies status text body = refl
@@ -143,8 +155,15 @@ first_bytes Calls bytes some = refl
 first_bytes Replies [] some = absurd (omega arith)
 first_bytes Replies (b ∷ bs) some = refl
 
-item_good : (kind : Kind) (status : ℕ) (text body : List ℕ) → (0 < lead kind → is_status status ≡ true) → least_text kind ≤ length text → length text ≤ most_text kind status → All (IsGoodByte kind) text → length body ≤ most_body kind status → IsItem kind (item kind status text body)
-item_good Calls status text body good least short bytes body-short = record { path_given = least; path_short = short; path_bytes = bytes; message_short = body-short }
+item_good : (kind : Kind) (status : ℕ) (text body : List ℕ) → (0 < lead kind → is_status status ≡ true) → least_text kind ≤ length text
+    → length text ≤ most_text kind status → All (IsGoodByte kind) text → length body ≤ most_body kind status
+    → IsItem kind (item kind status text body)
+item_good Calls status text body good least short bytes body-short = record {
+  path_given = least;
+  path_short = short;
+  path_bytes = bytes;
+  message_short = body-short;
+}
 item_good Replies zero text body good least short bytes body-short = record {
   status = good (omega arith);
   text_short = omega arith;
@@ -180,13 +199,15 @@ body_length-drop kind bytes =
     let read : (k : ℕ) → k < 4 → get_or (take 4 (drop at bytes)) k 0 ≡ get_or bytes (at + k) 0 = λ k lt. get_or-take 4 (drop at bytes) k 0 lt ∙ get_or-drop at bytes k 0 in
     omega (arith, read 0 (omega arith) ∙ ap (λ (k : ℕ). get_or bytes k 0) (add-zero at), read 1 (omega arith), read 2 (omega arith), read 3 (omega arith))
 
-text_in : (kind : Kind) (bytes : List ℕ) (n : ℕ) → Parts kind bytes → text_length kind bytes ≡ n → length (take n (drop (lead kind + 2) bytes)) ≡ n → All (IsGoodByte kind) (take n (drop (lead kind + 2) bytes))
+text_in : (kind : Kind) (bytes : List ℕ) (n : ℕ) → Parts kind bytes → text_length kind bytes ≡ n → length (take n (drop (lead kind + 2) bytes)) ≡ n
+    → All (IsGoodByte kind) (take n (drop (lead kind + 2) bytes))
 text_in kind bytes n parts is len k d lt =
     let at : get_or (take n (drop (lead kind + 2) bytes)) k d ≡ get_or bytes (lead kind + 2 + k) 0 =
     get_or_default (take n (drop (lead kind + 2) bytes)) k d 0 lt ∙ (get_or-take n (drop (lead kind + 2) bytes) k 0 (omega arith) ∙ get_or-drop (lead kind + 2) bytes k 0) in
     rw at (parts.text_bytes (lead kind + 2 + k) (omega arith) (omega arith))
 
-pub whole_is_frame : (kind : Kind) (bytes : List ℕ) → IsBytes bytes → IsUnbroken kind bytes → IsWhole kind bytes → IsItem kind (item_in kind bytes) × (bytes ≡ spelling kind (item_in kind bytes))
+pub whole_is_frame : (kind : Kind) (bytes : List ℕ) → IsBytes bytes → IsUnbroken kind bytes → IsWhole kind bytes → IsItem kind (item_in kind bytes)
+    × (bytes ≡ spelling kind (item_in kind bytes))
 unfolding IsWhole
 whole_is_frame kind bytes fits unbroken whole =
     let o = lead kind in
@@ -226,10 +247,13 @@ pub whole_frame : (kind : Kind) (bytes : List ℕ) → IsBytes bytes → IsUnbro
 whole_frame kind bytes fits unbroken whole = let w = whole_is_frame kind bytes fits unbroken whole in (item_in kind bytes, w.0, w.1)
 
 -- the text and the body that a whole frame has are what it says
-pub said_by : (kind : Kind) (bytes text body : List ℕ) → IsBytes bytes → IsUnbroken kind bytes → IsWhole kind bytes → text ≡ take (text_length kind bytes) (drop (lead kind + 2) bytes) → body ≡ drop (lead kind + 7 + text_length kind bytes) bytes → Says kind bytes (item kind (get_or bytes 0 0) text body)
+pub said_by : (kind : Kind) (bytes text body : List ℕ) → IsBytes bytes → IsUnbroken kind bytes → IsWhole kind bytes
+    → text ≡ take (text_length kind bytes) (drop (lead kind + 2) bytes) → body ≡ drop (lead kind + 7 + text_length kind bytes) bytes
+    → Says kind bytes (item kind (get_or bytes 0 0) text body)
 said_by kind bytes text body fits unbroken whole text_is body_is =
     subst (λ (x : List ℕ). Says kind bytes (item kind (get_or bytes 0 0) x body)) (sym text_is)
-    (subst (λ (x : List ℕ). Says kind bytes (item kind (get_or bytes 0 0) (take (text_length kind bytes) (drop (lead kind + 2) bytes)) x)) (sym body_is) (whole_is_frame kind bytes fits unbroken whole))
+    (subst (λ (x : List ℕ). Says kind bytes (item kind (get_or bytes 0 0) (take (text_length kind bytes) (drop (lead kind + 2) bytes)) x))
+    (sym body_is) (whole_is_frame kind bytes fits unbroken whole))
 
 -- ---- what a frame is, as a prefix of a stream
 
@@ -251,13 +275,16 @@ block text body more = to_be_bytes w16 (length text) ++ (text ++ (0 ∷ (to_be_b
 
 pub frame-append : (call : CallBytes) (more : List ℕ) → frame call ++ more ≡ block call.path call.message more
 unfolding frame block
-frame-append call more = ap (λ (x : List ℕ). to_be_bytes w16 (length call.path) ++ x) (append_assoc call.path (0 ∷ (to_be_bytes w32 (length call.message) ++ call.message)) more)
+frame-append call more = ap (λ (x : List ℕ). to_be_bytes w16 (length call.path) ++ x)
+    (append_assoc call.path (0 ∷ (to_be_bytes w32 (length call.message) ++ call.message)) more)
 
 reply-append : (r : ReplyBytes) (more : List ℕ) → reply r ++ more ≡ r.status ∷ block r.text r.body more
 unfolding reply block
-reply-append r more = ap (λ (x : List ℕ). r.status ∷ (to_be_bytes w16 (length r.text) ++ x)) (append_assoc r.text (0 ∷ (to_be_bytes w32 (length r.body) ++ r.body)) more)
+reply-append r more = ap (λ (x : List ℕ). r.status ∷ (to_be_bytes w16 (length r.text) ++ x))
+    (append_assoc r.text (0 ∷ (to_be_bytes w32 (length r.body) ++ r.body)) more)
 
-pub spelling-append : (kind : Kind) (i : Item kind) (more : List ℕ) → spelling kind i ++ more ≡ status_bytes kind (status_of kind i) ++ block (text_of kind i) (body_of kind i) more
+pub spelling-append : (kind : Kind) (i : Item kind) (more : List ℕ)
+    → spelling kind i ++ more ≡ status_bytes kind (status_of kind i) ++ block (text_of kind i) (body_of kind i) more
 spelling-append Calls call more = frame-append call more
 spelling-append Replies r more = reply-append r more
 
@@ -272,17 +299,26 @@ length-block text body more = omega (arith, length-append text (0 ∷ (to_be_byt
 pub length-spelling : (kind : Kind) (i : Item kind) → length (spelling kind i) ≡ lead kind + 7 + length (text_of kind i) + length (body_of kind i)
 length-spelling kind i =
     let whole = sym (append-nil (spelling kind i)) ∙ spelling-append kind i [] in
-    omega (arith, ap length whole, length-append (status_bytes kind (status_of kind i)) (block (text_of kind i) (body_of kind i) []), length-status kind (status_of kind i), length-block (text_of kind i) (body_of kind i) [])
+    omega (
+      arith,
+      ap length whole,
+      length-append (status_bytes kind (status_of kind i))
+          (block (text_of kind i) (body_of kind i) []),
+      length-status kind (status_of kind i),
+      length-block (text_of kind i) (body_of kind i) [],
+    )
 
 -- the bytes of a block, place by place
-block_rest : (text body more : List ℕ) (k : ℕ) → get_or (block text body more) (2 + k) 0 ≡ get_or (text ++ (0 ∷ (to_be_bytes w32 (length body) ++ (body ++ more)))) k 0
+block_rest : (text body more : List ℕ) (k : ℕ)
+    → get_or (block text body more) (2 + k) 0 ≡ get_or (text ++ (0 ∷ (to_be_bytes w32 (length body) ++ (body ++ more)))) k 0
 unfolding block
 block_rest text body more k = get_or-append-add (to_be_bytes w16 (length text)) (text ++ (0 ∷ (to_be_bytes w32 (length body) ++ (body ++ more)))) k 0
 
 block_text : (text body more : List ℕ) (k : ℕ) → k < length text → get_or (block text body more) (2 + k) 0 ≡ get_or text k 0
 block_text text body more k lt = block_rest text body more k ∙ get_or_append_left text (0 ∷ (to_be_bytes w32 (length body) ++ (body ++ more))) 0 k lt
 
-block_tail : (text body more : List ℕ) (k : ℕ) → get_or (block text body more) (2 + (length text + k)) 0 ≡ get_or (0 ∷ (to_be_bytes w32 (length body) ++ (body ++ more))) k 0
+block_tail : (text body more : List ℕ) (k : ℕ)
+    → get_or (block text body more) (2 + (length text + k)) 0 ≡ get_or (0 ∷ (to_be_bytes w32 (length body) ++ (body ++ more))) k 0
 block_tail text body more k = block_rest text body more (length text + k) ∙ get_or-append-add text (0 ∷ (to_be_bytes w32 (length body) ++ (body ++ more))) k 0
 
 block_first : (text body more : List ℕ) → length text < 2 ^ 16 → 256 * get_or (block text body more) 0 0 + get_or (block text body more) 1 0 ≡ length text
@@ -290,21 +326,24 @@ unfolding block
 block_first text body more fits = omega (arith, from_be_bytes-to_be_bytes_2 (length text) fits)
 
 -- the bytes of a frame are those of its block, behind the status
-frame_at : (kind : Kind) (i : Item kind) (more : List ℕ) (j k : ℕ) → j ≡ lead kind + k → get_or (spelling kind i ++ more) j 0 ≡ get_or (block (text_of kind i) (body_of kind i) more) k 0
+frame_at : (kind : Kind) (i : Item kind) (more : List ℕ) (j k : ℕ) → j ≡ lead kind + k
+    → get_or (spelling kind i ++ more) j 0 ≡ get_or (block (text_of kind i) (body_of kind i) more) k 0
 frame_at kind i more j k e =
     let at : j ≡ length (status_bytes kind (status_of kind i)) + k = omega (arith, length-status kind (status_of kind i)) in
     ap (λ (x : List ℕ). get_or x j 0) (spelling-append kind i more)
     ∙ (ap (λ (n : ℕ). get_or (status_bytes kind (status_of kind i) ++ block (text_of kind i) (body_of kind i) more) n 0) at
     ∙ get_or-append-add (status_bytes kind (status_of kind i)) (block (text_of kind i) (body_of kind i) more) k 0)
 
-spelled_first : (kind : Kind) (i : Item kind) (more : List ℕ) → length (text_of kind i) < 2 ^ 16 → text_length kind (spelling kind i ++ more) ≡ length (text_of kind i)
+spelled_first : (kind : Kind) (i : Item kind) (more : List ℕ) → length (text_of kind i) < 2 ^ 16
+    → text_length kind (spelling kind i ++ more) ≡ length (text_of kind i)
 unfolding text_length
 spelled_first kind i more fits =
     let a = frame_at kind i more (lead kind) 0 (omega arith) in
     let b = frame_at kind i more (lead kind + 1) 1 refl in
     omega (arith, a, b, block_first (text_of kind i) (body_of kind i) more fits)
 
-spelled_second : (kind : Kind) (i : Item kind) (more : List ℕ) → length (text_of kind i) < 2 ^ 16 → length (body_of kind i) < 2 ^ 32 → body_length kind (spelling kind i ++ more) ≡ length (body_of kind i)
+spelled_second : (kind : Kind) (i : Item kind) (more : List ℕ) → length (text_of kind i) < 2 ^ 16 → length (body_of kind i) < 2 ^ 32
+    → body_length kind (spelling kind i ++ more) ≡ length (body_of kind i)
 unfolding body_length
 spelled_second kind i more text-fits fits =
     let text = text_of kind i in
@@ -344,7 +383,8 @@ reply_text_short : (first status : ℕ) (text : List ℕ) → first ≡ status �
 reply_text_short zero status text e short ok = omega (arith, ap length (ok (sym e)))
 reply_text_short (suc n) status text e short ok = short
 
-reply_body_short : (first status : ℕ) (body : List ℕ) → first ≡ status → length body ≤ 4194304 → (status ≢ 0 → body ≡ []) → length body ≤ most_body Replies first
+reply_body_short : (first status : ℕ) (body : List ℕ) → first ≡ status → length body ≤ 4194304 → (status ≢ 0 → body ≡ [])
+    → length body ≤ most_body Replies first
 reply_body_short zero status body e short refused = short
 reply_body_short (suc n) status body e short refused = omega (arith, ap length (refused (λ none. let one : suc n ≡ 0 = e ∙ none in omega arith)))
 
@@ -374,10 +414,12 @@ begins_with kind i more good =
       text_is = spelled_first kind i more text;
       body_is = spelled_second kind i more text body;
       text_has = λ k lt. frame_at kind i more (lead kind + 2 + k) (2 + k) (omega arith) ∙ block_text (text_of kind i) (body_of kind i) more k lt;
-      flag_is = frame_at kind i more (lead kind + 2 + length (text_of kind i)) (2 + (length (text_of kind i) + 0)) (omega arith) ∙ block_tail (text_of kind i) (body_of kind i) more 0;
+      flag_is = frame_at kind i more (lead kind + 2 + length (text_of kind i)) (2 + (length (text_of kind i) + 0)) (omega arith)
+          ∙ block_tail (text_of kind i) (body_of kind i) more 0;
     }
 
-broken_no_frame : (kind : Kind) (bytes : List ℕ) (i : Item kind) (part : Part) (at : ℕ) → IsItem kind i → BeginsWith kind bytes i → Breaks kind bytes part at → ⊥
+broken_no_frame : (kind : Kind) (bytes : List ℕ) (i : Item kind) (part : Part) (at : ℕ) → IsItem kind i → BeginsWith kind bytes i
+    → Breaks kind bytes part at → ⊥
 unfolding Breaks
 broken_no_frame kind bytes i Status at good begins h =
     true_not_false (get_or bytes 0 0) (ap is_status (begins.status_is h.1.0) ∙ (fits kind i good).status_good h.1.0) h.1.2
@@ -432,9 +474,11 @@ fault_no_frame kind rest BodyLength at h b = broken_rest kind rest BodyLength at
 pub frame_begins : (kind : Kind) (bytes : List ℕ) (i : Item kind) → IsItem kind i → bytes ≡ spelling kind i → BeginsFrame kind bytes
 frame_begins kind bytes i good e = (i, [], good, e ∙ sym (append-nil (spelling kind i)))
 
-pub text_short_of : (kind : Kind) (bytes : List ℕ) → IsUnbroken kind bytes → lead kind + 2 ≤ length bytes → text_length kind bytes ≤ most_text kind (get_or bytes 0 0)
+pub text_short_of : (kind : Kind) (bytes : List ℕ) → IsUnbroken kind bytes → lead kind + 2 ≤ length bytes
+    → text_length kind bytes ≤ most_text kind (get_or bytes 0 0)
 unfolding IsUnbroken Breaks
-text_short_of kind bytes unbroken two = le_of_not (text_length kind bytes) (most_text kind (get_or bytes 0 0)) (λ lt. unbroken TextLength (lead kind) (refl, two, inr lt))
+text_short_of kind bytes unbroken two = le_of_not (text_length kind bytes) (most_text kind (get_or bytes 0 0))
+    (λ lt. unbroken TextLength (lead kind) (refl, two, inr lt))
 
 -- what is short has fewer bytes than the longest frame
 pub short_room : (kind : Kind) (bytes : List ℕ) → IsUnbroken kind bytes → IsShort kind bytes → length bytes < most_frame kind

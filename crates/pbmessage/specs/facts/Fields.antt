@@ -58,5 +58,6 @@ pub fields_are : FieldLaws → (fs : List WireField) (bytes : List ℕ) → AreF
 fields_are l fs bytes h = fields_read l fs bytes (are_read l fs bytes h)
 
 -- bytes mean one value
-pub one_value : {V : Type 0} {good : WireField → Type 0} {value : List WireField → V} {bytes : List ℕ} {v w : V} → FieldLaws → Means good value bytes v → Means good value bytes w → v ≡ w
+pub one_value : {V : Type 0} {good : WireField → Type 0} {value : List WireField → V} {bytes : List ℕ} {v w : V} → FieldLaws
+    → Means good value bytes v → Means good value bytes w → v ≡ w
 one_value {value = value} {bytes = bytes} l m n = m.is ∙ ap value (sym (fields_are l m.fields bytes m.whole) ∙ fields_are l n.fields bytes n.whole) ∙ sym n.is

@@ -1,4 +1,5 @@
--- What the laws of the crates below say. A function whose proof needs one calls it, and hands it to the lemmas.
+-- What the laws of the crates below say. A function whose proof needs one calls it, and hands it to the
+-- lemmas.
 use Rattle.std.specs.Prelude.{◌≡◌, ◌↔◌, ℕ, ◌<◌, List, ◌++◌, length, reverse, Ok}
 use Rattle.std.specs.FinMap.{entries, from_entries}
 use Rattle.pbwire.specs.Wire.{WireField, Spells, FitsField}

@@ -1,5 +1,6 @@
 -- Where reading stops is the end of the longest good prefix.
-use Rattle.std.proofs.Common.{true, false, ltb, ◌≡◌, ◌≢◌, ℕ, ◌+◌, ◌-◌, ◌<◌, ◌≤◌, List, [], ◌∷◌, ◌++◌, length, take, drop, Ok, refl, sym, ap, subst, ◌∙◌, append_assoc, length-append, arith}
+use Rattle.std.proofs.Common.{true, false, ltb, ◌≡◌, ◌≢◌, ℕ, ◌+◌, ◌-◌, ◌<◌, ◌≤◌, List, [], ◌∷◌, ◌++◌, length, take, drop, Ok, refl, sym, ap, subst}
+use Rattle.std.proofs.Common.{◌∙◌, append_assoc, length-append, arith}
 use Rattle.std.specs.List.{AllByRecursion}
 use Rattle.std.proofs.lemmas.List.{append-nil, take_at, take-append-drop, length-take-le}
 use Rattle.std.proofs.lemmas.Bool.{ltb-true, ltb-false}
@@ -21,7 +22,8 @@ pub record Stops (good : WireField → Type 0) (bytes : List ℕ) (at : ℕ) : T
   pub bad : (e : WireField) (mid : List ℕ) → field_at rest ≡ Ok (e, mid) → good e → ⊥
 
 -- what was read is a prefix, whatever follows
-prefix_of : FieldLaws → (fs : List WireField) (bytes rest : List ℕ) → Reads fs bytes rest → (prefix : List ℕ) × (bytes ≡ prefix ++ rest) × ((tail : List ℕ) → Reads fs (prefix ++ tail) tail)
+prefix_of : FieldLaws → (fs : List WireField) (bytes rest : List ℕ) → Reads fs bytes rest → (prefix : List ℕ) × (bytes ≡ prefix ++ rest)
+    × ((tail : List ℕ) → Reads fs (prefix ++ tail) tail)
 prefix_of l [] bytes rest r = ([], r, λ tail. refl)
 prefix_of l (f ∷ fs) bytes rest r =
     let s = (l.exactly bytes r.0 f).0 r.1 in
@@ -32,12 +34,14 @@ prefix_of l (f ∷ fs) bytes rest r =
     )
 
 -- after the fields fs a good list goes on with a good field, unless it ends there
-go_on : (good : WireField → Type 0) (fs gs : List WireField) (bytes rest : List ℕ) → Reads fs bytes rest → Reads gs bytes [] → AllByRecursion good gs → rest ≢ [] → (e : WireField) × (mid : List ℕ) × (field_at rest ≡ Ok (e, mid)) × good e
+go_on : (good : WireField → Type 0) (fs gs : List WireField) (bytes rest : List ℕ) → Reads fs bytes rest → Reads gs bytes [] → AllByRecursion good gs
+    → rest ≢ [] → (e : WireField) × (mid : List ℕ) × (field_at rest ≡ Ok (e, mid)) × good e
 go_on good [] [] bytes rest r g a more = absurd (more (sym r ∙ g))
 go_on good [] (h ∷ hs) bytes rest r g a more = (h, g.0, ap field_at (sym r) ∙ g.1, a.0)
 go_on good (f ∷ fs) [] bytes rest r g a more = absurd (nothing_read bytes (f, r.0) g r.1)
 go_on good (f ∷ fs) (h ∷ hs) bytes rest r g a more =
-    go_on good fs hs r.0 rest r.2 (subst (λ (b : List ℕ). Reads hs b []) (ap (λ (p : WireField × List ℕ). p.1) (same_read (h, g.0) (f, r.0) (sym g.1 ∙ r.1))) g.2) a.1 more
+    go_on good fs hs r.0 rest r.2 (subst (λ (b : List ℕ). Reads hs b [])
+    (ap (λ (p : WireField × List ℕ). p.1) (same_read (h, g.0) (f, r.0) (sym g.1 ∙ r.1))) g.2) a.1 more
 
 take_longer : (n : ℕ) (a b : List ℕ) → length a ≤ n → take n (a ++ b) ≡ a ++ take (n - length a) b
 take_longer n a b le = let k : n ≡ length a + (n - length a) = omega arith in ap (λ (m : ℕ). take m (a ++ b)) k ∙ take-append-add a b (n - length a)
@@ -50,7 +54,12 @@ is_offset l good bytes at s =
     let cut : take at bytes ≡ f.0 = ap (take at) f.1 ∙ take_at f.0 s.rest at (sym len) in
     record {
       within = omega arith;
-      prefix = record { fields = s.fields; whole = read_are l s.fields (take at bytes) (subst (λ (b : List ℕ). Reads s.fields b []) (append-nil f.0 ∙ sym cut) (f.2 [])); each = s.each };
+      prefix = record {
+        fields = s.fields;
+        whole = read_are l s.fields (take at bytes)
+            (subst (λ (b : List ℕ). Reads s.fields b []) (append-nil f.0 ∙ sym cut) (f.2 []));
+        each = s.each;
+      };
       longest = λ n lt le g.
           let tail : List ℕ = take (n - length f.0) s.rest in
           let longer : take n bytes ≡ f.0 ++ take (n - length f.0) s.rest = ap (take n) f.1 ∙ take_longer n f.0 s.rest (omega arith) in
@@ -59,7 +68,8 @@ is_offset l good bytes at s =
           let next = go_on good s.fields g.fields (f.0 ++ take (n - length f.0) s.rest) (take (n - length f.0) s.rest) (f.2 (take (n - length f.0) s.rest)) (subst (λ (b : List ℕ). Reads g.fields b []) longer (are_read l g.fields (take n bytes) g.whole)) g.each more in
           let spelled = (l.exactly (take (n - length f.0) s.rest) next.1 next.0).0 next.2 in
           let rest : s.rest ≡ spelled.0 ++ (next.1 ++ drop (n - length f.0) s.rest) = sym (take-append-drop (n - length f.0) s.rest) ∙ ap (λ (bs : List ℕ). bs ++ drop (n - length f.0) s.rest) spelled.2 ∙ append_assoc spelled.0 next.1 (drop (n - length f.0) s.rest) in
-          s.bad next.0 (next.1 ++ drop (n - length f.0) s.rest) ((l.exactly s.rest (next.1 ++ drop (n - length f.0) s.rest) next.0).1 (spelled.0, spelled.1, rest)) next.3;
+          s.bad next.0 (next.1 ++ drop (n - length f.0) s.rest)
+          ((l.exactly s.rest (next.1 ++ drop (n - length f.0) s.rest) next.0).1 (spelled.0, spelled.1, rest)) next.3;
     }
   where
     not_nil : (n : ℕ) (l : List ℕ) → length l ≡ n → 0 < n → l ≡ [] → ⊥

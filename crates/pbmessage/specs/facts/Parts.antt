@@ -1,5 +1,6 @@
 -- What each kind of row gives back: the part that was written.
-use Rattle.std.proofs.Common.{◌≡◌, ℕ, ℤ, suc, ◌-◌, ◌%◌, ◌^◌, ◌<◌, Bool, true, false, cond, eqb, List, [], ◌∷◌, ◌++◌, reverse, length, Option, None, Some, refl, sym, ap, ◌∙◌, arith, of_z, pos, negsuc}
+use Rattle.std.proofs.Common.{◌≡◌, ℕ, ℤ, suc, ◌-◌, ◌%◌, ◌^◌, ◌<◌, Bool, true, false, cond, eqb, List, [], ◌∷◌, ◌++◌, reverse, length, Option, None}
+use Rattle.std.proofs.Common.{Some, refl, sym, ap, ◌∙◌, arith, of_z, pos, negsuc}
 use Rattle.std.specs.Prelude.{IsUtf8, option_to_list, FitsSigned}
 use Rattle.std.specs.Int.{cast_signed, w32, w64}
 use Rattle.std.specs.List.{AllByRecursion}
@@ -14,7 +15,8 @@ use Rattle.pbmessage.specs.Schema.{AnyPayload, IsGoodMessage, Good, map_entry_sc
 use Rattle.pbmessage.specs.Fields.{fields_of, Means}
 use Rattle.csi_types.specs.Maps.{TextMap}
 use Rattle.pbmessage.specs.Views.{Views, Payloads, last_or, text, i64, i32, flag, inner, is_present, messages, map_entry_in, text_map, value_of}
-use Rattle.pbmessage.specs.Canon.{Rows, bytes_of, present, present_number, signed_number, flag_number, presence, spelled, canon_map_entry, FitsText, FitsI64, FitsI32, FitsInner, FitsOption, FitsMessages, FitsMapEntry, FitsMap}
+use Rattle.pbmessage.specs.Canon.{Rows, bytes_of, present, present_number, signed_number, flag_number, presence, spelled, canon_map_entry, FitsText}
+use Rattle.pbmessage.specs.Canon.{FitsI64, FitsI32, FitsInner, FitsOption, FitsMessages, FitsMapEntry, FitsMap}
 use Rattle.pbmessage.specs.facts.Laws.{FieldLaws, SpellingLaws}
 use Rattle.pbmessage.specs.facts.Fields.{fields_are}
 use Rattle.pbmessage.specs.facts.Rows.{RoundTrip, rows_again}
@@ -91,31 +93,40 @@ pub record Law {V : Type 0} (good : ℕ → List ℕ → Type 0) (of : Views →
   pub laws : SpellingLaws
   pub again : (v : V) → fits v → RoundTrip good of canon v
 
-good_spelling : {V : Type 0} (good : ℕ → List ℕ → Type 0) (of : Views → V) (canon : V → Rows) (v : V) → RoundTrip good of canon v → IsGoodMessage good (bytes_of (canon v))
+good_spelling : {V : Type 0} (good : ℕ → List ℕ → Type 0) (of : Views → V) (canon : V → Rows) (v : V) → RoundTrip good of canon v
+    → IsGoodMessage good (bytes_of (canon v))
 good_spelling good of canon v m = record { fields = m.fields; whole = m.whole; each = m.each }
 
-value_again : {V : Type 0} → FieldLaws → (good : ℕ → List ℕ → Type 0) (of : Views → V) (canon : V → Rows) (v : V) → RoundTrip good of canon v → value_of of (fields_of (bytes_of (canon v))) ≡ v
+value_again : {V : Type 0} → FieldLaws → (good : ℕ → List ℕ → Type 0) (of : Views → V) (canon : V → Rows) (v : V) → RoundTrip good of canon v
+    → value_of of (fields_of (bytes_of (canon v))) ≡ v
 value_again l good of canon v m = ap (value_of of) (fields_are l m.fields (bytes_of (canon v)) m.whole) ∙ sym m.is
 
-pub inner_fit : {V : Type 0} {good : ℕ → List ℕ → Type 0} {of : Views → V} {canon : V → Rows} {fits : V → Type 0} → Law good of canon fits → (v : V) → FitsInner fits canon v → Fit (IsGoodMessage good) (bytes_of (canon v) ∷ [])
+pub inner_fit : {V : Type 0} {good : ℕ → List ℕ → Type 0} {of : Views → V} {canon : V → Rows} {fits : V → Type 0} → Law good of canon fits → (v : V)
+    → FitsInner fits canon v → Fit (IsGoodMessage good) (bytes_of (canon v) ∷ [])
 inner_fit {V} {good} {of} {canon} {fits} law v h = ((good_spelling good of canon v (law.again v h.0), h.1), tt)
 
-pub option_fit : {V : Type 0} {good : ℕ → List ℕ → Type 0} {of : Views → V} {canon : V → Rows} {fits : V → Type 0} → Law good of canon fits → (o : Option V) → FitsOption fits canon o → Fit (IsGoodMessage good) (spelled canon (option_to_list o))
+pub option_fit : {V : Type 0} {good : ℕ → List ℕ → Type 0} {of : Views → V} {canon : V → Rows} {fits : V → Type 0} → Law good of canon fits
+    → (o : Option V) → FitsOption fits canon o → Fit (IsGoodMessage good) (spelled canon (option_to_list o))
 option_fit {V} {good} {of} {canon} {fits} law None h = tt
 option_fit {V} {good} {of} {canon} {fits} law (Some v) h = inner_fit law v h
 
-pub inner_again : {V : Type 0} {good : ℕ → List ℕ → Type 0} {of : Views → V} {canon : V → Rows} {fits : V → Type 0} → Law good of canon fits → (v : V) → FitsInner fits canon v → value_of of (fields_of (bytes_of (canon v)) ++ []) ≡ v
-inner_again {V} {good} {of} {canon} {fits} law v h = ap (value_of of) (append-nil (fields_of (bytes_of (canon v)))) ∙ value_again law.laws.fields good of canon v (law.again v h.0)
+pub inner_again : {V : Type 0} {good : ℕ → List ℕ → Type 0} {of : Views → V} {canon : V → Rows} {fits : V → Type 0} → Law good of canon fits → (v : V)
+    → FitsInner fits canon v → value_of of (fields_of (bytes_of (canon v)) ++ []) ≡ v
+inner_again {V} {good} {of} {canon} {fits} law v h = ap (value_of of) (append-nil (fields_of (bytes_of (canon v))))
+    ∙ value_again law.laws.fields good of canon v (law.again v h.0)
 
-pub option_again : {V : Type 0} {good : ℕ → List ℕ → Type 0} {of : Views → V} {canon : V → Rows} {fits : V → Type 0} → Law good of canon fits → (o : Option V) → FitsOption fits canon o → inner (value_of of) (spelled canon (option_to_list o)) ≡ o
+pub option_again : {V : Type 0} {good : ℕ → List ℕ → Type 0} {of : Views → V} {canon : V → Rows} {fits : V → Type 0} → Law good of canon fits
+    → (o : Option V) → FitsOption fits canon o → inner (value_of of) (spelled canon (option_to_list o)) ≡ o
 option_again {V} {good} {of} {canon} {fits} law None h = refl
 option_again {V} {good} {of} {canon} {fits} law (Some v) h = ap (λ (w : V). Some w) (inner_again law v h)
 
-pub messages_fit : {V : Type 0} {good : ℕ → List ℕ → Type 0} {of : Views → V} {canon : V → Rows} {fits : V → Type 0} → Law good of canon fits → (vs : List V) → FitsMessages fits canon vs → Fit (IsGoodMessage good) (spelled canon vs)
+pub messages_fit : {V : Type 0} {good : ℕ → List ℕ → Type 0} {of : Views → V} {canon : V → Rows} {fits : V → Type 0} → Law good of canon fits
+    → (vs : List V) → FitsMessages fits canon vs → Fit (IsGoodMessage good) (spelled canon vs)
 messages_fit {V} {good} {of} {canon} {fits} law [] h = tt
 messages_fit {V} {good} {of} {canon} {fits} law (v ∷ vs) h = ((good_spelling good of canon v (law.again v h.0.0), h.0.1), messages_fit law vs h.1)
 
-pub messages_again : {V : Type 0} {good : ℕ → List ℕ → Type 0} {of : Views → V} {canon : V → Rows} {fits : V → Type 0} → Law good of canon fits → (vs : List V) → FitsMessages fits canon vs → messages (value_of of) (spelled canon vs) ≡ vs
+pub messages_again : {V : Type 0} {good : ℕ → List ℕ → Type 0} {of : Views → V} {canon : V → Rows} {fits : V → Type 0} → Law good of canon fits
+    → (vs : List V) → FitsMessages fits canon vs → messages (value_of of) (spelled canon vs) ≡ vs
 messages_again {V} {good} {of} {canon} {fits} law [] h = refl
 messages_again {V} {good} {of} {canon} {fits} law (v ∷ vs) h =
     ap (λ (w : V). w ∷ messages (value_of of) (spelled canon vs)) (value_again law.laws.fields good of canon v (law.again v h.0.0))
@@ -132,7 +143,11 @@ presence_again false = refl
 -- ---- maps
 
 pub map_entry_law : SpellingLaws → Law (Good map_entry_schema) map_entry_in canon_map_entry FitsMapEntry
-map_entry_law l = record { laws = l; again = λ e f. rows_again l (Good map_entry_schema) map_entry_in (canon_map_entry e) e refl ((tt, (f.0, tt)), (f.1, tt)) refl }
+map_entry_law l = record {
+  laws = l;
+  again = λ e f. rows_again l (Good map_entry_schema) map_entry_in (canon_map_entry e) e refl
+      ((tt, (f.0, tt)), (f.1, tt)) refl;
+}
 
 pub map_fit : SpellingLaws → (m : TextMap) → FitsMap m → Fit (IsGoodMessage (Good map_entry_schema)) (spelled canon_map_entry (entries m))
 map_fit l m h = messages_fit (map_entry_law l) (entries m) h
@@ -144,5 +159,6 @@ map_again l m h =
 
 -- ---- a message in a variant
 
-pub mapped : {V W : Type 0} {good : WireField → Type 0} {value : List WireField → V} {bytes : List ℕ} {v : V} (f : V → W) → Means good value bytes v → Means good (λ es. f (value es)) bytes (f v)
+pub mapped : {V W : Type 0} {good : WireField → Type 0} {value : List WireField → V} {bytes : List ℕ} {v : V} (f : V → W) → Means good value bytes v
+    → Means good (λ es. f (value es)) bytes (f v)
 mapped f m = record { fields = m.fields; whole = m.whole; each = m.each; is = ap f m.is }

@@ -1,5 +1,6 @@
 -- A table of rows with rising numbers, written and read again: under each number stands what its row says.
-use Rattle.std.proofs.Common.{◌≡◌, ℕ, ◌^◌, ◌<◌, Bool, true, false, cond, eqb, ltb, List, [], ◌∷◌, ◌++◌, map, length, Option, None, Some, refl, sym, ap, subst, ◌∙◌, arith}
+use Rattle.std.proofs.Common.{◌≡◌, ℕ, ◌^◌, ◌<◌, Bool, true, false, cond, eqb, ltb, List, [], ◌∷◌, ◌++◌, map, length, Option, None, Some, refl, sym}
+use Rattle.std.proofs.Common.{ap, subst, ◌∙◌, arith}
 use Rattle.std.specs.Prelude.{nat_lt, ◌&&◌, ◌==◌, if◌then◌else◌}
 use Rattle.std.specs.List.{filter_map, cons_option, AllByRecursion}
 use Rattle.std.proofs.lemmas.List.{append-nil}
@@ -10,7 +11,8 @@ use Rattle.pbwire.specs.Writing.{spellings}
 use Rattle.pbmessage.specs.Schema.{GoodField}
 use Rattle.pbmessage.specs.Fields.{Means}
 use Rattle.pbmessage.specs.Views.{Views, Payloads, views, payload_of, number_of, member_of, value_of}
-use Rattle.pbmessage.specs.Canon.{Row, Numbers, Strings, Rows, Start, ◌▸◌, payload_fields, number_fields, row_fields, fields, bytes_of, row_number, above, rises}
+use Rattle.pbmessage.specs.Canon.{Row, Numbers, Strings, Rows, Start, ◌▸◌, payload_fields, number_fields, row_fields, fields, bytes_of, row_number}
+use Rattle.pbmessage.specs.Canon.{above, rises}
 use Rattle.pbmessage.specs.facts.Laws.{SpellingLaws}
 use Rattle.pbmessage.specs.facts.Fields.{Reads, read_are}
 
@@ -39,10 +41,14 @@ both_so : (a b : Bool) → (a && b) ≡ true → (a ≡ true) × (b ≡ true)
 both_so true b e = (refl, e)
 both_so false b e = absurd cc
 
-kept : {B : Type 0} (f : WireField → Option B) (g : List ℕ → B) (k : ℕ) (t : Bool) → ((p : List ℕ) → f (record { number = k; part = Payload p }) ≡ cond t (Some (g p)) None) → (ps : Payloads) → filter_map f (payload_fields k ps) ≡ cond t (map g ps) []
+kept : {B : Type 0} (f : WireField → Option B) (g : List ℕ → B) (k : ℕ) (t : Bool) → ((p : List ℕ) → f (record {
+  number = k;
+  part = Payload p;
+}) ≡ cond t (Some (g p)) None) → (ps : Payloads) → filter_map f (payload_fields k ps) ≡ cond t (map g ps) []
 kept f g k true is [] = refl
 kept f g k false is [] = refl
-kept {B} f g k true is (p ∷ ps) = ap (λ (o : Option B). cons_option o (filter_map f (payload_fields k ps))) (is p) ∙ ap (λ (bs : List B). g p ∷ bs) (kept f g k true is ps)
+kept {B} f g k true is (p ∷ ps) = ap (λ (o : Option B). cons_option o (filter_map f (payload_fields k ps))) (is p)
+    ∙ ap (λ (bs : List B). g p ∷ bs) (kept f g k true is ps)
 kept {B} f g k false is (p ∷ ps) = ap (λ (o : Option B). cons_option o (filter_map f (payload_fields k ps))) (is p) ∙ kept f g k false is ps
 
 map_itself : (ps : Payloads) → map (λ p. p) ps ≡ ps
@@ -53,17 +59,25 @@ pub none_either : {A : Type 0} (t : Bool) → cond {A = Option A} t None None �
 none_either true = refl
 none_either false = refl
 
-dropped : {B : Type 0} (f : WireField → Option B) (k : ℕ) → ((p : List ℕ) → f (record { number = k; part = Payload p }) ≡ None) → (ps : Payloads) → filter_map f (payload_fields k ps) ≡ []
+dropped : {B : Type 0} (f : WireField → Option B) (k : ℕ) → ((p : List ℕ) → f (record {
+  number = k;
+  part = Payload p;
+}) ≡ None) → (ps : Payloads) → filter_map f (payload_fields k ps) ≡ []
 dropped f k is [] = refl
 dropped {B} f k is (p ∷ ps) = ap (λ (o : Option B). cons_option o (filter_map f (payload_fields k ps))) (is p) ∙ dropped f k is ps
 
 kept_numbers : (n k : ℕ) (t : Bool) → eqb k n ≡ t → (xs : List ℕ) → filter_map (number_of n) (number_fields k xs) ≡ cond t xs []
 kept_numbers n k true is [] = refl
 kept_numbers n k false is [] = refl
-kept_numbers n k true is (x ∷ xs) = ap (λ (b : Bool). cons_option (cond b (Some x) None) (filter_map (number_of n) (number_fields k xs))) is ∙ ap (λ (ys : List ℕ). x ∷ ys) (kept_numbers n k true is xs)
-kept_numbers n k false is (x ∷ xs) = ap (λ (b : Bool). cons_option (cond b (Some x) None) (filter_map (number_of n) (number_fields k xs))) is ∙ kept_numbers n k false is xs
+kept_numbers n k true is (x ∷ xs) = ap (λ (b : Bool). cons_option (cond b (Some x) None) (filter_map (number_of n) (number_fields k xs))) is
+    ∙ ap (λ (ys : List ℕ). x ∷ ys) (kept_numbers n k true is xs)
+kept_numbers n k false is (x ∷ xs) = ap (λ (b : Bool). cons_option (cond b (Some x) None) (filter_map (number_of n) (number_fields k xs))) is
+    ∙ kept_numbers n k false is xs
 
-dropped_numbers : {B : Type 0} (f : WireField → Option B) (k : ℕ) → ((x : ℕ) → f (record { number = k; part = Number x }) ≡ None) → (xs : List ℕ) → filter_map f (number_fields k xs) ≡ []
+dropped_numbers : {B : Type 0} (f : WireField → Option B) (k : ℕ) → ((x : ℕ) → f (record {
+  number = k;
+  part = Number x;
+}) ≡ None) → (xs : List ℕ) → filter_map f (number_fields k xs) ≡ []
 dropped_numbers f k is [] = refl
 dropped_numbers {B} f k is (x ∷ xs) = ap (λ (o : Option B). cons_option o (filter_map f (number_fields k xs))) (is x) ∙ dropped_numbers f k is xs
 
@@ -92,7 +106,12 @@ appended : {A : Type 0} (b : Bool) (old new : List A) → old ++ cond b new [] �
 appended true old new = refl
 appended false old new = append-nil old
 
-views_more : (es fs : List WireField) (a b : Views) → views es ≡ a → views fs ≡ b → views (es ++ fs) ≡ record { payloads = λ n. a.payloads n ++ b.payloads n; numbers = λ n. a.numbers n ++ b.numbers n; members = λ t. a.members t ++ b.members t }
+views_more : (es fs : List WireField) (a b : Views) → views es ≡ a → views fs ≡ b
+    → views (es ++ fs) ≡ record {
+      payloads = λ n. a.payloads n ++ b.payloads n;
+      numbers = λ n. a.numbers n ++ b.numbers n;
+      members = λ t. a.members t ++ b.members t;
+    }
 unfolding views
 views_more es fs a b p q =
     (λ i. record {
@@ -100,9 +119,17 @@ views_more es fs a b p q =
       numbers = λ n. filter_map-append (number_of n) es fs i;
       members = λ t. filter_map-append (member_of t) es fs i;
     })
-    ∙ (λ i. record { payloads = λ n. (p i).payloads n ++ (q i).payloads n; numbers = λ n. (p i).numbers n ++ (q i).numbers n; members = λ t. (p i).members t ++ (q i).members t })
+    ∙ (λ i. record {
+      payloads = λ n. (p i).payloads n ++ (q i).payloads n;
+      numbers = λ n. (p i).numbers n ++ (q i).numbers n;
+      members = λ t. (p i).members t ++ (q i).members t;
+    })
 
-views_strings : (k : ℕ) (ps : Payloads) → views (payload_fields k ps) ≡ record { payloads = λ n. cond (eqb k n) ps []; numbers = λ n. []; members = λ t. cond (t k) (map (λ p. (k, p)) ps) [] }
+views_strings : (k : ℕ) (ps : Payloads) → views (payload_fields k ps) ≡ record {
+  payloads = λ n. cond (eqb k n) ps [];
+  numbers = λ n. [];
+  members = λ t. cond (t k) (map (λ p. (k, p)) ps) [];
+}
 unfolding views
 views_strings k ps = λ i. record {
   payloads = λ n. (kept (payload_of n) (λ p. p) k (eqb k n) (λ p. refl) ps ∙ ap (λ (qs : Payloads). cond (eqb k n) qs []) (map_itself ps)) i;
@@ -129,7 +156,11 @@ views_rows Start e = views_start
 views_rows (rs ▸ Numbers k xs) e =
     let h = both_so (rises rs) (above rs k && (nat_lt 0 k && nat_lt k (2 ^ 29))) e in
     let up : above rs k ≡ true = (both_so (above rs k) (nat_lt 0 k && nat_lt k (2 ^ 29)) h.1).0 in
-    views_more (fields rs) (number_fields k xs) (views_at rs) (record { payloads = λ n. []; numbers = λ n. cond (eqb k n) xs []; members = λ t. [] }) (views_rows rs h.0) (views_numbers k xs)
+    views_more (fields rs) (number_fields k xs) (views_at rs) (record {
+      payloads = λ n. [];
+      numbers = λ n. cond (eqb k n) xs [];
+      members = λ t. [];
+    }) (views_rows rs h.0) (views_numbers k xs)
     ∙ (λ i. record {
       payloads = λ n. append-nil (payloads_at n rs) i;
       numbers = λ n. placed (eqb k n) (numbers_at n rs) xs (λ is. subst (λ (j : ℕ). numbers_at j rs ≡ []) (eqb-true k n is) (no_numbers_below rs k up)) i;
@@ -138,7 +169,11 @@ views_rows (rs ▸ Numbers k xs) e =
 views_rows (rs ▸ Strings k ps) e =
     let h = both_so (rises rs) (above rs k && (nat_lt 0 k && nat_lt k (2 ^ 29))) e in
     let up : above rs k ≡ true = (both_so (above rs k) (nat_lt 0 k && nat_lt k (2 ^ 29)) h.1).0 in
-    views_more (fields rs) (payload_fields k ps) (views_at rs) (record { payloads = λ n. cond (eqb k n) ps []; numbers = λ n. []; members = λ t. cond (t k) (map (λ p. (k, p)) ps) [] }) (views_rows rs h.0) (views_strings k ps)
+    views_more (fields rs) (payload_fields k ps) (views_at rs) (record {
+      payloads = λ n. cond (eqb k n) ps [];
+      numbers = λ n. [];
+      members = λ t. cond (t k) (map (λ p. (k, p)) ps) [];
+    }) (views_rows rs h.0) (views_strings k ps)
     ∙ (λ i. record {
       payloads = λ n. placed (eqb k n) (payloads_at n rs) ps (λ is. subst (λ (j : ℕ). payloads_at j rs ≡ []) (eqb-true k n is) (none_below rs k up)) i;
       numbers = λ n. append-nil (numbers_at n rs) i;
@@ -163,15 +198,18 @@ pub all_append : {A : Type 0} (P : A → Type 0) (es fs : List A) → AllByRecur
 all_append P [] fs a b = b
 all_append P (e ∷ es) fs a b = (a.0, all_append P es fs a.1 b)
 
-sound_strings : (good : ℕ → List ℕ → Type 0) (k : ℕ) → 0 < k → k < 2 ^ 29 → (ps : Payloads) → FitsRow good (Strings k ps) → AllByRecursion (Sound good) (payload_fields k ps)
+sound_strings : (good : ℕ → List ℕ → Type 0) (k : ℕ) → 0 < k → k < 2 ^ 29 → (ps : Payloads) → FitsRow good (Strings k ps)
+    → AllByRecursion (Sound good) (payload_fields k ps)
 sound_strings good k low high [] h = tt
 sound_strings good k low high (p ∷ ps) h = ((record { positive = omega arith; low = high; part = h.0.1 }, h.0.0), sound_strings good k low high ps h.1)
 
-sound_numbers : (good : ℕ → List ℕ → Type 0) (k : ℕ) → 0 < k → k < 2 ^ 29 → (xs : List ℕ) → FitsRow good (Numbers k xs) → AllByRecursion (Sound good) (number_fields k xs)
+sound_numbers : (good : ℕ → List ℕ → Type 0) (k : ℕ) → 0 < k → k < 2 ^ 29 → (xs : List ℕ) → FitsRow good (Numbers k xs)
+    → AllByRecursion (Sound good) (number_fields k xs)
 sound_numbers good k low high [] h = tt
 sound_numbers good k low high (x ∷ xs) h = ((record { positive = omega arith; low = high; part = h.0 }, tt), sound_numbers good k low high xs h.1)
 
-sound_row : (good : ℕ → List ℕ → Type 0) (r : Row) → (nat_lt 0 (row_number r) && nat_lt (row_number r) (2 ^ 29)) ≡ true → FitsRow good r → AllByRecursion (Sound good) (row_fields r)
+sound_row : (good : ℕ → List ℕ → Type 0) (r : Row) → (nat_lt 0 (row_number r) && nat_lt (row_number r) (2 ^ 29)) ≡ true → FitsRow good r
+    → AllByRecursion (Sound good) (row_fields r)
 unfolding row_fields
 sound_row good (Numbers k xs) e h = let b = both_so (nat_lt 0 k) (nat_lt k (2 ^ 29)) e in sound_numbers good k (ltb-true 0 k b.0) (ltb-true k (2 ^ 29) b.1) xs h
 sound_row good (Strings k ps) e h = let b = both_so (nat_lt 0 k) (nat_lt k (2 ^ 29)) e in sound_strings good k (ltb-true 0 k b.0) (ltb-true k (2 ^ 29) b.1) ps h
@@ -197,7 +235,8 @@ spelled_read l good (e ∷ es) a = (spellings es, l.again e (spellings es) a.0.0
 abbrev pub RoundTrip : {V : Type 0} → (ℕ → List ℕ → Type 0) → (Views → V) → (V → Rows) → V → Type 0
 RoundTrip good of canon v = Means (GoodField good) (value_of of) (bytes_of (canon v)) v
 
-pub rows_again : {V : Type 0} → SpellingLaws → (good : ℕ → List ℕ → Type 0) (of : Views → V) (rs : Rows) (v : V) → rises rs ≡ true → FitsRows good rs → of (views_at rs) ≡ v → Means (GoodField good) (value_of of) (bytes_of rs) v
+pub rows_again : {V : Type 0} → SpellingLaws → (good : ℕ → List ℕ → Type 0) (of : Views → V) (rs : Rows) (v : V) → rises rs ≡ true → FitsRows good rs
+    → of (views_at rs) ≡ v → Means (GoodField good) (value_of of) (bytes_of rs) v
 rows_again l good of rs v up fit is =
     let sound = sound_rows good rs up fit in
     record {

@@ -1,5 +1,6 @@
 -- What one more field changes in the views.
-use Rattle.std.proofs.Common.{◌≡◌, ℕ, Bool, true, false, cond, eqb, List, [], ◌∷◌, ◌++◌, reverse, ℤ, of_z, to_z, ◌<◌, ◌^◌, Option, None, Some, refl, sym, ap, ◌∙◌, Result, Ok, Err, OnOk}
+use Rattle.std.proofs.Common.{◌≡◌, ℕ, Bool, true, false, cond, eqb, List, [], ◌∷◌, ◌++◌, reverse, ℤ, of_z, to_z, ◌<◌, ◌^◌, Option, None, Some, refl}
+use Rattle.std.proofs.Common.{sym, ap, ◌∙◌, Result, Ok, Err, OnOk}
 use Rattle.std.specs.List.{filter_map, cons_option}
 use Rattle.std.specs.Int.{cast_signed, w32, w64}
 use Rattle.std.proofs.lemmas.Int.{of_z-to_z}
@@ -11,7 +12,8 @@ use Rattle.pbwire.specs.declared.field.Field.{Field}
 use Rattle.pbwire.specs.declared.field.Value.{Value}
 use Rattle.pbwire.specs.Wire.{WireField, Part, Number, Eight, Payload, Four}
 use Rattle.pbwire.specs.Reading.{wire_field_of, part_of}
-use Rattle.pbmessage.specs.Views.{Views, Payloads, views, payload_of, number_of, member_of, last_or, with_payload, with_number, joined, no_views, one_of, last_run, run_at, is_present}
+use Rattle.pbmessage.specs.Views.{Views, Payloads, views, payload_of, number_of, member_of, last_or, with_payload, with_number, joined, no_views}
+use Rattle.pbmessage.specs.Views.{one_of, last_run, run_at, is_present}
 use Rattle.pbmessage.specs.facts.Rows.{none_either}
 use Rattle.std.proofs.lemmas.Bool.{eq-eqb, eqb-true}
 
@@ -21,7 +23,8 @@ with_part k (Eight p) v = v
 with_part k (Payload p) v = with_payload k p v
 with_part k (Four p) v = v
 
-pushed : {A B : Type 0} (f : A → Option B) (xs : List A) (x : A) (t : Bool) (y : B) → f x ≡ cond t (Some y) None → filter_map f (xs ++ x ∷ []) ≡ cond t (filter_map f xs ++ y ∷ []) (filter_map f xs)
+pushed : {A B : Type 0} (f : A → Option B) (xs : List A) (x : A) (t : Bool) (y : B) → f x ≡ cond t (Some y) None
+    → filter_map f (xs ++ x ∷ []) ≡ cond t (filter_map f xs ++ y ∷ []) (filter_map f xs)
 pushed {A} {B} f xs x t y e = filter_map-append f xs (x ∷ []) ∙ ap (λ (o : Option B). filter_map f xs ++ cons_option o []) e ∙ by t
   where
     by : (t : Bool) → filter_map f xs ++ cons_option (cond t (Some y) None) [] ≡ cond t (filter_map f xs ++ y ∷ []) (filter_map f xs)
@@ -56,8 +59,12 @@ views-push fs k (Four p) = λ i. record {
 }
 
 -- the same for a field of the program
-pub after_field : {V : Type 0} (of : Views → V) (fs : List WireField) (f : Field) (value : Value) → f.value ≡ value → of (with_part f.number (part_of value) (views fs)) ≡ of (views (fs ++ wire_field_of f ∷ []))
-after_field of fs f value v = sym (ap (λ (e : WireField). of (views (fs ++ e ∷ []))) (λ i. record { number = f.number; part = part_of (v i) }) ∙ ap of (views-push fs f.number (part_of value)))
+pub after_field : {V : Type 0} (of : Views → V) (fs : List WireField) (f : Field) (value : Value) → f.value ≡ value
+    → of (with_part f.number (part_of value) (views fs)) ≡ of (views (fs ++ wire_field_of f ∷ []))
+after_field of fs f value v = sym (ap (λ (e : WireField). of (views (fs ++ e ∷ []))) (λ i. record {
+  number = f.number;
+  part = part_of (v i);
+}) ∙ ap of (views-push fs f.number (part_of value)))
 
 pub last_after : {A : Type 0} (d : A) (xs : List A) (x : A) → last_or d (xs ++ x ∷ []) ≡ x
 last_after d [] x = refl

@@ -1,7 +1,7 @@
 //! Rows about frames that are whole in memory.
 
 use crate::shown::displayed;
-use frames_core::{Call, FrameFault, Reply, ReplyFault, Taken, TakenReply, take_frame, take_reply};
+use envelope::{Call, FrameFault, Reply, ReplyFault, Taken, TakenReply, take_frame, take_reply};
 use std::alloc::Global;
 use std::str;
 use test_kit::{RowFault, bytes_of, bytes_text, put_part};

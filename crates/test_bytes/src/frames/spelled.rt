@@ -2,7 +2,7 @@
 
 use super::parts::text_of;
 use crate::shown::displayed;
-use frames_core::{
+use envelope::{
     FrameFault, FrameWhy, MAX_BODY_BYTES, MAX_FRAME_BYTES, MAX_HEAD_BYTES, MAX_MESSAGE_BYTES,
     MAX_PATH_BYTES, MAX_REFUSAL_TEXT_BYTES, MAX_REPLY_BYTES, MAX_REPLY_HEAD_BYTES, MAX_TEXT_BYTES,
     REPLY_HEAD_BYTES, fault_text, refusal_frame, reply_head,

@@ -9,7 +9,7 @@ use test_kit::RowFault;
 pub(crate) enum End<'a> {
     Done,
     /// At a fault of this text.
-    Fault(&'a str),
+    StreamFault(&'a str),
     ReadFailed,
     WriteFailed,
 }
@@ -81,7 +81,7 @@ fn is_end(alloc: Global, end: RunEnd, wanted: End<'_>) -> Result<bool, AllocErro
         (RunEnd::Done, End::Done) => Ok(true),
         (RunEnd::ReadFailed, End::ReadFailed) => Ok(true),
         (RunEnd::WriteFailed, End::WriteFailed) => Ok(true),
-        (RunEnd::Malformed(fault), End::Fault(text)) => {
+        (RunEnd::Malformed(fault), End::StreamFault(text)) => {
             Ok(format!(in alloc; "{fault}")?.as_str() == text)
         }
         _ => Ok(false),

@@ -18,7 +18,8 @@ const STORE_DOWN: &[u8] = b"\x0d\x00\x0dstore is down\x00\x00\x00\x00\x00";
 /// More calls of the store than any row makes.
 pub(super) const MOST_CALLS: u64 = 1_000_000;
 
-/// A run over a store that refuses a call: its end, what was written, and how many refusals the store counted.
+/// A run over a store that refuses a call: its end, what was written, and how many refusals the store
+/// counted.
 #[derive(Drop)]
 pub(super) struct Run {
     end: RunEnd,
@@ -186,7 +187,8 @@ impl Trials<'_> {
         })
     }
 
-    /// The replies to the calls behind so many, where each that asks the store is refused like this. How many are.
+    /// The replies to the calls behind so many, where each that asks the store is refused like this. How many
+    /// are.
     pub(super) fn put_refused(
         &self,
         behind: usize,

@@ -13,7 +13,7 @@ pub(crate) struct Call {
 
 /// The fault that ends a stream.
 #[derive(Drop)]
-pub(crate) struct Fault {
+pub(crate) struct StreamFault {
     pub(crate) text: String,
     /// How many bytes of the stream make it known.
     pub(crate) known_at: usize,
@@ -26,7 +26,7 @@ pub(crate) struct Stream {
     pub(crate) input: Vec<u8>,
     pub(crate) output: Vec<u8>,
     pub(crate) calls: Vec<Call>,
-    pub(crate) fault: Option<Fault>,
+    pub(crate) fault: Option<StreamFault>,
 }
 
 impl Drop for Stream {
@@ -144,8 +144,8 @@ impl Stream {
     }
 }
 
-fn fault_of(alloc: Global, text: &str, known_at: usize) -> Result<Fault, AllocError> {
-    Ok(Fault {
+fn fault_of(alloc: Global, text: &str, known_at: usize) -> Result<StreamFault, AllocError> {
+    Ok(StreamFault {
         text: String::from_str(alloc, text)?,
         known_at,
         frame: refusal(alloc, text)?,

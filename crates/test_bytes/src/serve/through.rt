@@ -5,7 +5,7 @@ use super::store::{MOST_CALLS, Refused, STORE_REFUSED};
 use super::trials::Trials;
 use csi_memory::MemKeeper;
 use csi_memory::fakes::FusedMem;
-use csi_through::{Logged, Through};
+use csi_through::{KeeperChanges, Through};
 use test_kit::RowFault;
 
 impl Trials<'_> {
@@ -14,31 +14,34 @@ impl Trials<'_> {
     /// # Errors
     ///
     /// The first run that differs from what is wanted.
-    pub(crate) fn log(&self) -> Result<(), RowFault> {
+    pub(crate) fn change_store(&self) -> Result<(), RowFault> {
         for at in 0..MOST_CALLS {
             let trial = Trial {
                 name: "refused change of the log",
                 number: at,
             };
-            if self.judge(trial, &self.serve_over_log(at)?)?.is_none() {
+            if self
+                .judge(trial, &self.serve_over_change_store(at)?)?
+                .is_none()
+            {
                 return Ok(());
             }
         }
         Err(RowFault::Refused("the log was asked too often"))
     }
 
-    fn serve_over_log(&self, at: u64) -> Result<Refused, RowFault> {
+    fn serve_over_change_store(&self, at: u64) -> Result<Refused, RowFault> {
         let memory = MemKeeper::new(self.alloc, 1)?;
-        let log = FusedMem::new(self.alloc, 1, at)?;
-        let mut keeper = Through::new(memory, Logged::new(log));
+        let change_store = FusedMem::new(self.alloc, 1, at)?;
+        let mut keeper = Through::new(memory, KeeperChanges::new(change_store));
         let run = self.run_over(&mut keeper)?;
         let is_down = keeper.is_down();
-        let mut log = keeper.into_log().into_keeper().into_keeper();
-        self.look(run, is_down, &mut log)
+        let mut change_store = keeper.into_change_store().into_keeper().into_keeper();
+        self.look(run, is_down, &mut change_store)
     }
 
-    /// Each read is refused in turn by the memory, and each change that the log has made. The log has what was
-    /// answered with OK.
+    /// Each read is refused in turn by the memory, and each change that the log has made. The log has what
+    /// was answered with OK.
     ///
     /// # Errors
     ///
@@ -55,13 +58,13 @@ impl Trials<'_> {
     // A call of the memory is refused: whether there are so many.
     fn refuse_in_memory(&self, at: u64) -> Result<bool, RowFault> {
         let memory = FusedMem::new(self.alloc, 1, at)?;
-        let log = MemKeeper::new(self.alloc, 1)?;
-        let mut keeper = Through::new(memory, Logged::new(log));
+        let change_store = MemKeeper::new(self.alloc, 1)?;
+        let mut keeper = Through::new(memory, KeeperChanges::new(change_store));
         let run = self.run_over(&mut keeper)?;
         let is_down = keeper.is_down();
         let is_current = keeper.is_current();
-        let mut log = keeper.into_log().into_keeper();
-        let came = self.look(run, is_down, &mut log)?;
+        let mut change_store = keeper.into_change_store().into_keeper();
+        let came = self.look(run, is_down, &mut change_store)?;
         self.judge_memory(at, is_current, &came)
     }
 
@@ -77,8 +80,8 @@ impl Trials<'_> {
         Ok(true)
     }
 
-    // The memory is behind a change that was answered with OK: each later call that asks it is refused, and changes
-    // nothing.
+    // The memory is behind a change that was answered with OK: each later call that asks it is refused, and
+    // changes nothing.
     fn judge_behind(&self, trial: Trial, came: &Refused) -> Result<(), RowFault> {
         let calls = self.answered(&came.served.written);
         let mut replies = Vec::from_slice(self.alloc, self.stream.replies(calls))?;

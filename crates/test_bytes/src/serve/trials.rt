@@ -55,7 +55,7 @@ impl Trials<'_> {
             Server::Volumes(_) => {
                 self.again()?;
                 self.store()?;
-                self.log()?;
+                self.change_store()?;
                 self.memory()?;
                 Ok(
                     "ok in pieces, cut, ended, reads failed, writes failed, sent again, store refused, log refused, memory refused",
@@ -76,7 +76,7 @@ impl Trials<'_> {
     /// What is wanted of the whole stream.
     pub(crate) fn whole(&self) -> Wanted<'_> {
         let end = match &self.stream.fault {
-            Some(fault) => End::Fault(fault.text.as_str()),
+            Some(fault) => End::StreamFault(fault.text.as_str()),
             None => End::Done,
         };
         Wanted {
@@ -147,7 +147,7 @@ impl Trials<'_> {
         }
         let text = format!(in self.alloc; "end of input at byte {at}")?;
         let frame = refusal(self.alloc, text.as_str())?;
-        self.ended(at, End::Fault(text.as_str()), frame.as_slice())
+        self.ended(at, End::StreamFault(text.as_str()), frame.as_slice())
     }
 
     // The input ends behind so many bytes, and the run like this, unless they make a fault known.

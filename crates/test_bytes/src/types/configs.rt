@@ -1,5 +1,5 @@
-//! Rows about configurations. What a row does not give is the plugin `x` in version 1, both sizes 1 MiB, the pool `p`
-//! of 1 MiB without segments, and no node.
+//! Rows about configurations. What a row does not give is the plugin `x` in version 1, both sizes 1 MiB, the
+//! pool `p` of 1 MiB without segments, and no node.
 
 use crate::shown::{displayed, in_rust};
 use csi_config::{Config, ConfigFault, Pool, Sizes};

@@ -120,8 +120,8 @@ fn entries_told(alloc: Global, map: &Map) -> Result<String, RowFault> {
     Ok(told)
 }
 
-/// Of `over KEY VALUE .. under KEY VALUE ..`: the entries of the second map with the first laid over it, as they come
-/// out, and their bytes; and whether the second had each of the first.
+/// Of `over KEY VALUE .. under KEY VALUE ..`: the entries of the second map with the first laid over it, as
+/// they come out, and their bytes; and whether the second had each of the first.
 pub(crate) fn over_answer(alloc: Global, words: &[&str]) -> Result<String, RowFault> {
     let parts = words.iter().position(|word| *word == "under");
     let place = parts.ok_or(RowFault::NotRow)?;
@@ -137,7 +137,8 @@ pub(crate) fn over_answer(alloc: Global, words: &[&str]) -> Result<String, RowFa
     Ok(format!(in alloc; "{told} of {} bytes; {had} each", map_bytes(&laid))?)
 }
 
-/// Of `capability none`, `capability block` or `capability mount TYPE GROUP MODE FLAG ..`: the value of a copy.
+/// Of `capability none`, `capability block` or `capability mount TYPE GROUP MODE FLAG ..`: the value of a
+/// copy.
 pub(crate) fn capability_answer(alloc: Global, words: &[&str]) -> Result<String, RowFault> {
     let capability = capability_of(alloc, words)?;
     in_rust(alloc, &copy_capability(alloc, &capability)?)

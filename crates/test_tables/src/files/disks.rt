@@ -44,7 +44,10 @@ impl<D: Disk> Disk for Full<D> {
 
     ghost faults = { λ f. D.Disk.faults f.inner + f.refused };
 
-    ghost tally_of = { λ f. both_counts (D.Disk.tally_of f.inner) (record { caught = 0; refused = f.refused }) };
+    ghost tally_of = { λ f. both_counts (D.Disk.tally_of f.inner) (record {
+      caught = 0;
+      refused = f.refused;
+    }) };
 
     ghost is_rotten = { λ f. D.Disk.is_rotten f.inner };
 
@@ -122,7 +125,8 @@ pub(crate) struct Lie {
     pub(crate) bits: u8,
 }
 
-/// A disk that may return another byte than was written. A read that is tested by a digest finds that, any other one does not.
+/// A disk that may return another byte than was written. A read that is tested by a digest finds that, any
+/// other one does not.
 #[derive(Drop)]
 pub(crate) struct Liar<D: Disk> {
     inner: D,
@@ -168,7 +172,10 @@ impl<D: Disk> Disk for Liar<D> {
 
     ghost faults = { λ f. D.Disk.faults f.inner + f.caught + f.failed };
 
-    ghost tally_of = { λ f. both_counts (D.Disk.tally_of f.inner) (record { caught = f.caught; refused = 0 }) };
+    ghost tally_of = { λ f. both_counts (D.Disk.tally_of f.inner) (record {
+      caught = f.caught;
+      refused = 0;
+    }) };
 
     ghost key_of = { λ f. D.Disk.key_of f.inner };
 

@@ -61,7 +61,8 @@ fn holding(alloc: Global, bytes: &[u8]) -> Result<Memory, RowFault>
     Ok(file)
 }
 
-/// Lays files with these bytes out, and counts what comes of them. `page` is what a database file has that was made.
+/// Lays files with these bytes out, and counts what comes of them. `page` is what a database file has that
+/// was made.
 pub(crate) fn lay(
     alloc: Global,
     page: &[u8],

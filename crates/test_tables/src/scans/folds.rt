@@ -19,7 +19,7 @@ impl Fold for Showing {
 
     ghost starts = { λ _. tt };
 
-    fn take(&mut self, row: &Row) -> Result<(), Error> {
+    fn add_row(&mut self, row: &Row) -> Result<(), Error> {
         Ok(put_row(&mut self.text, self.alloc, row)?)
     }
 }

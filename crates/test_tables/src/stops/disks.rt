@@ -27,7 +27,7 @@ pub(crate) enum Which {
     /// The database file.
     Database,
     /// Each of the two, behind so many calls of its own.
-    Both,
+    FoldPair,
 }
 
 /// A moment at which a disk stops, and what becomes of it.
@@ -41,7 +41,8 @@ pub(crate) struct Stop {
     pub(crate) closes: bool,
     /// What was not synchronised is lost.
     pub(crate) loses: bool,
-    /// The run is one of `csi_files`, over files of which this becomes. Otherwise tables are adopted on a connection to files that stop.
+    /// The run is one of `csi_files`, over files of which this becomes. Otherwise tables are adopted on a
+    /// connection to files that stop.
     pub(crate) trouble: Option<Trouble>,
 }
 
@@ -51,7 +52,7 @@ impl Stop {
         match self.which {
             Which::Log => (self.calls, u64::MAX),
             Which::Database => (u64::MAX, self.calls),
-            Which::Both => (self.calls, self.calls),
+            Which::FoldPair => (self.calls, self.calls),
         }
     }
 }
@@ -61,7 +62,7 @@ impl fmt::Display for Stop {
         let which = match self.which {
             Which::Log => "log",
             Which::Database => "database",
-            Which::Both => "both",
+            Which::FoldPair => "both",
         };
         let closes = if self.closes { ", closed" } else { "" };
         let loses = if self.loses {
@@ -121,7 +122,8 @@ pub(crate) fn copied_files(
     })
 }
 
-/// Files with the same bytes, all synchronised, which stop behind so many calls of the log and of the database file.
+/// Files with the same bytes, all synchronised, which stop behind so many calls of the log and of the
+/// database file.
 pub(crate) fn copies(
     alloc: Global,
     files: &Files<Memory>,
@@ -192,7 +194,8 @@ pub(crate) trait Task {
         requires { conn.in_transaction ≡ false };
 }
 
-/// Opens files, does a task over them, and gives them back, closed or as a stop leaves them; or says why they cannot be opened.
+/// Opens files, does a task over them, and gives them back, closed or as a stop leaves them; or says why they
+/// cannot be opened.
 pub(crate) fn over<D: Disk + Drop, T: Task>(
     alloc: Global,
     files: Files<D>,

@@ -84,7 +84,8 @@ impl Wanted<'_> {
         })
     }
 
-    // The next run of `csi_files` over files that are left answers the call as it is answered where nothing stops.
+    // The next run of `csi_files` over files that are left answers the call as it is answered where nothing
+    // stops.
     fn runs_again(&self, stop: Stop, files: &Files<Memory>) -> Result<(), RowFault> {
         let mut reply = Vec::new(self.alloc);
         let (outcome, _) = self.serve(files, self.call, &mut reply)?;

@@ -64,8 +64,8 @@ impl Task for Serving<'_> {
     }
 }
 
-/// Opens files, adopts the tables and answers the calls, and gives the files back. What it cannot open or adopt it does
-/// not answer.
+/// Opens files, adopts the tables and answers the calls, and gives the files back. What it cannot open or
+/// adopt it does not answer.
 pub(crate) fn serve_files<D: Disk + Drop>(
     alloc: Global,
     config: &Config,

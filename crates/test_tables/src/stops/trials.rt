@@ -92,14 +92,14 @@ impl<'a> Trials<'a> {
         }
     }
 
-    /// The disk stops at each of its calls, or with a step above 1 at each of so many: first the log, then the database file, then both;
-    /// what was not synchronised is kept, and then lost.
+    /// The disk stops at each of its calls, or with a step above 1 at each of so many: first the log, then
+    /// the database file, then both; what was not synchronised is kept, and then lost.
     ///
     /// # Errors
     ///
     /// The first stop behind which something is found that must not be.
     pub(crate) fn all(mut self) -> Result<Seen, RowFault> {
-        for which in [Which::Log, Which::Database, Which::Both] {
+        for which in [Which::Log, Which::Database, Which::FoldPair] {
             self.stops_of(which, false)?;
             self.stops_of(which, true)?;
         }

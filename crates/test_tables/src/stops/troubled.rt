@@ -1,4 +1,5 @@
-//! The two files of a database, in memory, with troubles: they stop after so many of their calls, are full after so many writes, or lie.
+//! The two files of a database, in memory, with troubles: they stop after so many of their calls, are full
+//! after so many writes, or lie.
 
 use super::disks::{Stop, copied_files};
 use crate::files::disks::{Full, Liar, Lie};

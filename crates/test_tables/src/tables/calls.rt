@@ -23,7 +23,7 @@ pub(crate) fn call<K: Keeper>(
         "refusals" => numbers_in_words(alloc, &[keeper.refusals()]),
         "next" => numbers_in_words(alloc, &[keeper.next_number()?]),
         "number" | "name" | "page" => volumes(alloc, keeper, &words),
-        "at" | "sizes" | "used" => numbers(alloc, keeper, &words),
+        "at" | "sizes" | "used" | "count" => numbers(alloc, keeper, &words),
         _ => places(alloc, keeper, &words),
     }
 }
@@ -60,6 +60,10 @@ fn numbers<K: Keeper>(alloc: Global, keeper: &mut K, words: &[&str]) -> Result<S
     let found = match word_at(words, 0)? {
         "at" => keeper.attached_at(alloc, name),
         "sizes" => keeper.sizes_in(alloc, name),
+        "count" => {
+            let count = keeper.count_at(alloc, &Text::from_str(alloc, name)?)?;
+            return numbers_in_words(alloc, &[count]);
+        }
         _ => {
             let used = keeper.used_in(&Text::from_str(alloc, name)?)?;
             return numbers_in_words(alloc, &[used.volumes, used.bytes]);

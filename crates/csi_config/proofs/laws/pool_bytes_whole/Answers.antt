@@ -9,7 +9,7 @@ pub returns : goal.returns
 returns c =
     let small : all_bytes c.args.config.now.pools ≤ 2 ^ 62 = up_to _ _ (good c.args.config.now).all in
     record {
-      whole = λ p h. not_off _ (each_passes (λ (p : Pool). not (is_whole p.bytes)) _ (good c.args.config.now).wholes p h);
+      in_granules = λ p h. not_off _ (each_passes (λ (p : Pool). not (is_whole p.bytes)) _ (good c.args.config.now).wholes p h);
       each = λ p h. let one = in_sum c.args.config.now.pools p h in omega (arith, one, small);
       all = small;
     }

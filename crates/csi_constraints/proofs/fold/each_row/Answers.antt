@@ -97,7 +97,7 @@ rows-preserved g c =
           let was = c.rows.invariant.3 (omega (arith, moved.survives.clean)) in
           let given = (rw (c.in_ok-row.was, c.in-Some.is) at (moved.ok clean)) c.args.sql.now [] was.0 was.1 in
           let same = unchanged_then _ _ _ was.2 (rw c.in_ok-row.was at (moved.same clean)) in
-          let took = rw c.in_ok-take.was at c.take.ensures.folded in
+          let took = rw c.in_ok-add_row.was at c.add_row.ensures.folded in
           (_, given, same, took _ was.0 was.3, one_longer was.0 _ _ was.4),
     )
 

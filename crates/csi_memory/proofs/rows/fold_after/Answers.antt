@@ -23,10 +23,10 @@ loop-volume-preserved g c =
     let is : row_told c.lent_at.result ≡ told (deref_pair row) = c.lent_at.ensures ∙ ap (listed_at c.in-Some.volume.now) c.in_ok-nodes.ensures.nodes in
     record {
       folded =
-          subst (λ rows. g.F.PageFold.folds c.args.fold.now rows c.take.new.self)
+          subst (λ rows. g.F.PageFold.folds c.args.fold.now rows c.add.new.self)
           (ap (λ r. map told (map deref_pair c.loop-volume.yielded) ++ r ∷ []) is ∙ page_more deref_pair told c.loop-volume.yielded row)
-          (c.in_ok-take.ensures.folded c.args.fold.now _ c.loop-volume.invariant.folded);
-      kept = c.in_ok-take.ensures.kept c.args.fold.now c.loop-volume.invariant.kept;
+          (c.in_ok-add.ensures.folded c.args.fold.now _ c.loop-volume.invariant.folded);
+      kept = c.in_ok-add.ensures.kept c.args.fold.now c.loop-volume.invariant.kept;
       left = omega (arith, length-append c.loop-volume.yielded (row ∷ []), c.loop-volume.invariant.left, c.if-left-eq0.false);
       over = search rules;
     }

@@ -1,7 +1,7 @@
 use Rattle.std.proofs.Common.{◌∙◌, sym, ap, map}
 use Rattle.csi_keeper.specs.Capability.{key_of}
 use Rattle.csi_keeper.specs.facts.Reads.{if_ok}
-use Rattle.csi_tables.specs.declared.fault.Fault.TheVariants.{Refused}
+use Rattle.csi_tables.specs.declared.fault.TablesFault.TheVariants.{Refused}
 use Rattle.csi_tables.proofs.CellLemmas.{handed_on}
 use Rattle.csi_tables.proofs.EncodingLemmas.{caps_read, caps_not_read, caps_without_keys}
 use Rattle.csi_tables.proofs.encoding.read_caps.Goals as goal

@@ -1,4 +1,4 @@
-use Rattle.csi_tables.specs.declared.fault.Fault.TheVariants.{Refused}
+use Rattle.csi_tables.specs.declared.fault.TablesFault.TheVariants.{Refused}
 use Rattle.csi_tables.proofs.CellLemmas.{handed_on}
 use Rattle.csi_tables.proofs.EncodingLemmas.{params_read, params_not_read}
 use Rattle.csi_tables.proofs.encoding.read_params.Goals as goal

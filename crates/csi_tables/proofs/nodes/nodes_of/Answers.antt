@@ -1,12 +1,12 @@
 use Rattle.std.proofs.Common.{◌≡◌, ◌∙◌, sym, ap, subst, arith, ◌+◌, ◌<◌, ◌≤◌, ℕ, List, [], ◌∷◌, ◌++◌, get_or, take, length, IsUtf8}
 use Rattle.std.specs.List.{AllByRecursion}
-use Rattle.csi_keeper.specs.State.{Place}
+use Rattle.csi_keeper.specs.State.{AttachmentKey}
 use Rattle.sqlite.specs.Order.{Row, column}
 use Rattle.sqlite.specs.declared.types.Value.TheVariants.{Text as Words}
 use Rattle.csi_sql.specs.Rows.{number_value}
 use Rattle.csi_tables.specs.Places.{nodes_at, place_row}
 use Rattle.csi_tables.specs.Reading.{ShowNodes}
-use Rattle.csi_tables.specs.declared.fault.Fault.TheVariants.{Refused}
+use Rattle.csi_tables.specs.declared.fault.TablesFault.TheVariants.{Refused}
 use Rattle.csi_tables.proofs.CellLemmas.{entry_at, handed_on}
 use Rattle.csi_tables.proofs.PlaceLemmas.{place_at, one_more_place, number_at, text_at, nodes_more, nodes_same, all_more, split_nodes, split_rest, stopped, none_left, as_many, below_whole}
 use Rattle.csi_tables.proofs.ReadingLemmas.{nodes_kept, nodes_next}
@@ -38,7 +38,7 @@ loop-passed-preserved c = (
       let more = one_more_place rows ps i d low are in
       let before = c.loop-passed.invariant.0 ps are in
       let below : p.0 ≤ n = let h = c.if-at-number.false in omega (arith, h, is) in
-      let all = subst (λ (xs : List Place). AllByRecursion (λ q. q.0 ≤ n) xs) (sym more) (all_more n (take i ps) p below before.1) in
+      let all = subst (λ (xs : List AttachmentKey). AllByRecursion (λ q. q.0 ≤ n) xs) (sym more) (all_more n (take i ps) p below before.1) in
       elim c.if-at-number-2.branch [
         | then-at-number-2+in_ok-text_in+in_ok-push w ↦
             let text = text_at rows ps i d low are c.index-places-passed.is w.in_ok-text_in.field-0 w.in_ok-text_in.ensures.ok in
@@ -75,10 +75,10 @@ returns-clause-passed c ps up are =
 
 pub returns-in_err-at-clause-refused : goal.returns-in_err-at-clause-refused
 returns-in_err-at-clause-refused c is ps all are =
-    let e = entry_at place_row (λ (p : Place). IsUtf8 p.1) c.args.places.now ps c.loop-passed.passed c.index-places-passed.result (omega arith) all are in
+    let e = entry_at place_row (λ (p : AttachmentKey). IsUtf8 p.1) c.args.places.now ps c.loop-passed.passed c.index-places-passed.result (omega arith) all are in
     c.number_in.ensures.refused (handed_on c.from_residual.result c.number_in.result c.in_err-at.field-0.0 Refused c.from_residual.ensures.1 is c.in_err-at.was) e.0.0 (ap (λ (r : Row). column r 0) (c.index-places-passed.is ∙ e.2))
 
 pub returns-in_err-text_in-clause-refused : goal.returns-in_err-text_in-clause-refused
 returns-in_err-text_in-clause-refused c is ps all are =
-    let e = entry_at place_row (λ (p : Place). IsUtf8 p.1) c.args.places.now ps c.loop-passed.passed c.index-places-passed.result (omega arith) all are in
+    let e = entry_at place_row (λ (p : AttachmentKey). IsUtf8 p.1) c.args.places.now ps c.loop-passed.passed c.index-places-passed.result (omega arith) all are in
     c.text_in.ensures.refused (handed_on c.from_residual-in_err-text_in.result c.text_in.result c.in_err-text_in.field-0.0 Refused c.from_residual-in_err-text_in.ensures.1 is c.in_err-text_in.was) e.0.1 e.1 (ap (λ (r : Row). column r 1) (c.index-places-passed.is ∙ e.2))

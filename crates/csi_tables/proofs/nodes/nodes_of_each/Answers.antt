@@ -1,8 +1,8 @@
 use Rattle.std.proofs.Common.{◌∙◌, ap, arith, ◌<◌, ◌≤◌, drop, map, length, get_or, nat_lt, filter, IsUtf8}
 use Rattle.sqlite_trees.proofs.ListLemmas.{all-filter, ascending-filter}
-use Rattle.csi_keeper.specs.State.{Place}
+use Rattle.csi_keeper.specs.State.{AttachmentKey}
 use Rattle.csi_tables.specs.Places.{place_row}
-use Rattle.csi_tables.specs.declared.fault.Fault.TheVariants.{Refused}
+use Rattle.csi_tables.specs.declared.fault.TablesFault.TheVariants.{Refused}
 use Rattle.csi_tables.proofs.CellLemmas.{handed_on}
 use Rattle.csi_tables.proofs.PlaceLemmas.{drop_row, each_more, later_same}
 use Rattle.csi_tables.proofs.nodes.nodes_of_each.Goals as goal
@@ -19,11 +19,11 @@ loop-number-preserved c ps up rising are =
     let behind = c.in_ok-nodes.ensures.passed qs it.1.1 it.1.2 in (
       c.in_ok-push.ensures.ok ∙ each_more ps ns i c.loop-number.all c.in_ok-nodes.nodes low it.0 (c.in_ok-nodes.ensures.nodes qs it.1.1 it.1.2 ∙ later.0),
       (
-        filter (λ (p : Place). nat_lt n p.0) qs,
+        filter (λ (p : AttachmentKey). nat_lt n p.0) qs,
         ascending-filter (λ a b. a.0 ≤ b.0) (λ p. nat_lt n p.0) qs it.1.1,
         c.split_at.ensures.back ∙ ap (drop c.in_ok-nodes.passed) it.1.2 ∙ drop_row place_row c.in_ok-nodes.passed qs ∙ ap (map place_row) behind,
         later.1,
-        λ texts. all-filter (λ (p : Place). IsUtf8 p.1) (λ p. nat_lt n p.0) qs (it.1.4 texts),
+        λ texts. all-filter (λ (p : AttachmentKey). IsUtf8 p.1) (λ p. nat_lt n p.0) qs (it.1.4 texts),
       ),
     )
 

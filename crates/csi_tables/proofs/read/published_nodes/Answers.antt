@@ -2,7 +2,7 @@ use Rattle.std.proofs.Common.{◌≡◌, ◌∙◌, ap, map, sym, subst, rules}
 use Rattle.sqlite.specs.Held.{state}
 use Rattle.csi_keeper.specs.facts.Reads.{if_ok}
 use Rattle.csi_tables.specs.Places.{nodes_at, AreRising}
-use Rattle.csi_tables.specs.declared.fault.Fault.TheVariants.{Refused}
+use Rattle.csi_tables.specs.declared.fault.TablesFault.TheVariants.{Refused}
 use Rattle.csi_tables.proofs.PageLemmas.{page_nodes_rows, page_nodes_readable}
 use Rattle.csi_tables.proofs.CellLemmas.{handed_on}
 use Rattle.csi_tables.proofs.RefusalLemmas.{read_as, unread}

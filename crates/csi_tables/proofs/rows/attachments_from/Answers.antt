@@ -1,9 +1,9 @@
 use Rattle.std.proofs.Common.{◌∙◌, sym, subst, take, ◌+◌, arith}
-use Rattle.csi_keeper.specs.State.{Place}
+use Rattle.csi_keeper.specs.State.{AttachmentKey}
 use Rattle.csi_keeper.specs.declared.volume.Attachment.{Attachment}
 use Rattle.csi_tables.specs.Holding.{node_entry, IsPlaced, IsReadablePlace}
 use Rattle.csi_tables.specs.Reading.{AreReadOf, ShowsAttachment}
-use Rattle.csi_tables.specs.declared.fault.Fault.TheVariants.{Refused}
+use Rattle.csi_tables.specs.declared.fault.TablesFault.TheVariants.{Refused}
 use Rattle.csi_tables.proofs.CellLemmas.{read_more, entry_at, handed_on}
 use Rattle.csi_tables.proofs.ReadingLemmas.{read_next, read_whole}
 use Rattle.csi_tables.proofs.rows.attachments_from.Goals as goal
@@ -11,7 +11,7 @@ use Rattle.csi_tables.proofs.rows.attachments_from.Goals as goal
 pub loop-row-preserved : goal.loop-row-preserved
 loop-row-preserved c = (
   λ es all are. c.in_ok-push.ensures.ok
-      ∙ read_more node_entry (λ (e : Place × Attachment). e.1) IsPlaced c.args.rows.now es c.loop-row.row-index c.row-item.result c.loop-row.attachments c.in_ok-attachment_from.field-0 (omega arith)
+      ∙ read_more node_entry (λ (e : AttachmentKey × Attachment). e.1) IsPlaced c.args.rows.now es c.loop-row.row-index c.row-item.result c.loop-row.attachments c.in_ok-attachment_from.field-0 (omega arith)
       (λ e p is. c.in_ok-attachment_from.ensures.ok e p (c.row-item.is ∙ is)) all are (c.loop-row.invariant.0 es all are),
   subst (AreReadOf ShowsAttachment (take (c.loop-row.row-index + 1) c.args.rows.now)) (sym c.in_ok-push.ensures.ok)
       (read_next ShowsAttachment c.args.rows.now c.loop-row.row-index c.row-item.result c.loop-row.attachments c.in_ok-attachment_from.field-0 (omega arith) c.loop-row.invariant.1

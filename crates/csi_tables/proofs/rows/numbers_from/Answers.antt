@@ -2,7 +2,7 @@ use Rattle.std.proofs.Common.{◌∙◌, ◌+◌, sym, ap, arith, subst, take, �
 use Rattle.sqlite.specs.Order.{column, Row}
 use Rattle.csi_sql.specs.Rows.{number_value}
 use Rattle.csi_tables.specs.Reading.{AreReadOf, ShowsNumber}
-use Rattle.csi_tables.specs.declared.fault.Fault.TheVariants.{Refused}
+use Rattle.csi_tables.specs.declared.fault.TablesFault.TheVariants.{Refused}
 use Rattle.csi_tables.proofs.CellLemmas.{entry_of, handed_on}
 use Rattle.csi_tables.proofs.ReadingLemmas.{number_next, read_next, read_whole}
 use Rattle.csi_tables.proofs.rows.numbers_from.Goals as goal

@@ -2,7 +2,7 @@ use Rattle.std.proofs.Common.{◌∙◌, sym, subst, take, ◌+◌, arith, ℕ}
 use Rattle.csi_keeper.specs.declared.volume.Volume.{Volume}
 use Rattle.csi_tables.specs.Holding.{volume_entry, IsStored, IsReadable}
 use Rattle.csi_tables.specs.Reading.{AreReadOf, ShowsVolume}
-use Rattle.csi_tables.specs.declared.fault.Fault.TheVariants.{Refused}
+use Rattle.csi_tables.specs.declared.fault.TablesFault.TheVariants.{Refused}
 use Rattle.csi_tables.proofs.CellLemmas.{read_more, entry_at, handed_on}
 use Rattle.csi_tables.proofs.ReadingLemmas.{read_next, read_whole}
 use Rattle.csi_tables.proofs.rows.volumes_from.Goals as goal

@@ -17,8 +17,8 @@ returns-clause-copy g c clean config s held inv =
     subst (Holds c.skip_to.new.self) (whole config s inv all.0 all.1)
     (subst (λ n. Holds c.skip_to.new.self (from_number (record s { next = all.0 + 1 }) n)) number (c.skip_to.ensures _ all.2))
 
-pub returns-clause-whole : goal.returns-clause-whole
-returns-clause-whole g c clean s held =
+pub returns-clause-complete : goal.returns-clause-complete
+returns-clause-complete g c clean s held =
     let model = g.K.Keeper.model in
     let before : (model c.next_number.new.self).doubt ≡ 0 = omega (arith, clean, c.restore_all.ensures.quiet.clean) in
     subst IsNumbered (c.in_ok-next.ensures.value before s held) (c.is_numbered.ensures.0 c.if-not-is_numbered.false)

@@ -20,8 +20,8 @@ pub loop-turn-preserved : goal.loop-turn-preserved
 loop-turn-preserved g c =
     let old = c.loop-turn.invariant in
     let after = c.loop-turn.after in
-    let volumes = c.as_slice.result.now in
-    let nodes = c.as_slice-in-loop-turn.result.now in
+    let volumes = c.in_ok-volumes.volumes in
+    let nodes = c.as_slice.result.now in
     record {
       quiet = quiet_then (quiet_then (quiet_then old.quiet c.page.ensures.quiet) c.published_nodes.ensures.quiet) c.restore_page.ensures.quiet;
       refusals = search rules;
@@ -77,7 +77,7 @@ returns-in_err-after-clause-why g c =
     let model = g.K.Keeper.model in
     let old = c.loop-turn.invariant in
     let after = c.loop-turn.after in
-    let volumes = c.as_slice.result.now in
+    let volumes = c.in_ok-volumes.volumes in
     let fault = c.in_err-after.field-0.0 in
     let first : (model c.page.new.self).refusals ≡ (model c.args.keeper.now).refusals =
     ok_count (model c.loop-turn.keeper).refusals (model c.page.new.self).refusals c.page.result c.in_ok-volumes.volumes (search rules) c.page.ensures.count ∙ old.refusals in

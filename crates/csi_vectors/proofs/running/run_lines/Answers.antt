@@ -29,7 +29,7 @@ loop-count-preserved g c =
     let i = c.loop-count in
     let ran = c.in-Ok.ensures.ok in
     one_more c.args.config.now (r c.args.reader.now) (w c.args.writer.now) (r i.reader) (r c.next_line.new.reader) (w i.writer) (w c.run_line.new.writer) i.count i.failed c.in-Ok.is_failed _
-    c.next_line.new.line.items c.deref.result.now ran.0 ran.1 i.invariant c.in-Ok-true.ensures.line (c.in-Ok-true.ensures.some (ap Ok c.in-Ok-true.field-0-test)) c.deref.ensures.value ran.2 ran.3 ran.4 refl
+    c.next_line.new.line.items c.deref.result.now ran.0 ran.1 i.invariant c.in-Ok-true.ensures.line (c.in-Ok-true.ensures.not_empty (ap Ok c.in-Ok-true.field-0-test)) c.deref.ensures.value ran.2 ran.3 ran.4 refl
 
 pub returns : goal.returns
 returns g c =

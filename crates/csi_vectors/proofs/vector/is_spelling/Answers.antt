@@ -5,8 +5,8 @@ use Rattle.csi_vectors.proofs.Digits.{digits_spell, spelling_digits}
 use Rattle.csi_vectors.proofs.Reading.{not_empty}
 use Rattle.csi_vectors.proofs.vector.is_spelling.Goals as goal
 
-pub returns-clause-some : goal.returns-clause-some
-returns-clause-some c h =
+pub returns-clause-true_only_if : goal.returns-clause-true_only_if
+returns-clause-true_only_if c h =
     let digits = c.args.digits.now in
     digits_spell digits (not_empty digits c.if-is_empty.ensures) c.if-digits-ne0.false (ap (list_all is_ascii_hexdigit) (sym c.as_bytes.ensures.value) ∙ sym c.are_digits.ensures ∙ h)
 

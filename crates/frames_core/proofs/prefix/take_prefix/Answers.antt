@@ -31,8 +31,8 @@ append-requires-in-Short c =
     let short = rw c.in-Short.is at c.look_at.ensures in
     let short2 = rw (c.as_slice.ensures.value ∙ sym c.as_slice-in-Short.ensures.value) at short in
     let n = length c.split_at-in-Short.result.0.now in
-    let few : n ≤ c.missing.result = omega (arith, c.split_at-in-Short.ensures.front_len) in
-    let room = missing_room c.args.kind all c.missing.result n short2.0 short2.1 c.missing.ensures few in
+    let few : n ≤ c.missing-missing.result = omega (arith, c.split_at-in-Short.ensures.front_len) in
+    let room = missing_room c.args.kind all c.missing-missing.result n short2.0 short2.1 c.missing-missing.ensures few in
     omega (arith, room, c.as_slice-in-Short.ensures.len, c.append.ensures.capacity, c.requires.room)
 
 pub returns-in-Broken-clause-takes : goal.returns-in-Broken-clause-takes
@@ -63,5 +63,9 @@ returns-in-Short-clause-takes c =
     let rest : c.split_at.result.1.now ≡ drop h piece = c.split_at.ensures.back in
     let new : c.append-in-Short.new.buffer.items ≡ all ++ take j (drop h piece) = c.append-in-Short.ensures.items ∙ (ap (λ (x : List ℕ). c.append.new.buffer.items ++ x) (c.split_at-in-Short.ensures.front ∙ ap (λ (x : List ℕ). take j x) rest) ∙ ap (λ (x : List ℕ). x ++ take j (drop h piece)) (sym c.as_slice-in-Short.ensures.value)) in
     let h-is : h ≡ min (length piece) (most_head c.args.kind - length old) = omega (arith, c.at_most.ensures, c.saturating_sub.ensures, c.most_head.ensures) in
-    let j-is : j ≡ min (length (drop h piece)) c.missing.result = c.at_most-in-Short.ensures ∙ ap (λ (x : List ℕ). min (length x) c.missing.result) rest in
-    takes_short c.args.kind old piece all c.append-in-Short.new.buffer.items h j c.missing.result _ is h-is short2.0 short2.1 c.missing.ensures j-is new (omega (arith, c.split_at.ensures.front_len, c.split_at-in-Short.ensures.front_len, ap length rest))
+    let j-is : j ≡ min (length (drop h piece)) c.missing-missing.result = c.at_most-in-Short.ensures ∙ ap (λ (x : List ℕ). min (length x) c.missing-missing.result) rest in
+    takes_short c.args.kind old piece all c.append-in-Short.new.buffer.items h j c.missing-missing.result _ c.are_all.result is h-is short2.0 short2.1 c.missing-missing.ensures j-is new (omega (arith, c.split_at.ensures.front_len, c.split_at-in-Short.ensures.front_len, ap length rest))
+    (λ on.
+    let all = c.are_all.ensures.all on in
+    (omega (arith, all.0), omega (arith, all.1, c.split_at-in-Short.ensures.front_len)))
+    (λ off some same. c.are_all.ensures.fewer off some (omega (arith, c.split_at-in-Short.ensures.front_len)))

@@ -12,6 +12,6 @@ returns-clause-kept g c =
     closed_keeps c.close_bytes.result c.args.out.now.items c.write.new.out.items c.close_bytes.new.out.items
     (take (c.len-from.result - 1) c.write.new.out.items ++ (varint (length c.write.new.out.items - c.len-from.result) ++ drop c.len-from.result c.write.new.out.items))
     (spelling (record { number = c.args.number; part = Payload (bytes_of (g.M.Written.canon c.args.message.now)) }))
-    (c.closed.ensures.is c.args.number c.len-from.result c.args.out.now.items (bytes_of (g.M.Written.canon c.args.message.now)) c.write.new.out.items whole (size ∙ ap length c.in_ok-put_bytes.ensures.ok))
+    (c.closed.ensures.spelled c.args.number c.len-from.result c.args.out.now.items (bytes_of (g.M.Written.canon c.args.message.now)) c.write.new.out.items whole (size ∙ ap length c.in_ok-put_bytes.ensures.ok))
     (keeps_on c.args.out.now.items c.put_bytes.new.out.items c.write.new.out.items c.in_ok-write.ensures.kept (record { tail = spelling (record { number = c.args.number; part = Payload [] }); is = c.in_ok-put_bytes.ensures.ok }))
     c.close_bytes.ensures.ok c.close_bytes.ensures.err

@@ -4,5 +4,5 @@ use Rattle.pbwire.proofs.laws.closed.Goals as goal
 pub returns-clause-begins : goal.returns-clause-begins
 returns-clause-begins c = after_empty
 
-pub returns-clause-is : goal.returns-clause-is
-returns-clause-is c = closed
+pub returns-clause-spelled : goal.returns-clause-spelled
+returns-clause-spelled c = closed

@@ -13,5 +13,5 @@ returns-clause-fits c = spelled_fits
 pub returns-clause-shortest : goal.returns-clause-shortest
 returns-clause-shortest c = spelling_shortest
 
-pub returns-clause-whole : goal.returns-clause-whole
-returns-clause-whole c = are_fields
+pub returns-clause-fields : goal.returns-clause-fields
+returns-clause-fields c = are_fields

@@ -3,9 +3,9 @@ use Rattle.csi_tables.proofs.TablesLemmas.{keeps_none, keeps_read, no_attachment
 use Rattle.csi_tables.proofs.tables.TablesKeeper.attachments.Goals as goal
 
 pub returns-then-number-ge-NUMBERS-clause-reads : goal.returns-then-number-ge-NUMBERS-clause-reads
-returns-then-number-ge-NUMBERS-clause-reads g c = keeps_none g.S.Store c.args.self.now.conn c.args.self.now.totals _ c.in_ok-begin.ensures (λ s stored. c.new.ensures ∙ no_attachments s c.args.number c.if-number-ge-NUMBERS.true stored)
+returns-then-number-ge-NUMBERS-clause-reads g c = keeps_none g.S.Store c.args.self.now.conn c.args.self.now.totals _ c.in_ok-start_call.ensures (λ s stored. c.new.ensures ∙ no_attachments s c.args.number c.if-number-ge-NUMBERS.true stored)
 
 pub returns : goal.returns
 returns g c =
-    let it = keeps_read c.args.self.now.totals c.in_ok-begin.ensures c.attachments-answer.ensures c.end.ensures in
+    let it = keeps_read c.args.self.now.totals c.in_ok-start_call.ensures c.attachments-answer.ensures c.store_answer.ensures c.finish_call.ensures in
     record { reads = it.reads; refused = it.refused; limit = it.limit; error_only_if = λ far. absurd (omega (arith, far, c.if-number-ge-NUMBERS.false)) }

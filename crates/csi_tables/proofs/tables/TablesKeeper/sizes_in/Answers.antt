@@ -2,4 +2,4 @@ use Rattle.csi_tables.proofs.TablesLemmas.{keeps_read}
 use Rattle.csi_tables.proofs.tables.TablesKeeper.sizes_in.Goals as goal
 
 pub returns : goal.returns
-returns g c = keeps_read c.args.self.now.totals c.in_ok-begin.ensures c.sizes_in-answer.ensures c.end.ensures
+returns g c = keeps_read c.args.self.now.totals c.in_ok-start_call.ensures c.sizes_in-answer.ensures c.store_answer.ensures c.finish_call.ensures

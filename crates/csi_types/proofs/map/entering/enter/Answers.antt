@@ -22,4 +22,4 @@ returns-in_ok-insert-clause-ok c =
     let listed = c.move_from.new.listed.items in
     let tree = c.move_from.new.tree.entries in
     ap (λ ts. listed ++ ts) (c.in_ok-insert.ensures.entries ∙ tree_puts key value tree)
-    ∙ sym (put_beyond key value listed tree c.in_ok-move_from.ensures.ok) ∙ ap (put text_cmp key value) c.move_from.ensures.same
+    ∙ sym (put_beyond key value listed tree c.in_ok-move_from.ensures.ok) ∙ ap (put text_cmp key value) c.move_from.ensures.unchanged

@@ -6,7 +6,7 @@ use Rattle.envelope.specs.Head.{most_frame}
 use Rattle.envelope.specs.declared.head.Flaw.{Flaw}
 use Rattle.frames_core.specs.Prefix.{Stands, TakesPrefix}
 use Rattle.envelope.specs.facts.Breaking.{Breaks_within}
-use Rattle.frames_core.proofs.Framing.{broke, holds_broken, known_break, open_few, settled_whole}
+use Rattle.frames_core.proofs.Framing.{broke, fault_unmarked, holds_broken, known_break, marks_then, open_few, settled_whole}
 use Rattle.envelope.specs.facts.Frames.{breaks_has, is_unfinished}
 use Rattle.frames_core.specs.facts.Feeding.{not_settled}
 use Rattle.frames_core.proofs.framer.Cutter.feed.Goals as goal
@@ -28,7 +28,13 @@ invariant_of-self g c =
     let b = broke c.kind.result F.kind c.self.inside.past c.self.inside.buffer.items c.args.piece.now new c.take_prefix-prefix.result c.in-Some.flaw c.kind.ensures (omega (arith, ap (λ s. s.past) c.self.view_is, ap (λ s. length s.held) c.self.view_is, c.requires.room)) c.take_prefix-prefix.ensures.takes c.in-Some.is in
     let named = subst (λ (q : Part). BreaksFirst F.kind new q c.in-Some.flaw.at) (sym c.of.ensures.part) b.breaks in
     let room = subst (λ (k : Kind). most_frame k ≤ vec_capacity c.take_prefix-prefix.new.buffer) (let same : c.kind.result ≡ F.kind = c.kind.ensures in same) c.take_prefix-prefix.ensures.room in
-    (room, holds_broken F.kind F.wrong_part F.place c.self.inside.past new c.of.result c.in-Some.flaw.at b.few named c.of.ensures.place)
+    let prefix = c.take_prefix-prefix.result in
+    let taken = c.take_prefix-prefix.ensures.takes in
+    let marks = marks_then c.kind.result F.kind c.self.inside.buffer.items c.args.piece.now new prefix c.kind.ensures taken in (
+      room,
+      holds_broken F.kind F.wrong_part F.place c.self.inside.past new c.of.result c.in-Some.flaw.at b.few named c.of.ensures.place,
+      fault_unmarked F.kind new prefix.flaw c.in-Some.flaw c.of.result prefix.whole c.in-Some.is marks,
+    )
 
 pub returns-in-Some-clause-known : goal.returns-in-Some-clause-known
 returns-in-Some-clause-known g c unknown =

@@ -1,7 +1,8 @@
 use Rattle.std.proofs.Common.{◌≡◌, ◌+◌, ℕ, List, [], length, sym, ap, subst, arith}
+use Rattle.std.specs.Prelude.{false}
 use Rattle.envelope.specs.Grammar.{IsFrame}
-use Rattle.frames_core.specs.Holding.{Holds}
-use Rattle.frames_core.proofs.Framing.{given_up, none_unfinished}
+use Rattle.frames_core.specs.Holding.{Holds, Marks}
+use Rattle.frames_core.proofs.Framing.{given_up, none_unfinished, nothing_marked}
 use Rattle.frames_core.proofs.framer.Cutter.next_frame.Goals as goal
 
 pub invariant_of-self : goal.invariant_of-self
@@ -16,6 +17,7 @@ invariant_of-self g c =
       omega (arith, c.clear.ensures.capacity, c.self.invariant.0),
       subst (λ (x : List ℕ). Holds F.kind F.wrong_part F.place (i.past + c.len.result) x i.known) (sym none)
           (subst (λ (n : ℕ). Holds F.kind F.wrong_part F.place n [] i.known) sum h.0),
+      subst (λ (x : List ℕ). Marks F.kind x i.known false) (sym none) (nothing_marked F.kind i.known),
     )
 
 pub returns-then-is_some-clause-open : goal.returns-then-is_some-clause-open

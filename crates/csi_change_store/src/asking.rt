@@ -1,0 +1,109 @@
+//! The calls of a change store, as frames.
+
+ghost use Rattle.std.specs.Prelude.{◌≡◌, ◌≢◌, ◌<◌, ◌≤◌, Err, IfErr, IfOk, IsErrOf, OnOk, length};
+ghost use Rattle.envelope.specs.Envelope.{frame};
+ghost use Rattle.envelope.specs.declared.limits.TheConstants.{MAX_MESSAGE_BYTES};
+ghost use Rattle.csi_keeper.specs.declared.change.StoreFault.TheVariants.{Down, NoMemory, Refused};
+ghost use Rattle.csi_change_store.specs.Asking.{lead_frame, make_frame, path_of, read_frame, token_bytes};
+
+use csi_keeper::StoreFault;
+use envelope::{MAX_MESSAGE_BYTES, put_request};
+use pbwire::put_bytes;
+use std::alloc::{AllocError, Global};
+
+// What stands in a message before a long token: a tag of one byte, and a length of three.
+const TOKEN_HEAD_BYTES: usize = 1 + 3;
+
+/// The most bytes of a token that a message holds.
+pub(crate) const MAX_TOKEN_BYTES: usize = MAX_MESSAGE_BYTES - TOKEN_HEAD_BYTES;
+
+/// What a change store is asked for.
+#[derive(Clone, Copy)]
+pub(crate) enum ChangeStoreCall {
+    /// A page of the rows.
+    Read,
+    /// The row of `meta`, where there is no row at all.
+    Make,
+    /// A change.
+    Commit,
+    /// Whether it still leads.
+    Lead,
+}
+
+impl ChangeStoreCall {
+    fn path(self) -> &'static str
+        ensures { result.now ≡ path_of self }
+    {
+        match self {
+            ChangeStoreCall::Read => "/fomaheti.log.v1.Log/Read",
+            ChangeStoreCall::Make => "/fomaheti.log.v1.Log/Make",
+            ChangeStoreCall::Commit => "/fomaheti.log.v1.Log/Commit",
+            ChangeStoreCall::Lead => "/fomaheti.log.v1.Log/Lead",
+        }
+    }
+}
+
+/// The frame of a call, whose message has at most 1,048,576 bytes.
+///
+/// # Errors
+///
+/// Where memory was refused.
+#[tactic(auto, using(crate::proofs::Paths::is_call))]
+pub(crate) fn frame_of(
+    alloc: Global,
+    call: ChangeStoreCall,
+    message: &[u8],
+) -> Result<Vec<u8>, AllocError>
+    requires { length message.now ≤ MAX_MESSAGE_BYTES }
+    ensures { IfOk result (λ out. out.items ≡ frame (record { path = path_of call; message = message.now })) }
+{
+    let mut frame = Vec::new(alloc);
+    put_request(&mut frame, call.path().as_bytes(), message)?;
+    Ok(frame)
+}
+
+/// The frame that asks for a page of the rows: the first one where the token is empty, else the one of the
+/// token, which the page before has given.
+///
+/// # Errors
+///
+/// `NoMemory`; `Refused` where the token has so many bytes that no message holds it.
+#[tactic(auto, using(crate::proofs::Tokens::token_held, crate::proofs::Tokens::token_not_held))]
+pub fn read_frame(alloc: Global, token: &[u8]) -> Result<Vec<u8>, StoreFault>
+    ensures frame { IfOk result (λ frame. frame.items ≡ read_frame token.now) }
+    ensures fault { result ≢ Err Down }
+    ensures refused { IsErrOf result Refused → MAX_MESSAGE_BYTES < length (token_bytes token.now) }
+    ensures memory { IsErrOf result NoMemory → length (token_bytes token.now) ≤ MAX_MESSAGE_BYTES }
+    ensures fits { OnOk result (length (token_bytes token.now) ≤ MAX_MESSAGE_BYTES) }
+{
+    if token.len() > MAX_TOKEN_BYTES {
+        return Err(StoreFault::Refused);
+    }
+    let mut message = Vec::new(alloc);
+    put_bytes(&mut message, 1, token)?;
+    Ok(frame_of(alloc, ChangeStoreCall::Read, message.as_slice())?)
+}
+
+/// The frame that asks for the row of `meta`, where there is no row at all.
+///
+/// # Errors
+///
+/// `NoMemory`.
+pub fn make_frame(alloc: Global) -> Result<Vec<u8>, StoreFault>
+    ensures frame { IfOk result (λ frame. frame.items ≡ make_frame) }
+    ensures fault { IfErr result (λ fault. fault ≡ NoMemory) }
+{
+    Ok(frame_of(alloc, ChangeStoreCall::Make, &[])?)
+}
+
+/// The frame that asks whether the change store still leads: status 0 says so.
+///
+/// # Errors
+///
+/// `NoMemory`.
+pub fn lead_frame(alloc: Global) -> Result<Vec<u8>, StoreFault>
+    ensures frame { IfOk result (λ frame. frame.items ≡ lead_frame) }
+    ensures fault { IfErr result (λ fault. fault ≡ NoMemory) }
+{
+    Ok(frame_of(alloc, ChangeStoreCall::Lead, &[])?)
+}

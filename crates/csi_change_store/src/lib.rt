@@ -1,0 +1,42 @@
+//! A change store behind a connection: another program keeps the changes of a State, and this one asks it for
+//! each.
+//!
+//! [`RemoteChangeStore`] is a `ChangeStore` of `csi_through` over the other end of a connection, a [`Peer`].
+//! What a peer is asked for is a frame of the envelope (docs/PROTOCOL.md, "The change store"):
+//! `specs/Asking.antt` says which frame asks for which change, and which reply says that it was made. So what
+//! is believed of the other end is one clause, that of [`Peer::exchange`]: it makes the change of a frame as
+//! it says in the reply. [`Channel`] is a peer over any reader and writer. No contract can say that the other
+//! end tells the truth: of a channel nothing is promised from its first exchange on (its `doubt`), but what
+//! it wrote and read.
+//!
+//! [`read_rows`] makes tables and puts all rows of a peer into them, page by page ([`read_pages`],
+//! [`put_page`]). `specs/Pages.antt` says what the body of a reply spells, `specs/Taking.antt` what its rows
+//! make of the tables, `specs/Walking.antt` which exchanges give all pages, and `specs/Giving.antt` which
+//! State has such rows.
+//!
+//! ```rust
+//! let change store = RemoteChangeStore::new(Channel::new(reader, writer));
+//! let mut keeper = Through::copied(alloc, &mut tables, change store)?;
+//! keeper.apply(alloc, &Change::AddVolume(volume))?;
+//! ```
+#![tactic(auto)]
+
+mod asking;
+mod cells;
+mod changes;
+mod fault;
+mod filling;
+mod items;
+pub mod laws;
+mod pages;
+mod peer;
+mod reading;
+mod remote;
+
+pub use asking::{lead_frame, make_frame, read_frame};
+pub use fault::RowsFault;
+pub use filling::read_rows;
+pub use pages::{Notes, put_page};
+pub use peer::{Channel, Peer};
+pub use reading::{ReadFault, read_pages};
+pub use remote::RemoteChangeStore;

@@ -1,0 +1,168 @@
+//! Pages of rows, put into the tables of a transaction.
+
+ghost use Rattle.std.specs.Prelude.{◌≡◌, ◌<◌, ◌^◌, [], false, None, IfErr, OnOk};
+ghost use Rattle.csi_change_store.specs.Items.{attachment_columns, seen_item, seen_notes, volume_columns};
+ghost use Rattle.csi_change_store.specs.Pages.{Attachment, IsSmall, Meta, Volume, with_item};
+ghost use Rattle.csi_change_store.specs.Taking.{IsRefusal, PutsItem, TakesPage};
+ghost use Rattle.csi_change_store.specs.declared.fault.RowsFault.TheVariants.{NoMemory};
+
+use crate::fault::{RowsFault, fault_of};
+use crate::items::{AttachmentRow, Item, item_of};
+use csi_sql::statements::attachments::insert_attachment;
+use csi_sql::statements::meta::set_next;
+use csi_sql::statements::volumes::{VolumeRow, insert_volume};
+use pbwire::Fields;
+use pbwire::laws::spelled;
+use sqlite::{Alter, Transaction};
+use std::alloc::Global;
+
+/// What is noted of pages besides their rows.
+#[derive(Drop)]
+pub struct Notes {
+    /// The token of the next page. It is empty after the last one.
+    pub token: Vec<u8>,
+    /// The format in the row of `meta`, if there was one.
+    pub format: Option<u64>,
+    /// Whether there was a row of volumes or of attachments.
+    pub has_rows: bool,
+}
+
+impl Notes {
+    /// Nothing was read yet.
+    pub fn new(alloc: Global) -> Notes
+        ensures { (result.token.items ≡ []) × (result.format ≡ None) × (result.has_rows ≡ false) }
+    {
+        Notes {
+            token: Vec::new(alloc),
+            format: None,
+            has_rows: false,
+        }
+    }
+}
+
+// Sets the next number. The format is noted elsewhere.
+fn put_meta<S: Alter>(tx: &mut Transaction<'_, S>, format: u64, next: u64) -> Result<(), RowsFault>
+    requires { next < 2 ^ 63 }
+    ensures same_reference { tx.new.conn.ghost_name ≡ tx.old.conn.ghost_name }
+    ensures puts { PutsItem S.Store tx.old.conn.now tx.new.conn.now (Meta (record {
+      format = format;
+      next = next;
+    })) result }
+    ensures refusal { IfErr result IsRefusal }
+{
+    match set_next(tx, next) {
+        Ok(()) => Ok(()),
+        Err(error) => Err(fault_of(None, error)),
+    }
+}
+
+fn put_volume<S: Alter>(tx: &mut Transaction<'_, S>, row: &VolumeRow<'_>) -> Result<(), RowsFault>
+    requires { IsSmall (Volume (volume_columns row.now)) }
+    ensures same_reference { tx.new.conn.ghost_name ≡ tx.old.conn.ghost_name }
+    ensures puts { PutsItem S.Store tx.old.conn.now tx.new.conn.now (Volume (volume_columns row.now)) result }
+    ensures refusal { IfErr result IsRefusal }
+{
+    match insert_volume(tx, row) {
+        Ok(()) => Ok(()),
+        Err(error) => Err(fault_of(Some(row.number), error)),
+    }
+}
+
+fn put_attachment<S: Alter>(
+    tx: &mut Transaction<'_, S>,
+    row: &AttachmentRow<'_>,
+) -> Result<(), RowsFault>
+    requires { IsSmall (Attachment (attachment_columns row.now)) }
+    ensures same_reference { tx.new.conn.ghost_name ≡ tx.old.conn.ghost_name }
+    ensures puts { PutsItem S.Store tx.old.conn.now tx.new.conn.now
+        (Attachment (attachment_columns row.now)) result }
+    ensures refusal { IfErr result IsRefusal }
+{
+    let AttachmentRow {
+        number,
+        node,
+        cap,
+        readonly,
+    } = *row;
+    match insert_attachment(tx, number, node, cap, readonly) {
+        Ok(()) => Ok(()),
+        Err(error) => Err(fault_of(Some(number), error)),
+    }
+}
+
+// Puts the row of an item into the tables.
+fn put_item<S: Alter>(tx: &mut Transaction<'_, S>, item: &Item<'_>) -> Result<(), RowsFault>
+    requires { IsSmall (seen_item item.now) }
+    ensures same_reference { tx.new.conn.ghost_name ≡ tx.old.conn.ghost_name }
+    ensures puts { PutsItem S.Store tx.old.conn.now tx.new.conn.now (seen_item item.now) result }
+    ensures refusal { IfErr result IsRefusal }
+{
+    match item {
+        Item::Meta(format, next) => put_meta(tx, *format, *next),
+        Item::Volume(row) => put_volume(tx, row),
+        Item::Attachment(row) => put_attachment(tx, row),
+        Item::Token(_) | Item::Skipped => Ok(()),
+    }
+}
+
+// Notes what an item says besides its row.
+fn note_item(notes: &mut Notes, item: &Item<'_>) -> Result<(), RowsFault>
+    ensures noted { OnOk result (seen_notes notes.new
+        ≡ with_item (seen_item item.now) (seen_notes notes.old)) }
+    ensures fault { IfErr result (λ fault. fault ≡ NoMemory) }
+{
+    match *item {
+        Item::Meta(format, _) => notes.format = Some(format),
+        Item::Volume(_) | Item::Attachment(_) => notes.has_rows = true,
+        Item::Token(token) => {
+            notes.token.clear();
+            notes.token.extend_from_slice(token)?;
+        }
+        Item::Skipped => {}
+    }
+    Ok(())
+}
+
+// Puts all rows of a page into the tables, and notes the rest.
+fn put_items<S: Alter>(
+    alloc: Global,
+    tx: &mut Transaction<'_, S>,
+    notes: &mut Notes,
+    body: &[u8],
+) -> Result<(), RowsFault>
+    ensures same_reference { tx.new.conn.ghost_name ≡ tx.old.conn.ghost_name }
+    ensures takes { TakesPage S.Store tx.old.conn.now tx.new.conn.now body.now (seen_notes notes.old)
+        (seen_notes notes.new) result }
+{
+    spelled();
+    let mut fields = Fields::new(body);
+    while let Some(next) = fields.next_field() {
+        let Ok(field) = next else {
+            return Err(RowsFault::Malformed);
+        };
+        let item = item_of(alloc, field)?;
+        put_item(tx, &item)?;
+        note_item(notes, &item)?;
+    }
+    Ok(())
+}
+
+/// Puts the rows of a page into the tables of a transaction, in their order.
+///
+/// # Errors
+///
+/// Where the page is malformed, its rows cannot be in the tables next to those before them, or memory is
+/// refused.
+pub fn put_page<S: Alter>(
+    alloc: Global,
+    tx: &mut Transaction<'_, S>,
+    notes: &mut Notes,
+    body: &[u8],
+) -> Result<(), RowsFault>
+    ensures same_reference { tx.new.conn.ghost_name ≡ tx.old.conn.ghost_name }
+    ensures takes { TakesPage S.Store tx.old.conn.now tx.new.conn.now body.now
+        (record (seen_notes notes.old) { token = [] }) (seen_notes notes.new) result }
+{
+    notes.token.clear();
+    put_items(alloc, tx, notes, body)
+}

@@ -1,0 +1,72 @@
+//! The other end of a connection.
+
+ghost use Rattle.std.specs.Prelude.{◌≡◌, List, ℕ};
+ghost use Rattle.csi_keeper.specs.Model.{Model};
+ghost use Rattle.csi_keeper.specs.State.{State};
+ghost use Rattle.csi_client.specs.declared.receiving.Received.{Received};
+ghost use Rattle.csi_change_store.specs.Remote.{Answers, channel_exchanges, channel_model};
+
+use csi_client::{Received, receive};
+use frames_core::send;
+use std::alloc::Global;
+use std::io::{Read, Write};
+
+/// The other end of a connection, which keeps the changes of a State.
+///
+/// What is promised of the State is promised while `doubt`, which never falls, is 0.
+pub trait Peer {
+    // What contracts see of it.
+    ghost model: { Self → Model State };
+
+    // What one exchange does to it: before and after, for a frame and what came. Nothing else says so, so who
+    // promises it has asked once.
+    ghost exchanged: { Self → Self → List ℕ → Received → Type 0 };
+
+    /// Sends a frame, and waits for the reply.
+    ///
+    /// Where the frame asks for a change, the change is made where the reply has status 0. With another
+    /// status it is not made; where no reply came it may have been, and a stop leaves one or the other.
+    fn exchange(&mut self, alloc: Global, frame: &[u8]) -> Received
+        ensures answers { Answers (model self.old) (model self.new) frame.now result }
+        ensures asked { exchanged self.old self.new frame.now result };
+}
+
+/// The other end of a reader and a writer.
+#[derive(Drop)]
+pub struct Channel<R, W> {
+    reader: R,
+    writer: W,
+    // How many exchanges were begun, up to the greatest `u64`.
+    exchanges: u64,
+}
+
+impl<R: Read, W: Write> Channel<R, W> {
+    /// A channel that has not begun.
+    pub fn new(reader: R, writer: W) -> Channel<R, W>
+        ensures ends { (result.reader ≡ reader) × (result.writer ≡ writer) }
+        ensures begins { result.exchanges ≡ 0 }
+    {
+        Channel {
+            reader,
+            writer,
+            exchanges: 0,
+        }
+    }
+}
+
+impl<R: Read, W: Write> Peer for Channel<R, W> {
+    ghost model = { channel_model };
+
+    ghost exchanged = { channel_exchanges R.remaining W.contents };
+
+    fn exchange(&mut self, alloc: Global, frame: &[u8]) -> Received
+        ensures answers { Answers (channel_model self.old) (channel_model self.new) frame.now result }
+        ensures asked { channel_exchanges R.remaining W.contents self.old self.new frame.now result }
+    {
+        self.exchanges = self.exchanges.saturating_add(1);
+        if send(&mut self.writer, frame).is_err() {
+            return Received::Failed;
+        }
+        receive(alloc, &mut self.reader)
+    }
+}

@@ -1,0 +1,105 @@
+//! All rows of a change store, page by page.
+
+ghost use Rattle.std.specs.Prelude.{◌≡◌, IfErr, IfOk, OnOk};
+ghost use Rattle.csi_change_store.specs.Items.{seen_notes};
+ghost use Rattle.csi_change_store.specs.Taking.{CommitsNothing};
+ghost use Rattle.csi_change_store.specs.Walking.{GivesPage, IsBodyOf, IsFaultAfter, IsPageless, IsReadFault, IsRefused, ReadsAll, ReadsPage};
+ghost use Rattle.csi_change_store.specs.declared.reading.ReadFault.TheVariants.{Unanswered};
+
+use crate::asking::read_frame;
+use crate::fault::RowsFault;
+use crate::pages::{Notes, put_page};
+use crate::peer::Peer;
+use csi_client::Received;
+use csi_keeper::StoreFault;
+use sqlite::{Alter, Error, Transaction};
+use std::alloc::Global;
+
+// At most so many pages are read: more than 100,000 volumes and their attachments have, also at one row a
+// page.
+const MOST_PAGES: u64 = 1 << 20;
+
+/// Why the rows of a change store were not read.
+#[derive(Debug, Drop)]
+pub enum ReadFault {
+    /// There is no frame that asks for the page: for want of memory, or since its token is too long.
+    Unasked(StoreFault),
+    /// What came instead of a reply with status 0.
+    Unanswered(Received),
+    /// The rows of a page were not taken.
+    Rows(RowsFault),
+    /// There are more than 1,048,576 pages.
+    Endless,
+    /// The database failed to make the tables, or to commit the rows.
+    Database(Error),
+}
+
+// The body of a reply that says OK.
+fn body_of(received: Received) -> Result<Vec<u8>, ReadFault>
+    ensures body { IfOk result (λ body. IsBodyOf received body.items) }
+    ensures fault { IfErr result (λ fault. (fault ≡ Unanswered received) × IsRefused received) }
+{
+    match received {
+        Received::Reply(reply) if reply.status == 0 => Ok(reply.body),
+        other => Err(ReadFault::Unanswered(other)),
+    }
+}
+
+// The body of the page that a token asks for.
+fn next_page<P: Peer>(alloc: Global, peer: &mut P, token: &[u8]) -> Result<Vec<u8>, ReadFault>
+    ensures page { IfOk result (λ body. GivesPage P.exchanged peer.old peer.new token.now body.items) }
+    ensures fault { IfErr result (IsPageless P.exchanged peer.old peer.new token.now) }
+{
+    match read_frame(alloc, token) {
+        Ok(frame) => body_of(peer.exchange(alloc, frame.as_slice())),
+        Err(fault) => Err(ReadFault::Unasked(fault)),
+    }
+}
+
+// Reads the next page, and puts its rows into the tables of a transaction.
+fn read_page<P: Peer, S: Alter>(
+    alloc: Global,
+    peer: &mut P,
+    tx: &mut Transaction<'_, S>,
+    notes: &mut Notes,
+) -> Result<(), ReadFault>
+    ensures same_reference { tx.new.conn.ghost_name ≡ tx.old.conn.ghost_name }
+    ensures page { OnOk result (ReadsPage S.Store tx.old.conn.now tx.new.conn.now P.exchanged peer.old
+        peer.new (seen_notes notes.old) (seen_notes notes.new)) }
+    ensures fault { IfErr result (IsFaultAfter P.exchanged peer.old peer.new (seen_notes notes.old)) }
+    ensures nothing { CommitsNothing S.Store tx.old.conn.now tx.new.conn.now }
+{
+    let body = next_page(alloc, peer, notes.token.as_slice())?;
+    match put_page(alloc, tx, notes, body.as_slice()) {
+        Ok(()) => Ok(()),
+        Err(fault) => Err(ReadFault::Rows(fault)),
+    }
+}
+
+/// Reads all rows of a change store, page by page, and puts them into the tables of a transaction, in their
+/// order.
+///
+/// # Errors
+///
+/// Where a page was not asked for or not answered, its rows were not taken, or there are more than 1,048,576
+/// pages.
+pub fn read_pages<P: Peer, S: Alter>(
+    alloc: Global,
+    peer: &mut P,
+    tx: &mut Transaction<'_, S>,
+) -> Result<Notes, ReadFault>
+    ensures same_reference { tx.new.conn.ghost_name ≡ tx.old.conn.ghost_name }
+    ensures read { IfOk result (λ notes. ReadsAll S.Store tx.old.conn.now tx.new.conn.now P.exchanged peer.old
+        peer.new (seen_notes notes)) }
+    ensures fault { IfErr result (IsReadFault P.exchanged peer.old peer.new) }
+    ensures nothing { CommitsNothing S.Store tx.old.conn.now tx.new.conn.now }
+{
+    let mut notes = Notes::new(alloc);
+    for turn in 0..MOST_PAGES {
+        read_page(alloc, peer, tx, &mut notes)?;
+        if notes.token.is_empty() {
+            return Ok(notes);
+        }
+    }
+    Err(ReadFault::Endless)
+}

@@ -1,0 +1,81 @@
+//! A change store behind a connection.
+
+ghost use Rattle.std.specs.Prelude.{◌≡◌, Err, IsTrue, OnErr, false};
+ghost use Rattle.csi_keeper.specs.Keeper.{Changes};
+ghost use Rattle.csi_keeper.specs.State.{IsBounded};
+ghost use Rattle.csi_keeper.specs.declared.change.StoreFault.TheVariants.{Down};
+ghost use Rattle.csi_change_store.specs.Asking.{answer_of};
+ghost use Rattle.csi_change_store.specs.Remote.{Asks, remote_model};
+
+use crate::changes::commit_frame;
+use crate::peer::Peer;
+use csi_client::Received;
+use csi_keeper::{Change, StoreFault};
+use csi_through::ChangeStore;
+use std::alloc::Global;
+
+// What a reply says of a change.
+fn answer_of(received: &Received) -> Result<(), StoreFault>
+    ensures { result ≡ answer_of received.now }
+{
+    match received {
+        Received::Reply(reply) if reply.status == 0 => Ok(()),
+        Received::NoMemory => Err(StoreFault::NoMemory),
+        _ => Err(StoreFault::Refused),
+    }
+}
+
+// Asks for a change.
+fn ask<P: Peer>(alloc: Global, peer: &mut P, change: &Change) -> Result<(), StoreFault>
+    requires { IsBounded change.now }
+    ensures changes { Changes (P.model peer.old) (P.model peer.new) change.now result }
+    ensures asked { Asks P.exchanged peer.old peer.new change.now result }
+{
+    let frame = commit_frame(alloc, change)?;
+    answer_of(&peer.exchange(alloc, frame.as_slice()))
+}
+
+/// A change store that is the other end of a connection.
+///
+/// After a change that was refused, of which nobody knows, or for which there was no memory, each further one
+/// is answered `Down` and not asked for.
+#[derive(Drop)]
+pub struct RemoteChangeStore<P> {
+    peer: P,
+    is_down: bool,
+}
+
+impl<P: Peer> RemoteChangeStore<P> {
+    /// The change store that is this peer.
+    pub fn new(peer: P) -> RemoteChangeStore<P>
+        ensures { (result.peer ≡ peer) × (result.is_down ≡ false) }
+    {
+        RemoteChangeStore {
+            peer,
+            is_down: false,
+        }
+    }
+}
+
+impl<P: Peer> ChangeStore for RemoteChangeStore<P> {
+    ghost model = { remote_model P.model };
+
+    fn commit(&mut self, alloc: Global, change: &Change) -> Result<(), StoreFault>
+        requires { IsBounded change.now }
+        ensures changes { Changes (remote_model P.model self.old)
+            (remote_model P.model self.new) change.now result }
+        ensures asked { (self.old.is_down ≡ false)
+            → Asks P.exchanged self.old.peer self.new.peer change.now result }
+        ensures stops { OnErr result (IsTrue self.new.is_down) }
+        ensures down { IsTrue self.old.is_down → (result ≡ Err Down) × (self.new ≡ self.old) }
+    {
+        if self.is_down {
+            return Err(StoreFault::Down);
+        }
+        let answer = ask(alloc, &mut self.peer, change);
+        if answer.is_err() {
+            self.is_down = true;
+        }
+        answer
+    }
+}

@@ -1,0 +1,27 @@
+-- What a call makes of a keeper's count of refusals, and what it is answered.
+use Rattle.std.specs.Prelude.{◌≡◌, ◌≢◌, ◌↔◌, IsTrue, OnErr, Result, Ok, Err}
+use Rattle.csi_keeper.specs.Keeper.{count_after}
+use Rattle.csi_keeper.specs.declared.change.StoreFault.{StoreFault}
+use Rattle.csi_keeper.specs.declared.change.StoreFault.TheVariants.{NoMemory, Refused, Down}
+use Rattle.csi_keeper.specs.declared.health.Health.{Health}
+
+-- what a keeper that is not down answers: that something below it is down is a refusal
+abbrev pub answered : {X : Type 0} → Result X StoreFault → Result X StoreFault
+answered (Ok x) = Ok x
+answered (Err NoMemory) = Err NoMemory
+answered (Err Refused) = Err Refused
+answered (Err Down) = Err Refused
+
+-- A call starts: it is answered `Down` where the keeper is down, and nowhere else, and that is counted.
+pub record Starts (old new : Health) (result : Result (Unit {0}) StoreFault) : Type 0 where
+  pub down : (result ≡ Err Down) ↔ IsTrue old.is_down
+  pub fault : OnErr result (result ≡ Err Down)
+  pub count : new.refusals ≡ count_after old.refusals result
+  pub stays : new.is_down ≡ old.is_down
+
+-- It finishes: a refusal is counted, and no keeper goes down or up.
+pub record Finishes {X : Type 0} (old new : Health) (answer result : Result X StoreFault) : Type 0 where
+  pub answers : result ≡ answered answer
+  pub up : result ≢ Err Down
+  pub count : new.refusals ≡ count_after old.refusals result
+  pub stays : new.is_down ≡ old.is_down

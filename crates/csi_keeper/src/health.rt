@@ -1,0 +1,96 @@
+//! How many calls a keeper refused, and whether it is down.
+
+ghost use Rattle.std.specs.Prelude.{◌≡◌, ◌≢◌, ◌+◌, ◌-◌, ◌^◌, min, true, false, Err, OnOk, OnErr};
+ghost use Rattle.csi_keeper.specs.Keeper.{count_after};
+ghost use Rattle.csi_keeper.specs.Health.{Finishes, Starts, answered};
+ghost use Rattle.csi_keeper.specs.declared.change.StoreFault.TheVariants.{Down};
+
+use crate::change::StoreFault;
+
+/// Whether a keeper is down, and how many of its calls were refused.
+///
+/// A keeper starts each call here, does what was asked, and finishes the call with the answer.
+///
+/// ```rust
+/// self.health.start_call()?;
+/// let answer = self.store.next_number();
+/// self.health.finish_call(answer)
+/// ```
+#[derive(Drop)]
+pub struct Health {
+    /// How many calls were answered `Refused` or `Down`, up to the greatest `u64`.
+    pub refusals: u64,
+    /// Each further call is answered `Down`.
+    pub is_down: bool,
+}
+
+impl Health {
+    /// Of a keeper that refused no call and is not down.
+    pub fn new() -> Health
+        ensures fresh { result.refusals ≡ 0 }
+        ensures up { result.is_down ≡ false }
+    {
+        Health {
+            refusals: 0,
+            is_down: false,
+        }
+    }
+
+    fn count_refusal(&mut self)
+        ensures { self.new ≡ record self.old { refusals = min (self.old.refusals + 1) (2 ^ 64 - 1) } }
+    {
+        self.refusals = self.refusals.saturating_add(1);
+    }
+
+    /// Starts a call, a read or a change.
+    ///
+    /// # Errors
+    ///
+    /// `Down` where the keeper is down, which is counted.
+    pub fn start_call(&mut self) -> Result<(), StoreFault>
+        ensures { Starts self.old self.new result }
+    {
+        if self.is_down {
+            self.count_refusal();
+            return Err(StoreFault::Down);
+        }
+        Ok(())
+    }
+
+    /// Finishes a read with what was answered. It leaves the keeper up.
+    ///
+    /// # Errors
+    ///
+    /// The fault of the answer, where `Refused` is counted. This keeper is not down, so a `Down` from what it
+    /// stands on is a refusal.
+    pub fn finish_call<T>(&mut self, answer: Result<T, StoreFault>) -> Result<T, StoreFault>
+        ensures { Finishes self.old self.new answer result }
+    {
+        match answer {
+            Ok(value) => Ok(value),
+            Err(StoreFault::NoMemory) => Err(StoreFault::NoMemory),
+            Err(_) => {
+                self.count_refusal();
+                Err(StoreFault::Refused)
+            }
+        }
+    }
+
+    /// Finishes a change with what was answered. After any fault, also want of memory, the keeper is down.
+    ///
+    /// # Errors
+    ///
+    /// As of `finish_call`.
+    pub fn finish_change(&mut self, answer: Result<(), StoreFault>) -> Result<(), StoreFault>
+        ensures answers { result ≡ answered answer }
+        ensures up { result ≢ Err Down }
+        ensures count { self.new.refusals ≡ count_after self.old.refusals result }
+        ensures stays { OnOk result (self.new.is_down ≡ self.old.is_down) }
+        ensures stops { OnErr result (self.new.is_down ≡ true) }
+    {
+        if answer.is_err() {
+            self.is_down = true;
+        }
+        self.finish_call(answer)
+    }
+}

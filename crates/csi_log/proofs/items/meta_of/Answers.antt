@@ -1,8 +1,0 @@
-use Rattle.std.proofs.lemmas.Result.{err_from_is_err_and}
-use Rattle.csi_log.proofs.ItemsLemmas.{malformed, meta_item, unread_meta}
-use Rattle.csi_log.specs.Asking.{bytes_field}
-use Rattle.csi_log.specs.Pages.{IsItem}
-use Rattle.csi_log.proofs.items.meta_of.Goals as goal
-
-pub returns-clause-row : goal.returns-clause-row
-returns-clause-row c = meta_item c.args.payload.now c.in_ok-cells.cells c.in_ok-cells.ensures.read _ (λ i. record { format = c.number.ensures i; next = c.number-2.ensures i })

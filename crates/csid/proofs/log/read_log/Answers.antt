@@ -1,6 +1,0 @@
-use Rattle.csid.proofs.ReadingLemmas.{copied}
-use Rattle.csid.proofs.log.read_log.Goals as goal
-
-pub returns-in-Ok-clause-copied : goal.returns-in-Ok-clause-copied
-returns-in-Ok-clause-copied g c =
-    copied g.S.Store c.args.config.now c.args.conn g.P.Peer.exchanged c.args.log _ c.copied.new.keeper c.in-Ok.keeper _ _ c.in_ok-tables.ensures.taken c.copied.ensures.quiet c.in-Ok.ensures.copy c.in-Ok.ensures.log c.new.ensures c.in-Ok.ensures.fresh

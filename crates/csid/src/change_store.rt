@@ -1,0 +1,365 @@
+//! Volumes that a change store keeps, which another program is: its socket, what it tells at the start, and
+//! calls over both.
+
+ghost use Rattle.std.specs.Prelude.{◌≡◌, false, IfErr, IfOk, OnOk};
+ghost use Rattle.csi_change_store.specs.Items.{seen_notes};
+ghost use Rattle.csid.specs.Reading.{AreTaken, IsAgreed, IsCopied, IsReadFrom, MakesMeta, ChecksMeta};
+ghost use Rattle.csid.specs.Statuses.{IsOrNoMemory};
+
+use crate::console::Console;
+use crate::content::read_content;
+use crate::failure::Failure;
+use crate::memory::{files_of, open};
+use crate::peer::Leadership;
+use crate::tables::{
+    adoption_failure, database_failure, keeper_over, report_content, store_failure,
+};
+use csi_adoption::{AdoptFault, Foreign};
+use csi_change_store::laws::gives_rows;
+use csi_change_store::{
+    Channel, Notes, Peer, ReadFault, RemoteChangeStore, RowsFault, lead_frame, make_frame,
+    read_rows,
+};
+use csi_client::{Received, ReceivedReply};
+use csi_config::Config;
+use csi_memory::MemKeeper;
+use csi_tables::Tables;
+use csi_tables::laws::one_state;
+use csi_through::Through;
+use sqlite::{Alter, Connection};
+use std::alloc::Global;
+use std::cell::Cell;
+use std::os::unix::net::UnixStream;
+use std::rc::Rc;
+use std::time::Duration;
+use std::{io, str};
+
+// How many seconds a change store may say nothing while its reply is waited for. Behind that nobody knows
+// whether a change was made.
+const LONGEST: u64 = 30;
+
+/// A peer, and whether it was asked for something. What it gives is what the peer gave.
+pub(crate) struct TrackedPeer<P> {
+    peer: P,
+    // For who answers calls over it.
+    is_asked: Rc<Cell<bool>>,
+}
+
+impl<P: Drop> Drop for TrackedPeer<P> {
+    fn drop(self) {
+        let TrackedPeer {
+            peer: _peer,
+            is_asked: _is_asked,
+        } = self;
+    }
+}
+
+impl<P: Peer> Peer for TrackedPeer<P> {
+    ghost model = { λ noted. P.model noted.peer };
+
+    ghost exchanged = { λ old new. P.exchanged old.peer new.peer };
+
+    fn exchange(&mut self, alloc: Global, frame: &[u8]) -> Received {
+        self.is_asked.set(true);
+        self.peer.exchange(alloc, frame)
+    }
+}
+
+/// The connection to a change store.
+pub(crate) type ChangeStorePeer = TrackedPeer<Channel<UnixStream, UnixStream>>;
+
+/// What is kept in memory of a log's volumes, and the change store.
+pub(crate) type Remote = Through<MemKeeper, RemoteChangeStore<ChangeStorePeer>>;
+
+/// A change store that was read.
+pub(crate) struct OpenChangeStore {
+    /// Its keeper.
+    pub(crate) keeper: Remote,
+    /// Its connection, to ask whether it leads.
+    pub(crate) stream: UnixStream,
+    /// Whether it was asked for a change since the last reply.
+    pub(crate) is_asked: Rc<Cell<bool>>,
+    /// Whether it did not lead once: what it has is read anew.
+    pub(crate) is_cut: bool,
+}
+
+impl Drop for OpenChangeStore {
+    fn drop(self) {
+        let OpenChangeStore {
+            keeper: _keeper,
+            stream: _stream,
+            is_asked: _is_asked,
+            is_cut: _,
+        } = self;
+    }
+}
+
+impl OpenChangeStore {
+    /// Whether calls may be answered over it: nothing was refused, and it leads.
+    pub(crate) fn stands(&self, alloc: Global) -> bool {
+        let has_all = self.keeper.is_current() && !self.keeper.is_down();
+        has_all && !self.is_cut && leads(alloc, &self.stream)
+    }
+}
+
+/// Whether a change store leads, as it says itself. What was read of it is then what it has.
+pub(crate) fn leads(alloc: Global, stream: &UnixStream) -> bool {
+    let Ok(frame) = lead_frame(alloc) else {
+        return false;
+    };
+    let received = Channel::new(stream, stream).exchange(alloc, frame.as_slice());
+    matches!(received, Received::Reply(reply) if reply.status == 0)
+}
+
+/// A change store, as the replies to a peer have to do with it.
+#[derive(Clone, Copy, Drop)]
+pub(crate) struct ChangeStoreLeadership<'a> {
+    pub(crate) stream: &'a UnixStream,
+    /// Whether it was asked for a change since the last reply.
+    pub(crate) is_asked: &'a Rc<Cell<bool>>,
+    pub(crate) alloc: Global,
+}
+
+impl Leadership for ChangeStoreLeadership<'_> {
+    // A change that was asked for tells it too: it is made while the change store leads alone. Else another
+    // change store may have led since, and made changes that are not in memory.
+    fn holds(&mut self) -> bool {
+        self.is_asked.replace(false) || leads(self.alloc, self.stream)
+    }
+}
+
+// A change store that cannot be had.
+fn change_store_failure(alloc: Global, path: &str, error: &io::Error) -> Failure
+    ensures { IsOrNoMemory 4 result }
+{
+    match error.kind() {
+        io::ErrorKind::OutOfMemory => Failure::NoMemory,
+        _ => Failure::of_tables(alloc, path, error),
+    }
+}
+
+fn rows_failure(alloc: Global, path: &str, fault: &RowsFault) -> Failure
+    ensures { IsOrNoMemory 4 result }
+{
+    match fault {
+        RowsFault::NoMemory => Failure::NoMemory,
+        _ => Failure::of_tables(alloc, path, fault),
+    }
+}
+
+// A reply that says no.
+fn refusal_failure(alloc: Global, path: &str, reply: &ReceivedReply) -> Failure
+    ensures { IsOrNoMemory 4 result }
+{
+    match str::from_utf8(reply.text.as_slice()) {
+        Ok(text) => Failure::of_tables(alloc, path, &text),
+        Err(_) => Failure::of_tables(alloc, path, &"the change store refused to tell its rows"),
+    }
+}
+
+// What came instead of a reply that says OK.
+fn received_failure(alloc: Global, path: &str, received: &Received) -> Failure
+    ensures { IsOrNoMemory 4 result }
+{
+    match received {
+        Received::Reply(reply) => refusal_failure(alloc, path, reply),
+        Received::NoMemory => Failure::NoMemory,
+        Received::Nothing => Failure::of_tables(alloc, path, &"closed without a reply"),
+        Received::Malformed(fault) => Failure::of_tables(alloc, path, fault),
+        Received::Failed => Failure::of_tables(alloc, path, &"no reply came"),
+    }
+}
+
+// Why the rows of a change store were not read.
+fn pages_failure(alloc: Global, path: &str, fault: &ReadFault) -> Failure
+    ensures { IsOrNoMemory 4 result }
+{
+    match fault {
+        ReadFault::Unasked(fault) => store_failure(alloc, path, *fault),
+        ReadFault::Unanswered(received) => received_failure(alloc, path, received),
+        ReadFault::Rows(fault) => rows_failure(alloc, path, fault),
+        ReadFault::Endless => Failure::of_tables(alloc, path, &"its pages never end"),
+        ReadFault::Database(error) => database_failure(alloc, path, error),
+    }
+}
+
+// Whether a change store agreed.
+fn agreed(alloc: Global, path: &str, received: Received) -> Result<(), Failure>
+    ensures agreed { OnOk result (IsAgreed received) }
+    ensures failure { IfErr result (λ failure. IsOrNoMemory 4 failure) }
+{
+    match received {
+        Received::Reply(reply) if reply.status == 0 => Ok(()),
+        received => Err(received_failure(alloc, path, &received)),
+    }
+}
+
+// Has a change store without any row make the row of meta, as it is in the new tables here.
+fn make_meta<P: Peer>(alloc: Global, path: &str, change_store: &mut P) -> Result<(), Failure>
+    ensures made { OnOk result (MakesMeta P.exchanged change_store.old change_store.new) }
+    ensures failure { IfErr result (λ failure. IsOrNoMemory 4 failure) }
+{
+    match make_frame(alloc) {
+        Ok(frame) => agreed(alloc, path, change_store.exchange(alloc, frame.as_slice())),
+        Err(fault) => Err(store_failure(alloc, path, fault)),
+    }
+}
+
+// Whether the row of meta has the format of a change store. Where there is none, rows have none to go with,
+// and a change store without any row is given one.
+fn check_or_make_meta<P: Peer>(
+    alloc: Global,
+    path: &str,
+    change_store: &mut P,
+    notes: &Notes,
+) -> Result<(), Failure>
+    ensures settled { OnOk result (ChecksMeta P.exchanged change_store.old change_store.new
+        (seen_notes notes.now)) }
+    ensures failure { IfErr result (λ failure. IsOrNoMemory 4 failure) }
+{
+    match notes.format {
+        Some(1) => Err(Failure::of_tables(
+            alloc,
+            path,
+            &"its rows have format 1, and a change store has those of format 2",
+        )),
+        Some(2) => Ok(()),
+        None if !notes.has_rows => make_meta(alloc, path, change_store),
+        format => Err(adoption_failure(alloc, path, &format_fault(format))),
+    }
+}
+
+// Why tables of this format are not taken.
+fn format_fault(format: Option<u64>) -> AdoptFault {
+    match format {
+        Some(format) if format != 0 => AdoptFault::Newer {
+            format: i64::try_from(format).unwrap_or(i64::MAX),
+        },
+        _ => AdoptFault::Foreign(Foreign::Meta),
+    }
+}
+
+// Makes tables on a connection to a new database, fills them with the rows of a change store, and judges them
+// as those of a file are judged.
+fn read_tables<P: Peer, S: Alter + Drop>(
+    rt: &HostRuntime,
+    config: &Config,
+    path: &str,
+    change_store: &mut P,
+    mut conn: Connection<S>,
+) -> Result<Tables<S>, Failure>
+    requires { conn.in_transaction ≡ false }
+    ensures taken { IfOk result (AreTaken S.Store config.now conn P.exchanged change_store.old
+        change_store.new) }
+    ensures failure { IfErr result (λ failure. IsOrNoMemory 4 failure) }
+{
+    gives_rows();
+    one_state();
+    let notes = match read_rows(rt.alloc(), change_store, &mut conn) {
+        Ok(notes) => notes,
+        Err(fault) => return Err(pages_failure(rt.alloc(), path, &fault)),
+    };
+    check_or_make_meta(rt.alloc(), path, change_store, &notes)?;
+    keeper_over(rt, path, conn, config)
+}
+
+// Reads and judges all that a change store has, over a connection to a new database, and says what that is.
+// The database is gone behind it.
+fn read_change_store<P: Peer + Drop, S: Alter + Drop>(
+    console: &Console<'_>,
+    config: &Config,
+    path: &str,
+    mut change_store: P,
+    conn: Connection<S>,
+) -> Result<Through<MemKeeper, RemoteChangeStore<P>>, Failure>
+    requires { conn.in_transaction ≡ false }
+    ensures copied { IfOk result (IsCopied S.Store config.now conn P.exchanged change_store) }
+    ensures failure { IfErr result (λ failure. IsOrNoMemory 4 failure) }
+{
+    let rt = console.rt;
+    let mut tables = read_tables(rt, config, path, &mut change_store, conn)?;
+    match Through::copied(
+        rt.alloc(),
+        &mut tables,
+        RemoteChangeStore::new(change_store),
+    ) {
+        Ok(keeper) => {
+            report_content(console, path, read_content(&mut tables.into_connection()));
+            Ok(keeper)
+        }
+        Err(fault) => Err(store_failure(rt.alloc(), path, fault)),
+    }
+}
+
+// The same over files in memory: there a row that comes in takes as many steps as its tree is deep, where the
+// store of rows in memory would move all rows behind it.
+fn read_over_memory<P: Peer + Drop>(
+    console: &Console<'_>,
+    config: &Config,
+    path: &str,
+    change_store: P,
+) -> Result<Through<MemKeeper, RemoteChangeStore<P>>, Failure>
+    ensures read { IfOk result (IsReadFrom config.now P.exchanged change_store) }
+    ensures failure { IfErr result (λ failure. IsOrNoMemory 4 failure) }
+{
+    let alloc = console.rt.alloc();
+    let conn = open(alloc, path, files_of(alloc, &[], &[])?)?;
+    read_change_store(console, config, path, change_store, conn)
+}
+
+// A connection to a change store. It gives up what takes too long.
+fn connect(rt: &HostRuntime, path: &str) -> io::Result<UnixStream> {
+    let stream = UnixStream::connect(rt, path)?;
+    let longest = Some(Duration::from_secs(LONGEST));
+    stream.set_read_timeout(longest)?;
+    stream.set_write_timeout(longest)?;
+    Ok(stream)
+}
+
+// The line over a connection.
+fn tracked_peer(stream: &UnixStream, is_asked: Rc<Cell<bool>>) -> io::Result<ChangeStorePeer> {
+    Ok(TrackedPeer {
+        peer: Channel::new(stream.try_clone()?, stream.try_clone()?),
+        is_asked,
+    })
+}
+
+// A connection to a change store, and the line over it.
+fn reach(
+    rt: &HostRuntime,
+    path: &str,
+    is_asked: Rc<Cell<bool>>,
+) -> io::Result<(UnixStream, ChangeStorePeer)> {
+    let stream = connect(rt, path)?;
+    let line = tracked_peer(&stream, is_asked)?;
+    Ok((stream, line))
+}
+
+/// Reads and judges all that a change store has, and says what that is.
+///
+/// # Errors
+///
+/// Where the change store cannot be had, its rows are refused, or memory is.
+pub(crate) fn open_change_store(
+    console: &Console<'_>,
+    config: &Config,
+    path: &str,
+) -> Result<OpenChangeStore, Failure>
+    ensures { IfErr result (λ failure. IsOrNoMemory 4 failure) }
+{
+    let rt = console.rt;
+    let Ok(is_asked) = Rc::new(rt.alloc(), Cell::new(false)) else {
+        return Err(Failure::NoMemory);
+    };
+    let (stream, line) = match reach(rt, path, is_asked.clone()?) {
+        Ok(reached) => reached,
+        Err(error) => return Err(change_store_failure(rt.alloc(), path, &error)),
+    };
+    let keeper = read_over_memory(console, config, path, line)?;
+    Ok(OpenChangeStore {
+        keeper,
+        stream,
+        is_asked,
+        is_cut: false,
+    })
+}

@@ -1,0 +1,128 @@
+//! A file of tables and its log before they are opened: whether there are tables, and whether new ones may be
+//! made.
+
+use csi_files::WAL_WITH_FRAME_BYTES;
+use std::fs::{self, File};
+use std::io::{self, ErrorKind, Read};
+use thiserror::Error;
+
+// The header of SQLite's file, and behind it how the first page begins: its kind, and where the number of its
+// cells is.
+const HEADER_BYTES: usize = 105;
+
+const KIND_AT: usize = 100;
+
+const CELLS_AT: usize = 103;
+
+const LEAF: u8 = 13;
+
+/// Why a file is not taken for tables, and none are made in it.
+#[derive(Clone, Copy, Debug, Error)]
+pub(crate) enum FileFault {
+    /// There is no file.
+    #[error("there is no such file, and none is made")]
+    Missing,
+    /// It has no tables.
+    #[error("it has no tables, and none are made")]
+    Blank,
+    /// What was in it is lost: its log has changes of it.
+    #[error("it is empty or missing, but the log next to it, '-wal', has changes: put back the copy of the file that this log belongs to, or move the log away to begin with no volumes")]
+    Emptied,
+}
+
+// Whether the first bytes of a file are those of one without tables: its first page is a leaf of no cells.
+fn is_blank(head: &[u8; HEADER_BYTES]) -> bool {
+    head[KIND_AT] == LEAF && head[CELLS_AT] == 0 && head[CELLS_AT + 1] == 0
+}
+
+// The path of a file's log, which lies next to the file that links lead to, or to where it would be made.
+fn wal_path(rt: &HostRuntime, path: &str) -> io::Result<String> {
+    match fs::canonicalize(rt, path) {
+        Ok(real) => Ok(format!(in rt.alloc(); "{}-wal", real.as_str())?),
+        Err(error) if error.kind() == ErrorKind::NotFound => {
+            Ok(format!(in rt.alloc(); "{path}-wal")?)
+        }
+        Err(error) => Err(error),
+    }
+}
+
+// Whether a file's log has a change.
+fn has_frames(rt: &HostRuntime, path: &str) -> io::Result<bool> {
+    let log = wal_path(rt, path)?;
+    Ok(fs::metadata(rt, log.as_str()).is_ok_and(|found| found.len() >= WAL_WITH_FRAME_BYTES as u64))
+}
+
+// Whether a file has no byte, or is missing.
+fn is_empty(rt: &HostRuntime, path: &str) -> io::Result<bool> {
+    match fs::metadata(rt, path) {
+        Ok(found) => Ok(found.is_file() && found.len() == 0),
+        Err(error) if error.kind() == ErrorKind::NotFound => Ok(true),
+        Err(error) => Err(error),
+    }
+}
+
+// How many bytes of a file are in its free pages: a page's size is at 16 of the header, where 1 is 65,536,
+// and the number of the free ones at 36.
+fn free_bytes(rt: &HostRuntime, path: &str) -> io::Result<u64> {
+    let mut head = [0; HEADER_BYTES];
+    File::open(rt, path)?.read_exact(&mut head)?;
+    let page = match u16::from_be_bytes([head[16], head[17]]) {
+        1 => 1 << 16,
+        size => u64::from(size),
+    };
+    let free = u32::from_be_bytes([head[36], head[37], head[38], head[39]]);
+    Ok(u64::from(free).saturating_mul(page))
+}
+
+// How many bytes a file and its log have, without the pages that are free in the file. A page that the log
+// takes again is counted with the log.
+fn bytes_of(rt: &HostRuntime, path: &str) -> io::Result<u64> {
+    let log = wal_path(rt, path)?;
+    let wal_bytes = fs::metadata(rt, log.as_str()).map_or(0, |found| found.len());
+    let of_file = fs::metadata(rt, path)?.len();
+    let free = free_bytes(rt, path).unwrap_or(0);
+    Ok(of_file.saturating_sub(free).saturating_add(wal_bytes))
+}
+
+/// How many bytes of memory an opening of a file takes at most for its rows: a row takes less than twice what
+/// it takes in the file.
+pub(crate) fn opening_bytes(rt: &HostRuntime, path: &str) -> usize {
+    let bytes = bytes_of(rt, path).unwrap_or(0);
+    bytes.saturating_mul(2) as usize
+}
+
+/// Why no tables may be made in a file, as far as its length and its log show it. An opening would begin the
+/// log again, and the changes in it would be lost.
+pub(crate) fn fault_of_wal(rt: &HostRuntime, path: &str) -> Option<FileFault> {
+    match (is_empty(rt, path), has_frames(rt, path)) {
+        (Ok(true), Ok(true)) => Some(FileFault::Emptied),
+        _ => None,
+    }
+}
+
+// Whether the file has nothing of tables, and nothing is in its log.
+fn has_nothing(rt: &HostRuntime, path: &str) -> io::Result<bool> {
+    let mut file = File::open(rt, path)?;
+    if has_frames(rt, path)? {
+        return Ok(false);
+    }
+    let mut head = [0; HEADER_BYTES];
+    match file.read_exact(&mut head) {
+        Ok(()) => Ok(is_blank(&head)),
+        Err(error) if error.kind() == ErrorKind::UnexpectedEof => Ok(true),
+        Err(error) => Err(error),
+    }
+}
+
+/// Why a file has no tables, as far as that is seen without an opening. What cannot be read is left to the
+/// opening.
+pub(crate) fn fault_of_existing(rt: &HostRuntime, path: &str) -> Option<FileFault> {
+    if let Some(fault) = fault_of_wal(rt, path) {
+        return Some(fault);
+    }
+    match has_nothing(rt, path) {
+        Ok(true) => Some(FileFault::Blank),
+        Err(error) if error.kind() == ErrorKind::NotFound => Some(FileFault::Missing),
+        _ => None,
+    }
+}
