@@ -15,8 +15,8 @@
 //! State has such rows.
 //!
 //! ```rust
-//! let change store = RemoteChangeStore::new(Channel::new(reader, writer));
-//! let mut keeper = Through::copied(alloc, &mut tables, change store)?;
+//! let changes = RemoteChangeStore::new(Channel::new(reader, writer));
+//! let mut keeper = Through::copied(alloc, &mut tables, changes)?;
 //! keeper.apply(alloc, &Change::AddVolume(volume))?;
 //! ```
 #![tactic(auto)]
