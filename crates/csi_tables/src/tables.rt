@@ -147,7 +147,7 @@ impl<S: Alter> Keeper for Tables<S> {
         self.health.finish_call(store_answer(answer))
     }
 
-    // The numbers are read, by the index of nodes: no count is kept.
+    // The numbers are read and counted: tables have no index of nodes, and keep no count.
     fn count_at(&mut self, alloc: Global, node: &Text) -> Result<u64, StoreFault>
         ensures reads { Reads (tables_model S.Store self.old) (tables_model S.Store self.new) result
             (λ s n. n ≡ count_at s node.now) }

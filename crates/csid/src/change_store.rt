@@ -68,7 +68,7 @@ impl<P: Peer> Peer for TrackedPeer<P> {
 /// The connection to a change store.
 pub(crate) type ChangeStorePeer = TrackedPeer<Channel<UnixStream, UnixStream>>;
 
-/// What is kept in memory of a log's volumes, and the change store.
+/// What is kept in memory of a change store's volumes, and the change store.
 pub(crate) type Remote = Through<MemKeeper, RemoteChangeStore<ChangeStorePeer>>;
 
 /// A change store that was read.
