@@ -8,7 +8,8 @@ ghost use Rattle.csi_keeper.specs.declared.change.StoreFault.TheVariants.{NoMemo
 ghost use Rattle.csi_tables.specs.Keeping.{is_down};
 
 use csi_keeper::{
-    Attachment, CapKey, Change, Keeper, Kind, Listed, PageFold, StoreFault, Usage, Volume,
+    Attachment, CapKey, Change, Keeper, Kind, Listed, PageFold, PageWithNodes, StoreFault, Usage,
+    Volume,
 };
 use csi_tables::Tables;
 use csi_types::{Items, Text, map_bytes};
@@ -240,6 +241,15 @@ impl<S: Alter> Keeper for Reserved<S> {
         count: u32,
     ) -> Result<Items<Items<Text>>, StoreFault> {
         self.tables.published_nodes(alloc, after, count)
+    }
+
+    fn page_with_nodes(
+        &mut self,
+        alloc: Global,
+        after: u64,
+        count: u32,
+    ) -> Result<PageWithNodes, StoreFault> {
+        self.tables.page_with_nodes(alloc, after, count)
     }
 
     fn listing(

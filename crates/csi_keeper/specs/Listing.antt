@@ -1,9 +1,10 @@
 -- What a listing tells of volumes.
-use Rattle.std.specs.Prelude.{ℕ, List, [], ◌∷◌, map}
+use Rattle.std.specs.Prelude.{◌≡◌, ℕ, List, [], ◌∷◌, map}
 use Rattle.csi_keeper.specs.declared.listed.Listed.{Listed}
 use Rattle.csi_keeper.specs.declared.listed.ListedRow.{ListedRow}
+use Rattle.csi_keeper.specs.declared.listed.PageWithNodes.{PageWithNodes}
 use Rattle.csi_keeper.specs.declared.volume.Volume.{Volume}
-use Rattle.csi_keeper.specs.State.{State, page, published}
+use Rattle.csi_keeper.specs.State.{State, page, published, published_of_page}
 use Rattle.csi_keeper.specs.Texts.{Text}
 
 -- what is told of a volume that is published at these nodes
@@ -23,6 +24,11 @@ listed_each (v ∷ vs) (ns ∷ nodes) = listed_at v ns ∷ listed_each vs nodes
 -- what is told of a volume of a State
 abbrev pub listed_of : State → Volume → Listed
 listed_of s v = listed_at v (published s v.number)
+
+-- a page of volumes, and the nodes of each
+pub record IsPageWithNodes (s : State) (after count : ℕ) (p : PageWithNodes) : Type 0 where
+  pub volumes : p.volumes ≡ page s after count
+  pub nodes : p.nodes ≡ published_of_page s after count
 
 -- what is told of the volumes of a page
 abbrev pub listing : State → ℕ → ℕ → List Listed

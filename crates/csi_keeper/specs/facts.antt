@@ -1,6 +1,7 @@
 pub mod Capability
 pub mod Coexistence
 pub mod Finite
+pub mod Listings
 pub mod Mutable
 pub mod Names
 pub mod Orders

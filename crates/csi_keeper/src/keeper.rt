@@ -4,13 +4,13 @@ ghost use Rattle.std.specs.Prelude.{◌≡◌};
 ghost use Rattle.std.specs.FinMap.{get};
 ghost use Rattle.std.specs.Option.{option_map};
 ghost use Rattle.csi_keeper.specs.State.{State, IsBounded, named, used, sizes, attached, attached_at, count_at, page, published_of_page};
-ghost use Rattle.csi_keeper.specs.Listing.{listing};
+ghost use Rattle.csi_keeper.specs.Listing.{IsPageWithNodes, listing};
 ghost use Rattle.csi_keeper.specs.Keeper.{Applies, Reads};
 ghost use Rattle.csi_keeper.specs.Model.{Model};
 
 use crate::capability::CapKey;
 use crate::change::{Change, StoreFault, Usage};
-use crate::listed::{Listed, listed_each};
+use crate::listed::{Listed, PageWithNodes, listed_each};
 use crate::page::{PageFold, fold_listed};
 use crate::volume::{Attachment, Volume};
 use csi_types::{Items, Text};
@@ -111,8 +111,23 @@ pub trait Keeper {
         ensures { Reads (model self.old) (model self.new) result
             (λ s xs. xs ≡ published_of_page s after count) };
 
-    /// What a listing tells of the volumes of a page: of `page` and of `published_nodes` what is
-    /// answered of them. It costs no more than both, and less where a keeper has the parts at hand.
+    /// The page of `page`, and the nodes of `published_nodes`. It costs no more than both, and less where a
+    /// keeper finds both by one search.
+    fn page_with_nodes(
+        &mut self,
+        alloc: Global,
+        after: u64,
+        count: u32,
+    ) -> Result<PageWithNodes, StoreFault>
+        ensures { Reads (model self.old) (model self.new) result (λ s p. IsPageWithNodes s after count p) }
+    {
+        let volumes = self.page(alloc, after, count)?;
+        let nodes = self.published_nodes(alloc, after, count)?;
+        Ok(PageWithNodes { volumes, nodes })
+    }
+
+    /// What a listing reports of the volumes of a page, and of the nodes of each. It costs no more than
+    /// `page_with_nodes`, and less where a keeper has the parts at hand.
     fn listing(
         &mut self,
         alloc: Global,
@@ -121,8 +136,7 @@ pub trait Keeper {
     ) -> Result<Items<Listed>, StoreFault>
         ensures { Reads (model self.old) (model self.new) result (λ s xs. xs ≡ listing s after count) }
     {
-        let volumes = self.page(alloc, after, count)?;
-        let nodes = self.published_nodes(alloc, after, count)?;
+        let PageWithNodes { volumes, nodes } = self.page_with_nodes(alloc, after, count)?;
         Ok(listed_each(alloc, volumes.as_slice(), nodes)?)
     }
 

@@ -48,6 +48,15 @@ pub struct ListedRow<'a> {
     pub nodes: &'a Items<Text>,
 }
 
+/// A page of volumes, and the nodes of each.
+#[derive(Drop)]
+pub struct PageWithNodes {
+    /// The volumes, in rising order of their numbers.
+    pub volumes: Items<Volume>,
+    /// The nodes that each volume is published at, in byte order of their ids.
+    pub nodes: Items<Items<Text>>,
+}
+
 /// What is told of a volume that is published at these nodes.
 ///
 /// # Errors

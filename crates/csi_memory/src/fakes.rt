@@ -6,13 +6,14 @@ ghost use Rattle.std.specs.Option.{option_map};
 ghost use Rattle.csi_memory.specs.Holding.{Holds};
 ghost use Rattle.csi_memory.specs.Fakes.{burnt, calls_left, is_shut, kept, refusals_of, Burns, fused_model};
 ghost use Rattle.csi_keeper.specs.Keeper.{Applies, Reads, count_after};
-ghost use Rattle.csi_keeper.specs.Listing.{listing};
+ghost use Rattle.csi_keeper.specs.Listing.{IsPageWithNodes, listing};
 ghost use Rattle.csi_keeper.specs.State.{IsBounded, attached, attached_at, count_at, named, page, published_of_page, sizes, used, first_state};
 ghost use Rattle.csi_keeper.specs.declared.change.StoreFault.TheVariants.{Down, Refused};
 
 use crate::mem::MemKeeper;
 use csi_keeper::{
-    Attachment, CapKey, Change, Health, Keeper, Listed, PageFold, StoreFault, Usage, Volume,
+    Attachment, CapKey, Change, Health, Keeper, Listed, PageFold, PageWithNodes, StoreFault, Usage,
+    Volume,
 };
 use csi_types::{Items, Text};
 use std::alloc::{AllocError, Global};
@@ -210,6 +211,20 @@ impl Keeper for FusedMem {
     {
         self.fuse.burn()?;
         self.keeper.published_nodes(alloc, after, count)
+    }
+
+    fn page_with_nodes(
+        &mut self,
+        alloc: Global,
+        after: u64,
+        count: u32,
+    ) -> Result<PageWithNodes, StoreFault>
+        ensures reads { Reads (fused_model self.old) (fused_model self.new) result
+            (λ s p. IsPageWithNodes s after count p) }
+        ensures burns { Burns self.old self.new result }
+    {
+        self.fuse.burn()?;
+        self.keeper.page_with_nodes(alloc, after, count)
     }
 
     fn listing(

@@ -26,9 +26,9 @@ use Rattle.csi_sql.specs.Refusing.{NothingRefuses}
 use Rattle.csi_sql.specs.Effects.{Sees, Selects, Steps, Reads}
 use Rattle.csi_sql.specs.Selecting.{Tells, asked, given}
 use Rattle.csi_sql.specs.declared.statements.select.Select.{Select}
-use Rattle.csi_sql.specs.declared.statements.select.Select.TheVariants.{Numbered, Named, Sizes, Page, PageNumbers, Nodes, Attached, Places}
+use Rattle.csi_sql.specs.declared.statements.select.Select.TheVariants.{Numbered, Named, Sizes, Page, Nodes, Attached, Places}
 use Rattle.csi_sql.specs.Shown.{IsShownOf, IsBeginningOf, IsNext}
-use Rattle.csi_sql.specs.Statements.{number_query, volume_query, named_query, sizes_query, page_query, page_numbers_query, nodes_query, attached_query, places_query}
+use Rattle.csi_sql.specs.Statements.{number_query, volume_query, named_query, sizes_query, page_query, nodes_query, attached_query, places_query}
 use Rattle.csi_sql.specs.Tables.{schema}
 use Rattle.csi_sql.proofs.SelectLemmas.{limited, one_table, shows_all, shows_one}
 use Rattle.csi_sql.proofs.RefusingLemmas.{all_told}
@@ -128,7 +128,6 @@ module _ (text : List ℕ) (t : ℕ) (test shown : List Term) (order : List (Ter
 
 shows : (q : Select) (old new : State) (rows : List Row) → IsTrue old.in_transaction → Shown (asked q) (given q) old new rows → Steps (Sees (λ db. Tells q db rows)) old new
 shows (Page after count) old new rows inside h = let q = page_query in selects_first _ 1 q.filter q.project q.order _ old new rows (λ db. refl) inside h count (λ all. refl) (is_select (Page after count))
-shows (PageNumbers after count) old new rows inside h = let q = page_numbers_query in selects_first _ 1 q.filter q.project q.order _ old new rows (λ db. refl) inside h count (λ all. refl) (is_select (PageNumbers after count))
 shows (Numbered number) old new rows inside h = let q = volume_query in selects _ 1 q.filter q.project q.order _ old new rows (λ db. refl) inside h (is_select (Numbered number))
 shows (Named name) old new rows inside h = let q = named_query in selects _ 1 q.filter q.project q.order _ old new rows (λ db. refl) inside h (is_select (Named name))
 shows (Sizes pool) old new rows inside h = let q = sizes_query in selects _ 1 q.filter q.project q.order _ old new rows (λ db. refl) inside h (is_select (Sizes pool))

@@ -22,7 +22,7 @@ use Rattle.csi_sql.specs.Statements.{plain_query, number_query}
 use Rattle.csi_sql.specs.Rows.{number_value}
 use Rattle.csi_sql.specs.Tables.{schema}
 use Rattle.csi_sql.specs.declared.statements.select.Select.{Select}
-use Rattle.csi_sql.specs.declared.statements.select.Select.TheVariants.{Numbered, Named, Sizes, Page, PageNumbers, Nodes, Attached, Places}
+use Rattle.csi_sql.specs.declared.statements.select.Select.TheVariants.{Numbered, Named, Sizes, Page, Nodes, Attached, Places}
 use Rattle.csi_sql.specs.Texts.{Write, arity, text, AddVolume, SetNext, SetFormat, SetParams, RemoveVolume, Attach, Detach, DetachAll}
 
 -- ---- writes
@@ -110,7 +110,6 @@ shown_names (Numbered number) = volume_names
 shown_names (Named name) = volume_names
 shown_names (Sizes pool) = codes "bytes" ∷ []
 shown_names (Page after count) = volume_names
-shown_names (PageNumbers after count) = codes "number" ∷ []
 shown_names (Nodes number) = codes "node" ∷ codes "cap" ∷ codes "readonly" ∷ []
 shown_names (Attached node) = codes "number" ∷ []
 shown_names (Places after last) = codes "number" ∷ codes "node" ∷ []
@@ -121,7 +120,6 @@ compiles_select (Numbered number) = record { is = refl }
 compiles_select (Named name) = record { is = refl }
 compiles_select (Sizes pool) = record { is = refl }
 compiles_select (Page after count) = record { is = refl }
-compiles_select (PageNumbers after count) = record { is = refl }
 compiles_select (Nodes number) = record { is = refl }
 compiles_select (Attached node) = record { is = refl }
 compiles_select (Places after last) = record { is = refl }
@@ -148,7 +146,6 @@ each_named (Numbered number) = refl
 each_named (Named name) = refl
 each_named (Sizes pool) = refl
 each_named (Page after count) = refl
-each_named (PageNumbers after count) = refl
 each_named (Nodes number) = refl
 each_named (Attached node) = refl
 each_named (Places after last) = refl
@@ -158,7 +155,6 @@ never_refused (Numbered number) limit db e h = only_limit h (λ over. over.4)
 never_refused (Named name) limit db e h = only_limit h (λ over. over.4)
 never_refused (Sizes pool) limit db e h = only_limit h (λ over. over.4)
 never_refused (Page after count) limit db e h = only_limit h (λ over. over.4)
-never_refused (PageNumbers after count) limit db e h = only_limit h (λ over. over.4)
 never_refused (Nodes number) limit db e h = only_limit h (λ over. over.4)
 never_refused (Attached node) limit db e h = only_limit h (λ over. over.4)
 never_refused (Places after last) limit db e h = only_limit h (λ over. over.4)

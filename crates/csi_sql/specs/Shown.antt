@@ -8,7 +8,7 @@ use Rattle.sqlite.specs.Term.{holds}
 use Rattle.sqlite_rules.specs.Lists.{Has}
 use Rattle.csi_sql.specs.Cells.{as_number}
 use Rattle.csi_sql.specs.Rows.{number_value}
-use Rattle.csi_sql.specs.Statements.{page_query, page_numbers_query, places_query}
+use Rattle.csi_sql.specs.Statements.{page_query, places_query}
 
 -- what is shown of each row that passes, in an order that ORDER BY allows; a LIMIT is not looked at
 pub record IsShownOf (q : Query) (rows : List Row) (params : Row) (shown : List Row) : Type 0 where
@@ -29,18 +29,14 @@ IsBeginningOf q rows params count shown = (all : List Row) × IsShownOf q rows p
 abbrev pub IsPage : ℕ → ℕ → Database → List Row → Type 0
 IsPage after count db shown = IsBeginningOf page_query (db.trees 1) (number_value after ∷ number_value count ∷ []) count shown
 
--- the numbers of those
-abbrev pub IsPageNumbers : ℕ → ℕ → Database → List Row → Type 0
-IsPageNumbers after count db shown = IsBeginningOf page_numbers_query (db.trees 1) (number_value after ∷ number_value count ∷ []) count shown
-
 -- the number in the last row, or the one given where there is none
 abbrev pub last_number : ℕ → List Row → ℕ
 last_number n rows = unwrap_or (option_and_then (λ r. as_number (column r 0)) (slice_get rows (length rows - 1))) n
 
--- the numbers of a page, and the number and the node of each attachment of its volumes
-pub record IsPageNodes (after count : ℕ) (db : Database) (numbers places : List Row) : Type 0 where
-  pub numbered : IsPageNumbers after count db numbers
-  pub placed : IsShownOf places_query (db.trees 3) (number_value after ∷ number_value (last_number after numbers) ∷ []) places
+-- a page, and the number and the node of each attachment of its volumes
+pub record IsPageWithNodes (after count : ℕ) (db : Database) (volumes places : List Row) : Type 0 where
+  pub shown : IsPage after count db volumes
+  pub placed : IsShownOf places_query (db.trees 3) (number_value after ∷ number_value (last_number after volumes) ∷ []) places
 
 -- the one cell is the next number of a row of meta, whatever its format is
 abbrev pub IsNext : Database → Row → Type 0

@@ -68,9 +68,6 @@ page_query = record plain_query {
   limit = col 0 1;
 }
 
-abbrev pub page_numbers_query : Query
-page_numbers_query = record page_query { project = col 1 0 ∷ [] }
-
 -- ---- attachments: their number is no key, so what it is compared with is made a number first
 
 abbrev pub nodes_query : Query

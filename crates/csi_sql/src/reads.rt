@@ -10,7 +10,7 @@ ghost use Rattle.csi_sql.specs.Refusing.{HasNoNext, NothingRefuses};
 ghost use Rattle.csi_sql.specs.Effects.{ReadsOnly};
 ghost use Rattle.csi_sql.specs.Rows.{number_value};
 ghost use Rattle.csi_sql.specs.Selecting.{IsAsked, Tells};
-ghost use Rattle.csi_sql.specs.Shown.{IsFoundBy, IsNext, IsPage, IsPageNodes, IsShownOf, last_number};
+ghost use Rattle.csi_sql.specs.Shown.{IsFoundBy, IsNext, IsPage, IsPageWithNodes, IsShownOf, last_number};
 ghost use Rattle.csi_sql.specs.Statements.{attached_query, named_query, nodes_query, sizes_query, volume_query};
 
 use crate::statements::meta::select_next;
@@ -107,40 +107,40 @@ pub fn page<S: Alter>(conn: &mut Connection<S>, after: u64, count: u32) -> Resul
 
 /// A page of volumes, and where they are attached.
 #[derive(Drop)]
-pub struct PageNodes {
-    /// The number of each volume of the page, in rising order.
-    pub numbers: Vec<Row>,
+pub struct PageWithNodes {
+    /// The volumes of the page, in rising order of their numbers.
+    pub volumes: Vec<Row>,
     /// The number and the node of each of their attachments, in rising order of the numbers, and
     /// then in byte order of the nodes.
     pub places: Vec<Row>,
 }
 
 /// The number in the last row, or `after` where there is none.
-fn last_of(numbers: &[Row], after: u64) -> u64
+fn last_of(volumes: &[Row], after: u64) -> u64
     requires { after < 2 ^ 63 }
-    ensures value { result ≡ last_number after numbers.now }
+    ensures value { result ≡ last_number after volumes.now }
     ensures range { result < 2 ^ 63 }
 {
-    match numbers.last() {
+    match volumes.last() {
         Some(row) => number_at(row, 0).unwrap_or(after),
         None => after,
     }
 }
 
-/// The numbers of the page of `page`, and the nodes that each of its volumes is attached at.
-pub fn page_nodes<S: Alter>(
+/// The page of `page`, and the nodes that each of its volumes is attached at.
+pub fn page_with_nodes<S: Alter>(
     conn: &mut Connection<S>,
     after: u64,
     count: u32,
-) -> Result<PageNodes, Error>
+) -> Result<PageWithNodes, Error>
     requires idle { conn.old.in_transaction ≡ false }
     requires after { after < 2 ^ 63 }
     ensures { ReadsOnly S.Store conn.old conn.new
-        (λ db page. IsPageNodes after count db page.numbers.items page.places.items) NothingRefuses result }
+        (λ db page. IsPageWithNodes after count db page.volumes.items page.places.items) NothingRefuses result }
 {
     let mut tx = conn.transaction();
-    let numbers = select_rows(&mut tx, &Select::PageNumbers(after, count))?;
-    let places = select_rows(&mut tx, &Select::Places(after, last_of(&numbers, after)))?;
+    let volumes = select_rows(&mut tx, &Select::Page(after, count))?;
+    let places = select_rows(&mut tx, &Select::Places(after, last_of(&volumes, after)))?;
     tx.rollback();
-    Ok(PageNodes { numbers, places })
+    Ok(PageWithNodes { volumes, places })
 }

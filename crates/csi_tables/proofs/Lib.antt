@@ -3,7 +3,6 @@ mod ChangeLemmas
 mod EncodingLemmas
 mod EntryLemmas
 mod KeepLemmas
-mod ListingLemmas
 mod ModeLemmas
 mod NewLemmas
 mod PageLemmas

@@ -14,17 +14,17 @@ use Rattle.sqlite_sql.specs.declared.ops.BinaryOp.TheVariants.{Compare}
 use Rattle.sqlite_sql.specs.declared.ops.CompareOp.TheVariants.{Gt, Le}
 use Rattle.sqlite_trees.proofs.ListLemmas.{ascending-filter, ascending-map, ascending_weaker, all-filter}
 use Rattle.sqlite_value.proofs.OrderLemmas.{value_cmp-Int, value_cmp-Text}
-use Rattle.csi_keeper.specs.State.{State, AttachmentKey, attachment_key_cmp, published, published_of_page}
+use Rattle.csi_keeper.specs.State.{State, AttachmentKey, attachment_key_cmp, page, published, published_of_page}
 use Rattle.csi_keeper.specs.Texts.{text_cmp}
 use Rattle.csi_keeper.specs.declared.volume.Attachment.{Attachment}
 use Rattle.csi_keeper.specs.declared.volume.Volume.{Volume}
 use Rattle.csi_sql.specs.Cells.{as_number}
 use Rattle.csi_sql.specs.Rows.{number_value, seen_volume, seen_attachment}
 use Rattle.csi_sql.specs.Shown.{IsShownOf, IsBeginningOf, last_number}
-use Rattle.csi_sql.specs.Statements.{page_numbers_query, places_query}
+use Rattle.csi_sql.specs.Statements.{page_query, places_query}
 use Rattle.csi_tables.specs.Holding.{IsRows, IsStored, IsPlaced, volume_entry, attachment_entry}
 use Rattle.csi_tables.specs.Places.{place_row, nodes_at, IsRisen, AreRising, AreTexts}
-use Rattle.csi_tables.proofs.ShownLemmas.{and_true, is_above, to_numeric, all-take, take-map, volumes_up, places_up, by_rising, passed}
+use Rattle.csi_tables.proofs.ShownLemmas.{and_true, is_above, to_numeric, all-take, take-map, volumes_up, places_up, page_shown, passed}
 use Rattle.csi_tables.proofs.SortedLemmas.{shown_by}
 use Rattle.csi_tables.proofs.TestLemmas.{truth_test}
 
@@ -67,16 +67,19 @@ last_of : ℕ → List ℕ → ℕ
 last_of n [] = n
 last_of n (m ∷ ms) = last_of m ms
 
-last_row : (m : ℕ) (ms : List ℕ) → slice_get (map (λ n. number_value n ∷ []) (m ∷ ms)) (length (map (λ (n : ℕ). number_value n ∷ []) ms)) ≡ Some (number_value (last_of m ms) ∷ [])
-unfolding last_of
-last_row m [] = refl
-last_row m (k ∷ ms) = last_row k ms
+abbrev numbers_of : List (ℕ × Volume) → List ℕ
+numbers_of es = map (λ e. e.0) es
 
-last_is : (n m : ℕ) (ms : List ℕ) → last_number n (map (λ n. number_value n ∷ []) (m ∷ ms)) ≡ last_of m ms
-last_is n m ms =
-    let rows : List Row = map (λ n. number_value n ∷ []) (m ∷ ms) in
-    let at : length rows - 1 ≡ length (map (λ (n : ℕ). number_value n ∷ []) ms) = omega arith in
-    ap (λ o. unwrap_or (option_and_then (λ (r : Row). as_number (column r 0)) o) n) (ap (slice_get rows) at ∙ last_row m ms)
+last_row : (e : ℕ × Volume) (es : List (ℕ × Volume)) → option_and_then (λ (r : Row). as_number (column r 0)) (slice_get (map volume_entry (e ∷ es)) (length (map volume_entry es))) ≡ Some (last_of e.0 (numbers_of es))
+unfolding last_of
+last_row e [] = refl
+last_row e (k ∷ es) = last_row k es
+
+last_is : (n : ℕ) (e : ℕ × Volume) (es : List (ℕ × Volume)) → last_number n (map volume_entry (e ∷ es)) ≡ last_of e.0 (numbers_of es)
+last_is n e es =
+    let rows : List Row = map volume_entry (e ∷ es) in
+    let at : length rows - 1 ≡ length (map volume_entry es) = omega arith in
+    ap (λ o. unwrap_or o n) (ap (λ i. option_and_then (λ (r : Row). as_number (column r 0)) (slice_get rows i)) at ∙ last_row e es)
 
 below_last : (m : ℕ) (ms : List ℕ) → AreRising (m ∷ ms) → m ≤ last_of m ms
 unfolding last_of
@@ -88,9 +91,9 @@ unfolding last_of
 all_below m [] up = (omega arith, tt)
 all_below m (k ∷ ms) up = (below_last m (k ∷ ms) up, all_below k ms up.1)
 
-up_to_last : (n : ℕ) (ns : List ℕ) → AreRising ns → AllByRecursion (λ k. k ≤ last_number n (map (λ n. number_value n ∷ []) ns)) ns
+up_to_last : (n : ℕ) (es : List (ℕ × Volume)) → AreRising (numbers_of es) → AllByRecursion (λ k. k ≤ last_number n (map volume_entry es)) (numbers_of es)
 up_to_last n [] up = tt
-up_to_last n (m ∷ ms) up = subst (λ (l : ℕ). AllByRecursion (λ k. k ≤ l) (m ∷ ms)) (sym (last_is n m ms)) (all_below m ms up)
+up_to_last n (e ∷ es) up = subst (λ (l : ℕ). AllByRecursion (λ k. k ≤ l) (numbers_of (e ∷ es))) (sym (last_is n e es)) (all_below e.0 (numbers_of es) up)
 
 -- ---- the nodes of one number, and of each
 
@@ -125,17 +128,6 @@ module _ (s : State) (db : Trees) (p : IsRows s db) where
   behind : ℕ → ℕ → List (ℕ × Volume)
   behind after count = take count (filter (λ e. nat_lt after e.0) (entries s.volumes))
 
-  numbers_shown : (after count : ℕ) (numbers : List Row) → IsBeginningOf page_numbers_query (db 1) (number_value after ∷ number_value count ∷ []) count numbers
-      → numbers ≡ map (λ n. number_value n ∷ []) (map (λ e. e.0) (behind after count))
-  unfolding behind
-  numbers_shown after count numbers h =
-      let params : Row = number_value after ∷ number_value count ∷ [] in
-      let es = filter (λ (e : ℕ × Volume). nat_lt after e.0) (entries s.volumes) in
-      let all = shown_by page_numbers_query params volume_entry seen_volume (λ x. (column x 0 ∷ [], column x 0 ∷ [])) (λ x. is_true (binary (Compare Gt Binary) (column x 0) (Int (pos after)))) (λ r. refl)
-      (λ r. and_true (is_true (binary (Compare Gt Binary) (column r 0) (Int (pos after))))) (λ e. nat_lt after e.0) (λ e. is_above after e.0) (entries s.volumes) (db 1) h.0 p.volumes
-      (by_rising s db p _ (λ a b h. ap (λ o. ordering_then o Equal) h)) h.1 in
-      h.2 ∙ ap (take count) all ∙ take-map (λ e. number_value e.0 ∷ []) count es ∙ sym (map-map (λ n. number_value n ∷ []) (λ e. e.0) (take count es))
-
   numbers_rise : (after count : ℕ) → AreRising (map (λ e. e.0) (behind after count))
   unfolding behind
   numbers_rise after count =
@@ -167,45 +159,53 @@ module _ (s : State) (db : Trees) (p : IsRows s db) where
         nodes_each after last es stored.1 above.1 below.1,
       )
 
-  pub page_nodes_rows : (after count : ℕ) (numbers places : List Row) → IsBeginningOf page_numbers_query (db 1) (number_value after ∷ number_value count ∷ []) count numbers
-      → IsShownOf places_query (db 3) (number_value after ∷ number_value (last_number after numbers) ∷ []) places
-      → (ns : List ℕ) × AreRising ns × (numbers ≡ map (λ n. number_value n ∷ []) ns) × ((ps : List AttachmentKey) × IsRisen ps × (places ≡ map place_row ps) × (map (nodes_at ps) ns ≡ published_of_page s after count))
-  unfolding behind
-  page_nodes_rows after count numbers places h k =
-      let all = filter (λ (e : ℕ × Volume). nat_lt after e.0) (entries s.volumes) in
-      let es = take count all in
-      let ns = map (λ (e : ℕ × Volume). e.0) es in
-      let last = last_number after numbers in
-      let are = numbers_shown after count numbers h in
-      let rising = numbers_rise after count in
-      let ps = map (λ (e : AttachmentKey × Attachment). e.0) (filter (stays after last) (entries s.attachments)) in
-      let below = subst (λ (rows : List Row). AllByRecursion (λ n. n ≤ last_number after rows) ns) (sym are) (up_to_last after ns rising) in
-      let each = nodes_each after last es (all-take IsStored count all (all-filter IsStored (λ e. nat_lt after e.0) (entries s.volumes) p.storable.volumes)) (all-take _ count all (passed (λ e. nat_lt after e.0) (entries s.volumes))) below in (
-        ns,
-        rising,
-        are,
-        (
-          ps,
-          places_rise after last,
-          places_shown after last places k,
-          map-map (nodes_at ps) (λ e. e.0) es ∙ map_on (λ e. nodes_at ps e.0) (λ e. published s e.1.number) es each ∙ sym (map-map (λ v. published s v.number) (λ e. e.1) es)
-              ∙ ap (map (λ v. published s v.number)) (sym (take-map (λ e. e.1) count all)),
-        ),
-      )
-
   texts_of : (stays : AttachmentKey × Attachment → Bool) (es : List (AttachmentKey × Attachment)) → AllByRecursion IsPlaced es → AreTexts (map (λ e. e.0) (filter stays es))
   texts_of stays [] all = tt
   texts_of stays (e ∷ es) all = elim (stays e) as (λ b. AreTexts (map (λ e. e.0) (cond b (e ∷ filter stays es) (filter stays es)))) [ true ↦ (all.0.text, texts_of stays es all.1) | false ↦ texts_of stays es all.1 ]
 
-  -- the same rows, which are read
-  pub page_nodes_readable : (after count : ℕ) (numbers places : List Row) → IsBeginningOf page_numbers_query (db 1) (number_value after ∷ number_value count ∷ []) count numbers
-      → IsShownOf places_query (db 3) (number_value after ∷ number_value (last_number after numbers) ∷ []) places
-      → (ns : List ℕ) × AreRising ns × (numbers ≡ map (λ n. number_value n ∷ []) ns) × ((ps : List AttachmentKey) × IsRisen ps × (places ≡ map place_row ps) × AreTexts ps)
+  numbers_stored : (es : List (ℕ × Volume)) → AllByRecursion IsStored es → AllByRecursion (λ e. e.0 ≡ e.1.number) es
+  numbers_stored [] all = tt
+  numbers_stored (e ∷ es) all = (sym all.0.number, numbers_stored es all.1)
+
+  -- The rows of a page are those of its volumes, and the places after them are those of its nodes; all are
+  -- read again.
+  pub record IsShownAs (after count : ℕ) (volumes places : List Row) : Type 0 where
+    pub stored : List (ℕ × Volume)
+    pub are_stored : AllByRecursion IsStored stored
+    pub volumes_are : volumes ≡ map volume_entry stored
+    pub page_is : map (λ e. e.1) stored ≡ page s after count
+    pub rising : AreRising (map (λ v. v.number) (map (λ e. e.1) stored))
+    pub placed : List AttachmentKey
+    pub risen : IsRisen placed
+    pub places_are : places ≡ map place_row placed
+    pub texts : AreTexts placed
+    pub nodes_are : map (nodes_at placed) (map (λ v. v.number) (map (λ e. e.1) stored)) ≡ published_of_page s after count
+
+  pub page_with_nodes_rows : (after count : ℕ) (volumes places : List Row) → IsBeginningOf page_query (db 1) (number_value after ∷ number_value count ∷ []) count volumes
+      → IsShownOf places_query (db 3) (number_value after ∷ number_value (last_number after volumes) ∷ []) places → IsShownAs after count volumes places
   unfolding behind
-  page_nodes_readable after count numbers places h k =
-      let last = last_number after numbers in (
-        map (λ e. e.0) (behind after count),
-        numbers_rise after count,
-        numbers_shown after count numbers h,
-        (map (λ e. e.0) (filter (stays after last) (entries s.attachments)), places_rise after last, places_shown after last places k, texts_of (stays after last) (entries s.attachments) p.storable.attachments),
-      )
+  page_with_nodes_rows after count volumes places h k =
+      let all = filter (λ (e : ℕ × Volume). nat_lt after e.0) (entries s.volumes) in
+      let es = take count all in
+      let last = last_number after volumes in
+      let are = page_shown s db p after count volumes h in
+      let rising = numbers_rise after count in
+      let ps = map (λ (e : AttachmentKey × Attachment). e.0) (filter (stays after last) (entries s.attachments)) in
+      let stored = all-take IsStored count all (all-filter IsStored (λ e. nat_lt after e.0) (entries s.volumes) p.storable.volumes) in
+      let below = subst (λ (rows : List Row). AllByRecursion (λ n. n ≤ last_number after rows) (numbers_of es)) (sym are) (up_to_last after es rising) in
+      let each = nodes_each after last es stored (all-take _ count all (passed (λ e. nat_lt after e.0) (entries s.volumes))) below in
+      let numbers : numbers_of es ≡ map (λ v. v.number) (map (λ (e : ℕ × Volume). e.1) es) = map_on (λ e. e.0) (λ e. e.1.number) es (numbers_stored es stored) ∙ sym (map-map (λ v. v.number) (λ (e : ℕ × Volume). e.1) es) in
+      record {
+        stored = es;
+        are_stored = stored;
+        volumes_are = are;
+        page_is = sym (take-map (λ e. e.1) count all);
+        rising = subst AreRising numbers rising;
+        placed = ps;
+        risen = places_rise after last;
+        places_are = places_shown after last places k;
+        texts = texts_of (stays after last) (entries s.attachments) p.storable.attachments;
+        nodes_are =
+            ap (map (nodes_at ps)) (sym numbers) ∙ map-map (nodes_at ps) (λ e. e.0) es ∙ map_on (λ e. nodes_at ps e.0) (λ e. published s e.1.number) es each ∙ sym (map-map (λ v. published s v.number) (λ e. e.1) es)
+            ∙ ap (map (λ v. published s v.number)) (sym (take-map (λ e. e.1) count all));
+      }

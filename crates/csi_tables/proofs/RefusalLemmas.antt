@@ -96,6 +96,16 @@ read_as {g = g} {old = old} {new = new} {What = What} r h tells never = record {
   survives = h.survives;
 }
 
+none_told : {X : Type 0} (P : X → Type 0) (Q : TablesFault → Type 0) (r : Result X TablesFault) → IsErrAnd r Q → IfOk r P
+none_told P Q (Ok x) is = absurd is
+none_told P Q (Err fault) is = tt
+
+-- a read whose rows were not read again
+pub failed_after : {S X Y : Type 0} {g : Ghosts S} {old new : Held S} {Shown : Database → X → Type 0} {Refuses : sql.State → Error → Type 0} {What : State → Y → Type 0} {x : X}
+    → (r : Result Y TablesFault) (fault : TablesFault) → ReadsOnly g old new Shown Refuses (Ok x) → IsErrAnd r (λ y. y ≡ fault)
+    → ((s : State) → Shows (state g old) s → HasKnownModes s → Shown (state g old).now x → r ≡ Err Refused → ⊥) → ConnReads g old new What r
+failed_after r fault h is never = read_as r h (λ s shows what. none_told _ _ r is) never
+
 -- a read of numbers
 pub read_numbers : {S X : Type 0} {g : Ghosts S} {old new : Held S} {Shown : Database → X → Type 0} {Refuses : sql.State → Error → Type 0} {x : X}
     → (r : Result (List ℕ) TablesFault) (rows : List Row) (value : State → List ℕ) → ReadsOnly g old new Shown Refuses (Ok x) → IfOk r (λ xs. (ns : List ℕ) → rows ≡ map (λ n. number_value n ∷ []) ns → xs ≡ ns)

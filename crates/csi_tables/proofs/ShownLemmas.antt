@@ -214,16 +214,22 @@ module _ (s : State) (db : Trees) (p : IsRows s db) where
       )
 
   -- a page of the volumes
-  pub page_rows : (after count : ℕ) (shown : List Row) → IsBeginningOf page_query (db 1) (number_value after ∷ number_value count ∷ []) count shown
-      → (es : List (ℕ × Volume)) × AllByRecursion IsStored es × (shown ≡ map volume_entry es) × (map (λ e. e.1) es ≡ page s after count)
-  page_rows after count shown h =
+  pub page_shown : (after count : ℕ) (shown : List Row) → IsBeginningOf page_query (db 1) (number_value after ∷ number_value count ∷ []) count shown
+      → shown ≡ map volume_entry (take count (filter (λ e. nat_lt after e.0) (entries s.volumes)))
+  page_shown after count shown h =
       let params : Row = number_value after ∷ number_value count ∷ [] in
       let es = filter (λ (e : ℕ × Volume). nat_lt after e.0) (entries s.volumes) in
       let all = shown_by page_query params volume_entry seen_volume volume_output (λ x. is_true (binary (Compare Gt Binary) (column x 0) (Int (pos after)))) (λ r. refl) (λ r. and_true (is_true (binary (Compare Gt Binary) (column r 0) (Int (pos after)))))
-      (λ e. nat_lt after e.0) (λ e. is_above after e.0) (entries s.volumes) (db 1) h.0 p.volumes (by_rising _ (λ a b h. ap (λ o. ordering_then o Equal) h)) h.1 in (
+      (λ e. nat_lt after e.0) (λ e. is_above after e.0) (entries s.volumes) (db 1) h.0 p.volumes (by_rising _ (λ a b h. ap (λ o. ordering_then o Equal) h)) h.1 in
+      h.2 ∙ ap (take count) all ∙ take-map volume_entry count es
+
+  pub page_rows : (after count : ℕ) (shown : List Row) → IsBeginningOf page_query (db 1) (number_value after ∷ number_value count ∷ []) count shown
+      → (es : List (ℕ × Volume)) × AllByRecursion IsStored es × (shown ≡ map volume_entry es) × (map (λ e. e.1) es ≡ page s after count)
+  page_rows after count shown h =
+      let es = filter (λ (e : ℕ × Volume). nat_lt after e.0) (entries s.volumes) in (
         take count es,
         all-take IsStored count es (all-filter IsStored (λ e. nat_lt after e.0) (entries s.volumes) p.storable.volumes),
-        h.2 ∙ ap (take count) all ∙ take-map volume_entry count es,
+        page_shown after count shown h,
         sym (take-map (λ e. e.1) count es),
       )
 

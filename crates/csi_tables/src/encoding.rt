@@ -150,7 +150,7 @@ fn keys_of(alloc: Global, capabilities: &[Capability]) -> Result<Items<CapKey>, 
     ensures ok { IfOk result (λ keys. map Some keys ≡ map key_of capabilities.now) }
     ensures refused { IsErrOf result Refused → (ks : List Key) → map Some ks ≢ map key_of capabilities.now }
 {
-    let mut keys = Items::new(alloc);
+    let mut keys = Items::with_room(alloc, capabilities.len())?;
     for capability in capabilities {
         let Some(key) = cap_key(alloc, capability)? else {
             return Err(TablesFault::Refused);

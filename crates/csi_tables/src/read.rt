@@ -5,17 +5,17 @@
 
 ghost use Rattle.std.specs.Prelude.{◌≡◌, ◌<◌, ◌^◌, false, IfOk};
 ghost use Rattle.std.specs.FinMap.{get};
-ghost use Rattle.csi_keeper.specs.Listing.{listing};
-ghost use Rattle.csi_keeper.specs.State.{attached, attached_at, named, page, published_of_page, sizes};
+ghost use Rattle.csi_keeper.specs.Listing.{IsPageWithNodes};
+ghost use Rattle.csi_keeper.specs.State.{attached, attached_at, named, page, sizes};
 ghost use Rattle.csi_tables.specs.Reading.{TellsNext};
 ghost use Rattle.csi_tables.specs.Refusing.{ConnReads};
 
 use crate::fault::TablesFault;
 use crate::nodes::nodes_of_each;
-use crate::rows::{attachments_from, number_in, numbers_from, volume_of, volumes_from};
-use csi_keeper::{Attachment, Listed, Volume, listed_each};
+use crate::rows::{attachments_from, number_in, numbers_from, numbers_of, volume_of, volumes_from};
+use csi_keeper::{Attachment, PageWithNodes, Volume};
 use csi_sql::reads;
-use csi_types::{Items, Text};
+use csi_types::Items;
 use sqlite::{Alter, Connection};
 use std::alloc::Global;
 
@@ -111,34 +111,20 @@ pub(crate) fn page<S: Alter>(
     volumes_from(alloc, &rows)
 }
 
-/// The nodes of each volume of a page, in byte order of their ids.
-pub(crate) fn published_nodes<S: Alter>(
+/// The volumes of a page, and the nodes of each, in byte order of their ids.
+pub(crate) fn page_with_nodes<S: Alter>(
     alloc: Global,
     conn: &mut Connection<S>,
     after: u64,
     count: u32,
-) -> Result<Items<Items<Text>>, TablesFault>
+) -> Result<PageWithNodes, TablesFault>
     requires idle { conn.old.in_transaction ≡ false }
     requires after { after < 2 ^ 63 }
-    ensures { ConnReads S.Store conn.old conn.new (λ s xs. xs ≡ published_of_page s after count) result }
+    ensures { ConnReads S.Store conn.old conn.new (λ s p. IsPageWithNodes s after count p) result }
 {
-    let page = reads::page_nodes(conn, after, count)?;
-    let numbers = numbers_from(alloc, &page.numbers)?;
-    nodes_of_each(alloc, numbers.as_slice(), &page.places)
-}
-
-/// What a listing tells of the volumes of a page, by two reads.
-pub(crate) fn listing<S: Alter>(
-    alloc: Global,
-    conn: &mut Connection<S>,
-    after: u64,
-    count: u32,
-) -> Result<Items<Listed>, TablesFault>
-    requires idle { conn.old.in_transaction ≡ false }
-    requires after { after < 2 ^ 63 }
-    ensures { ConnReads S.Store conn.old conn.new (λ s xs. xs ≡ listing s after count) result }
-{
-    let volumes = page(alloc, conn, after, count)?;
-    let nodes = published_nodes(alloc, conn, after, count)?;
-    Ok(listed_each(alloc, volumes.as_slice(), nodes)?)
+    let page = reads::page_with_nodes(conn, after, count)?;
+    let volumes = volumes_from(alloc, &page.volumes)?;
+    let numbers = numbers_of(alloc, volumes.as_slice())?;
+    let nodes = nodes_of_each(alloc, &numbers, &page.places)?;
+    Ok(PageWithNodes { volumes, nodes })
 }

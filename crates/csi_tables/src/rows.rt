@@ -21,7 +21,7 @@ use csi_keeper::{Attachment, CapKey, Volume};
 use csi_sql::values::{blob_at, flag_at};
 use csi_types::{Items, Map, Text};
 use sqlite::Row;
-use std::alloc::Global;
+use std::alloc::{AllocError, Global};
 
 /// The text in a cell.
 pub(crate) fn text_in(row: &Row, at: usize) -> Result<Text, TablesFault>
@@ -169,6 +169,17 @@ pub(crate) fn attachments_from(
         attachments.push(attachment_from(alloc, row)?)?;
     }
     Ok(attachments)
+}
+
+/// The numbers of volumes.
+pub(crate) fn numbers_of(alloc: Global, volumes: &[Volume]) -> Result<Vec<u64>, AllocError>
+    ensures { IfOk result (λ numbers. numbers.items ≡ map (λ v. v.number) volumes.now) }
+{
+    let mut numbers = Vec::with_capacity(alloc, volumes.len())?;
+    for volume in volumes {
+        numbers.push(volume.number)?;
+    }
+    Ok(numbers)
 }
 
 /// The numbers in the first column.

@@ -3,14 +3,15 @@
 ghost use Rattle.std.specs.Prelude.{◌≡◌, ◌≤◌, ◌^◌, false, IfOk, IsTrue, OnErr};
 ghost use Rattle.std.specs.FinMap.{get};
 ghost use Rattle.std.specs.Option.{option_map};
-ghost use Rattle.csi_keeper.specs.Listing.{listing};
+ghost use Rattle.csi_keeper.specs.Listing.{IsPageWithNodes, listing};
 ghost use Rattle.csi_keeper.specs.State.{IsBounded, attached, attached_at, count_at, named, page, published_of_page, sizes, used};
 
 use crate::changes::{NUMBERS, make};
 use crate::fault::store_answer;
 use crate::read;
 use csi_keeper::{
-    Attachment, CapKey, Change, Health, Keeper, Listed, StoreFault, Totals, Usage, Volume,
+    Attachment, CapKey, Change, Health, Keeper, Listed, PageWithNodes, StoreFault, Totals, Usage,
+    Volume, listed_each,
 };
 use csi_types::{Items, Text};
 use sqlite::{Alter, Connection};
@@ -26,7 +27,7 @@ use std::alloc::Global;
 /// read of a number from 2^63 on, which no row has, asks for no memory.
 ///
 /// All of that is promised while the database has returned what was written to it: while the store's
-/// `HasCleanDisk` holds as the call ends. A call is one transaction, a removal and a listing two; what a pool
+/// `HasCleanDisk` holds as the call ends. A call is one transaction, a removal two; what a pool
 /// has used is told from memory, without one.
 #[derive(Drop)]
 pub struct Tables<S: Alter> {
@@ -194,6 +195,29 @@ impl<S: Alter> Keeper for Tables<S> {
         self.health.finish_call(store_answer(answer))
     }
 
+    fn page_with_nodes(
+        &mut self,
+        alloc: Global,
+        after: u64,
+        count: u32,
+    ) -> Result<PageWithNodes, StoreFault>
+        ensures reads { Reads (tables_model S.Store self.old) (tables_model S.Store self.new) result
+            (λ s p. IsPageWithNodes s after count p) }
+        ensures refused { TablesRefuses S.Store self.old self.new ⊥ result }
+        ensures limit { self.new.conn.step_limit ≡ self.old.conn.step_limit }
+        ensures error_only_if { 2 ^ 63 ≤ after → OnErr result (IsTrue self.old.health.is_down) }
+    {
+        self.health.start_call()?;
+        if after >= NUMBERS {
+            return Ok(PageWithNodes {
+                volumes: Items::new(alloc),
+                nodes: Items::new(alloc),
+            });
+        }
+        let answer = read::page_with_nodes(alloc, &mut self.conn, after, count);
+        self.health.finish_call(store_answer(answer))
+    }
+
     fn published_nodes(
         &mut self,
         alloc: Global,
@@ -206,12 +230,8 @@ impl<S: Alter> Keeper for Tables<S> {
         ensures limit { self.new.conn.step_limit ≡ self.old.conn.step_limit }
         ensures error_only_if { 2 ^ 63 ≤ after → OnErr result (IsTrue self.old.health.is_down) }
     {
-        self.health.start_call()?;
-        if after >= NUMBERS {
-            return Ok(Items::new(alloc));
-        }
-        let answer = read::published_nodes(alloc, &mut self.conn, after, count);
-        self.health.finish_call(store_answer(answer))
+        let PageWithNodes { nodes, .. } = self.page_with_nodes(alloc, after, count)?;
+        Ok(nodes)
     }
 
     fn listing(
@@ -226,12 +246,12 @@ impl<S: Alter> Keeper for Tables<S> {
         ensures limit { self.new.conn.step_limit ≡ self.old.conn.step_limit }
         ensures error_only_if { 2 ^ 63 ≤ after → OnErr result (IsTrue self.old.health.is_down) }
     {
-        self.health.start_call()?;
         if after >= NUMBERS {
+            self.health.start_call()?;
             return Ok(Items::new(alloc));
         }
-        let answer = read::listing(alloc, &mut self.conn, after, count);
-        self.health.finish_call(store_answer(answer))
+        let PageWithNodes { volumes, nodes } = self.page_with_nodes(alloc, after, count)?;
+        Ok(listed_each(alloc, volumes.as_slice(), nodes)?)
     }
 
     fn apply(&mut self, alloc: Global, change: &Change) -> Result<(), StoreFault>

@@ -9,7 +9,7 @@ ghost use Rattle.csi_keeper.specs.State.{State, attached};
 ghost use Rattle.csi_keeper.specs.declared.change.StoreFault.TheVariants.{Down, NoMemory};
 ghost use Rattle.csi_through.specs.Copying.{AllowsEach, AreNext, CopiesAll, CopiesTo, IsCopy, IsHeld, IsNumbered, IsToldFor, IsWhole, IsWhy, attached_each, last_number};
 
-use csi_keeper::{Attachment, Change, Keeper, StoreFault, Volume};
+use csi_keeper::{Attachment, Change, Keeper, PageWithNodes, StoreFault, Volume};
 use csi_memory::MemKeeper;
 use csi_types::{Items, MAX_NUMBER, MAX_POOL_BYTES, Text};
 use std::alloc::Global;
@@ -146,17 +146,16 @@ fn restore_all<K: Keeper>(
 {
     let mut after = 0;
     for turn in 0..u64::MAX {
-        let volumes = keeper.page(alloc, after, PAGE)?;
+        let PageWithNodes { volumes, nodes } = keeper.page_with_nodes(alloc, after, PAGE)?;
         if volumes.is_empty() {
             return Ok(());
         }
-        let nodes = keeper.published_nodes(alloc, after, PAGE)?;
         after = restore_page(alloc, keeper, memory, after, volumes, nodes.as_slice())?;
     }
     Err(StoreFault::Refused)
 }
 
-/// A copy in memory of what a keeper has, by reads alone. It takes two reads for 1,000 volumes, and one for
+/// A copy in memory of what a keeper has, by reads alone. It takes one read for 1,000 volumes, and one for
 /// each that is published.
 ///
 /// Of each State of the invariant that the keeper may have, the copy has the same, while the keeper's doubt

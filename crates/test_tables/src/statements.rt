@@ -122,8 +122,8 @@ impl<S: Alter + Drop> Bench<S> {
         if word_at(words, 0)? == "page" {
             return all(alloc, reads::page(&mut self.conn, after, count));
         }
-        let page = reads::page_nodes(&mut self.conn, after, count).map_err(refused)?;
-        both(alloc, &page.numbers, &page.places)
+        let page = reads::page_with_nodes(&mut self.conn, after, count).map_err(refused)?;
+        both(alloc, &page.volumes, &page.places)
     }
 }
 
@@ -179,8 +179,17 @@ fn rows_text(alloc: Global, rows: &[Row]) -> Result<String, RowFault> {
     Ok(or_none(text)?)
 }
 
-fn both(alloc: Global, numbers: &[Row], places: &[Row]) -> Result<String, RowFault> {
-    let numbers = rows_text(alloc, numbers)?;
+// The number of each volume.
+fn numbers_text(alloc: Global, volumes: &[Row]) -> Result<String, RowFault> {
+    let mut text = String::new(alloc);
+    for row in volumes {
+        put_part(&mut text, &cell_text(alloc, row, 0)?)?;
+    }
+    Ok(or_none(text)?)
+}
+
+fn both(alloc: Global, volumes: &[Row], places: &[Row]) -> Result<String, RowFault> {
+    let numbers = numbers_text(alloc, volumes)?;
     let places = rows_text(alloc, places)?;
     Ok(format!(in alloc; "{numbers}; {places}")?)
 }

@@ -24,8 +24,6 @@ pub(crate) enum Select<'a> {
     Attached(&'a str),
     /// The first volumes with a greater number.
     Page(u64, u32),
-    /// Their numbers alone.
-    PageNumbers(u64, u32),
     /// The number and the node of each attachment with a number beyond the first and up to the last.
     Places(u64, u64),
 }
@@ -44,8 +42,6 @@ fn text_of(read: &Select<'_>) -> &'static str
         Select::Attached(_) => "SELECT number FROM attachments WHERE node = ?1 ORDER BY number",
         Select::Page(_, _) =>
             "SELECT number, name, bytes, pool, caps, params FROM volumes WHERE number > ?1 ORDER BY number LIMIT ?2",
-        Select::PageNumbers(_, _) =>
-            "SELECT number FROM volumes WHERE number > ?1 ORDER BY number LIMIT ?2",
         Select::Places(_, _) =>
             "SELECT number, node FROM attachments WHERE number > ?1 AND number <= ?2 ORDER BY number, node",
     }
@@ -69,7 +65,7 @@ pub(crate) fn select_rows<S: Alter>(
         Select::Named(words) | Select::Sizes(words) | Select::Attached(words) => {
             tx.query_all(text, &[ValueRef::Text(words.as_bytes())])
         }
-        Select::Page(after, count) | Select::PageNumbers(after, count) => {
+        Select::Page(after, count) => {
             tx.query_all(text, &[integer(after), integer(u64::from(count))])
         }
         Select::Places(after, last) => tx.query_all(text, &[integer(after), integer(last)]),
