@@ -104,7 +104,7 @@ class TablesTest(CsidTest):
         self.row("two files", sorted(os.listdir(self.folder)), ["volumes.db", "volumes.db-wal"])
         self.row("pages of 1,024 bytes", tables.ask("PRAGMA page_size"), [(1024,)])
         self.row(
-            "no commit is in the log alone after an end", os.path.getsize(tables.path + "-wal") < 100, True
+            "no commit is in the WAL alone after an end", os.path.getsize(tables.path + "-wal") < 100, True
         )
         copy = Tables(self.csid, self.folder, "copy.db")
         shutil.copy(tables.path, copy.path)

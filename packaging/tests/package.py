@@ -168,7 +168,7 @@ class System:
             process.wait()
 
     def tables(self):
-        """The record of volumes and the log beside it, by their checksums."""
+        """The record of volumes and the WAL next to it, by their checksums."""
         return {
             name: checksum(self.path(name))
             for name in (TABLES, TABLES + "-wal")

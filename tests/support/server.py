@@ -16,8 +16,8 @@ MISSING = "there is no such file, and none is made"
 WITHOUT = "it has no tables, and none are made"
 NO_COPY = "there was no memory for a copy of the volumes: each read of the connection goes to the file"
 EMPTIED = (
-    "it is empty or missing, but the log next to it, '-wal', has changes: put back the copy of the file that"
-    " this log belongs to, or move the log away to begin with no volumes"
+    "it is empty or missing, but its WAL, '-wal', has changes: put back the copy of the file that this WAL"
+    " belongs to, or move the WAL away to begin with no volumes"
 )
 DOWN = (
     "a change was refused, by the database or for memory; from then on the connection was told that the store"

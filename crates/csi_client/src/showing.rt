@@ -25,7 +25,7 @@ use std::io::{self, Read, Write};
 const MAX_READS: u64 = 1 << 32;
 
 /// How a run of [`show_all`] ended.
-#[derive(Clone, Copy, Debug)]
+#[derive(Clone, Copy, Debug, PartialEq, Eq)]
 pub enum ShowEnd {
     /// The input ended behind a whole reply, and all were shown. Whether one of them was a refusal:
     /// a status other than 0.

@@ -1,4 +1,4 @@
--- What a database file and its log hold of volumes.
+-- What a database file and its WAL hold of volumes.
 use Rattle.std.specs.Prelude.{◌≡◌, ◌⊎◌, ℕ, Bool, false, IsTrue, ⊤}
 use Rattle.sqlite_disk.specs.declared.Disk as disk
 use Rattle.sqlite_disk.specs.declared.Files.{Files}

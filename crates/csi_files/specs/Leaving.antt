@@ -21,7 +21,7 @@ use Rattle.csi_files.specs.declared.serving.NotServed.{NotServed}
 use Rattle.csi_files.specs.declared.serving.NotServed.TheVariants.{NotOpened, Blank, NotAdopted, NotCopied, Left, NotClosed}
 
 module _ {D : Type 0} {g : disk.Ghosts D} where
-  -- what is left of files that were not closed: the log and the database file
+  -- what is left of files that were not closed: the WAL and the database file
   abbrev pub files_of : NotServed D g → D × D
   files_of (NotOpened error rest) = files_left rest
   files_of (Blank now) = (now.log, now.db)

@@ -13,11 +13,11 @@ use Rattle.sqlite.specs.Files.{image_of}
 use Rattle.csi_files.specs.declared.making.TheConstants.{HEAD, WAL_WITH_FRAME_BYTES, PAGE_BYTES}
 
 -- no database is made yet: the database file is empty, or has what a stop left of its first page, of which
--- the log then tells
+-- the WAL then tells
 abbrev pub IsUnmade : Image → Type 0
 IsUnmade = IsBlankFile PAGE_BYTES
 
--- the database file is empty, and its log is long enough for a change
+-- the database file is empty, and its WAL is long enough for a change
 abbrev pub IsLost : Image → Type 0
 IsLost image = (length image.db ≡ 0) × (WAL_WITH_FRAME_BYTES ≤ length image.log)
 
@@ -39,7 +39,7 @@ pub record IsPart (bytes : List ℕ) : Type 0 where
   pub fits : length bytes ≤ PAGE_BYTES
   pub part : IsTrue (list_all (λ b. b == 0) bytes) ⊎ ((length bytes < PAGE_BYTES) × BeginsPage bytes)
 
--- the database file has no more, and no log
+-- the database file has no more, and no WAL
 abbrev pub IsTorn : Image → Type 0
 IsTorn image = (length image.log ≡ 0) × IsPart image.db
 

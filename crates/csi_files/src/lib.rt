@@ -1,4 +1,4 @@
-//! A run of calls over a database file and its log, from the bytes of both before the run to their bytes
+//! A run of calls over a database file and its WAL, from the bytes of both before the run to their bytes
 //! after it.
 //!
 //! [`serve_made`] does what `csid` does of files, over any disks: it makes a database where they hold none

@@ -22,7 +22,7 @@ use std::io::{self, ErrorKind};
 // them, and most rows have a few hundred bytes: SQLite's own choice, 4,096, is four times as much to write.
 const PAGE_BYTES: usize = 1024;
 
-/// How many bytes a log has at least that has a change: its header, and the least frame, which is a header of
+/// How many bytes a WAL has at least that has a change: its header, and the least frame, which is a header of
 /// its own and a page of 512 bytes.
 pub const WAL_WITH_FRAME_BYTES: usize = 32 + 24 + 512;
 
@@ -39,7 +39,7 @@ const HEAD: [u8; 108] = *b"SQLite format 3\0\
 /// Why no database was made.
 #[derive(Clone, Copy, Debug)]
 pub enum NotLaidOut {
-    /// The database file is empty, and its log is long enough for changes, which would be lost.
+    /// The database file is empty, and its WAL is long enough for changes, which would be lost.
     Emptied,
     /// The files could not be read or written, or memory was refused.
     Failed(Error),
@@ -109,7 +109,7 @@ fn make<D: Disk>(alloc: Global, pair: Files<D>, seed: u64) -> Result<Files<D>, (
 enum Lengths {
     // The database file is longer than a page.
     Larger,
-    // It is empty, and its log may have changes.
+    // It is empty, and its WAL may have changes.
     Emptied,
     // Neither.
     Short,
@@ -195,7 +195,7 @@ fn has_torn<D: Disk>(alloc: Global, file: &mut D, len: usize) -> io::Result<bool
     reads_torn(file, bytes.as_mut_slice())
 }
 
-// Whether the database file has no more than that, and no log.
+// Whether the database file has no more than that, and no WAL.
 fn holds_torn<D: Disk>(alloc: Global, pair: &mut Files<D>) -> io::Result<bool>
     requires log { IsTrue (D.Disk.is_usable pair.old.log) }
     requires db { IsTrue (D.Disk.is_usable pair.old.db) }
@@ -255,7 +255,7 @@ fn failed(error: io::Error) -> NotLaidOut
 /// Makes an empty database of files that hold none yet: new files, and what a stop left of an earlier call.
 /// Other files stay as they are. Wherever it stops, the next call makes it.
 ///
-/// A first page that an earlier release was stopped in, bytes of 0 or its beginning without a log, is cleared
+/// A first page that an earlier release was stopped in, bytes of 0 or its beginning without a WAL, is cleared
 /// first.
 ///
 /// # Errors

@@ -56,7 +56,7 @@ fn files_at<S: Start>(rt: &HostRuntime, path: &str, start: S) -> Result<Files<Fi
     }
 }
 
-// How files are opened: with a seed drawn at random, by which the frames of a new log are told from those of
+// How files are opened: with a seed drawn at random, by which the frames of a new WAL are told from those of
 // an old one.
 fn opening(rt: &HostRuntime) -> Result<Options, Error>
     ensures { IfErr result IsNoFile }
@@ -67,7 +67,7 @@ fn opening(rt: &HostRuntime) -> Result<Options, Error>
     }
 }
 
-/// Serves the volume machine over the database file at a path and its log, as [`serve_made`] does over files.
+/// Serves the volume machine over the database file at a path and its WAL, as [`serve_made`] does over files.
 /// `start` stands for what the files held; the clauses hold for whatever that was.
 ///
 /// That these are the files at the path, and that nobody else writes to them, is trusted, as in
@@ -123,7 +123,7 @@ pub fn serve_path<S: Start, O: Observer, R: Read, W: Write>(
     }
 }
 
-/// Opens the database file at a path and its log; where they hold no database yet, an empty one is made
+/// Opens the database file at a path and its WAL; where they hold no database yet, an empty one is made
 /// first.
 ///
 /// # Errors

@@ -31,7 +31,7 @@ use std::io::{Read, Write};
 pub struct Closed<D: Disk> {
     /// What the run came to.
     pub served: Served,
-    /// The files. All that was committed is in the database file, also without its log.
+    /// The files. All that was committed is in the database file, also without its WAL.
     pub files: Files<D>,
 }
 
@@ -47,10 +47,10 @@ pub enum NotServed<D: Disk> {
     /// which keep what they had. No call was read.
     NotCopied(StoreFault, Files<D>),
     /// Calls were served, and the store refused some: what the run came to, and the files as they were left
-    /// then. What was committed may be in the log alone.
+    /// then. What was committed may be in the WAL alone.
     Left(Served, Files<D>),
     /// Calls were served, and the files were not closed: what the run came to, why, and what is left of the
-    /// files. What was committed is in the log, in the database file or in both.
+    /// files. What was committed is in the WAL, in the database file or in both.
     NotClosed(Served, Error, FileStore<D>),
 }
 

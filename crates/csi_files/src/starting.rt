@@ -58,7 +58,7 @@ fn made<D: Disk + Drop>(
     }
 }
 
-/// Opens a database file and its log. Where they hold no database yet, an empty one is made first.
+/// Opens a database file and its WAL. Where they hold no database yet, an empty one is made first.
 pub(crate) fn open_made<D: Disk + Drop>(
     alloc: Global,
     files: Files<D>,
@@ -75,7 +75,7 @@ pub(crate) fn open_made<D: Disk + Drop>(
     }
 }
 
-/// Serves the volume machine over a database file and its log: makes a database where they hold none yet,
+/// Serves the volume machine over a database file and its WAL: makes a database where they hold none yet,
 /// opens them, adopts their tables, serves calls, and closes the files.
 ///
 /// For each State that the files have before (`HasState`), what is read and written, how the run ends and

@@ -72,7 +72,7 @@ pub struct Usage {
 }
 
 /// Why a keeper's call failed.
-#[derive(Clone, Copy, Debug)]
+#[derive(Clone, Copy, Debug, PartialEq, Eq)]
 pub enum StoreFault {
     /// Memory was refused.
     NoMemory,

@@ -1,7 +1,7 @@
 use envelope::FrameFault;
 
 /// How a run of the server ended.
-#[derive(Clone, Copy, Debug)]
+#[derive(Clone, Copy, Debug, PartialEq, Eq)]
 pub enum RunEnd {
     /// The input ended behind a whole frame, and all calls were answered.
     Done,

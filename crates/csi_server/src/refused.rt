@@ -9,7 +9,7 @@ use envelope::{FixedFrame, refusal_frame, text_and_number};
 use pbmessage::MALFORMED_MESSAGE;
 
 /// Why a call is not done.
-#[derive(Clone, Copy, Debug)]
+#[derive(Clone, Copy, Debug, PartialEq, Eq)]
 pub enum Refusal {
     /// For a reason, with its status code and its text.
     For(Reason),

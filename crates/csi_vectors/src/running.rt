@@ -17,7 +17,7 @@ use std::io::{self, BufRead, BufReader, ErrorKind, Read, Write};
 use std::str;
 
 /// How a run of vectors ended.
-#[derive(Clone, Copy, Debug)]
+#[derive(Clone, Copy, Debug, PartialEq, Eq)]
 pub enum VectorsEnd {
     /// All lines were run. Whether a vector failed.
     Done(bool),

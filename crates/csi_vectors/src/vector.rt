@@ -20,7 +20,7 @@ pub struct Vector<'a> {
 }
 
 /// Why a line is no vector.
-#[derive(Clone, Copy, Debug)]
+#[derive(Clone, Copy, Debug, PartialEq, Eq)]
 pub enum LineFault {
     /// It is not a name, the input and the output, with one space between.
     NotVector,

@@ -41,9 +41,9 @@ pub(crate) struct Piped<'a> {
 pub(crate) struct Serving<'a> {
     /// Where the socket is made.
     pub(crate) socket: &'a str,
-    /// The file of the tables, where no log has the volumes.
+    /// The file of the tables, where no change store has the volumes.
     pub(crate) tables: &'a str,
-    /// The socket of the log that has the volumes.
+    /// The socket of the change store that has the volumes.
     pub(crate) change_store: Option<&'a str>,
     /// The tables have to stand.
     pub(crate) is_existing: bool,

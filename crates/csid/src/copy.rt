@@ -39,7 +39,7 @@ fn bytes_of(rt: &HostRuntime, path: &str) -> Result<Vec<u8>, Failure>
     }
 }
 
-// The file that links lead to: SQLite keeps its log and its journal beside that one.
+// The file that links lead to: SQLite keeps its WAL and its journal beside that one.
 fn real_path(rt: &HostRuntime, path: &str) -> Result<String, Failure>
     ensures { IfErr result (λ failure. IsOrNoMemory 4 failure) }
 {
@@ -56,7 +56,7 @@ fn beside(alloc: Global, real: &str, end: &str) -> Result<String, Failure>
     Ok(format!(in alloc; "{real}{end}")?)
 }
 
-// What a file and its log have at one moment. The file is read once more behind its log: where it was written
+// What a file and its WAL have at one moment. The file is read once more behind its WAL: where it was written
 // meanwhile, both are read again.
 fn copied(rt: &HostRuntime, path: &str, wal_path: &str) -> Result<Files<Memory>, Failure>
     ensures usable { IfOk result (λ files. IsTrue (memory_is_usable files.log)
@@ -65,10 +65,10 @@ fn copied(rt: &HostRuntime, path: &str, wal_path: &str) -> Result<Files<Memory>,
 {
     let mut db = bytes_of(rt, path)?;
     for _ in 0..TRIES {
-        let log = bytes_of(rt, wal_path)?;
+        let wal = bytes_of(rt, wal_path)?;
         let again = bytes_of(rt, path)?;
         if again == db {
-            return files_of(rt.alloc(), log.as_slice(), db.as_slice());
+            return files_of(rt.alloc(), wal.as_slice(), db.as_slice());
         }
         db = again;
     }
@@ -81,7 +81,7 @@ fn is_hot(journal: &[u8]) -> bool {
     journal.first().is_some_and(|first| *first != 0)
 }
 
-/// A connection to a copy of a file and its log, by reads alone: no lock is taken, and nothing is made or
+/// A connection to a copy of a file and its WAL, by reads alone: no lock is taken, and nothing is made or
 /// changed on the disk.
 ///
 /// # Errors
@@ -101,7 +101,7 @@ pub(crate) fn open_copy(
         let error = Error::SqliteFailure(ErrorCode::CannotOpen);
         return Err(database_failure(rt.alloc(), path, &error));
     }
-    let log = beside(rt.alloc(), real.as_str(), "-wal")?;
-    let files = copied(rt, real.as_str(), log.as_str())?;
+    let wal = beside(rt.alloc(), real.as_str(), "-wal")?;
+    let files = copied(rt, real.as_str(), wal.as_str())?;
     open(rt.alloc(), path, files)
 }

@@ -1,4 +1,4 @@
-//! A file of tables and its log before they are opened: whether there are tables, and whether new ones may be
+//! A file of tables and its WAL before they are opened: whether there are tables, and whether new ones may be
 //! made.
 
 use csi_files::WAL_WITH_FRAME_BYTES;
@@ -25,8 +25,8 @@ pub(crate) enum FileFault {
     /// It has no tables.
     #[error("it has no tables, and none are made")]
     Blank,
-    /// What was in it is lost: its log has changes of it.
-    #[error("it is empty or missing, but the log next to it, '-wal', has changes: put back the copy of the file that this log belongs to, or move the log away to begin with no volumes")]
+    /// What was in it is lost: its WAL has changes of it.
+    #[error("it is empty or missing, but its WAL, '-wal', has changes: put back the copy of the file that this WAL belongs to, or move the WAL away to begin with no volumes")]
     Emptied,
 }
 
@@ -35,7 +35,7 @@ fn is_blank(head: &[u8; HEADER_BYTES]) -> bool {
     head[KIND_AT] == LEAF && head[CELLS_AT] == 0 && head[CELLS_AT + 1] == 0
 }
 
-// The path of a file's log, which lies next to the file that links lead to, or to where it would be made.
+// The path of a file's WAL, which lies next to the file that links lead to, or to where it would be made.
 fn wal_path(rt: &HostRuntime, path: &str) -> io::Result<String> {
     match fs::canonicalize(rt, path) {
         Ok(real) => Ok(format!(in rt.alloc(); "{}-wal", real.as_str())?),
@@ -46,10 +46,10 @@ fn wal_path(rt: &HostRuntime, path: &str) -> io::Result<String> {
     }
 }
 
-// Whether a file's log has a change.
+// Whether a file's WAL has a change.
 fn has_frames(rt: &HostRuntime, path: &str) -> io::Result<bool> {
-    let log = wal_path(rt, path)?;
-    Ok(fs::metadata(rt, log.as_str()).is_ok_and(|found| found.len() >= WAL_WITH_FRAME_BYTES as u64))
+    let wal = wal_path(rt, path)?;
+    Ok(fs::metadata(rt, wal.as_str()).is_ok_and(|found| found.len() >= WAL_WITH_FRAME_BYTES as u64))
 }
 
 // Whether a file has no byte, or is missing.
@@ -74,11 +74,11 @@ fn free_bytes(rt: &HostRuntime, path: &str) -> io::Result<u64> {
     Ok(u64::from(free).saturating_mul(page))
 }
 
-// How many bytes a file and its log have, without the pages that are free in the file. A page that the log
-// takes again is counted with the log.
+// How many bytes a file and its WAL have, without the pages that are free in the file. A page that the WAL
+// takes again is counted with the WAL.
 fn bytes_of(rt: &HostRuntime, path: &str) -> io::Result<u64> {
-    let log = wal_path(rt, path)?;
-    let wal_bytes = fs::metadata(rt, log.as_str()).map_or(0, |found| found.len());
+    let wal = wal_path(rt, path)?;
+    let wal_bytes = fs::metadata(rt, wal.as_str()).map_or(0, |found| found.len());
     let of_file = fs::metadata(rt, path)?.len();
     let free = free_bytes(rt, path).unwrap_or(0);
     Ok(of_file.saturating_sub(free).saturating_add(wal_bytes))
@@ -91,8 +91,8 @@ pub(crate) fn opening_bytes(rt: &HostRuntime, path: &str) -> usize {
     bytes.saturating_mul(2) as usize
 }
 
-/// Why no tables may be made in a file, as far as its length and its log show it. An opening would begin the
-/// log again, and the changes in it would be lost.
+/// Why no tables may be made in a file, as far as its length and its WAL show it. An opening would begin the
+/// WAL again, and the changes in it would be lost.
 pub(crate) fn fault_of_wal(rt: &HostRuntime, path: &str) -> Option<FileFault> {
     match (is_empty(rt, path), has_frames(rt, path)) {
         (Ok(true), Ok(true)) => Some(FileFault::Emptied),
@@ -100,7 +100,7 @@ pub(crate) fn fault_of_wal(rt: &HostRuntime, path: &str) -> Option<FileFault> {
     }
 }
 
-// Whether the file has nothing of tables, and nothing is in its log.
+// Whether the file has nothing of tables, and nothing is in its WAL.
 fn has_nothing(rt: &HostRuntime, path: &str) -> io::Result<bool> {
     let mut file = File::open(rt, path)?;
     if has_frames(rt, path)? {

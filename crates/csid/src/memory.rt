@@ -28,26 +28,26 @@ fn in_memory(alloc: Global, bytes: &[u8]) -> Result<Memory, Failure>
     }
 }
 
-/// A file in memory with its log.
+/// A file in memory with its WAL.
 ///
 /// # Errors
 ///
 /// Where memory is refused.
-pub(crate) fn files_of(alloc: Global, log: &[u8], db: &[u8]) -> Result<Files<Memory>, Failure>
+pub(crate) fn files_of(alloc: Global, wal: &[u8], db: &[u8]) -> Result<Files<Memory>, Failure>
     ensures usable { IfOk result (λ files. IsTrue (memory_is_usable files.log)
         × IsTrue (memory_is_usable files.db)) }
-    ensures bytes { IfOk result (λ files. (memory_bytes files.log ≡ log.now)
+    ensures bytes { IfOk result (λ files. (memory_bytes files.log ≡ wal.now)
         × (memory_bytes files.db ≡ db.now)) }
     ensures failure { IfErr result (λ failure. IsOrNoMemory 4 failure) }
 {
-    let log = in_memory(alloc, log)?;
+    let log = in_memory(alloc, wal)?;
     Ok(Files {
         log,
         db: in_memory(alloc, db)?,
     })
 }
 
-/// A connection to the database that a file and its log hold; an empty one, where there is nothing in them.
+/// A connection to the database that a file and its WAL hold; an empty one, where there is nothing in them.
 /// An error names the path.
 ///
 /// # Errors

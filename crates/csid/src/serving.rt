@@ -30,7 +30,7 @@ pub(crate) struct TablesFile<'a> {
 pub(crate) struct Answered {
     /// What came of the calls.
     pub(crate) served: Served,
-    /// Why the file was not closed after them, if that failed. What was committed is in the log next to it
+    /// Why the file was not closed after them, if that failed. What was committed is in the WAL next to it
     /// then.
     pub(crate) unclosed: Option<Failure>,
 }
@@ -92,7 +92,7 @@ impl Observer for SilentObserver {
     fn uncopied(&self) {}
 }
 
-// Serves calls over the tables in a file, of which `start` stands for what it and its log held.
+// Serves calls over the tables in a file, of which `start` stands for what it and its WAL held.
 fn serve_from<S: Start, O: Observer, R: Read, W: Write>(
     rt: &HostRuntime,
     config: &Config,

@@ -63,7 +63,7 @@ pub(crate) fn check_existing(rt: &HostRuntime, path: &str) -> Result<(), Failure
 ///
 /// # Errors
 ///
-/// Where the file has no byte and its log has changes, or memory is refused.
+/// Where the file has no byte and its WAL has changes, or memory is refused.
 pub(crate) fn check_wal(rt: &HostRuntime, path: &str) -> Result<(), Failure>
     ensures { IfErr result (λ failure. IsOrNoMemory 4 failure) }
 {
@@ -89,7 +89,7 @@ pub(crate) fn prepare(rt: &HostRuntime, path: &str, is_existing: bool) -> Result
     Ok(())
 }
 
-// A connection to a file, which is made where there is none. `start` stands for what it and its log held.
+// A connection to a file, which is made where there is none. `start` stands for what it and its WAL held.
 fn connect<S: Start>(
     rt: &HostRuntime,
     path: &str,
@@ -165,7 +165,7 @@ pub(crate) fn keeper_or_new<S: Alter + Drop>(
 }
 
 // Copies what was committed into the file itself, and closes it. Where that fails, nothing is lost: it stays
-// in the log beside the file.
+// in the WAL beside the file.
 fn disconnect<D: Disk + Drop>(
     alloc: Global,
     path: &str,
@@ -197,7 +197,7 @@ pub(crate) fn report_content(console: &Console<'_>, path: &str, content: Result<
     }
 }
 
-// Opens and judges the tables in a file, of which `start` stands for what it and its log held.
+// Opens and judges the tables in a file, of which `start` stands for what it and its WAL held.
 fn take_from<S: Start>(
     console: &Console<'_>,
     path: &str,

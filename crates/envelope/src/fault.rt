@@ -40,7 +40,7 @@ pub trait Fault: Copy + Drop {
 }
 
 /// Why bytes are not a request frame, in the order in which a frame's bytes show it.
-#[derive(Clone, Copy, Debug)]
+#[derive(Clone, Copy, Debug, PartialEq, Eq)]
 pub enum FrameWhy {
     /// The two length bytes give 0 or more than 128. The place is the frame's first byte.
     BadPathLength,
@@ -87,7 +87,7 @@ impl FrameWhy {
 }
 
 /// A malformed frame. It ends its stream.
-#[derive(Clone, Copy, Debug, Error)]
+#[derive(Clone, Copy, Debug, PartialEq, Eq, Error)]
 #[error("{}{}", self.why.text(), self.at)]
 pub struct FrameFault {
     /// What is wrong.

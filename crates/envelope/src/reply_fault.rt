@@ -9,7 +9,7 @@ use crate::kind::{Kind, Part};
 use thiserror::Error;
 
 /// Why bytes are not a reply frame, in the order in which a frame's bytes show it.
-#[derive(Clone, Copy, Debug)]
+#[derive(Clone, Copy, Debug, PartialEq, Eq)]
 pub enum ReplyWhy {
     /// The status is none of the ten codes. The place is the frame's first byte.
     BadStatus,
@@ -58,7 +58,7 @@ impl ReplyWhy {
 }
 
 /// A malformed reply. It ends its stream.
-#[derive(Clone, Copy, Debug, Error)]
+#[derive(Clone, Copy, Debug, PartialEq, Eq, Error)]
 #[error("{}{}", self.why.text(), self.at)]
 pub struct ReplyFault {
     /// What is wrong.

@@ -54,7 +54,7 @@ pub trait Message<P>: Drop {
 pub const MALFORMED_MESSAGE: &str = "malformed message in the field at byte ";
 
 /// Why a message is not read. Want of memory is displayed as [`Reason::OutOfMemory`] is.
-#[derive(Clone, Copy, Debug, thiserror::Error)]
+#[derive(Clone, Copy, Debug, PartialEq, Eq, thiserror::Error)]
 pub enum DecodeFault {
     /// The bytes mean no value: the field at this byte is malformed, holds a text that is not UTF-8, or holds
     /// an embedded message that is malformed itself. The bytes before it are the longest prefix of the

@@ -26,7 +26,7 @@ pub struct Field<'a> {
 
 /// Why no field stands at an offset. One reason holds: a tag's goes before its payload's, and the tag's
 /// number before its wire type.
-#[derive(Clone, Copy, Debug, Error)]
+#[derive(Clone, Copy, Debug, PartialEq, Eq, Error)]
 pub enum WireWhy {
     /// A malformed varint, as tag, value or length: ten bytes stand there, and no first bytes of
     /// them are one ("Base 128 Varints"). A tenth byte above 1 is malformed too.
@@ -44,7 +44,7 @@ pub enum WireWhy {
 }
 
 /// An offset of a message at which a field should stand, and none does.
-#[derive(Clone, Copy, Debug, Error)]
+#[derive(Clone, Copy, Debug, PartialEq, Eq, Error)]
 #[error("{why} at byte {at}")]
 pub struct WireFault {
     /// What is wrong.

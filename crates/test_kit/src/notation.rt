@@ -15,7 +15,7 @@ use std::str;
 const DEEPEST: u8 = 12;
 
 /// Why a text is no bytes.
-#[derive(Clone, Copy, Debug)]
+#[derive(Clone, Copy, Debug, PartialEq, Eq)]
 pub enum NotationFault {
     /// The text is not of this notation.
     NotBytes,
