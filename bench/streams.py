@@ -6,6 +6,7 @@ the node n1.
 import contextlib
 import sqlite3
 import subprocess
+import uuid
 
 MIB = 1 << 20
 POOL_BYTES, GREATEST_BYTES = 1 << 62, 8 * MIB
@@ -70,8 +71,22 @@ def volume(number):
     )
 
 
-def create(number):
-    return call(b"CreateVolume", part(1, b"v%d" % number) + BLOCK), reply(volume(number))
+def short_name(number):
+    return b"v%d" % number
+
+
+def alike_name(number):
+    """12 bytes, of which the first ones are those of each other name."""
+    return b"volume%06d" % number
+
+
+def claim_name(number):
+    """As csi-provisioner names the volume of a claim."""
+    return b"pvc-%s" % str(uuid.uuid5(uuid.NAMESPACE_URL, str(number))).encode()
+
+
+def create(number, name=short_name):
+    return call(b"CreateVolume", part(1, name(number)) + BLOCK), reply(volume(number))
 
 
 def publish(number):
@@ -112,8 +127,8 @@ def probes(count):
     return [probe()] * count
 
 
-def creates(count, standing=0):
-    return [create(number) for number in range(standing + 1, standing + count + 1)]
+def creates(count, standing=0, name=short_name):
+    return [create(number, name) for number in range(standing + 1, standing + count + 1)]
 
 
 def pages(standing, count):
