@@ -1,5 +1,5 @@
 -- What is written of keys and of parameters, field by field, is the spelling of the request of these alone.
-use Rattle.std.proofs.Common.{◌≡◌, ◌∙◌, refl, sym, ap, subst, arith, ℕ, List, [], ◌++◌, map}
+use Rattle.std.proofs.Common.{◌≡◌, ◌∙◌, refl, sym, ap, subst, arith, ℕ, List, [], ◌++◌, map, Ok}
 use Rattle.std.proofs.lemmas.List.{append-nil, nil_from_length}
 use Rattle.std.proofs.lemmas.Str.{IsUtf8-nil}
 use Rattle.std.specs.Cmp.Lexicographic.{slice_cmp}
@@ -9,13 +9,15 @@ use Rattle.pbwire.specs.Wire.{WireField}
 use Rattle.pbwire.specs.Writing.{spellings}
 use Rattle.csi_types.specs.Maps.{TextMap}
 use Rattle.csi_types.specs.declared.capability.Capability.{Capability}
+use Rattle.csi_types.specs.declared.method.Method.TheVariants.{CreateVolume}
 use Rattle.pbmessage.specs.Canon.{bytes_of, canon_map_entry, map_row, messages_row, payload_fields, row_fields, spelled, text_row, FitsMap, FitsMapEntry, FitsMessages, FitsText}
 use Rattle.pbmessage.specs.facts.Writing.{wrote_two}
 use Rattle.csi_codec.specs.Methods.{request_bytes, FitsRequest}
+use Rattle.csi_codec.specs.Reading.{read_request}
 use Rattle.csi_codec.specs.messages.Capability.{canon_capability, canon_mount, FitsCapabilities}
 use Rattle.csi_keeper.specs.Capability.{capability_of}
 use Rattle.csi_keeper.specs.declared.capability.CapKey.{CapKey}
-use Rattle.csi_tables.specs.Encoding.{create_with, caps_bytes, params_bytes, FitCaps, FitParams}
+use Rattle.csi_tables.specs.Encoding.{create_with, with_params, caps_bytes, params_bytes, FitCaps, FitParams, ReadsBack}
 
 -- ---- a field that is left out
 
@@ -97,3 +99,10 @@ unfolding FitParams
 params_fitting p m params mutable = create_fits [] p m tt params mutable
 
 pub ruleset params_written = (params_spelled, params_fitting)
+
+-- no byte says no parameter
+pub none_read : ReadsBack → (bytes : List ℕ) → bytes ≡ [] → read_request CreateVolume bytes ≡ Ok (with_params empty empty)
+unfolding params_bytes FitParams
+none_read back bytes none =
+    let spelled : params_bytes empty empty ≡ [] = params_spelled empty empty ∙ rw (no_map 4) (rw (no_map 8) refl) in
+    ap (read_request CreateVolume) (none ∙ sym spelled) ∙ back (with_params empty empty) (params_fitting empty empty no_map_fits no_map_fits)

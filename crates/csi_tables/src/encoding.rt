@@ -184,6 +184,9 @@ pub(crate) fn read_params(alloc: Global, bytes: &[u8]) -> Result<(Map, Map), Tab
         → ⊥ }
 {
     read_back();
+    if bytes.is_empty() {
+        return Ok((Map::new(alloc), Map::new(alloc)));
+    }
     let message = read(alloc, bytes)?;
     Ok((message.parameters, message.mutable))
 }
