@@ -20,8 +20,9 @@ use Rattle.csi_sql.specs.Refusing.{RefusesFormat}
 use Rattle.csi_sql.specs.Transactions.{IsUndone}
 use Rattle.csi_sql.specs.Rows.{seen_volume}
 use Rattle.csi_constraints.specs.ScanFailing.{HasTooMany}
-use Rattle.csi_constraints.specs.Folds.{IsRising, Rises}
+use Rattle.csi_constraints.specs.Folds.{IsRising, RisesOver}
 use Rattle.csi_constraints.specs.Scans.{keyed_attachment}
+use Rattle.csi_constraints.specs.declared.rising.Rising.{Rising}
 use Rattle.csi_adoption.specs.Faults.{failure_of, is_failure, is_store, wants_memory}
 use Rattle.csi_adoption.specs.declared.fault.AdoptFault.{AdoptFault}
 use Rattle.csi_adoption.specs.declared.fault.AdoptFault.TheVariants.{Foreign, Newer, Broken, Store, NoMemory}
@@ -31,6 +32,7 @@ use Rattle.csi_sql.specs.declared.formats.TheConstants.{FIRST_FORMAT, LATEST_FOR
 use Rattle.csi_adoption.specs.Failing.{AdoptionFails, DoNotRise, FailsCommitted, HasCause, HasUnrisen, JudgingFails, OfStore, Refuses, ScanFails, too_many, unrisen, format, tables, by_disk, as_shut, as_refused, WasShut}
 use Rattle.csi_adoption.specs.Judging.{integers_judged, meta_judged, row_judged, valid_format, valid_next}
 use Rattle.csi_adoption.specs.Scanning.{Scans}
+use Rattle.csi_adoption.specs.Starting.{IsRisingStart}
 use Rattle.csi_adoption.specs.declared.meta.Meta.{Meta}
 use Rattle.csi_adoption.specs.declared.meta.MetaRows.{MetaRows}
 use Rattle.csi_adoption.specs.declared.meta.MetaRows.TheVariants as meta
@@ -81,10 +83,10 @@ open_or_shut true P f h = f refl
 open_or_shut false P f h = h refl
 
 -- the integers of a column did not rise
-pub fallen : (at : ℕ) (was good : Bool) (last next : Option ℤ) (rows : List Row) → at ≡ 0 → was ≡ true → last ≡ None → Rises at was last rows good next → good ≡ false → IsRising 0 None rows → ⊥
-fallen at was good last next rows a w l rises is up =
-    let back : IsRising at last rows = subst (λ n. IsRising n last rows) (sym a) (subst (λ l. IsRising 0 l rows) (sym l) up) in
-    true≢false (sym (rises.good_is.1 (w, back)) ∙ is)
+pub fallen : (first : Rising) (rows : List Row) (now : Rising) → IsRisingStart first → RisesOver first rows now → now.good ≡ false → IsRising 0 None rows → ⊥
+fallen first rows now start rises bad up =
+    let back : IsRising first.column first.last rows = subst (λ n. IsRising n first.last rows) (sym start.column) (subst (λ l. IsRising 0 l rows) (sym start.last) up) in
+    true≢false (sym (rises.1.good_is.1 (start.good, back)) ∙ bad)
 
 -- what is refused turns on the database and the limit alone
 refuses_format : (a b : sql.State) (e : Error) → b.now ≡ a.now → b.step_limit ≡ a.step_limit → RefusesFormat b e → RefusesFormat a e

@@ -2,6 +2,7 @@ pub mod Adopting
 pub mod Again
 pub mod Failing
 pub mod Faults
+pub mod Folding
 pub mod Found
 pub mod FoundAttachments
 pub mod Judging
@@ -9,3 +10,5 @@ pub mod Laws
 pub mod Passing
 pub mod Scanning
 pub mod Seen
+pub mod Starting
+pub mod facts

@@ -1,12 +1,10 @@
 -- What a scan over the tables leaves, and what it shows.
-use Rattle.std.specs.Prelude.{◌≡◌, ℕ, false, List, Result, IfOk, OnOk}
+use Rattle.std.specs.Prelude.{◌≡◌, false, List, Result, IfOk, OnOk}
 use Rattle.sqlite.specs.Held.{Held, state}
 use Rattle.sqlite.specs.Order.{Row}
 use Rattle.sqlite.specs.State.{HasCleanDisk, IsUnchanged, KeepsCommit, Survives}
 use Rattle.sqlite.specs.Store.{Ghosts}
 use Rattle.sqlite.specs.Tree.{Trees}
-use Rattle.csi_constraints.specs.declared.sums.TextSum.{TextSum}
-use Rattle.csi_constraints.specs.declared.sums.Weight.{Weight}
 
 module _ {S : Type 0} (g : Ghosts S) (old new : Held S) where
   -- nothing is changed or committed, and a stop leaves what it could leave before
@@ -19,10 +17,3 @@ module _ {S : Type 0} (g : Ghosts S) (old new : Held S) where
   -- there are such rows of which the answer tells
   abbrev pub SeenBy : {X E : Type 0} → Result X E → (Trees → List Row → Type 0) → (List Row → X → Type 0) → Type 0
   SeenBy result What Told = HasCleanDisk (state g new) → IfOk result (λ seen. (rows : List Row) × What (state g old).now.trees rows × Told rows seen)
-
--- a sum over no row yet
-pub record IsBegun (at : ℕ) (text : List ℕ) (weight : Weight) (sum : TextSum) : Type 0 where
-  pub column : sum.column ≡ at
-  pub text_is : sum.text.items ≡ text
-  pub weight_is : sum.weight ≡ weight
-  pub none : sum.sum ≡ 0

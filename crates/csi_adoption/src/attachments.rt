@@ -1,113 +1,87 @@
 //! What scans over attachments show.
 
-ghost use Rattle.std.specs.Prelude.{◌≡◌, None, IfOk, true, false, map};
-ghost use Rattle.std.specs.List.{AllZip};
+ghost use Rattle.std.specs.Prelude.{◌≡◌, IfOk, false, map};
 ghost use Rattle.sqlite.specs.Held.{state};
 ghost use Rattle.sqlite.specs.State.{HasCleanDisk};
 ghost use Rattle.csi_sql.specs.Tables.{schema as our_schema};
 ghost use Rattle.csi_sql.specs.Rows.{seen_attachment};
 ghost use Rattle.csi_constraints.specs.Scans.{IsInOrder, keyed_attachment, owners};
-ghost use Rattle.csi_constraints.specs.declared.sums.Weight.TheVariants.{One as Ones};
 ghost use Rattle.csi_constraints.specs.Apart.{apart_named};
 ghost use Rattle.csi_constraints.specs.Joins.{is_owned};
 ghost use Rattle.csi_adoption.specs.Failing.{ScanFails};
 ghost use Rattle.csi_adoption.specs.Judging.{SeesAttachments, first_named};
-ghost use Rattle.csi_adoption.specs.Scanning.{IsBegun, Scans, SeenBy};
+ghost use Rattle.csi_adoption.specs.Scanning.{Scans, SeenBy};
 
 use crate::seen::AttachmentsSeen;
-use crate::starts::unbroken;
+use crate::starts::{rising_start, unbroken, unbroken_test};
 use crate::sums::node_sums;
 use csi_config::Config;
 use csi_constraints::{
-    FirstApart, FirstBroken, FirstUnowned, FoldEach, FoldPair, HasAttachmentKinds, HasCap, HasFlag,
+    FirstApart, FirstBroken, FirstUnowned, Fold, FoldEach, HasAttachmentKinds, HasCap, HasFlag,
     InfallibleTest, IsAtNode, Rising, RowName, TextSum, scan_attachments, scan_owners, scan_places,
 };
-use sqlite::{Alter, Connection, Error, ErrorCode};
+use sqlite::{Alter, Connection, Error, ErrorCode, Row};
 use std::alloc::{AllocError, Global};
 
-type Kinds = FoldPair<FirstBroken<InfallibleTest<HasAttachmentKinds>>, Rising>;
+// What is found of each row of attachments behind its rowid. The rowids have to rise.
+#[derive(Drop)]
+struct AttachmentsFold<'a> {
+    kinds: FirstBroken<InfallibleTest<HasAttachmentKinds>>,
+    rising: Rising,
+    cap: FirstBroken<HasCap>,
+    readonly: FirstBroken<InfallibleTest<HasFlag>>,
+    node: FirstBroken<InfallibleTest<IsAtNode<'a>>>,
+    node_volumes: FoldEach<TextSum>,
+}
 
-type Codes = FoldPair<FirstBroken<HasCap>, FirstBroken<InfallibleTest<HasFlag>>>;
+impl Fold for AttachmentsFold<'_> {
+    ghost use Rattle.csi_adoption.specs.Folding.{FoldsAttachments};
+    ghost use Rattle.csi_adoption.specs.facts.Starts.{attachments_start};
 
-type Nodes<'a> = FoldPair<FirstBroken<InfallibleTest<IsAtNode<'a>>>, FoldEach<TextSum>>;
+    ghost folds = { FoldsAttachments };
 
-type AttachmentsFold<'a> = FoldPair<FoldPair<Kinds, Codes>, Nodes<'a>>;
+    ghost starts = { attachments_start };
 
-fn kinds(alloc: Global) -> Kinds
-    ensures number { result.first.number ≡ 0 }
-    ensures text { result.first.text ≡ 2 }
-    ensures none { result.first.found ≡ None }
-    ensures column { result.second.column ≡ 0 }
-    ensures last { result.second.last ≡ None }
-    ensures good { result.second.good ≡ true }
-{
-    let test = InfallibleTest {
-        test: HasAttachmentKinds,
-    };
-    FoldPair {
-        first: unbroken(alloc, test, 0, 2),
-        second: Rising {
-            column: 0,
-            last: None,
-            good: true,
-        },
+    fn add_row(&mut self, row: &Row) -> Result<(), Error> {
+        self.kinds.add_row(row)?;
+        self.rising.add_row(row)?;
+        self.cap.add_row(row)?;
+        self.readonly.add_row(row)?;
+        self.node.add_row(row)?;
+        self.node_volumes.add_row(row)?;
+        Ok(())
     }
 }
 
-fn codes(alloc: Global) -> Codes
-    ensures number_first { result.first.number ≡ 1 }
-    ensures text_first { result.first.text ≡ 2 }
-    ensures none_first { result.first.found ≡ None }
-    ensures number_second { result.second.number ≡ 1 }
-    ensures text_second { result.second.text ≡ 2 }
-    ensures none_second { result.second.found ≡ None }
-{
-    FoldPair {
-        first: unbroken(alloc, HasCap { alloc }, 1, 2),
-        second: unbroken(alloc, InfallibleTest { test: HasFlag }, 1, 2),
+impl<'a> AttachmentsFold<'a> {
+    ghost use Rattle.csi_adoption.specs.Folding.{BeginsAttachments, attachments_seen};
+
+    // Before the first row.
+    fn new(alloc: Global, config: &'a Config) -> Result<AttachmentsFold<'a>, AllocError>
+        ensures { IfOk result (BeginsAttachments config.now) }
+    {
+        let node_volumes = node_sums(alloc, config.nodes())?;
+        Ok(AttachmentsFold {
+            kinds: unbroken_test(alloc, HasAttachmentKinds, 0, 2),
+            rising: rising_start(),
+            cap: unbroken(alloc, HasCap { alloc }, 1, 2),
+            readonly: unbroken_test(alloc, HasFlag, 1, 2),
+            node: unbroken_test(alloc, IsAtNode { config }, 1, 2),
+            node_volumes,
+        })
     }
-}
 
-fn nodes(alloc: Global, config: &Config) -> Result<Nodes<'_>, AllocError>
-    ensures config { IfOk result (λ nodes. nodes.first.test.test.config.now ≡ config.now) }
-    ensures number { IfOk result (λ nodes. nodes.first.number ≡ 1) }
-    ensures text { IfOk result (λ nodes. nodes.first.text ≡ 2) }
-    ensures none { IfOk result (λ nodes. nodes.first.found ≡ None) }
-    ensures sums { IfOk result (λ nodes. AllZip
-        (λ m sum. IsBegun 2 m.id Ones sum) config.now.nodes nodes.second.parts.items) }
-{
-    let test = InfallibleTest {
-        test: IsAtNode { config },
-    };
-    Ok(FoldPair {
-        first: unbroken(alloc, test, 1, 2),
-        second: node_sums(alloc, config.nodes())?,
-    })
-}
-
-// What the fold has found. It owns much, and nothing fails here.
-fn seen_by(fold: AttachmentsFold<'_>) -> AttachmentsSeen
-    ensures { result ≡ record {
-      kinds = fold.entry.first.first.first.found;
-      cap = fold.entry.first.second.first.found;
-      readonly = fold.entry.first.second.second.found;
-      node = fold.entry.second.first.found;
-      node_volumes = fold.entry.second.second.parts;
-    } }
-{
-    let FoldPair {
-        first: FoldPair {
-            first: kinds,
-            second: codes,
-        },
-        second: nodes,
-    } = fold;
-    AttachmentsSeen {
-        kinds: kinds.first.found,
-        cap: codes.first.found,
-        readonly: codes.second.found,
-        node: nodes.first.found,
-        node_volumes: nodes.second.parts,
+    // What was found. It owns much, and nothing fails here.
+    fn into_seen(self) -> AttachmentsSeen
+        ensures { result ≡ attachments_seen self.entry }
+    {
+        AttachmentsSeen {
+            kinds: self.kinds.found,
+            cap: self.cap.found,
+            readonly: self.readonly.found,
+            node: self.node.found,
+            node_volumes: self.node_volumes.parts,
+        }
     }
 }
 
@@ -125,17 +99,10 @@ pub(crate) fn see_attachments<S: Alter>(
         (λ db rows. IsInOrder (map keyed_attachment (db 3)) rows)
         (λ rows seen. SeesAttachments config.now rows seen) }
 {
-    let nodes = nodes(alloc, config)?;
-    let mut fold: AttachmentsFold<'_> = FoldPair {
-        first: FoldPair {
-            first: kinds(alloc),
-            second: codes(alloc),
-        },
-        second: nodes,
-    };
+    let mut fold = AttachmentsFold::new(alloc, config)?;
     let scanned = scan_attachments(conn, &mut fold);
-    let rises = fold.first.first.second.good;
-    let seen = seen_by(fold);
+    let rises = fold.rising.good;
+    let seen = fold.into_seen();
     scanned?;
     if !rises {
         return Err(Error::SqliteFailure(ErrorCode::DatabaseCorrupt));

@@ -12,11 +12,12 @@
 //! `in_attachments`) has those faults, in their order.
 //!
 //! `meta.rt`, `volumes.rt` and `attachments.rt` scan the tables, with a fold a constraint, all in one scan a
-//! table, and fill what `seen.rt` has: the first row that breaks each constraint, and the sums of pools and
-//! nodes; `starts.rt` begins the constraints, and `sums.rt` the sums. `volume_faults.rt` and
-//! `attachment_faults.rt` find the fault of a constraint, `table_faults.rt` puts them in order: each `check_`
-//! answers the first fault of its constraints, so that a `?` after each makes the first of all. `adopting.rt`
-//! calls them one after the other. Before the first scan a transaction is begun and undone, so that what is
+//! table (`specs/Folding.antt` has what they begin as, what they become, and what they have found), and fill
+//! what `seen.rt` has: the first row that breaks each constraint, and the sums of pools and nodes;
+//! `starts.rt` begins the constraints, and `sums.rt` the sums. `volume_faults.rt` and `attachment_faults.rt`
+//! find the fault of a constraint, `table_faults.rt` puts them in order: each `check_` answers the first fault
+//! of its constraints, so that a `?` after each makes the first of all. `adopting.rt` calls them one after the
+//! other. Before the first scan a transaction is begun and undone, so that what is
 //! seen is what was committed. Attachments are scanned with their volumes, and next to one another, only once
 //! each is known to be at a node of the configuration, so that those of a volume are few. That tables of an
 //! earlier format are made ones of the latest is the last step that can fail.

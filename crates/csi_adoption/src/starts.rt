@@ -1,17 +1,16 @@
-//! A constraint at its start.
+//! Constraints at their start.
 
-ghost use Rattle.std.specs.Prelude.{◌≡◌, None};
+ghost use Rattle.std.specs.Prelude.{◌≡◌};
+ghost use Rattle.csi_adoption.specs.Starting.{IsRisingStart, IsUnbroken};
 
-use csi_constraints::FirstBroken;
+use csi_constraints::{FirstBroken, InfallibleTest, Rising};
 use std::alloc::Global;
 
 /// A constraint that no row has broken yet. A row that breaks it is named by the integer and the text in
 /// these columns.
 pub(crate) fn unbroken<T>(alloc: Global, test: T, number: usize, text: usize) -> FirstBroken<T>
     ensures test { result.test ≡ test }
-    ensures number { result.number ≡ number }
-    ensures text { result.text ≡ text }
-    ensures none { result.found ≡ None }
+    ensures unbroken { IsUnbroken number text result }
 {
     FirstBroken {
         alloc,
@@ -19,5 +18,29 @@ pub(crate) fn unbroken<T>(alloc: Global, test: T, number: usize, text: usize) ->
         number,
         text,
         found: None,
+    }
+}
+
+/// The same of a test that takes no memory.
+pub(crate) fn unbroken_test<T>(
+    alloc: Global,
+    test: T,
+    number: usize,
+    text: usize,
+) -> FirstBroken<InfallibleTest<T>>
+    ensures test { result.test.test ≡ test }
+    ensures unbroken { IsUnbroken number text result }
+{
+    unbroken(alloc, InfallibleTest { test }, number, text)
+}
+
+/// Integers of the first column, of which none came yet.
+pub(crate) fn rising_start() -> Rising
+    ensures { IsRisingStart result }
+{
+    Rising {
+        column: 0,
+        last: None,
+        good: true,
     }
 }

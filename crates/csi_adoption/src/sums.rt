@@ -3,7 +3,7 @@
 ghost use Rattle.std.specs.Prelude.{IfOk};
 ghost use Rattle.std.specs.List.{AllZip};
 ghost use Rattle.csi_constraints.specs.declared.sums.Weight.TheVariants.{One as Ones};
-ghost use Rattle.csi_adoption.specs.Scanning.{IsBegun};
+ghost use Rattle.csi_adoption.specs.Starting.{IsBegun};
 
 use csi_config::{Node, Pool};
 use csi_constraints::{FoldEach, TextSum, Weight};

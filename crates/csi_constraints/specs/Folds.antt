@@ -1,5 +1,5 @@
 -- What a fold over rows has become.
-use Rattle.std.specs.Prelude.{◌≡◌, ◌⊎◌, ◌↔◌, ℕ, ◌+◌, ◌-◌, ◌^◌, min, sum_by, ℤ, int_lt, Bool, true, false, if◌then◌else◌, IsTrue, unwrap_or, List, []}
+use Rattle.std.specs.Prelude.{◌≡◌, ◌⊎◌, ◌↔◌, ℕ, ◌+◌, ◌-◌, ◌<◌, ◌^◌, length, min, sum_by, ℤ, int_lt, Bool, true, false, if◌then◌else◌, IsTrue, unwrap_or, List, []}
 use Rattle.std.specs.Prelude.{◌∷◌, ◌++◌, map, Option, Some, None}
 use Rattle.std.specs.List.{AllByRecursion}
 use Rattle.std.specs.Ordering.{is_eq, nat_cmp}
@@ -11,6 +11,9 @@ use Rattle.sqlite.specs.View.{is_int}
 use Rattle.sqlite.specs.declared.types.Value.{Value}
 use Rattle.sqlite.specs.declared.types.Value.TheVariants.{Int, Text}
 use Rattle.csi_sql.specs.Cells.{as_number}
+use Rattle.csi_constraints.specs.declared.count.RowCount.{RowCount}
+use Rattle.csi_constraints.specs.declared.rising.Rising.{Rising}
+use Rattle.csi_constraints.specs.declared.sums.TextSum.{TextSum}
 use Rattle.csi_constraints.specs.declared.sums.Weight.{Weight}
 use Rattle.csi_constraints.specs.declared.sums.Weight.TheVariants.{One, Number}
 
@@ -41,6 +44,16 @@ added_by at text weight row = if is_text text (column row at) then weight_of wei
 -- a sum behind the rows, or 2^64 - 1 where it is more
 abbrev pub sum_after : ℕ → List ℕ → Weight → ℕ → List Row → ℕ
 sum_after at text weight sum rows = min (sum + sum_by (added_by at text weight) rows) (2 ^ 64 - 1)
+
+-- what a sum has become over rows
+abbrev pub SumsText : TextSum → List Row → TextSum → Type 0
+SumsText first rows now =
+    (now.column ≡ first.column) × (now.text ≡ first.text) × (now.weight ≡ first.weight)
+    × (first.sum < 2 ^ 64 → now.sum ≡ sum_after first.column first.text.items first.weight first.sum rows)
+
+-- what a count has become: that of the rows more, or 2^64 - 1 where it is more
+abbrev pub CountsRows : RowCount → List Row → RowCount → Type 0
+CountsRows first rows now = first.rows < 2 ^ 64 → now.rows ≡ min (first.rows + length rows) (2 ^ 64 - 1)
 
 -- ---- integers that rise
 
@@ -75,3 +88,7 @@ IsLast values (Some n) = (front : List Value) × (values ≡ front ++ Int n ∷ 
 pub record Rises (at : ℕ) (was : Bool) (last : Option ℤ) (rows : List Row) (good : Bool) (next : Option ℤ) : Type 0 where
   pub good_is : IsTrue good ↔ (IsTrue was × IsRising at last rows)
   pub last_is : IsTrue good → IsLast (values_from at last rows) next
+
+-- what that test has become over rows
+abbrev pub RisesOver : Rising → List Row → Rising → Type 0
+RisesOver first rows now = (now.column ≡ first.column) × Rises first.column first.good first.last rows now.good now.last

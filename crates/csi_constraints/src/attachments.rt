@@ -3,7 +3,7 @@
 ghost use Rattle.std.specs.Prelude.{◌≡◌};
 ghost use Rattle.csi_constraints.specs.Attachments.{has_flag, is_at_node, is_node};
 
-use crate::folds::RowTest;
+use crate::trial::RowTest;
 use csi_config::{Config, Node};
 use csi_sql::values::{flag_at, text_at};
 use sqlite::Row;

@@ -1,7 +1,7 @@
 //! How many rows there are.
 
-ghost use Rattle.std.specs.Prelude.{◌≡◌, ◌<◌, ◌+◌, ◌-◌, ◌^◌, min, length};
-ghost use Rattle.csi_constraints.specs.facts.Starts.{still_sum};
+ghost use Rattle.csi_constraints.specs.Folds.{CountsRows};
+ghost use Rattle.csi_constraints.specs.facts.Starts.{counts_none};
 
 use crate::fold::Fold;
 use sqlite::{Error, Row};
@@ -14,12 +14,11 @@ pub struct RowCount {
 }
 
 impl Fold for RowCount {
-    ghost folds = { λ first rows now. first.rows < 2 ^ 64
-        → now.rows ≡ min (first.rows + length rows) (2 ^ 64 - 1) };
+    ghost folds = { CountsRows };
 
     ghost takes_memory = { λ _ _. ⊥ };
 
-    ghost starts = { λ first. still_sum first.rows };
+    ghost starts = { counts_none };
 
     fn add_row(&mut self, _row: &Row) -> Result<(), Error> {
         self.rows = self.rows.saturating_add(1);

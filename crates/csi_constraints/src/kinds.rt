@@ -3,7 +3,7 @@
 ghost use Rattle.csi_constraints.specs.Kinds.{has_attachment_kinds, has_volume_kinds};
 
 use crate::cells::{has_blob, has_integer, has_text};
-use crate::folds::RowTest;
+use crate::trial::RowTest;
 use sqlite::Row;
 
 /// The number and the bytes of a row of volumes are integers, its name and pool are texts in UTF-8, and

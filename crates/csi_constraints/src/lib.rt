@@ -3,9 +3,10 @@
 //!
 //! A scan is a query with a fixed text, and [`each_row`] hands the rows of its answer to a [`Fold`], one
 //! after the other. A fold is a relation between what it was, rows, and what it became (`folds`), which a row
-//! more extends and no row leaves as it is. So folds are put together by types: [`FoldPair`] and [`FoldEach`]
-//! take the same rows side by side, [`TextSum`] adds up over the rows of a text, [`RowCount`] counts them,
-//! [`Rising`] finds whether the integers of a column rise. So one scan judges a table by many constraints.
+//! more extends and no row leaves as it is. [`TextSum`] adds up over the rows of a text, [`RowCount`] counts
+//! them, [`Rising`] finds whether the integers of a column rise. A struct of folds that hands each row to all
+//! of its parts is a fold too, as [`FoldEach`] is of many of one type. So one scan judges a table by many
+//! constraints.
 //! `scans.rt` has the five scans: meta, volumes by number, attachments by rowid, the attachments by their
 //! numbers, and each with the caps of its volume. SQL joins two tables, so a constraint over a row of each is
 //! a test of one; `specs/Scans.antt` says which rows are shown, and `specs/facts/` what follows from a test
@@ -34,7 +35,7 @@
 //! ```rust
 //! let mut unsized_volume = FirstBroken {
 //!     alloc,
-//!     test: Sure { test: IsSized },
+//!     test: InfallibleTest { test: IsSized },
 //!     number: 0,
 //!     text: 1,
 //!     found: None,
@@ -52,7 +53,6 @@ mod coding;
 mod count;
 mod each;
 mod fold;
-mod folds;
 mod joins;
 mod kinds;
 pub mod laws;
@@ -72,12 +72,11 @@ pub use coded::{HasCap, HasCaps, HasParams};
 pub use count::RowCount;
 pub use each::FoldEach;
 pub use fold::{Fold, each_row};
-pub use folds::{FoldPair, RowTest};
 pub use kinds::{HasAttachmentKinds, HasVolumeKinds};
 pub use named::{FirstBroken, InfallibleTest, RowName};
 pub use owners::{FirstUnowned, KnownCaps};
 pub use rising::Rising;
 pub use scans::{scan_attachments, scan_meta, scan_owners, scan_places, scan_volumes};
 pub use sums::{TextSum, Weight};
-pub use trial::RowTrial;
+pub use trial::{RowTest, RowTrial};
 pub use volumes::{IsInPools, IsNamed, IsNumbered, IsSized};

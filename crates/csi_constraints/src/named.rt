@@ -1,19 +1,16 @@
 //! The first row that breaks a constraint, by its number and its text.
 
-ghost use Rattle.std.specs.Prelude.{◌≡◌, ◌⊎◌, false, refl, None, IfOk, OnErr};
-ghost use Rattle.std.specs.List.{AllByRecursion};
+ghost use Rattle.std.specs.Prelude.{◌≡◌, ◌⊎◌, false, None, IfOk, OnErr};
 ghost use Rattle.std.specs.Str.{is_utf8};
 ghost use Rattle.sqlite.specs.Order.{column};
 ghost use Rattle.csi_sql.specs.Cells.{as_text};
 ghost use Rattle.csi_constraints.specs.ScanFailing.{FailsForMemory};
 ghost use Rattle.csi_constraints.specs.Named.{name_of};
 ghost use Rattle.csi_constraints.specs.Values.{if_passes};
-ghost use Rattle.csi_constraints.specs.facts.Starts.{still_found};
 
 use crate::cells::{as_utf8, integer_at};
 use crate::fold::Fold;
-use crate::folds::RowTest;
-use crate::trial::RowTrial;
+use crate::trial::{RowTest, RowTrial};
 use csi_sql::values::text_at;
 use csi_types::Text;
 use sqlite::{Error, Row};
@@ -90,17 +87,15 @@ impl<T: RowTrial> FirstBroken<T> {
 }
 
 impl<T: RowTrial> Fold for FirstBroken<T> {
-    ghost use Rattle.csi_constraints.specs.Named.{named_out};
+    ghost use Rattle.csi_constraints.specs.Named.{FindsBroken};
+    ghost use Rattle.csi_constraints.specs.facts.Starts.{finds_none};
 
-    ghost folds = { λ first rows now.
-        (now.test ≡ first.test) × (now.number ≡ first.number) × (now.text ≡ first.text)
-        × (now.found ≡ named_out first.number first.text (T.accepts first.test) first.found rows)
-        × (now.found ≡ None → AllByRecursion (T.knows first.test) rows) };
+    ghost folds = { FindsBroken T.accepts T.knows };
 
     ghost takes_memory = { λ fold row. (fold.found ≡ None)
         × (T.takes_memory fold.test row ⊎ (T.accepts fold.test row ≡ false)) };
 
-    ghost starts = { λ first. (refl, refl, refl, still_found first.found, λ none. tt) };
+    ghost starts = { finds_none T.accepts T.knows };
 
     fn add_row(&mut self, row: &Row) -> Result<(), Error> {
         if self.found.is_none() {

@@ -1,8 +1,8 @@
 //! Integers that rise.
 
-ghost use Rattle.std.specs.Prelude.{◌≡◌, refl};
-ghost use Rattle.csi_constraints.specs.Folds.{Rises, is_above};
-ghost use Rattle.csi_constraints.specs.facts.Starts.{rises_none};
+ghost use Rattle.std.specs.Prelude.{◌≡◌};
+ghost use Rattle.csi_constraints.specs.Folds.{RisesOver, is_above};
+ghost use Rattle.csi_constraints.specs.facts.Starts.{rises_over_none};
 
 use crate::cells::integer_at;
 use crate::fold::Fold;
@@ -29,12 +29,11 @@ pub struct Rising {
 }
 
 impl Fold for Rising {
-    ghost folds = { λ first rows now. (now.column ≡ first.column)
-        × Rises first.column first.good first.last rows now.good now.last };
+    ghost folds = { RisesOver };
 
     ghost takes_memory = { λ _ _. ⊥ };
 
-    ghost starts = { λ first. (refl, rises_none first.column first.good first.last) };
+    ghost starts = { rises_over_none };
 
     fn add_row(&mut self, row: &Row) -> Result<(), Error> {
         match integer_at(row, self.column) {

@@ -1,11 +1,10 @@
 //! Sums over the rows that have a text.
 
-ghost use Rattle.std.specs.Prelude.{◌≡◌, ◌<◌, ◌^◌, refl};
+ghost use Rattle.std.specs.Prelude.{◌≡◌};
 ghost use Rattle.std.specs.Ordering.{is_eq, nat_cmp};
 ghost use Rattle.std.specs.Cmp.Lexicographic.{slice_cmp};
 ghost use Rattle.sqlite.specs.Order.{column};
-ghost use Rattle.csi_constraints.specs.Folds.{is_text, sum_after, weight_of};
-ghost use Rattle.csi_constraints.specs.facts.Starts.{still_sum};
+ghost use Rattle.csi_constraints.specs.Folds.{is_text, weight_of};
 
 use crate::fold::Fold;
 use csi_sql::values::{number_at, text_at};
@@ -59,13 +58,14 @@ pub struct TextSum {
 }
 
 impl Fold for TextSum {
-    ghost folds = { λ first rows now.
-        (now.column ≡ first.column) × (now.text ≡ first.text) × (now.weight ≡ first.weight)
-        × (first.sum < 2 ^ 64 → now.sum ≡ sum_after first.column first.text.items first.weight first.sum rows) };
+    ghost use Rattle.csi_constraints.specs.Folds.{SumsText};
+    ghost use Rattle.csi_constraints.specs.facts.Starts.{sums_none};
+
+    ghost folds = { SumsText };
 
     ghost takes_memory = { λ _ _. ⊥ };
 
-    ghost starts = { λ first. (refl, refl, refl, still_sum first.sum) };
+    ghost starts = { sums_none };
 
     fn add_row(&mut self, row: &Row) -> Result<(), Error> {
         if has_text(row, self.column, self.text.as_slice()) {

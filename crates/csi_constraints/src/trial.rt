@@ -1,10 +1,20 @@
-//! A test of each row by itself that takes memory.
+//! A test of each row by itself, without memory and with it.
 
 ghost use Rattle.std.specs.Prelude.{◌≡◌, Bool, IfOk, IsTrue, OnErr};
 ghost use Rattle.sqlite.specs.Order.{Row as Values};
 ghost use Rattle.csi_constraints.specs.ScanFailing.{FailsForMemory};
 
 use sqlite::{Error, Row};
+
+/// A test of a row by itself.
+pub trait RowTest {
+    /// Whether a row passes.
+    ghost accepts: { Self → Values → Bool };
+
+    /// Whether the row passes.
+    fn test(&self, row: &Row) -> bool
+        ensures { result ≡ accepts self.now row.now };
+}
 
 /// A test of a row by itself that takes memory.
 pub trait RowTrial {

@@ -4,7 +4,7 @@ ghost use Rattle.std.specs.Prelude.{◌≡◌};
 ghost use Rattle.csi_constraints.specs.Volumes.{is_in_pools, is_name, is_named, is_numbered, is_pool, is_sized};
 
 use crate::cells::as_utf8;
-use crate::folds::RowTest;
+use crate::trial::RowTest;
 use csi_config::{Config, Pool, is_whole};
 use csi_sql::values::{number_at, text_at};
 use csi_types::name_reason;

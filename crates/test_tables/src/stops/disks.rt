@@ -27,7 +27,7 @@ pub(crate) enum Which {
     /// The database file.
     Database,
     /// Each of the two, behind so many calls of its own.
-    FoldPair,
+    Both,
 }
 
 /// A moment at which a disk stops, and what becomes of it.
@@ -52,7 +52,7 @@ impl Stop {
         match self.which {
             Which::Log => (self.calls, u64::MAX),
             Which::Database => (u64::MAX, self.calls),
-            Which::FoldPair => (self.calls, self.calls),
+            Which::Both => (self.calls, self.calls),
         }
     }
 }
@@ -62,7 +62,7 @@ impl fmt::Display for Stop {
         let which = match self.which {
             Which::Log => "log",
             Which::Database => "database",
-            Which::FoldPair => "both",
+            Which::Both => "both",
         };
         let closes = if self.closes { ", closed" } else { "" };
         let loses = if self.loses {

@@ -99,7 +99,7 @@ impl<'a> Trials<'a> {
     ///
     /// The first stop behind which something is found that must not be.
     pub(crate) fn all(mut self) -> Result<Seen, RowFault> {
-        for which in [Which::Log, Which::Database, Which::FoldPair] {
+        for which in [Which::Log, Which::Database, Which::Both] {
             self.stops_of(which, false)?;
             self.stops_of(which, true)?;
         }

@@ -2,7 +2,7 @@ use Rattle.std.proofs.Common.{◌+◌, arith, List, subst, sym, take}
 use Rattle.std.specs.List.{AllZip}
 use Rattle.csi_constraints.specs.declared.sums.Weight.TheVariants.{One}
 use Rattle.csi_constraints.specs.declared.sums.TextSum.{TextSum}
-use Rattle.csi_adoption.specs.Scanning.{IsBegun}
+use Rattle.csi_adoption.specs.Starting.{IsBegun}
 use Rattle.csi_adoption.proofs.BegunLemmas.{begun_all, begun_more}
 use Rattle.csi_adoption.proofs.sums.node_sums.Goals as goal
 

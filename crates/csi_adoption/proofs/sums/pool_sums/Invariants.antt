@@ -1,6 +1,6 @@
 use Rattle.std.proofs.Common.{take}
 use Rattle.std.specs.List.{AllZip}
-use Rattle.csi_adoption.specs.Scanning.{IsBegun}
+use Rattle.csi_adoption.specs.Starting.{IsBegun}
 use Rattle.csi_adoption.proofs.sums.pool_sums.Given as goal
 
 abbrev pub invariant-loop-pool : goal.invariant-loop-pool
