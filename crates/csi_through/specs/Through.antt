@@ -1,8 +1,8 @@
 -- What contracts see of a keeper over a memory and a change store.
-use Rattle.std.specs.Prelude.{◌≡◌, ◌+◌, ◌≤◌, true, false, Err}
+use Rattle.std.specs.Prelude.{◌≡◌, ◌+◌, ◌≤◌, true, false, Result, Err}
 use Rattle.csi_config.specs.declared.config.Config.{Config}
 use Rattle.csi_keeper.specs.Invariant.{IsInvariant}
-use Rattle.csi_keeper.specs.Keeper.{Applies}
+use Rattle.csi_keeper.specs.Keeper.{Applies, Reads}
 use Rattle.csi_keeper.specs.Model.{Model}
 use Rattle.csi_keeper.specs.State.{State}
 use Rattle.csi_keeper.specs.declared.change.Change.{Change}
@@ -20,6 +20,12 @@ through_model memory change_store t = record {
   tied = (change_store t.change_store).tied;
   is_down = t.health.is_down;
 }
+
+-- a read, as of each keeper, that leaves the memory as current as it was
+pub record ReadsThrough {M D X : Type 0} (memory : M → Model State) (change_store : D → Model State) (old new : Through M D) (result : Result X StoreFault)
+    (IsSo : State → X → Type 0) : Type 0 where
+  pub reads : Reads (through_model memory change_store old) (through_model memory change_store new) result IsSo
+  pub current : new.is_current ≡ old.is_current
 
 -- a memory was asked for a change, and did not make it
 abbrev pub HasMissed : Model State → Model State → Change → Type 0

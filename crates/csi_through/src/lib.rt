@@ -6,8 +6,8 @@
 //! Any keeper is a change store ([`KeeperChanges`]), and [`Through::over`] makes the memory of what a keeper
 //! has.
 //!
-//! `specs/Through.antt` says which States such a keeper may have, and `specs/Copying.antt` what is copied so
-//! far.
+//! `specs/Through.antt` says which States such a keeper may have, and what a read of it leaves as it was.
+//! `specs/Copying.antt` says what is copied so far.
 //!
 //! ```rust
 //! let mut keeper = Through::over(alloc, tables)?;

@@ -4,12 +4,12 @@ ghost use Rattle.std.specs.FinMap.{get};
 ghost use Rattle.std.specs.Option.{option_map};
 ghost use Rattle.std.specs.Prelude.{◌≡◌, ◌≢◌, ◌↔◌, true, false, Err, IfErr, IfOk, IsTrue, OnErr, OnOk};
 ghost use Rattle.csi_memory.specs.Holding.{mem_model};
-ghost use Rattle.csi_keeper.specs.Keeper.{Applies, IsQuiet, Reads, count_after};
+ghost use Rattle.csi_keeper.specs.Keeper.{Applies, IsQuiet, count_after};
 ghost use Rattle.csi_keeper.specs.Listing.{listing};
 ghost use Rattle.csi_keeper.specs.State.{IsBounded, attached, attached_at, count_at, named, page, published_of_page, sizes, used};
 ghost use Rattle.csi_keeper.specs.declared.change.StoreFault.TheVariants.{Down, NoMemory};
 ghost use Rattle.csi_through.specs.Copying.{IsCopy, IsWhy};
-ghost use Rattle.csi_through.specs.Through.{HasMissed, Opens, through_model};
+ghost use Rattle.csi_through.specs.Through.{HasMissed, Opens, ReadsThrough, through_model};
 
 use crate::change_store::{ChangeStore, KeeperChanges};
 use crate::copying::copy_of;
@@ -194,9 +194,7 @@ impl<M: Keeper, D: ChangeStore> Keeper for Through<M, D> {
     }
 
     fn next_number(&mut self) -> Result<u64, StoreFault>
-        ensures reads { Reads (through_model M.model D.model self.old)
-            (through_model M.model D.model self.new) result (λ s n. n ≡ s.next) }
-        ensures current { self.new.is_current ≡ self.old.is_current }
+        ensures { ReadsThrough M.model D.model self.old self.new result (λ s n. n ≡ s.next) }
     {
         start_call(&mut self.health, self.is_current)?;
         let answer = self.memory.next_number();
@@ -204,9 +202,7 @@ impl<M: Keeper, D: ChangeStore> Keeper for Through<M, D> {
     }
 
     fn by_name(&mut self, alloc: Global, name: &str) -> Result<Option<Volume>, StoreFault>
-        ensures reads { Reads (through_model M.model D.model self.old)
-            (through_model M.model D.model self.new) result (λ s v. v ≡ named s name.now) }
-        ensures current { self.new.is_current ≡ self.old.is_current }
+        ensures { ReadsThrough M.model D.model self.old self.new result (λ s v. v ≡ named s name.now) }
     {
         start_call(&mut self.health, self.is_current)?;
         let answer = self.memory.by_name(alloc, name);
@@ -214,9 +210,7 @@ impl<M: Keeper, D: ChangeStore> Keeper for Through<M, D> {
     }
 
     fn by_number(&mut self, alloc: Global, number: u64) -> Result<Option<Volume>, StoreFault>
-        ensures reads { Reads (through_model M.model D.model self.old)
-            (through_model M.model D.model self.new) result (λ s v. v ≡ get s.volumes number) }
-        ensures current { self.new.is_current ≡ self.old.is_current }
+        ensures { ReadsThrough M.model D.model self.old self.new result (λ s v. v ≡ get s.volumes number) }
     {
         start_call(&mut self.health, self.is_current)?;
         let answer = self.memory.by_number(alloc, number);
@@ -224,10 +218,8 @@ impl<M: Keeper, D: ChangeStore> Keeper for Through<M, D> {
     }
 
     fn caps_of(&mut self, alloc: Global, number: u64) -> Result<Option<Items<CapKey>>, StoreFault>
-        ensures reads { Reads (through_model M.model D.model self.old)
-            (through_model M.model D.model self.new) result
+        ensures { ReadsThrough M.model D.model self.old self.new result
             (λ s keys. keys ≡ option_map (λ v. v.caps) (get s.volumes number)) }
-        ensures current { self.new.is_current ≡ self.old.is_current }
     {
         start_call(&mut self.health, self.is_current)?;
         let answer = self.memory.caps_of(alloc, number);
@@ -235,9 +227,7 @@ impl<M: Keeper, D: ChangeStore> Keeper for Through<M, D> {
     }
 
     fn attachments(&mut self, alloc: Global, number: u64) -> Result<Items<Attachment>, StoreFault>
-        ensures reads { Reads (through_model M.model D.model self.old)
-            (through_model M.model D.model self.new) result (λ s xs. xs ≡ attached s number) }
-        ensures current { self.new.is_current ≡ self.old.is_current }
+        ensures { ReadsThrough M.model D.model self.old self.new result (λ s xs. xs ≡ attached s number) }
     {
         start_call(&mut self.health, self.is_current)?;
         let answer = self.memory.attachments(alloc, number);
@@ -245,9 +235,8 @@ impl<M: Keeper, D: ChangeStore> Keeper for Through<M, D> {
     }
 
     fn attached_at(&mut self, alloc: Global, node: &str) -> Result<Items<u64>, StoreFault>
-        ensures reads { Reads (through_model M.model D.model self.old)
-            (through_model M.model D.model self.new) result (λ s xs. xs ≡ attached_at s node.now) }
-        ensures current { self.new.is_current ≡ self.old.is_current }
+        ensures { ReadsThrough M.model D.model self.old self.new result
+            (λ s xs. xs ≡ attached_at s node.now) }
     {
         start_call(&mut self.health, self.is_current)?;
         let answer = self.memory.attached_at(alloc, node);
@@ -255,9 +244,7 @@ impl<M: Keeper, D: ChangeStore> Keeper for Through<M, D> {
     }
 
     fn count_at(&mut self, alloc: Global, node: &Text) -> Result<u64, StoreFault>
-        ensures reads { Reads (through_model M.model D.model self.old)
-            (through_model M.model D.model self.new) result (λ s n. n ≡ count_at s node.now) }
-        ensures current { self.new.is_current ≡ self.old.is_current }
+        ensures { ReadsThrough M.model D.model self.old self.new result (λ s n. n ≡ count_at s node.now) }
     {
         start_call(&mut self.health, self.is_current)?;
         let answer = self.memory.count_at(alloc, node);
@@ -265,9 +252,7 @@ impl<M: Keeper, D: ChangeStore> Keeper for Through<M, D> {
     }
 
     fn sizes_in(&mut self, alloc: Global, pool: &str) -> Result<Items<u64>, StoreFault>
-        ensures reads { Reads (through_model M.model D.model self.old)
-            (through_model M.model D.model self.new) result (λ s xs. xs ≡ sizes s pool.now) }
-        ensures current { self.new.is_current ≡ self.old.is_current }
+        ensures { ReadsThrough M.model D.model self.old self.new result (λ s xs. xs ≡ sizes s pool.now) }
     {
         start_call(&mut self.health, self.is_current)?;
         let answer = self.memory.sizes_in(alloc, pool);
@@ -275,9 +260,7 @@ impl<M: Keeper, D: ChangeStore> Keeper for Through<M, D> {
     }
 
     fn used_in(&mut self, pool: &Text) -> Result<Usage, StoreFault>
-        ensures reads { Reads (through_model M.model D.model self.old)
-            (through_model M.model D.model self.new) result (λ s u. u ≡ used s pool.now) }
-        ensures current { self.new.is_current ≡ self.old.is_current }
+        ensures { ReadsThrough M.model D.model self.old self.new result (λ s u. u ≡ used s pool.now) }
     {
         start_call(&mut self.health, self.is_current)?;
         let answer = self.memory.used_in(pool);
@@ -285,9 +268,7 @@ impl<M: Keeper, D: ChangeStore> Keeper for Through<M, D> {
     }
 
     fn page(&mut self, alloc: Global, after: u64, count: u32) -> Result<Items<Volume>, StoreFault>
-        ensures reads { Reads (through_model M.model D.model self.old)
-            (through_model M.model D.model self.new) result (λ s xs. xs ≡ page s after count) }
-        ensures current { self.new.is_current ≡ self.old.is_current }
+        ensures { ReadsThrough M.model D.model self.old self.new result (λ s xs. xs ≡ page s after count) }
     {
         start_call(&mut self.health, self.is_current)?;
         let answer = self.memory.page(alloc, after, count);
@@ -300,9 +281,8 @@ impl<M: Keeper, D: ChangeStore> Keeper for Through<M, D> {
         after: u64,
         count: u32,
     ) -> Result<Items<Items<Text>>, StoreFault>
-        ensures reads { Reads (through_model M.model D.model self.old)
-            (through_model M.model D.model self.new) result (λ s xs. xs ≡ published_of_page s after count) }
-        ensures current { self.new.is_current ≡ self.old.is_current }
+        ensures { ReadsThrough M.model D.model self.old self.new result
+            (λ s xs. xs ≡ published_of_page s after count) }
     {
         start_call(&mut self.health, self.is_current)?;
         let answer = self.memory.published_nodes(alloc, after, count);
@@ -317,11 +297,9 @@ impl<M: Keeper, D: ChangeStore> Keeper for Through<M, D> {
         count: u32,
         fold: &mut F,
     ) -> Result<(), StoreFault>
-        ensures folded { Reads (through_model M.model D.model self.old)
-            (through_model M.model D.model self.new) result
+        ensures folded { ReadsThrough M.model D.model self.old self.new result
             (λ s _. F.folds fold.old (listing s after count) fold.new) }
         ensures kept { F.keeps fold.old fold.new }
-        ensures current { self.new.is_current ≡ self.old.is_current }
     {
         start_call(&mut self.health, self.is_current)?;
         let answer = self.memory.fold_page(alloc, after, count, fold);
