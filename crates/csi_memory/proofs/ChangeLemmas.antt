@@ -1,10 +1,8 @@
 -- What rows stand for after a change, and after one that memory refused.
 use Rattle.std.proofs.Common.{◌≡◌, ◌∙◌, inl, inr, ap, sym, subst, cond, arith, refl, ℕ, ◌+◌, ◌*◌, ◌<◌, ◌≤◌, ◌^◌, List, [], ◌∷◌, length, sum, Bool, true, false, Some, None}
-use Rattle.std.specs.BTreeMap.{is_at}
 use Rattle.std.specs.Cmp.{nat_cmp_total}
 use Rattle.std.specs.FinMap as fin
 use Rattle.std.specs.List.{AllByRecursion}
-use Rattle.std.specs.Map.{lookup}
 use Rattle.std.specs.Ordering.{nat_cmp, eq_by_cmp}
 use Rattle.csi_types.specs.Maps.{TextMap, same_text}
 use Rattle.csi_keeper.specs.declared.volume.Attachment.{Attachment}
@@ -12,20 +10,19 @@ use Rattle.csi_keeper.specs.declared.change.Change.TheVariants.{AddVolume, Remov
 use Rattle.csi_keeper.specs.declared.volume.Volume.{Volume}
 use Rattle.csi_keeper.specs.declared.totals.Total.{Total}
 use Rattle.csi_keeper.specs.declared.totals.Totals.{Totals}
-use Rattle.csi_memory.specs.Memory.{Nodes, IsSetAt, volumes_of, name_key}
+use Rattle.csi_memory.specs.Hashing.{name_hash}
+use Rattle.csi_memory.specs.Memory.{Nodes, volumes_of}
+use Rattle.csi_memory.specs.Naming.{Lists, HasSameNames, IsNamed, IsUnnamed}
+use Rattle.csi_memory.specs.declared.names.Names.{Names}
 use Rattle.csi_memory.specs.Kept.{IsKept}
 use Rattle.csi_keeper.specs.Totals.{total_of, more, less, HasRoom}
-use Rattle.csi_keeper.specs.State.{State, AttachmentKey, changed, Allows, mutable_set, attachment_key_cmp}
+use Rattle.csi_keeper.specs.State.{State, AttachmentKey, changed, Allows, mutable_set}
 use Rattle.csi_keeper.specs.Texts.{Text}
 use Rattle.csi_keeper.specs.facts.Finite.{none_some, not_there, all_entries, put_there, tied}
-use Rattle.csi_memory.proofs.KeptLemmas.{kept_add, kept_remove, same_key}
+use Rattle.csi_memory.proofs.KeptLemmas.{kept_add, kept_remove}
 use Rattle.csi_keeper.specs.facts.Mutable.{stood, stands, as_many, totals_kept}
 use Rattle.csi_keeper.specs.facts.Names.{nobody}
 use Rattle.csi_keeper.specs.facts.Sums.{in_order, total_cons, count_cons}
-
--- a name is taken out under another spelling of itself
-pub dropped_as : (index back : List (AttachmentKey × ℕ)) (name other : Text) → other ≡ name → IsSetAt attachment_key_cmp (name_key other) None index back → IsSetAt attachment_key_cmp (name_key name) None index back
-dropped_as index back name other is h = subst (λ (t : Text). IsSetAt attachment_key_cmp (name_key t) None index back) is h
 
 -- the volume that was put into the rows stands there
 pub stands_now : (es rows : List (ℕ × Volume)) (v : Volume) → volumes_of rows ≡ fin.insert (volumes_of es) v.number v → fin.get (volumes_of rows) v.number ≡ Some v
@@ -53,7 +50,7 @@ sum_most (e ∷ es) pool a =
       | false ↦ λ o t. omega (arith, o, t, more)
     ] one two
 
-module _ (next : ℕ) (volumes : List (ℕ × Volume)) (names : List (AttachmentKey × ℕ)) (pools : Totals) (attachments : List (AttachmentKey × Attachment)) (spots : Nodes) (s : State) where
+module _ (next : ℕ) (volumes : List (ℕ × Volume)) (names : Names) (pools : Totals) (attachments : List (AttachmentKey × Attachment)) (spots : Nodes) (s : State) where
   -- the totals have room for one more
   pub room : (v : Volume) → IsKept next volumes names pools attachments spots s → Allows s (AddVolume v) → v.number < 2 ^ 62 → v.bytes ≤ 2 ^ 62
       → HasRoom (total_of pools v.pool) v.bytes
@@ -75,7 +72,28 @@ module _ (next : ℕ) (volumes : List (ℕ × Volume)) (names : List (Attachment
     volumes_are = k.volumes_are ∙ sym same;
     attachments_are = k.attachments_are;
     named = k.named;
-    names_stand = k.names_stand;
+    hashes_stand = k.hashes_stand;
+    texts_stand = k.texts_stand;
+    single = k.single;
+    totals = k.totals;
+    few = k.few;
+    small = k.small;
+    spotted = k.spotted;
+  }
+
+  -- another index of the same names
+  pub kept_names : (index : Names) → IsKept next volumes names pools attachments spots s → HasSameNames names index → IsKept next volumes index pools attachments spots s
+  kept_names index k same = record {
+    next_is = k.next_is;
+    volumes_are = k.volumes_are;
+    attachments_are = k.attachments_are;
+    named = λ n v e. elim (k.named n v e) as (λ _. Lists index v.name n) [
+      | inl a ↦ inl (same.hashes (name_hash v.name) ∙ a)
+      | inr b ↦ inr (same.texts v.name ∙ b)
+    ];
+    hashes_stand = λ h n e. k.hashes_stand h n (sym (same.hashes h) ∙ e);
+    texts_stand = λ q n e. k.texts_stand q n (sym (same.texts q) ∙ e);
+    single = k.single;
     totals = k.totals;
     few = k.few;
     small = k.small;
@@ -102,58 +120,53 @@ module _ (next : ℕ) (volumes : List (ℕ × Volume)) (names : List (Attachment
       let same_state : fin.remove s.volumes n ≡ s.volumes = not_there nat_cmp_total fin.nat_cmp-IsAntisymmetric s.volumes n (ap (λ (m : fin.FinMap nat_cmp Volume). fin.get m n) k.volumes_are ∙ none) in
       subst (λ (m : fin.FinMap nat_cmp Volume). IsKept next rows names pools attachments spots (record s { volumes = m })) (sym same_state) (kept_rows rows k (is_rows ∙ same))
 
-  -- the name was set, a refused growth left the rows, and the name was taken out
-  pub refused_rows : (rows : List (ℕ × Volume)) (index back : List (AttachmentKey × ℕ)) (v : Volume) (name : Text) → name ≡ v.name → IsKept next volumes names pools attachments spots s → Allows s (AddVolume v)
-      → IsSetAt attachment_key_cmp (name_key name) (Some v.number) names index
-      → IsSetAt attachment_key_cmp (name_key v.name) None index back
+  -- the name was set, a refused growth left the rows, and the name was removed
+  pub refused_rows : (rows : List (ℕ × Volume)) (index back : Names) (v : Volume) → IsKept next volumes names pools attachments spots s → Allows s (AddVolume v)
+      → IsNamed v.name v.number names index → IsUnnamed v.name v.number index back
       → volumes_of rows ≡ volumes_of volumes → IsKept next rows back pools attachments spots s
-  refused_rows rows index back v name is k allows is_index is_back same = record {
+  refused_rows rows index back v k allows is_index is_back same = record {
     next_is = k.next_is;
     volumes_are = k.volumes_are ∙ sym same;
     attachments_are = k.attachments_are;
-    named = λ n w e. again (name_key w.name) ∙ other n w e (is_at (attachment_key_cmp (name_key v.name)) (name_key w.name)) refl;
-    names_stand = λ p n e. whose p n (is_at (attachment_key_cmp (name_key v.name)) p) (sym (again p) ∙ e);
+    named = λ n w e.
+        let other : w.name ≡ v.name → ⊥ = λ is. nobody s v.name n w allows.2 e is in
+        is_back.others w.name n other (λ is. none_some w (sym allows.1 ∙ ap (fin.get s.volumes) (sym is) ∙ e)) (is_index.others w.name n other (k.named n w e));
+    hashes_stand = λ h n e.
+        let was = is_back.hashes h n e in
+        elim (is_index.hashes h n was.0) as (λ _. (w : Volume) × (fin.get s.volumes n ≡ Some w) × (name_hash w.name ≡ h)) [
+          | inl a ↦ k.hashes_stand h n a
+          | inr b ↦ absurd (was.1 b.0 b.1)
+        ];
+    texts_stand = λ q n e.
+        let was = is_back.texts q n e in
+        elim (is_index.texts q n was.0) as (λ _. (w : Volume) × (fin.get s.volumes n ≡ Some w) × (w.name ≡ q)) [
+          | inl a ↦ k.texts_stand q n a
+          | inr b ↦ absurd (was.1 b.0)
+        ];
+    single = k.single;
     totals = k.totals;
     few = k.few;
     small = k.small;
     spotted = k.spotted;
   }
-    where
-      again : (p : AttachmentKey) → lookup (is_at (attachment_key_cmp p)) back ≡ cond (is_at (attachment_key_cmp (name_key v.name)) p) None (lookup (is_at (attachment_key_cmp p)) names)
-      again p =
-          is_back p
-          ∙ ap (cond (is_at (attachment_key_cmp (name_key v.name)) p) None) (is_index p ∙ ap (λ (t : Text). cond (is_at (attachment_key_cmp (name_key t)) p) (Some v.number) (lookup (is_at (attachment_key_cmp p)) names)) is)
-          ∙ by (is_at (attachment_key_cmp (name_key v.name)) p)
-        where
-          by : (b : Bool) → cond b None (cond b (Some v.number) (lookup (is_at (attachment_key_cmp p)) names)) ≡ cond b None (lookup (is_at (attachment_key_cmp p)) names)
-          by true = refl
-          by false = refl
-
-      other : (n : ℕ) (w : Volume) → fin.get s.volumes n ≡ Some w → (b : Bool) → is_at (attachment_key_cmp (name_key v.name)) (name_key w.name) ≡ b → cond b None (lookup (is_at (attachment_key_cmp (name_key w.name))) names) ≡ Some n
-      other n w e true t = absurd (nobody s v.name n w allows.2 e (sym (same_key v.name w.name t)))
-      other n w e false t = k.named n w e
-
-      whose : (p : AttachmentKey) (n : ℕ) (b : Bool) → cond b None (lookup (is_at (attachment_key_cmp p)) names) ≡ Some n → (w : Volume) × (fin.get s.volumes n ≡ Some w) × (name_key w.name ≡ p)
-      whose p n true h = absurd (none_some n h)
-      whose p n false h = k.names_stand p n h
 
   -- the volume was added, and taken back with its name
-  pub refused_total : (taken rows : List (ℕ × Volume)) (index back : List (AttachmentKey × ℕ)) (kept : Totals) (v copy : Volume) (name : Text) → copy ≡ v → name ≡ v.name → IsKept next volumes names pools attachments spots s → Allows s (AddVolume v)
-      → IsSetAt attachment_key_cmp (name_key name) (Some v.number) names index
-      → IsSetAt attachment_key_cmp (name_key v.name) None index back
-      → volumes_of rows ≡ fin.insert (volumes_of volumes) copy.number copy
+  pub refused_total : (taken rows : List (ℕ × Volume)) (index back : Names) (kept : Totals) (v : Volume) → IsKept next volumes names pools attachments spots s → Allows s (AddVolume v)
+      → IsNamed v.name v.number names index → IsUnnamed v.name v.number index back
+      → volumes_of rows ≡ fin.insert (volumes_of volumes) v.number v
       → volumes_of taken ≡ fin.remove (volumes_of rows) v.number
       → ((q : Text) → total_of kept q ≡ total_of pools q) → IsKept next taken back kept attachments spots s
-  refused_total taken rows index back kept v copy name one is k allows is_index is_back added less same =
-      let same_rows : volumes_of taken ≡ volumes_of volumes =
-      less ∙ ap (λ (m : fin.FinMap nat_cmp Volume). fin.remove m v.number) (added ∙ ap (λ (w : Volume). fin.insert (volumes_of volumes) w.number w) one) ∙ taken_back v k allows in
-      let rest = refused_rows taken index back v name is k allows is_index is_back same_rows in
+  refused_total taken rows index back kept v k allows is_index is_back added less same =
+      let same_rows : volumes_of taken ≡ volumes_of volumes = less ∙ ap (λ (m : fin.FinMap nat_cmp Volume). fin.remove m v.number) added ∙ taken_back v k allows in
+      let rest = refused_rows taken index back v k allows is_index is_back same_rows in
       record {
         next_is = rest.next_is;
         volumes_are = rest.volumes_are;
         attachments_are = rest.attachments_are;
         named = rest.named;
-        names_stand = rest.names_stand;
+        hashes_stand = rest.hashes_stand;
+        texts_stand = rest.texts_stand;
+        single = rest.single;
         totals = λ pool. same pool ∙ rest.totals pool;
         few = rest.few;
         small = rest.small;
@@ -161,26 +174,24 @@ module _ (next : ℕ) (volumes : List (ℕ × Volume)) (names : List (Attachment
       }
 
   -- the volume was added
-  pub added : (rows : List (ℕ × Volume)) (index : List (AttachmentKey × ℕ)) (kept : Totals) (v copy : Volume) (name pool : Text) → copy ≡ v → name ≡ v.name → pool ≡ v.pool → IsKept next volumes names pools attachments spots s → Allows s (AddVolume v)
+  pub added : (rows : List (ℕ × Volume)) (index : Names) (kept : Totals) (v : Volume) (pool : Text) → pool ≡ v.pool → IsKept next volumes names pools attachments spots s → Allows s (AddVolume v)
       → v.number < 2 ^ 62 → v.bytes ≤ 2 ^ 62
-      → IsSetAt attachment_key_cmp (name_key name) (Some v.number) names index
-      → volumes_of rows ≡ fin.insert (volumes_of volumes) copy.number copy
+      → IsNamed v.name v.number names index
+      → volumes_of rows ≡ fin.insert (volumes_of volumes) v.number v
       → (HasRoom (total_of pools pool) v.bytes → (q : Text) → total_of kept q ≡ cond (same_text pool q) (more (total_of pools pool) v.bytes) (total_of pools q))
       → IsKept (v.number + 1) rows index kept attachments spots (changed s (AddVolume v))
-  added rows index kept v copy name pool one is in_pool k allows number bytes is_index add counted =
+  added rows index kept v pool in_pool k allows number bytes is_index add counted =
       let fits : HasRoom (total_of pools pool) v.bytes = subst (λ (p : Text). HasRoom (total_of pools p) v.bytes) (sym in_pool) (room v k allows number bytes) in
       subst (λ (n : ℕ). IsKept (n + 1) rows index kept attachments spots (changed s (AddVolume v))) (sym k.next_is ∙ sym allows.0)
-      (kept_add next volumes rows names pools kept attachments spots s index v k allows bytes
-      (add ∙ ap (λ (w : Volume). fin.insert (volumes_of volumes) w.number w) one)
-      (subst (λ (t : Text). IsSetAt attachment_key_cmp (name_key t) (Some v.number) names index) is is_index)
+      (kept_add next volumes rows names pools kept attachments spots s index v k allows bytes add is_index
       (λ q. counted fits q ∙ ap (λ (p : Text). cond (same_text p q) (more (total_of pools p) v.bytes) (total_of pools q)) in_pool))
 
   -- the volume was taken away, out of its pool's total, and its name out of the index
-  pub taken : (rows : List (ℕ × Volume)) (index : List (AttachmentKey × ℕ)) (kept : Totals) (n : ℕ) (v : Volume) → IsKept next volumes names pools attachments spots s
+  pub taken : (rows : List (ℕ × Volume)) (index : Names) (kept : Totals) (n : ℕ) (v : Volume) → IsKept next volumes names pools attachments spots s
       → fin.get (volumes_of volumes) n ≡ Some v
       → volumes_of rows ≡ fin.remove (volumes_of volumes) n
       → ((q : Text) → total_of kept q ≡ cond (same_text v.pool q) (less (total_of pools v.pool) v.bytes) (total_of pools q))
-      → IsSetAt attachment_key_cmp (name_key v.name) None names index
+      → IsUnnamed v.name n names index
       → IsKept next rows index kept attachments spots (changed s (RemoveVolume n))
   taken rows index kept n v k some is_rows is_totals is_index =
       kept_remove next volumes rows names pools kept attachments spots s index n v k (ap (λ (m : fin.FinMap nat_cmp Volume). fin.get m n) k.volumes_are ∙ some) is_rows is_totals is_index
@@ -193,18 +204,10 @@ module _ (next : ℕ) (volumes : List (ℕ × Volume)) (names : List (Attachment
     next_is = k.next_is;
     volumes_are = sym (subst (λ (vs : fin.FinMap nat_cmp Volume). volumes_of rows ≡ mutable_set vs n m (fin.get vs n)) (sym k.volumes_are) is);
     attachments_are = k.attachments_are;
-    named = λ q w e. let old = stood s.volumes n m q w e in elim old.2 as (λ _. lookup (is_at (attachment_key_cmp (name_key w.name))) names ≡ Some q) [
-      | inl a ↦ ap (λ (x : Volume). lookup (is_at (attachment_key_cmp (name_key x.name))) names) a ∙ k.named q old.0 old.1
-      | inr b ↦ ap (λ (x : Volume). lookup (is_at (attachment_key_cmp (name_key x.name))) names) b.1 ∙ k.named q old.0 old.1
-    ];
-    names_stand = λ p q e. let old = k.names_stand p q e in let new = stands s.volumes n m q old.0 old.1 in (
-      new.0,
-      new.1,
-      elim new.2 as (λ _. name_key new.0.name ≡ p) [
-        | inl a ↦ ap (λ (x : Volume). name_key x.name) a ∙ old.2
-        | inr b ↦ ap (λ (x : Volume). name_key x.name) b.1 ∙ old.2
-      ],
-    );
+    named = λ q w e. let old = was q w e in subst (λ (t : Text). Lists names t q) (sym old.2) (k.named q old.0 old.1);
+    hashes_stand = λ h q e. let old = k.hashes_stand h q e in let new = still q old.0 old.1 in (new.0, new.1, ap name_hash new.2 ∙ old.2);
+    texts_stand = λ t q e. let old = k.texts_stand t q e in let new = still q old.0 old.1 in (new.0, new.1, new.2 ∙ old.2);
+    single = λ q r w x e f is. let a = was q w e in let b = was r x f in k.single q r a.0 b.0 a.1 b.1 (sym a.2 ∙ is ∙ b.2);
     totals = totals_kept pools s n m k.totals;
     few = let less = k.few in let same = as_many s.volumes n m in omega (arith, less, same);
     small = λ q w e. let old = stood s.volumes n m q w e in elim old.2 as (λ _. w.bytes ≤ 2 ^ 62) [
@@ -213,3 +216,24 @@ module _ (next : ℕ) (volumes : List (ℕ × Volume)) (names : List (Attachment
     ];
     spotted = k.spotted;
   }
+    where
+      -- a volume that stands stood before under its name, and one that stood stands
+      was : (q : ℕ) (w : Volume) → fin.get (mutable_set s.volumes n m (fin.get s.volumes n)) q ≡ Some w → (v : Volume) × (fin.get s.volumes q ≡ Some v) × (w.name ≡ v.name)
+      was q w e = let old = stood s.volumes n m q w e in (
+        old.0,
+        old.1,
+        elim old.2 as (λ _. w.name ≡ old.0.name) [
+          | inl a ↦ ap (λ (x : Volume). x.name) a
+          | inr b ↦ ap (λ (x : Volume). x.name) b.1
+        ],
+      )
+
+      still : (q : ℕ) (v : Volume) → fin.get s.volumes q ≡ Some v → (w : Volume) × (fin.get (mutable_set s.volumes n m (fin.get s.volumes n)) q ≡ Some w) × (w.name ≡ v.name)
+      still q v e = let new = stands s.volumes n m q v e in (
+        new.0,
+        new.1,
+        elim new.2 as (λ _. new.0.name ≡ v.name) [
+          | inl a ↦ ap (λ (x : Volume). x.name) a
+          | inr b ↦ ap (λ (x : Volume). x.name) b.1
+        ],
+      )

@@ -1,7 +1,9 @@
 mod ChangeLemmas
 mod DetachLemmas
+mod HashLemmas
 mod KeptLemmas
 mod NamesLemmas
+mod NamingLemmas
 mod NodesLemmas
 mod ReadLemmas
 mod RowChangeLemmas

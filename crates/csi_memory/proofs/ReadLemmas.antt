@@ -15,9 +15,10 @@ use Rattle.csi_keeper.specs.declared.totals.Totals.{Totals}
 use Rattle.csi_keeper.specs.Totals.{total_of, zero_total, the_total, told}
 use Rattle.csi_memory.specs.Memory.{Nodes, HasNoEmpty, has_spot, numbers_by, volumes_of, places_of, place_end, nodes_in, listed_in}
 use Rattle.csi_memory.specs.Kept.{IsKept}
+use Rattle.csi_memory.specs.declared.names.Names.{Names}
 use Rattle.csi_keeper.specs.State.{State, AttachmentKey, attachment_key_cmp, sizes, page, attached, attached_at, count_at, published_of_page, used, first_state}
 use Rattle.csi_keeper.specs.Listing.{listed_at, listing}
-use Rattle.csi_keeper.specs.Texts.{Text}
+use Rattle.csi_keeper.specs.Texts.{Text, text_cmp}
 use Rattle.csi_memory.specs.facts.Listing.{page_rows, place_rows}
 use Rattle.csi_keeper.specs.facts.Finite.{none_listed, none_some}
 use Rattle.csi_memory.specs.facts.Spots.{numbers_spotted}
@@ -28,7 +29,7 @@ mapped_page f zero es = refl
 mapped_page f (suc count) [] = refl
 mapped_page f (suc count) (e ∷ es) = ap (λ xs. f e.1 ∷ xs) (mapped_page f count es)
 
-module _ (next : ℕ) (volumes : List (ℕ × Volume)) (names : List (AttachmentKey × ℕ)) (pools : Totals) (attachments : List (AttachmentKey × Attachment)) (spots : Nodes) (s : State) where
+module _ (next : ℕ) (volumes : List (ℕ × Volume)) (names : Names) (pools : Totals) (attachments : List (AttachmentKey × Attachment)) (spots : Nodes) (s : State) where
   pub held_next : IsKept next volumes names pools attachments spots s → next ≡ s.next
   held_next k = sym k.next_is
 
@@ -86,14 +87,16 @@ module _ (next : ℕ) (volumes : List (ℕ × Volume)) (names : List (Attachment
   held_used pool k = ap told (k.totals pool)
 
 -- trees with no entries, and totals of nothing, stand for the first State
-pub first_held : (first : ℕ) → 1 ≤ first → (volumes : List (ℕ × Volume)) (names : List (AttachmentKey × ℕ)) (pools : Totals) (attachments : List (AttachmentKey × Attachment)) (spots : Nodes)
-    → volumes ≡ [] → names ≡ [] → attachments ≡ [] → spots ≡ [] → ((q : Text) → total_of pools q ≡ zero_total) → IsKept first volumes names pools attachments spots (first_state first)
-first_held first least volumes names pools attachments spots no_volumes no_names no_attachments no_spots none = record {
+pub first_held : (first : ℕ) → 1 ≤ first → (volumes : List (ℕ × Volume)) (names : Names) (pools : Totals) (attachments : List (AttachmentKey × Attachment)) (spots : Nodes)
+    → volumes ≡ [] → names.by_hash.entries ≡ [] → names.by_text.entries ≡ [] → attachments ≡ [] → spots ≡ [] → ((q : Text) → total_of pools q ≡ zero_total) → IsKept first volumes names pools attachments spots (first_state first)
+first_held first least volumes names pools attachments spots no_volumes no_hashes no_texts no_attachments no_spots none = record {
   next_is = refl;
   volumes_are = sym (ap (λ (es : List (ℕ × Volume)). volumes_of es) no_volumes);
   attachments_are = sym (ap (λ (es : List (AttachmentKey × Attachment)). places_of es) no_attachments);
   named = λ n v e. absurd (none_some v (sym (fin.get-empty {X = Volume} nat_cmp n) ∙ e));
-  names_stand = λ p n e. absurd (none_some n (sym (ap (λ (es : List (AttachmentKey × ℕ)). lookup (is_at (attachment_key_cmp p)) es) no_names) ∙ e));
+  hashes_stand = λ h n e. absurd (none_some n (sym (ap (λ (es : List (ℕ × ℕ)). lookup (is_at (nat_cmp h)) es) no_hashes) ∙ e));
+  texts_stand = λ q n e. absurd (none_some n (sym (ap (λ (es : List (Text × ℕ)). lookup (is_at (text_cmp q)) es) no_texts) ∙ e));
+  single = λ n m v w e. absurd (none_some v (sym (fin.get-empty {X = Volume} nat_cmp n) ∙ e));
   totals = λ pool. none pool ∙ sym (ap (λ (es : List (ℕ × Volume)). the_total (length (in_order es pool)) (sum (in_order es pool))) no_rows);
   few = let z = fin.len-empty nat_cmp Volume in omega (arith, z, least);
   small = λ n v e. absurd (none_some v (sym (fin.get-empty {X = Volume} nat_cmp n) ∙ e));

@@ -6,7 +6,7 @@ use Rattle.csi_keeper.specs.Model.{Model}
 use Rattle.csi_keeper.specs.State.{State}
 
 abbrev pub Holds : MemKeeper → State → Type 0
-Holds m s = IsKept m.next m.volumes.entries m.names.entries m.pools m.attachments.entries m.nodes.entries s
+Holds m s = IsKept m.next m.volumes.entries m.names m.pools m.attachments.entries m.nodes.entries s
 
 -- it is never down, counts no refusal, and a stop leaves nothing of it
 abbrev pub mem_model : MemKeeper → Model State

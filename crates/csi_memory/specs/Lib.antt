@@ -1,7 +1,9 @@
 pub mod Fakes
+pub mod Hashing
 pub mod Holding
 pub mod Kept
 pub mod Memory
+pub mod Naming
 pub mod Restoring
 pub mod Walking
 pub mod facts

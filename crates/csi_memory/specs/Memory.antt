@@ -1,9 +1,7 @@
 -- What rows in memory stand for.
-use Rattle.std.specs.Prelude.{◌≡◌, ℕ, ◌+◌, ◌-◌, ◌*◌, ◌^◌, ◌==◌, List, [], ◌∷◌, Option, Some, None, ◌≢◌, Bool, is_some, map, filter, length, take}
-use Rattle.std.specs.Prelude.{drop, nat_lt, if◌then◌else◌}
+use Rattle.std.specs.Prelude.{◌≡◌, ℕ, ◌+◌, ◌-◌, ◌^◌, ◌==◌, List, [], ◌∷◌, Option, Some, None, ◌≢◌, Bool, is_some, map, filter, if◌then◌else◌}
 use Rattle.std.specs.BTreeMap.{is_at}
 use Rattle.std.specs.BTreeSet.{BTreeSet}
-use Rattle.std.specs.Int.{from_be_bytes, w32, w64}
 use Rattle.std.specs.FinMap.{FinMap, get, remove, entries, from_entries}
 use Rattle.std.specs.List.{list_any}
 use Rattle.std.specs.Map.{lookup}
@@ -27,26 +25,6 @@ places_of es = from_entries es
 -- the entries after a value was set at a key, or taken away there
 abbrev pub IsSetAt : {K X : Type 0} → (K → K → Ordering) → K → Option X → List (K × X) → List (K × X) → Type 0
 IsSetAt {K = K} R k x old new = (q : K) → lookup (is_at (R q)) new ≡ (if is_at (R k) q then x else lookup (is_at (R q)) old)
-
-abbrev pub at_number : FinMap nat_cmp Volume → Option ℕ → Option Volume
-at_number volumes None = None
-at_number volumes (Some n) = get volumes n
-
--- a number by which most names are told apart: the first eight bytes, or of a shorter name the first four and
--- the last four
-unfoldable pub first_number : List ℕ → ℕ
-first_number name =
-    if nat_lt (length name) 4 then 0
-    else if nat_lt (length name) 8 then from_be_bytes w32 (take 4 name) * 2 ^ 32 + from_be_bytes w32 (drop (length name - 4) name)
-    else from_be_bytes w64 (take 8 name)
-
--- a name behind its number
-abbrev pub name_key : Text → AttachmentKey
-name_key name = (first_number name, name)
-
--- the volume of a name, by the index
-abbrev pub named_by : List (AttachmentKey × ℕ) → FinMap nat_cmp Volume → Text → Option Volume
-named_by names volumes name = at_number volumes (lookup (is_at (attachment_key_cmp (name_key name))) names)
 
 -- the end of the places of a number that a u64 keeps
 abbrev pub place_end : ℕ → Bound AttachmentKey

@@ -7,7 +7,7 @@ ghost use Rattle.csi_memory.specs.Holding.{Holds};
 ghost use Rattle.csi_memory.specs.Restoring.{CanRestore, from_number, restored};
 
 use crate::attachments::{attached_to, put_attachment, remove_attachment, remove_attachments};
-use crate::names::{drop_name, set_name, volume_named};
+use crate::names::{Names, drop_name, set_name, volume_named};
 use crate::nodes::{count_at, numbers_at};
 use crate::rows::{
     caps_at, fold_after, nodes_after, put_volume, remove_volume, set_mutable, sizes_of, volume_at,
@@ -33,9 +33,7 @@ use std::collections::{BTreeMap, BTreeSet};
 pub struct MemKeeper {
     next: u64,
     volumes: BTreeMap<u64, Volume>,
-    // The number of a name's volume, by the first bytes of the name as a number, which are compared fast and
-    // tell most names apart, and by the name.
-    names: BTreeMap<(u64, Text), u64>,
+    names: Names,
     pools: Totals,
     attachments: BTreeMap<(u64, Text), Attachment>,
     // The numbers of the volumes that are attached at a node, where there are any.
@@ -53,7 +51,7 @@ impl MemKeeper {
         Ok(MemKeeper {
             next: first,
             volumes: BTreeMap::new(alloc),
-            names: BTreeMap::new(alloc),
+            names: Names::new(alloc),
             pools: Totals::new(alloc),
             attachments: BTreeMap::new(alloc),
             nodes: BTreeMap::new(alloc),
@@ -71,7 +69,7 @@ impl MemKeeper {
 
     /// Adds a volume that has its number already, which is the next one or a greater one, while none has its
     /// name. The next number is the one after it. The volume is moved into the rows: of what it owns only its
-    /// name is copied into the index, and its pool's name.
+    /// pool's name is copied, and its name where that has the hash of another one.
     ///
     /// # Errors
     ///
@@ -101,12 +99,12 @@ impl MemKeeper {
         set_name(alloc, &mut self.names, &volume.name, number)?;
         if let Err(failed) = put_volume(&mut self.volumes, volume) {
             let (_, volume) = failed.value;
-            drop_name(&mut self.names, volume.name);
+            drop_name(&mut self.names, &volume.name, number);
             return Err(AllocError);
         }
         if let Err(refused) = self.pools.add(pool, bytes) {
             if let Some(volume) = remove_volume(&mut self.volumes, number) {
-                drop_name(&mut self.names, volume.name);
+                drop_name(&mut self.names, &volume.name, number);
             }
             return Err(refused);
         }
@@ -120,7 +118,7 @@ impl MemKeeper {
     {
         if let Some(volume) = remove_volume(&mut self.volumes, number) {
             self.pools.remove(&volume.pool, volume.bytes);
-            drop_name(&mut self.names, volume.name);
+            drop_name(&mut self.names, &volume.name, number);
         }
     }
 
@@ -193,7 +191,6 @@ impl Keeper for MemKeeper {
 
     #[tactic(auto, using(csi_keeper::specs::facts::Reads::quiet_same, crate::proofs::NamesLemmas::named_kept))]
     fn by_name(&mut self, alloc: Global, name: &str) -> Result<Option<Volume>, StoreFault> {
-        let name = copy_text(alloc, name)?;
         Ok(volume_named(alloc, &self.names, &self.volumes, name)?)
     }
 

@@ -1,71 +1,119 @@
 //! The index of names in memory.
+//!
+//! It has no second copy of a name: a name is looked up by its hash, and the volume that is found has the
+//! name, or another one. Of names with one hash the first is under the hash, and each other one is under
+//! itself.
 
-ghost use Rattle.std.specs.Prelude.{◌≡◌, Some, None, IfOk, OnOk, OnErr};
-ghost use Rattle.csi_memory.specs.Memory.{volumes_of, name_key, named_by, first_number, IsSetAt};
-ghost use Rattle.csi_keeper.specs.State.{attachment_key_cmp};
+ghost use Rattle.std.specs.Prelude.{◌≡◌, ◌≢◌, ◌↔◌, [], None, Some, IfOk, IsTrue, OnOk, OnErr};
+ghost use Rattle.std.specs.BTreeMap.{is_at};
+ghost use Rattle.std.specs.Map.{lookup};
+ghost use Rattle.std.specs.Ordering.{nat_cmp};
+ghost use Rattle.csi_memory.specs.Memory.{volumes_of, IsSetAt};
+ghost use Rattle.csi_memory.specs.Naming.{named_by, HasSameNames, IsHashDropped, IsNamed, IsUnnamed};
 
-use crate::rows::volume_at;
+use crate::hash::name_hash;
+use crate::rows::{volume_at, volume_if_named};
 use csi_keeper::Volume;
-use csi_types::Text;
+use csi_types::{Text, copy_text};
 use std::alloc::{AllocError, Global};
 use std::collections::BTreeMap;
 
-// Names are compared by it before they are compared as texts. It may be any function of a name.
-#[tactic(auto, unfolding(crate::specs::Memory::first_number))]
-fn first_number(name: &[u8]) -> u64
-    ensures { result ≡ first_number name.now }
-{
-    if let Some(first) = name.first_chunk::<8>() {
-        return u64::from_be_bytes(*first);
-    }
-    match (name.first_chunk::<4>(), name.last_chunk::<4>()) {
-        (Some(first), Some(last)) => {
-            (u64::from(u32::from_be_bytes(*first)) << 32) + u64::from(u32::from_be_bytes(*last))
-        }
-        _ => 0,
-    }
+/// Which volume has a name.
+#[derive(Drop)]
+pub(crate) struct Names {
+    // The number of a volume, by the hash of its name. Most names have a hash of their own.
+    by_hash: BTreeMap<u64, u64>,
+    // The number of each volume whose name has the hash of one that was there before it, by its name.
+    by_text: BTreeMap<Text, u64>,
 }
 
-fn key_of(name: Text) -> (u64, Text)
-    ensures { result ≡ name_key name }
-{
-    (first_number(name.as_bytes()), name)
+impl Names {
+    /// No names.
+    pub(crate) fn new(alloc: Global) -> Names
+        ensures { (result.by_hash.entries ≡ []) × (result.by_text.entries ≡ []) }
+    {
+        Names {
+            by_hash: BTreeMap::new(alloc),
+            by_text: BTreeMap::new(alloc),
+        }
+    }
 }
 
 /// A copy of the volume of a name, by the index.
 pub(crate) fn volume_named(
     alloc: Global,
-    names: &BTreeMap<(u64, Text), u64>,
+    names: &Names,
     volumes: &BTreeMap<u64, Volume>,
-    name: Text,
+    name: &str,
 ) -> Result<Option<Volume>, AllocError>
-    ensures { IfOk result (λ v. v ≡ named_by names.now.entries (volumes_of volumes.now.entries) name) }
+    ensures { IfOk result (λ v. v ≡ named_by names.now (volumes_of volumes.now.entries) name.now) }
 {
-    match names.get(&key_of(name)) {
+    if let Some(number) = names.by_hash.get(&name_hash(name.as_bytes())) {
+        if let Some(volume) = volume_if_named(alloc, volumes, *number, name)? {
+            return Ok(Some(volume));
+        }
+    }
+    if names.by_text.is_empty() {
+        return Ok(None);
+    }
+    match names.by_text.get(&copy_text(alloc, name)?) {
         Some(number) => volume_at(alloc, volumes, *number),
         None => Ok(None),
     }
 }
 
-/// Gives a name its number. Where memory is refused the names stay.
+// Gives a hash its number again.
+fn put_back(by_hash: &mut BTreeMap<u64, u64>, hash: u64, number: u64)
+    requires { lookup (is_at (nat_cmp hash)) by_hash.old.entries ≢ None }
+    ensures { IsSetAt nat_cmp hash (Some number) by_hash.old.entries by_hash.new.entries }
+{
+    let Ok(_) = by_hash.insert(hash, number) else {
+        unreachable!()
+    };
+}
+
+/// Gives a name, which no volume has, its number. Where memory is refused the index stays.
 pub(crate) fn set_name(
     alloc: Global,
-    names: &mut BTreeMap<(u64, Text), u64>,
+    names: &mut Names,
     name: &Text,
     number: u64,
 ) -> Result<(), AllocError>
-    ensures ok { OnOk result (IsSetAt attachment_key_cmp (name_key name.now)
-        (Some number) names.old.entries names.new.entries) }
-    ensures err { OnErr result (names.new.entries ≡ names.old.entries) }
+    ensures ok { OnOk result (IsNamed name.now number names.old names.new) }
+    ensures err { OnErr result (HasSameNames names.old names.new) }
 {
-    let key = key_of(name.copy(alloc)?);
-    names.insert(key, number)?;
+    let hash = name_hash(name.as_bytes());
+    let Some(first) = names.by_hash.insert(hash, number)? else {
+        return Ok(());
+    };
+    put_back(&mut names.by_hash, hash, first);
+    names.by_text.insert(name.copy(alloc)?, number)?;
     Ok(())
 }
 
-/// Takes a name out of the index.
-pub(crate) fn drop_name(names: &mut BTreeMap<(u64, Text), u64>, name: Text)
-    ensures { IsSetAt attachment_key_cmp (name_key name) None names.old.entries names.new.entries }
+fn leads_to(by_hash: &BTreeMap<u64, u64>, hash: u64, number: u64) -> bool
+    ensures { IsTrue result ↔ (lookup (is_at (nat_cmp hash)) by_hash.now.entries ≡ Some number) }
 {
-    names.remove(&key_of(name));
+    match by_hash.get(&hash) {
+        Some(first) => *first == number,
+        None => false,
+    }
+}
+
+// Removes a hash, if it leads to a number.
+fn drop_hash(by_hash: &mut BTreeMap<u64, u64>, hash: u64, number: u64)
+    ensures { IsHashDropped hash number by_hash.old.entries by_hash.new.entries }
+{
+    if !leads_to(by_hash, hash, number) {
+        return;
+    }
+    by_hash.remove(&hash);
+}
+
+/// Removes a name with its number.
+pub(crate) fn drop_name(names: &mut Names, name: &Text, number: u64)
+    ensures { IsUnnamed name.now number names.old names.new }
+{
+    drop_hash(&mut names.by_hash, name_hash(name.as_bytes()), number);
+    names.by_text.remove(name);
 }

@@ -11,6 +11,7 @@ ghost use Rattle.std.specs.Ordering.{nat_cmp};
 ghost use Rattle.std.specs.declared.ops.Bound.TheVariants.{Excluded, Unbounded};
 ghost use Rattle.csi_types.specs.Maps.{same_text};
 ghost use Rattle.csi_memory.specs.Memory.{volumes_of, nodes_in, listed_in};
+ghost use Rattle.csi_memory.specs.Naming.{if_named};
 ghost use Rattle.csi_keeper.specs.State.{mutable_set};
 
 use crate::walk::walk_after;
@@ -33,6 +34,22 @@ pub(crate) fn volume_at(
     match volumes.get(&number) {
         Some(volume) => Ok(Some(copy_volume(alloc, volume)?)),
         None => Ok(None),
+    }
+}
+
+/// A copy of the volume of a number, if it has a name.
+#[tactic(auto, using(crate::specs::facts::Trees::get_number))]
+pub(crate) fn volume_if_named(
+    alloc: Global,
+    volumes: &BTreeMap<u64, Volume>,
+    number: u64,
+    name: &str,
+) -> Result<Option<Volume>, AllocError>
+    ensures { IfOk result (λ v. v ≡ if_named name.now (get (volumes_of volumes.now.entries) number)) }
+{
+    match volumes.get(&number) {
+        Some(volume) if volume.name.as_str() == name => Ok(Some(copy_volume(alloc, volume)?)),
+        _ => Ok(None),
     }
 }
 

@@ -1,26 +1,34 @@
-use Rattle.std.proofs.Common.{ap, refl, ◌∙◌, ◌≡◌, ℕ}
+use Rattle.std.proofs.Common.{ap, subst, ◌∙◌, ◌≡◌, ℕ}
 use Rattle.csi_keeper.specs.declared.volume.Volume.{Volume}
+use Rattle.csi_keeper.specs.Texts.{Text}
 use Rattle.csi_memory.specs.Memory.{volumes_of}
+use Rattle.csi_memory.specs.Naming.{IsUnnamed}
 use Rattle.csi_keeper.specs.facts.Finite.{none_some, same_some}
-use Rattle.csi_memory.proofs.ChangeLemmas.{added, dropped_as, refused_rows, refused_total, stands_now}
+use Rattle.csi_memory.proofs.ChangeLemmas.{added, kept_names, refused_rows, refused_total, stands_now}
+use Rattle.csi_memory.proofs.NodesLemmas.{on_err}
 use Rattle.csi_memory.proofs.mem.MemKeeper.add.Goals as goal
+
+pub returns-in_err-set_name-clause-unchanged : goal.returns-in_err-set_name-clause-unchanged
+returns-in_err-set_name-clause-unchanged c = on_err c.from_residual-in_err-set_name.result (λ s k a. kept_names _ _ _ _ _ _ s _ k c.in_err-set_name.ensures.err)
 
 pub returns-in-Err-clause-unchanged : goal.returns-in-Err-clause-unchanged
 returns-in-Err-clause-unchanged c s k a =
-    refused_rows _ _ _ _ _ _ s _ _ _ c.args.volume _ refl k a c.in_ok-set_name.ensures.ok
-    (dropped_as _ _ _ _ (ap (λ (p : ℕ × Volume). p.1.name) c.in-Err.ensures.back) c.drop_name.ensures) (ap volumes_of c.in-Err.ensures.err)
+    let name = ap (λ (p : ℕ × Volume). p.1.name) c.in-Err.ensures.back in
+    refused_rows _ _ _ _ _ _ s _ _ _ c.args.volume k a c.in_ok-set_name.ensures.ok
+    (subst (λ (t : Text). IsUnnamed t c.args.volume.number c.set_name.new.names c.drop_name.new.names) name c.drop_name.ensures) (ap volumes_of c.in-Err.ensures.err)
 
 pub returns-in-Some-clause-unchanged : goal.returns-in-Some-clause-unchanged
 returns-in-Some-clause-unchanged c s k a =
     let there = stands_now _ _ c.args.volume c.in_default.ensures.ok in
     let same : c.in-Some.volume ≡ c.args.volume = same_some _ _ (c.in-Some.ensures.value ∙ there) in
-    refused_total _ _ _ _ _ _ s _ _ _ _ _ c.args.volume _ _ refl refl k a c.in_ok-set_name.ensures.ok
-    (dropped_as _ _ _ _ (ap (λ (v : Volume). v.name) same) c.drop_name-in-Some.ensures) c.in_default.ensures.ok c.remove_volume.ensures.rest c.in-Err-add.ensures.unchanged
+    refused_total _ _ _ _ _ _ s _ _ _ _ _ c.args.volume k a c.in_ok-set_name.ensures.ok
+    (subst (λ (t : Text). IsUnnamed t c.args.volume.number c.set_name.new.names c.drop_name-in-Some.new.names) (ap (λ (v : Volume). v.name) same) c.drop_name-in-Some.ensures)
+    c.in_default.ensures.ok c.remove_volume.ensures.rest c.in-Err-add.ensures.unchanged
 
 pub returns-in_default-remove_volume-clause-unchanged : goal.returns-in_default-remove_volume-clause-unchanged
 returns-in_default-remove_volume-clause-unchanged c s k a = absurd (none_some c.args.volume (c.in_default-remove_volume.ensures.value ∙ stands_now _ _ c.args.volume c.in_default.ensures.ok))
 
 pub returns-clause-made : goal.returns-clause-made
 returns-clause-made c s k a =
-    added _ _ _ _ _ _ s _ _ _ c.args.volume _ _ _ refl refl c.in_ok-pool.ensures k a c.requires.number c.requires.bytes
+    added _ _ _ _ _ _ s _ _ _ c.args.volume _ c.in_ok-pool.ensures k a c.requires.number c.requires.bytes
     c.in_ok-set_name.ensures.ok c.in_default.ensures.ok c.in_default-add.ensures.counted
