@@ -12,6 +12,7 @@ use Rattle.csi_config.specs.declared.nodes.Node.{Node}
 use Rattle.csi_keeper.specs.Lookup.{node_of}
 use Rattle.csi_keeper.specs.declared.capability.CapKey.{CapKey}
 use Rattle.csi_keeper.specs.declared.change.Change.TheVariants.{Attach}
+use Rattle.csi_machine.specs.declared.calls.publish.Target as lent
 use Rattle.csi_machine.specs.declared.plan.Plan.{Plan}
 use Rattle.csi_keeper.specs.declared.volume.Attachment.{Attachment}
 use Rattle.csi_keeper.specs.declared.volume.Volume.{Volume}
@@ -40,31 +41,46 @@ publish_again key readonly a =
 abbrev pub has_conflict : Attachment → List Attachment → Bool
 has_conflict mine attachments = list_any (λ a. not (coexist a mine)) attachments
 
--- the volume is not attached at the node, where so many volumes are
-abbrev pub attach : ℕ → List CapKey → List Attachment → Node → ℕ → Attachment → Plan
-attach n caps attachments node there mine =
-    if not (has_key caps (Some mine.cap)) then refuse CapabilityNotOfVolume
-    else (if has_conflict mine attachments then refuse PublishedElsewhere
-    else (if nat_le node.max_volumes there then refuse NodeFull else make (response.Publish (publication mine.readonly)) (Attach n mine)))
+-- a volume that stands, what it may be used as, where it is published, and a node with the count of the volumes
+-- that are there
+pub record Target : Type 0 where
+  pub number : ℕ
+  pub caps : List CapKey
+  pub attachments : List Attachment
+  pub node : Node
+  pub there : ℕ
+
+abbrev pub lent_target : lent.Target → Target
+lent_target t = record { number = t.number; caps = t.caps.now; attachments = t.attachments.now; node = t.node.now; there = t.there }
+
+-- the volume is not attached at the node
+abbrev pub attach : Target → Attachment → Plan
+attach t mine =
+    if not (has_key t.caps (Some mine.cap)) then refuse CapabilityNotOfVolume
+    else (if has_conflict mine t.attachments then refuse PublishedElsewhere
+    else (if nat_le t.node.max_volumes t.there then refuse NodeFull else make (response.Publish (publication mine.readonly)) (Attach t.number mine)))
 
 abbrev pub wanted : Text → Bool → CapKey → Attachment
 wanted node readonly key = record { node = node; cap = key; readonly = readonly }
 
-abbrev pub publish_key : ℕ → List CapKey → List Attachment → Node → ℕ → Publish → Option Attachment → CapKey → Plan
-publish_key n caps attachments node there r (Some a) key = publish_again key r.readonly a
-publish_key n caps attachments node there r None key = attach n caps attachments node there (wanted r.node_id r.readonly key)
+abbrev pub publish_key : Target → Publish → Option Attachment → CapKey → Plan
+publish_key t r (Some a) key = publish_again key r.readonly a
+publish_key t r None key = attach t (wanted r.node_id r.readonly key)
 
-abbrev pub publish_at : ℕ → List CapKey → List Attachment → Node → ℕ → Publish → Option CapKey → Plan
-publish_at n caps attachments node there r None = refuse CapabilityNotOfVolume
-publish_at n caps attachments node there r (Some key) = publish_key n caps attachments node there r (find (is_at r.node_id) attachments) key
+abbrev pub publish_at : Target → Publish → Option CapKey → Plan
+publish_at t r None = refuse CapabilityNotOfVolume
+publish_at t r (Some key) = publish_key t r (find (is_at r.node_id) t.attachments) key
 
 abbrev pub requested_key : Option Capability → Option CapKey
 requested_key None = None
 requested_key (Some c) = key_of c
 
+abbrev pub target_in : State → ℕ → List CapKey → Publish → Node → Target
+target_in s n caps r node = record { number = n; caps = caps; attachments = attached s n; node = node; there = count_at s r.node_id }
+
 abbrev pub publish_node : State → ℕ → List CapKey → Publish → Option Node → Plan
 publish_node s n caps r None = refuse NodeNotFound
-publish_node s n caps r (Some node) = publish_at n caps (attached s n) node (count_at s r.node_id) r (requested_key r.capability)
+publish_node s n caps r (Some node) = publish_at (target_in s n caps r node) r (requested_key r.capability)
 
 abbrev pub publish_found : Config → State → Publish → Option (ℕ × Volume) → Plan
 publish_found config s r None = refuse VolumeNotFound

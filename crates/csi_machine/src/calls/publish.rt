@@ -1,11 +1,11 @@
 //! ControllerPublishVolume (CSI specification, 'ControllerPublishVolume').
 
-ghost use Rattle.std.specs.Prelude.{◌≡◌, Some, None, IfOk, IfSome, find, not};
+ghost use Rattle.std.specs.Prelude.{◌≡◌, Some, None, IfOk, IfSome, find};
 ghost use Rattle.std.specs.Option.{option_copied};
 ghost use Rattle.csi_keeper.specs.State.{IsBounded};
 ghost use Rattle.csi_rules.specs.Finding.{Finds};
 ghost use Rattle.csi_rules.specs.Ids.{number_of_id};
-ghost use Rattle.csi_machine.specs.calls.Publish.{is_at, publish_again, has_conflict, attach, publish, publish_node, publish_at, publish_key, requested_key};
+ghost use Rattle.csi_machine.specs.calls.Publish.{is_at, publish_again, has_conflict, attach, lent_target, publish, publish_node, publish_at, requested_key};
 ghost use Rattle.csi_keeper.specs.Lookup.{node_of};
 
 use crate::plan::{Plan, Planning, make, refuse, respond};
@@ -46,8 +46,7 @@ struct Target<'a> {
 
 fn attach(alloc: Global, target: &Target, mine: Attachment) -> Result<Plan, AllocError>
     ensures bounded { IfOk result (λ p. IfSome p.change IsBounded) }
-    ensures value { IfOk result (λ p. p ≡ attach target.now.number target.now.caps.now
-        target.now.attachments.now target.now.node.now target.now.there mine) }
+    ensures value { IfOk result (λ p. p ≡ attach (lent_target target.now) mine) }
 {
     if !has_key(target.caps, &mine.cap) {
         return Ok(refuse(Reason::CapabilityNotOfVolume));
@@ -81,9 +80,7 @@ fn publish_key(
     key: CapKey,
 ) -> Result<Plan, AllocError>
     ensures bounded { IfOk result (λ p. IfSome p.change IsBounded) }
-    ensures value { IfOk result (λ p. p ≡ publish_key target.now.number target.now.caps.now
-        target.now.attachments.now target.now.node.now target.now.there request.now
-        (find (is_at request.now.node_id) target.now.attachments.now) key) }
+    ensures value { IfOk result (λ p. p ≡ publish_at (lent_target target.now) request.now (Some key)) }
 {
     if let Some(attachment) = attachment_at(target.attachments, &request.node_id) {
         return Ok(publish_again(&key, request.readonly, attachment));
@@ -110,9 +107,8 @@ fn requested_key(
 
 fn publish_at(alloc: Global, target: &Target, request: &Publish) -> Result<Plan, AllocError>
     ensures bounded { IfOk result (λ p. IfSome p.change IsBounded) }
-    ensures value { IfOk result (λ p. p ≡ publish_at target.now.number target.now.caps.now
-        target.now.attachments.now target.now.node.now target.now.there request.now
-        (requested_key request.now.capability)) }
+    ensures value { IfOk result (λ p.
+        p ≡ publish_at (lent_target target.now) request.now (requested_key request.now.capability)) }
 {
     match requested_key(alloc, &request.capability)? {
         Some(key) => publish_key(alloc, target, request, key),
