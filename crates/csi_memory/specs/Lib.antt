@@ -1,3 +1,4 @@
+pub mod Compact
 pub mod Fakes
 pub mod Hashing
 pub mod Holding
@@ -5,5 +6,6 @@ pub mod Kept
 pub mod Memory
 pub mod Naming
 pub mod Restoring
+pub mod Stored
 pub mod Walking
 pub mod facts

@@ -1,3 +1,4 @@
 pub mod Listing
 pub mod Spots
+pub mod Stored
 pub mod Trees

@@ -7,12 +7,14 @@ ghost use Rattle.csi_memory.specs.Holding.{Holds};
 ghost use Rattle.csi_memory.specs.Restoring.{CanRestore, from_number, restored};
 
 use crate::attachments::{attached_to, put_attachment, remove_attachment, remove_attachments};
+use crate::compact::CompactMap;
 use crate::names::{Names, drop_name, set_name, volume_named};
 use crate::nodes::{count_at, numbers_at};
 use crate::rows::{
     caps_at, fold_after, nodes_after, put_volume, remove_volume, set_mutable, sizes_of, volume_at,
     volumes_after,
 };
+use crate::stored::StoredVolume;
 use csi_keeper::{
     Attachment, CapKey, Change, Keeper, PageFold, StoreFault, Totals, Usage, Volume, copy_volume,
 };
@@ -32,7 +34,7 @@ use std::collections::{BTreeMap, BTreeSet};
 #[derive(Drop)]
 pub struct MemKeeper {
     next: u64,
-    volumes: BTreeMap<u64, Volume>,
+    volumes: BTreeMap<u64, StoredVolume>,
     names: Names,
     pools: Totals,
     attachments: BTreeMap<(u64, Text), Attachment>,
@@ -96,15 +98,16 @@ impl MemKeeper {
     {
         let (number, bytes) = (volume.number, volume.bytes);
         let pool = volume.pool.copy(alloc)?;
-        set_name(alloc, &mut self.names, &volume.name, number)?;
-        if let Err(failed) = put_volume(&mut self.volumes, volume) {
-            let (_, volume) = failed.value;
-            drop_name(&mut self.names, &volume.name, number);
+        let stored = StoredVolume::new(alloc, volume)?;
+        set_name(alloc, &mut self.names, &stored.name, number)?;
+        if let Err(failed) = put_volume(&mut self.volumes, number, stored) {
+            let (_, stored) = failed.value;
+            drop_name(&mut self.names, &stored.name, number);
             return Err(AllocError);
         }
         if let Err(refused) = self.pools.add(pool, bytes) {
-            if let Some(volume) = remove_volume(&mut self.volumes, number) {
-                drop_name(&mut self.names, &volume.name, number);
+            if let Some(stored) = remove_volume(&mut self.volumes, number) {
+                drop_name(&mut self.names, &stored.name, number);
             }
             return Err(refused);
         }
@@ -116,9 +119,9 @@ impl MemKeeper {
         ensures { (s : State) → Holds self.old s → Allows s (RemoveVolume number)
             → Holds self.new (changed s (RemoveVolume number)) }
     {
-        if let Some(volume) = remove_volume(&mut self.volumes, number) {
-            self.pools.remove(&volume.pool, volume.bytes);
-            drop_name(&mut self.names, &volume.name, number);
+        if let Some(stored) = remove_volume(&mut self.volumes, number) {
+            self.pools.remove(&stored.pool, stored.bytes);
+            drop_name(&mut self.names, &stored.name, number);
         }
     }
 
@@ -169,7 +172,7 @@ impl MemKeeper {
         ensures unchanged { OnErr result ((s : State) → Holds self.old s
             → Allows s (SetMutable number mutable.now) → Holds self.new s) }
     {
-        let copy = copy_map(alloc, mutable)?;
+        let copy = CompactMap::new(alloc, copy_map(alloc, mutable)?)?;
         set_mutable(&mut self.volumes, number, copy);
         Ok(())
     }

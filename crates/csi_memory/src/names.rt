@@ -9,10 +9,12 @@ ghost use Rattle.std.specs.BTreeMap.{is_at};
 ghost use Rattle.std.specs.Map.{lookup};
 ghost use Rattle.std.specs.Ordering.{nat_cmp};
 ghost use Rattle.csi_memory.specs.Memory.{volumes_of, IsSetAt};
+ghost use Rattle.csi_memory.specs.Stored.{as_volumes};
 ghost use Rattle.csi_memory.specs.Naming.{named_by, HasSameNames, IsHashDropped, IsNamed, IsUnnamed};
 
 use crate::hash::name_hash;
 use crate::rows::{volume_at, volume_if_named};
+use crate::stored::StoredVolume;
 use csi_keeper::Volume;
 use csi_types::{Text, copy_text};
 use std::alloc::{AllocError, Global};
@@ -43,10 +45,10 @@ impl Names {
 pub(crate) fn volume_named(
     alloc: Global,
     names: &Names,
-    volumes: &BTreeMap<u64, Volume>,
+    volumes: &BTreeMap<u64, StoredVolume>,
     name: &str,
 ) -> Result<Option<Volume>, AllocError>
-    ensures { IfOk result (λ v. v ≡ named_by names.now (volumes_of volumes.now.entries) name.now) }
+    ensures { IfOk result (λ v. v ≡ named_by names.now (volumes_of (as_volumes volumes.now.entries)) name.now) }
 {
     if let Some(number) = names.by_hash.get(&name_hash(name.as_bytes())) {
         if let Some(volume) = volume_if_named(alloc, volumes, *number, name)? {

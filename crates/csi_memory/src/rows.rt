@@ -4,7 +4,7 @@ ghost use Rattle.std.specs.Prelude.{◌≡◌, ℕ, IfErr, IfOk, OnOk, OnErr, ma
 ghost use Rattle.std.specs.BTreeMap.{values};
 ghost use Rattle.std.specs.BTreeMap.Range.{entries_between};
 ghost use Rattle.std.specs.Map.Iter.{ShowsInOrder, deref_pair};
-ghost use Rattle.csi_keeper.specs.declared.volume.Volume.{Volume as Row};
+ghost use Rattle.csi_memory.specs.declared.stored.StoredVolume.{StoredVolume as Stored};
 ghost use Rattle.std.specs.FinMap.{get, insert, remove, entries};
 ghost use Rattle.std.specs.Option.{option_map};
 ghost use Rattle.std.specs.Ordering.{nat_cmp};
@@ -12,56 +12,59 @@ ghost use Rattle.std.specs.declared.ops.Bound.TheVariants.{Excluded, Unbounded};
 ghost use Rattle.csi_types.specs.Maps.{same_text};
 ghost use Rattle.csi_memory.specs.Memory.{volumes_of, nodes_in, listed_in};
 ghost use Rattle.csi_memory.specs.Naming.{if_named};
+ghost use Rattle.csi_memory.specs.Stored.{as_volume, as_volumes};
 ghost use Rattle.csi_keeper.specs.State.{mutable_set};
 
+use crate::compact::CompactMap;
+use crate::stored::StoredVolume;
 use crate::walk::walk_after;
-use csi_keeper::{Attachment, CapKey, PageFold, Volume, copy_keys, copy_volume, lent_at};
-use csi_types::{Items, Map, Text};
+use csi_keeper::{Attachment, CapKey, PageFold, Volume, copy_keys};
+use csi_types::{Items, Text};
 use std::alloc::{AllocError, AllocFailed, Global};
 use std::collections::BTreeMap;
 use std::collections::btree_map::Range;
 use std::ops::Bound;
 
 /// A copy of the volume of a number.
-#[tactic(auto, using(crate::specs::facts::Trees::get_number))]
+#[tactic(auto, using(crate::specs::facts::Stored::get_stored))]
 pub(crate) fn volume_at(
     alloc: Global,
-    volumes: &BTreeMap<u64, Volume>,
+    volumes: &BTreeMap<u64, StoredVolume>,
     number: u64,
 ) -> Result<Option<Volume>, AllocError>
-    ensures { IfOk result (λ v. v ≡ get (volumes_of volumes.now.entries) number) }
+    ensures { IfOk result (λ v. v ≡ get (volumes_of (as_volumes volumes.now.entries)) number) }
 {
     match volumes.get(&number) {
-        Some(volume) => Ok(Some(copy_volume(alloc, volume)?)),
+        Some(volume) => Ok(Some(volume.copy(alloc, number)?)),
         None => Ok(None),
     }
 }
 
 /// A copy of the volume of a number, if it has a name.
-#[tactic(auto, using(crate::specs::facts::Trees::get_number))]
+#[tactic(auto, using(crate::specs::facts::Stored::get_stored))]
 pub(crate) fn volume_if_named(
     alloc: Global,
-    volumes: &BTreeMap<u64, Volume>,
+    volumes: &BTreeMap<u64, StoredVolume>,
     number: u64,
     name: &str,
 ) -> Result<Option<Volume>, AllocError>
-    ensures { IfOk result (λ v. v ≡ if_named name.now (get (volumes_of volumes.now.entries) number)) }
+    ensures { IfOk result (λ v. v ≡ if_named name.now (get (volumes_of (as_volumes volumes.now.entries)) number)) }
 {
     match volumes.get(&number) {
-        Some(volume) if volume.name.as_str() == name => Ok(Some(copy_volume(alloc, volume)?)),
+        Some(volume) if volume.name.as_str() == name => Ok(Some(volume.copy(alloc, number)?)),
         _ => Ok(None),
     }
 }
 
 /// A copy of the capability keys of the volume of a number.
-#[tactic(auto, using(crate::specs::facts::Trees::get_number))]
+#[tactic(auto, using(crate::specs::facts::Stored::get_stored))]
 pub(crate) fn caps_at(
     alloc: Global,
-    volumes: &BTreeMap<u64, Volume>,
+    volumes: &BTreeMap<u64, StoredVolume>,
     number: u64,
 ) -> Result<Option<Items<CapKey>>, AllocError>
     ensures { IfOk result (λ keys. keys ≡ option_map (λ v. v.caps)
-        (get (volumes_of volumes.now.entries) number)) }
+        (get (volumes_of (as_volumes volumes.now.entries)) number)) }
 {
     match volumes.get(&number) {
         Some(volume) => Ok(Some(copy_keys(alloc, &volume.caps)?)),
@@ -69,22 +72,22 @@ pub(crate) fn caps_at(
     }
 }
 
-fn is_in(volume: &Volume, pool: &str) -> bool
+fn is_in(volume: &StoredVolume, pool: &str) -> bool
     ensures { result ≡ same_text volume.now.pool pool.now }
 {
     volume.pool.as_str() == pool
 }
 
 /// The bytes of a pool's volumes, in rising order of their numbers.
-#[tactic(auto, using(crate::specs::facts::Listing::rows_are))]
+#[tactic(auto, using(crate::specs::facts::Stored::stored_are))]
 pub(crate) fn sizes_of(
     alloc: Global,
-    volumes: &BTreeMap<u64, Volume>,
+    volumes: &BTreeMap<u64, StoredVolume>,
     pool: &str,
 ) -> Result<Vec<u64>, AllocError>
     ensures value { IfOk result (λ xs. xs.items
         ≡ map (λ v. v.bytes) (filter (λ v. same_text v.pool pool.now) (values volumes.now))) }
-    ensures ordered { entries (volumes_of volumes.now.entries) ≡ volumes.now.entries }
+    ensures ordered { entries (volumes_of (as_volumes volumes.now.entries)) ≡ as_volumes volumes.now.entries }
 {
     volumes
         .values()
@@ -93,11 +96,11 @@ pub(crate) fn sizes_of(
         .collect(alloc)
 }
 
-#[tactic(auto, using(crate::specs::facts::Listing::rows_are))]
-fn beyond(volumes: &BTreeMap<u64, Volume>, after: u64) -> Range<'_, u64, Volume>
+#[tactic(auto, using(crate::specs::facts::Stored::stored_are))]
+fn beyond(volumes: &BTreeMap<u64, StoredVolume>, after: u64) -> Range<'_, u64, StoredVolume>
     ensures rest { result ≡ entries_between nat_cmp (Excluded after) Unbounded volumes.now.entries }
-    ensures runs { ShowsInOrder (deref_pair {K = ℕ} {X = Row}) }
-    ensures ordered { entries (volumes_of volumes.now.entries) ≡ volumes.now.entries }
+    ensures runs { ShowsInOrder (deref_pair {K = ℕ} {X = Stored}) }
+    ensures ordered { entries (volumes_of (as_volumes volumes.now.entries)) ≡ as_volumes volumes.now.entries }
 {
     volumes.range((Bound::Excluded(after), Bound::Unbounded))
 }
@@ -105,22 +108,22 @@ fn beyond(volumes: &BTreeMap<u64, Volume>, after: u64) -> Range<'_, u64, Volume>
 /// Copies of the volumes with greater numbers, at most that many.
 pub(crate) fn volumes_after(
     alloc: Global,
-    volumes: &BTreeMap<u64, Volume>,
+    volumes: &BTreeMap<u64, StoredVolume>,
     after: u64,
     count: u32,
 ) -> Result<Items<Volume>, AllocError>
     ensures value { IfOk result (λ vs. vs
-        ≡ take count (map (λ e. e.1) (entries_between nat_cmp
+        ≡ take count (map (λ e. as_volume e.0 e.1) (entries_between nat_cmp
         (Excluded after) Unbounded volumes.now.entries))) }
-    ensures ordered { entries (volumes_of volumes.now.entries) ≡ volumes.now.entries }
+    ensures ordered { entries (volumes_of (as_volumes volumes.now.entries)) ≡ as_volumes volumes.now.entries }
 {
     let rows = beyond(volumes, after);
     let mut copies = Items::with_room(alloc, volumes.len().min(count as usize))?;
-    for (_, volume) in rows {
+    for (number, volume) in rows {
         if copies.len() >= count as usize {
             return Ok(copies);
         }
-        copies.push(copy_volume(alloc, volume)?)?;
+        copies.push(volume.copy(alloc, *number)?)?;
     }
     Ok(copies)
 }
@@ -128,24 +131,24 @@ pub(crate) fn volumes_after(
 /// The nodes of the volumes with greater numbers, of at most that many volumes.
 pub(crate) fn nodes_after(
     alloc: Global,
-    volumes: &BTreeMap<u64, Volume>,
+    volumes: &BTreeMap<u64, StoredVolume>,
     attachments: &BTreeMap<(u64, Text), Attachment>,
     after: u64,
     count: u32,
 ) -> Result<Items<Items<Text>>, AllocError>
     ensures value { IfOk result (λ xs. xs ≡ take count
-        (map (λ e. nodes_in attachments.now.entries e.1.number)
+        (map (λ e. nodes_in attachments.now.entries e.0)
         (entries_between nat_cmp (Excluded after) Unbounded volumes.now.entries))) }
-    ensures ordered { entries (volumes_of volumes.now.entries) ≡ volumes.now.entries }
+    ensures ordered { entries (volumes_of (as_volumes volumes.now.entries)) ≡ as_volumes volumes.now.entries }
 {
     let rows = beyond(volumes, after);
     let mut walk = walk_after(alloc, attachments, after);
     let mut nodes = Items::with_room(alloc, volumes.len().min(count as usize))?;
-    for (_, volume) in rows {
+    for (number, _) in rows {
         if nodes.len() >= count as usize {
             return Ok(nodes);
         }
-        nodes.push(walk.nodes_of(alloc, attachments, volume.number)?)?;
+        nodes.push(walk.nodes_of(alloc, attachments, *number)?)?;
     }
     Ok(nodes)
 }
@@ -154,62 +157,72 @@ pub(crate) fn nodes_after(
 #[inline(always)]
 pub(crate) fn fold_after<F: PageFold>(
     alloc: Global,
-    volumes: &BTreeMap<u64, Volume>,
+    volumes: &BTreeMap<u64, StoredVolume>,
     attachments: &BTreeMap<(u64, Text), Attachment>,
     after: u64,
     count: u32,
     fold: &mut F,
 ) -> Result<(), AllocError>
     ensures folded { OnOk result (F.folds fold.old (take count
-        (map (λ e. listed_in attachments.now.entries e.1)
+        (map (λ e. listed_in attachments.now.entries (as_volume e.0 e.1))
         (entries_between nat_cmp (Excluded after) Unbounded volumes.now.entries))) fold.new) }
     ensures kept { F.keeps fold.old fold.new }
-    ensures ordered { entries (volumes_of volumes.now.entries) ≡ volumes.now.entries }
+    ensures ordered { entries (volumes_of (as_volumes volumes.now.entries)) ≡ as_volumes volumes.now.entries }
 {
     let rows = beyond(volumes, after);
     let mut walk = walk_after(alloc, attachments, after);
     let mut left = count;
-    for (_, volume) in rows {
+    for (number, volume) in rows {
         if left == 0 {
             return Ok(());
         }
         left -= 1;
-        let nodes = walk.nodes_of(alloc, attachments, volume.number)?;
-        fold.add(&lent_at(volume, &nodes))?;
+        let nodes = walk.nodes_of(alloc, attachments, *number)?;
+        fold.add(&volume.listed_at(*number, &nodes))?;
     }
     Ok(())
 }
 
-/// Adds a volume. Where memory is refused the rows stay, and it comes back with its number.
-#[tactic(auto, using(crate::specs::facts::Trees::one_volume))]
+/// Adds a volume under a number. Where memory is refused the rows stay, and it comes back with the number.
+#[tactic(auto, using(crate::specs::facts::Stored::one_stored))]
 pub(crate) fn put_volume(
-    volumes: &mut BTreeMap<u64, Volume>,
-    volume: Volume,
-) -> Result<(), AllocFailed<(u64, Volume)>>
-    ensures ok { OnOk result (volumes_of volumes.new.entries
-        ≡ insert (volumes_of volumes.old.entries) volume.number volume) }
+    volumes: &mut BTreeMap<u64, StoredVolume>,
+    number: u64,
+    volume: StoredVolume,
+) -> Result<(), AllocFailed<(u64, StoredVolume)>>
+    ensures ok { OnOk result (volumes_of (as_volumes volumes.new.entries)
+        ≡ insert (volumes_of (as_volumes volumes.old.entries)) number (as_volume number volume)) }
     ensures err { OnErr result (volumes.new.entries ≡ volumes.old.entries) }
-    ensures back { IfErr result (λ failed. failed.value ≡ (volume.number, volume)) }
+    ensures back { IfErr result (λ failed. failed.value ≡ (number, volume)) }
 {
-    volumes.insert(volume.number, volume)?;
+    volumes.insert(number, volume)?;
     Ok(())
 }
 
-/// Takes the volume of a number away.
-#[tactic(auto, using(crate::specs::facts::Trees::no_volume, crate::specs::facts::Trees::get_number))]
-pub(crate) fn remove_volume(volumes: &mut BTreeMap<u64, Volume>, number: u64) -> Option<Volume>
-    ensures value { result ≡ get (volumes_of volumes.old.entries) number }
-    ensures rest { volumes_of volumes.new.entries ≡ remove (volumes_of volumes.old.entries) number }
+/// Removes the volume of a number.
+#[tactic(auto, using(crate::specs::facts::Stored::none_stored, crate::specs::facts::Stored::get_stored))]
+pub(crate) fn remove_volume(
+    volumes: &mut BTreeMap<u64, StoredVolume>,
+    number: u64,
+) -> Option<StoredVolume>
+    ensures value { option_map (as_volume number) result
+        ≡ get (volumes_of (as_volumes volumes.old.entries)) number }
+    ensures rest { volumes_of (as_volumes volumes.new.entries)
+        ≡ remove (volumes_of (as_volumes volumes.old.entries)) number }
 {
     volumes.remove(&number)
 }
 
 /// Gives the volume of a number, where one stands, other mutable parameters. It takes no memory.
 #[tactic(auto, using(crate::proofs::RowChangeLemmas::one_mutable, crate::proofs::RowChangeLemmas::no_mutable))]
-pub(crate) fn set_mutable(volumes: &mut BTreeMap<u64, Volume>, number: u64, mutable: Map)
-    ensures { volumes_of volumes.new.entries
-        ≡ mutable_set (volumes_of volumes.old.entries) number mutable
-        (get (volumes_of volumes.old.entries) number) }
+pub(crate) fn set_mutable(
+    volumes: &mut BTreeMap<u64, StoredVolume>,
+    number: u64,
+    mutable: CompactMap,
+)
+    ensures { volumes_of (as_volumes volumes.new.entries)
+        ≡ mutable_set (volumes_of (as_volumes volumes.old.entries)) number mutable
+        (get (volumes_of (as_volumes volumes.old.entries)) number) }
 {
     if let Some(volume) = volumes.get_mut(&number) {
         volume.mutable = mutable;

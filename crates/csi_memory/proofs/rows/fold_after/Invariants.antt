@@ -1,12 +1,13 @@
 use Rattle.std.proofs.Common.{◌≡◌, ◌+◌, map, length}
 use Rattle.std.specs.Map.Iter.{deref_pair}
 use Rattle.csi_memory.specs.Memory.{listed_in}
+use Rattle.csi_memory.specs.Stored.{as_volume}
 use Rattle.csi_memory.specs.Walking.{IsOver}
 use Rattle.csi_memory.proofs.rows.fold_after.Given as goal
 
-abbrev pub invariant-loop-volume : goal.invariant-loop-volume
-invariant-loop-volume g l = record {
-  folded : g.F.PageFold.folds l.fn.fold (map (λ e. listed_in l.attachments.entries e.1) (map deref_pair l.yielded)) l.fold;
+abbrev pub invariant-loop-number : goal.invariant-loop-number
+invariant-loop-number g l = record {
+  folded : g.F.PageFold.folds l.fn.fold (map (λ e. listed_in l.attachments.entries (as_volume e.0 e.1)) (map deref_pair l.yielded)) l.fold;
   kept : g.F.PageFold.keeps l.fn.fold l.fold;
   left : length l.yielded + l.left ≡ l.count;
   over : IsOver l.attachments.entries l.walk;

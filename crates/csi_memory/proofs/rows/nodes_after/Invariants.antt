@@ -4,9 +4,9 @@ use Rattle.csi_memory.specs.Memory.{nodes_in}
 use Rattle.csi_memory.specs.Walking.{IsOver}
 use Rattle.csi_memory.proofs.rows.nodes_after.Given as goal
 
-abbrev pub invariant-loop-volume : goal.invariant-loop-volume
-invariant-loop-volume l = record {
-  told : l.nodes ≡ map (λ e. nodes_in l.attachments.entries e.1.number) (map deref_pair l.yielded);
+abbrev pub invariant-loop-number : goal.invariant-loop-number
+invariant-loop-number l = record {
+  told : l.nodes ≡ map (λ e. nodes_in l.attachments.entries e.0) (map deref_pair l.yielded);
   most : length l.nodes ≤ l.count;
   over : IsOver l.attachments.entries l.walk;
 }
