@@ -9,5 +9,6 @@ pub mod VolumeRequestsLemmas
 pub mod PublishRequestsLemmas
 pub mod QueryRequestsLemmas
 pub mod ResponsePartsLemmas
+pub mod ShortLemmas
 pub mod ListingLemmas
 pub mod MethodsLemmas

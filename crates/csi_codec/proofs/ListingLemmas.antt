@@ -1,14 +1,16 @@
 -- The entry of a volume of which each length takes a byte.
-use Rattle.std.proofs.Common.{◌≡◌, ◌∙◌, ℕ, ℤ, List, [], ◌∷◌, ◌++◌, ◌+◌, ◌*◌, ◌^◌, ◌<◌, ◌≤◌, ap, ap₂, sym, refl, rules, subst, length, length-append, append_assoc, arith}
+use Rattle.std.proofs.Common.{◌≡◌, ◌∙◌, Result, Ok, Err, OnOk, is_ok, if◌then◌else◌, ℕ, ℤ, List, [], ◌∷◌, ◌++◌, ◌+◌, ◌*◌, ◌^◌, ◌<◌, ◌≤◌, ap, ap₂, sym, refl, rules, subst, length, length-append, append_assoc, arith}
 use Rattle.std.proofs.lemmas.Grind.{flat_map-append}
 use Rattle.std.proofs.lemmas.List.{append-nil}
+use Rattle.std.specs.Fmt.{decimal}
+use Rattle.std.specs.Int.{cast_unsigned, w64}
 use Rattle.pbwire.specs.Wire.{WireField, Payload}
 use Rattle.pbwire.specs.Writing.{varint, spelling, spellings}
 use Rattle.pbmessage.specs.Canon.{bytes_of, map_row, messages_row, payload_fields, row_fields, signed_row, text_row, FitsInner, FitsTexts}
 use Rattle.pbmessage.specs.facts.Writing.{joined_row}
 use Rattle.csi_types.specs.declared.responses.Response.TheVariants as response
 use Rattle.csi_codec.specs.declared.listing.ListedEntry.{ListedEntry}
-use Rattle.csi_codec.specs.Listing.{listed_entry, placed_volume, short_entry}
+use Rattle.csi_codec.specs.Listing.{IsShort, id_field, listed_entry, listed_id, placed_volume, short_entry, short_volume, size_bytes}
 use Rattle.csi_codec.specs.Methods.{response_bytes, FitsResponse}
 use Rattle.csi_codec.specs.facts.Listing.{entries_only}
 use Rattle.csi_codec.specs.messages.Topology.{canon_map}
@@ -27,17 +29,14 @@ short_field law k p low len =
 abbrev placed : ListedEntry → List ℕ
 placed e = placement_bytes e.placement.now.context e.placement.now.topology
 
-abbrev named : ListedEntry → List ℕ
-named e = e.prefix.now ++ e.suffix.now
-
 abbrev volume_bytes : ListedEntry → List ℕ
-volume_bytes e = bytes_of (canon_volume (placed_volume e.bytes (named e) e.placement.now))
+volume_bytes e = bytes_of (canon_volume (placed_volume e.bytes (listed_id e) e.placement.now))
 
 -- the fields of a volume, in three parts
-volume_parts : (e : ListedEntry) → volume_bytes e ≡ spellings (row_fields (signed_row 1 e.bytes)) ++ (spellings (row_fields (text_row 2 (named e))) ++ placed e)
+volume_parts : (e : ListedEntry) → volume_bytes e ≡ spellings (row_fields (signed_row 1 e.bytes)) ++ (spellings (row_fields (text_row 2 (listed_id e))) ++ placed e)
 volume_parts e =
     let size = row_fields (signed_row 1 e.bytes) in
-    let id = row_fields (text_row 2 (named e)) in
+    let id = row_fields (text_row 2 (listed_id e)) in
     let context = row_fields (map_row 3 e.placement.now.context) in
     let topology = row_fields (messages_row canon_map 5 e.placement.now.topology) in
     ap spellings (append_assoc (size ++ id) context topology)
@@ -45,12 +44,12 @@ volume_parts e =
     ∙ ap (λ (bs : List ℕ). bs ++ placed e) (flat_map-append spelling size id)
     ∙ append_assoc (spellings size) (spellings id) (placed e)
 
-volume_is : Short → (e : ListedEntry) (size : List ℕ) → size ≡ spellings (row_fields (signed_row 1 e.bytes)) → 1 ≤ length e.prefix.now → length e.prefix.now + length e.suffix.now < 128
-    → volume_bytes e ≡ size ++ ((18 ∷ (length e.prefix.now + length e.suffix.now) ∷ named e) ++ placed e)
+volume_is : Short → (e : ListedEntry) (size : List ℕ) → size ≡ spellings (row_fields (signed_row 1 e.bytes)) → 1 ≤ length e.prefix.now → length e.prefix.now + length (decimal e.number) < 128
+    → volume_bytes e ≡ size ++ ((18 ∷ (length e.prefix.now + length (decimal e.number)) ∷ listed_id e) ++ placed e)
 volume_is law e size is some short =
-    let len : length (named e) ≡ length e.prefix.now + length e.suffix.now = length-append e.prefix.now e.suffix.now in
-    let id : spellings (row_fields (text_row 2 (named e))) ≡ 18 ∷ (length e.prefix.now + length e.suffix.now) ∷ named e =
-    sym (joined_row 2 e.prefix.now e.suffix.now some) ∙ short_field law 2 (named e) (omega arith) (omega (arith, len, short)) ∙ ap (λ (n : ℕ). 18 ∷ n ∷ named e) len in
+    let len : length (listed_id e) ≡ length e.prefix.now + length (decimal e.number) = length-append e.prefix.now (decimal e.number) in
+    let id : spellings (row_fields (text_row 2 (listed_id e))) ≡ 18 ∷ (length e.prefix.now + length (decimal e.number)) ∷ listed_id e =
+    sym (joined_row 2 e.prefix.now (decimal e.number) some) ∙ short_field law 2 (listed_id e) (omega arith) (omega (arith, len, short)) ∙ ap (λ (n : ℕ). 18 ∷ n ∷ listed_id e) len in
     volume_parts e ∙ ap₂ (λ (xs ys : List ℕ). xs ++ (ys ++ placed e)) (sym is) id
 
 no_nodes : (e : ListedEntry) → e.nodes.now ≡ [] → FitsInner FitsTexts canon_nodes e.nodes.now
@@ -87,34 +86,49 @@ entry_is law e len none is short =
     ∙ short_field law 1 (bytes_of (canon_entry (listed_entry e))) (omega arith) (omega (arith, size, short))
     ∙ ap₂ (λ (n : ℕ) (bs : List ℕ). 10 ∷ n ∷ bs) size (inner_is law e len none is short)
 
--- the length of a volume by those of its parts
-abbrev pub IsShort : ListedEntry → List ℕ → ℕ → Type 0
-IsShort e size len =
-    (e.nodes.now ≡ []) × (size ≡ spellings (row_fields (signed_row 1 e.bytes))) × (1 ≤ length e.prefix.now)
-    × (len ≡ length size + 2 + length e.prefix.now + length e.suffix.now + length (placed e)) × (len < 122)
+short_length : (e : ListedEntry) → length (short_volume e) ≡ length (size_bytes (cast_unsigned w64 e.bytes)) + (length (id_field e.prefix.now e.number) + length (placed e))
+unfolding short_volume
+short_length e =
+    omega (arith, length-append (size_bytes (cast_unsigned w64 e.bytes)) (id_field e.prefix.now e.number ++ placed e), length-append (id_field e.prefix.now e.number) (placed e))
 
-short_volume : Short → (e : ListedEntry) (size : List ℕ) (len : ℕ) → IsShort e size len → volume_bytes e ≡ size ++ ((18 ∷ (length e.prefix.now + length e.suffix.now) ∷ named e) ++ placed e)
-short_volume law e size len (none, is, some, sum, short) = volume_is law e size is some (omega (arith, sum, short))
+volume_short : Short → (e : ListedEntry) → IsShort e → volume_bytes e ≡ short_volume e
+unfolding short_volume
+volume_short law e so =
+    volume_is law e (size_bytes (cast_unsigned w64 e.bytes)) refl so.named (omega (arith, so.low, short_length e, length-append e.prefix.now (decimal e.number)))
 
-counted : Short → (e : ListedEntry) (size : List ℕ) (len : ℕ) → IsShort e size len → len ≡ length (volume_bytes e)
-counted law e size len (none, is, some, sum, short) =
-    let id : List ℕ = 18 ∷ (length e.prefix.now + length e.suffix.now) ∷ named e in
-    let volume : volume_bytes e ≡ size ++ (id ++ placed e) = short_volume law e size len (none, is, some, sum, short) in
-    omega (arith, sum, ap length volume, length-append size (id ++ placed e), length-append id (placed e), length-append e.prefix.now e.suffix.now)
+pub short_is : Short → (e : ListedEntry) → e.nodes.now ≡ [] → IsShort e → response_bytes (response.List (listed_entry e ∷ []) []) ≡ short_entry e
+unfolding short_entry
+short_is law e none so =
+    let is : volume_bytes e ≡ short_volume e = volume_short law e so in
+    let low : length (volume_bytes e) < 122 = omega (arith, so.low, ap length is) in
+    entry_is law e (length (volume_bytes e)) none refl low
+    ∙ ap (λ (bs : List ℕ). 10 ∷ (length bs + 4) ∷ 10 ∷ length bs ∷ (bs ++ 18 ∷ 0 ∷ [])) is
 
-pub short_is : Short → (e : ListedEntry) (size : List ℕ) (len : ℕ) → IsShort e size len → response_bytes (response.List (listed_entry e ∷ []) []) ≡ short_entry e size len
-short_is law e size len (none, is, some, sum, short) =
-    let so : IsShort e size len = (none, is, some, sum, short) in
-    let id : List ℕ = 18 ∷ (length e.prefix.now + length e.suffix.now) ∷ named e in
-    entry_is law e len none (counted law e size len so) short
-    ∙ ap (λ (bs : List ℕ). (10 ∷ (len + 4) ∷ 10 ∷ len ∷ bs) ++ (18 ∷ 0 ∷ [])) (short_volume law e size len so)
-    ∙ append_assoc (10 ∷ (len + 4) ∷ 10 ∷ len ∷ size) (id ++ placed e) (18 ∷ 0 ∷ [])
-    ∙ ap (λ (bs : List ℕ). (10 ∷ (len + 4) ∷ 10 ∷ len ∷ size) ++ bs) (append_assoc id (placed e) (18 ∷ 0 ∷ []))
-
-pub short_fits : Short → (e : ListedEntry) (size : List ℕ) (len : ℕ) → IsShort e size len → FitsVolume (placed_volume e.bytes (named e) e.placement.now) → FitsResponse (response.List (listed_entry e ∷ []) [])
+pub short_fits : Short → (e : ListedEntry) → e.nodes.now ≡ [] → IsShort e → FitsVolume (placed_volume e.bytes (listed_id e) e.placement.now) → FitsResponse (response.List (listed_entry e ∷ []) [])
 unfolding FitsResponse
-short_fits law e size len (none, is, some, sum, short) fits =
-    let whole : len ≡ length (volume_bytes e) = counted law e size len (none, is, some, sum, short) in
-    let small : length (volume_bytes e) < 2 ^ 64 = omega (arith, whole, short) in
-    let inner : length (bytes_of (canon_entry (listed_entry e))) < 2 ^ 64 = omega (arith, inner_length law e len none whole short, short) in
+short_fits law e none so fits =
+    let low : length (volume_bytes e) < 122 = omega (arith, so.low, ap length (volume_short law e so)) in
+    let small : length (volume_bytes e) < 2 ^ 64 = omega (arith, low) in
+    let inner : length (bytes_of (canon_entry (listed_entry e))) < 2 ^ 64 = omega (arith, inner_length law e (length (volume_bytes e)) none refl low, low) in
     (((((fits, small), no_nodes e none), inner), tt), search rules)
+
+-- the parts of an entry, as they are put together
+pub put_together : (e : ListedEntry) (whole : List ℕ) (len : ℕ) → len ≡ length (size_bytes (cast_unsigned w64 e.bytes)) + (length (id_field e.prefix.now e.number) + length (placed e))
+    → whole ≡ 10 ∷ (len + 4) ∷ 10 ∷ len ∷ (size_bytes (cast_unsigned w64 e.bytes) ++ (id_field e.prefix.now e.number ++ (placed e ++ 18 ∷ 0 ∷ []))) → whole ≡ short_entry e
+unfolding short_entry short_volume
+put_together e whole len counted is =
+    let size : List ℕ = size_bytes (cast_unsigned w64 e.bytes) in
+    let id : List ℕ = id_field e.prefix.now e.number in
+    let same : len ≡ length (short_volume e) = counted ∙ sym (short_length e) in
+    is
+    ∙ ap (λ (bs : List ℕ). 10 ∷ (len + 4) ∷ 10 ∷ len ∷ bs) (ap (λ (bs : List ℕ). size ++ bs) (sym (append_assoc id (placed e) (18 ∷ 0 ∷ []))) ∙ sym (append_assoc size (id ++ placed e) (18 ∷ 0 ∷ [])))
+    ∙ ap (λ (n : ℕ). 10 ∷ (n + 4) ∷ 10 ∷ n ∷ (short_volume e ++ 18 ∷ 0 ∷ [])) same
+
+pub is_short : (e : ListedEntry) (len : ℕ) → len ≡ length (size_bytes (cast_unsigned w64 e.bytes)) + (length (id_field e.prefix.now e.number) + length (placed e))
+    → 1 ≤ length e.prefix.now → len < 122 → IsShort e
+is_short e len counted named low = record { named = named; low = omega (arith, counted, short_length e, low) }
+
+-- what was appended, where there was room for it
+pub extended : {A E : Type 0} (r : Result A E) (new old more : List ℕ) → new ≡ (if is_ok r then old ++ more else old) → OnOk r (new ≡ old ++ more)
+extended (Ok x) new old more is = is
+extended (Err e) new old more is = tt

@@ -1,5 +1,9 @@
 -- Entries of a listing by the parts that they are written from.
-use Rattle.std.specs.Prelude.{ℕ, ℤ, List, [], ◌∷◌, ◌+◌, ◌++◌, Some, length}
+use Rattle.std.specs.Prelude.{ℕ, ℤ, List, [], ◌∷◌, ◌+◌, ◌≤◌, ◌<◌, ◌++◌, Some, length}
+use Rattle.std.specs.Fmt.{decimal}
+use Rattle.std.specs.Int.{cast_unsigned, w64}
+use Rattle.pbwire.specs.Writing.{spellings}
+use Rattle.pbmessage.specs.Canon.{Numbers, present_number, row_fields}
 use Rattle.csi_types.specs.declared.volume.VolumeInfo.{VolumeInfo}
 use Rattle.csi_types.specs.declared.volume.Entry.{Entry}
 use Rattle.csi_codec.specs.declared.placement.Placement.{Placement}
@@ -10,13 +14,33 @@ use Rattle.csi_codec.specs.messages.Volume.{no_nodes, placement_bytes}
 abbrev pub placed_volume : ℤ → List ℕ → Placement → VolumeInfo
 placed_volume bytes id p = record { bytes = bytes; id = id; context = p.context; topology = p.topology }
 
-abbrev pub listed_entry : ListedEntry → Entry
-listed_entry e = record { volume = Some (placed_volume e.bytes (e.prefix.now ++ e.suffix.now) e.placement.now); nodes = Some e.nodes.now }
+-- the id of its volume
+abbrev pub listed_id : ListedEntry → List ℕ
+listed_id e = e.prefix.now ++ decimal e.number
 
--- the bytes of an entry whose lengths take a byte each, of a volume that is published nowhere: the field of
--- its size, and its length
-abbrev pub short_entry : ListedEntry → List ℕ → ℕ → List ℕ
-short_entry e size len =
-    (10 ∷ (len + 4) ∷ 10 ∷ len ∷ size)
-    ++ ((18 ∷ (length e.prefix.now + length e.suffix.now) ∷ e.prefix.now ++ e.suffix.now)
-    ++ (placement_bytes e.placement.now.context e.placement.now.topology ++ no_nodes))
+abbrev pub listed_entry : ListedEntry → Entry
+listed_entry e = record { volume = Some (placed_volume e.bytes (listed_id e) e.placement.now); nodes = Some e.nodes.now }
+
+-- the field of a size, by its 64 bits
+abbrev pub size_bytes : ℕ → List ℕ
+size_bytes n = spellings (row_fields (Numbers 1 (present_number n)))
+
+-- the field of an id of less than 128 bytes
+abbrev pub id_field : List ℕ → ℕ → List ℕ
+id_field prefix n = 18 ∷ (length prefix + length (decimal n)) ∷ (prefix ++ decimal n)
+
+-- the bytes of a volume whose id has less than 128
+unfoldable pub short_volume : ListedEntry → List ℕ
+short_volume e =
+    size_bytes (cast_unsigned w64 e.bytes)
+    ++ (id_field e.prefix.now e.number ++ placement_bytes e.placement.now.context e.placement.now.topology)
+
+-- the bytes of an entry whose lengths take a byte each, of a volume that is published nowhere
+unfoldable pub short_entry : ListedEntry → List ℕ
+short_entry e =
+    10 ∷ (length (short_volume e) + 4) ∷ 10 ∷ length (short_volume e) ∷ (short_volume e ++ no_nodes)
+
+-- its volume has an id, and each length in an entry of it takes a byte
+pub record IsShort (e : ListedEntry) : Type 0 where
+  pub named : 1 ≤ length e.prefix.now
+  pub low : length (short_volume e) < 122

@@ -24,7 +24,7 @@ ghost use Rattle.csi_codec.specs.Reading.{read_request, IsRead, read_response, I
 use csi_types::laws::map_entries;
 use pbwire::laws::{spelled, written};
 
-/// The spelling of a request or a response means it. An `Ok` of [`encode_request`](crate::encode_request) and
+/// The encoding of a request or a response means it. An `Ok` of [`encode_request`](crate::encode_request) and
 /// of [`encode_response`](crate::encode_response) says that the value fits, so what they write is read as the
 /// value.
 pub fn round_trip()
@@ -97,14 +97,14 @@ pub fn read_as_meant()
     one_offset();
 }
 
-/// In a spelling the field numbers of the message rise, from 1 to 2^29 - 1 (Protocol Buffers language guide,
+/// In an encoding the field numbers of the message rise, from 1 to 2^29 - 1 (Protocol Buffers language guide,
 /// 'Assigning Field Numbers').
 pub fn rising()
     ensures requests { (r : Request) → IsTrue (rises (canon_request r)) }
     ensures responses { (r : Response) → IsTrue (rises (canon_response r)) }
 {}
 
-/// The same for each message that stands in another one: spellings are made of these alone.
+/// The same for each message in another one: encodings are made of these alone.
 pub fn rising_within()
     ensures ranges { (r : CapacityRange) → IsTrue (rises (canon_range r)) }
     ensures mounts { (m : Mount) → IsTrue (rises (canon_mount m)) }

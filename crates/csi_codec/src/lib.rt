@@ -27,6 +27,7 @@ mod placement;
 mod published;
 mod requests;
 mod responses;
+mod short;
 
 pub use created::{CreatedVolume, encode_created};
 pub use listing::{ListedEntry, encode_entry};

@@ -102,7 +102,7 @@ fn write_request(request: &Request, out: &mut Vec<u8>) -> Result<(), AllocError>
     }
 }
 
-/// Appends the one spelling of the request: rising field numbers, minimal varints, default scalars and empty
+/// Appends the one encoding of the request: rising field numbers, minimal varints, default scalars and empty
 /// texts left out, present messages written even when empty, map entries in byte order of their keys with
 /// both parts.
 ///
@@ -119,7 +119,7 @@ pub fn encode_request(request: &Request, out: &mut Vec<u8>) -> Result<(), AllocE
     whole_or_none(out, from, written)
 }
 
-/// Appends the one spelling of a `CreateVolumeRequest`, as [`encode_request`] does.
+/// Appends the one encoding of a `CreateVolumeRequest`, as [`encode_request`] does.
 ///
 /// # Errors
 ///

@@ -98,7 +98,7 @@ fn write_response(response: &Response, out: &mut Vec<u8>) -> Result<(), AllocErr
     }
 }
 
-/// Appends the one spelling of the response, as [`encode_request`](crate::encode_request) does.
+/// Appends the one encoding of the response, as [`encode_request`](crate::encode_request) does.
 ///
 /// # Errors
 ///

@@ -188,10 +188,6 @@ two_folded (e ∷ es) =
     ap (λ b. b || some_two same_key (map fold_key es)) (any_folded (same_key (fold_key e)) es)
     ∙ ap (λ b. list_any (λ f. alike e.0 f.0) es || b) (two_folded es)
 
--- each entry of the second is among the first, with keys folded
-abbrev pub has_all : List Entry → List Entry → Bool
-has_all fs es = list_all (λ e. list_any (λ f. alike e.0 f.0 && same_text e.1 f.1) fs) es
-
 -- topologies whose keys differ are equal where each has the other's segments
 pub within_both : (m n : TextMap) → has_alike_keys m ≡ false → has_alike_keys n ≡ false → (is_within m n && is_within n m) ≡ same_topology m n
 unfolding folded

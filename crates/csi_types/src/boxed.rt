@@ -21,7 +21,7 @@ impl<T> Model for Boxed<T> {
 }
 
 impl<T> Boxed<T> {
-    /// The value, lent.
+    /// The value, by reference.
     pub fn get(&self) -> &T
         ensures { result.now ≡ self.now }
     {

@@ -57,7 +57,7 @@ pub fn writes_beside_others(mode: Option<i32>) -> bool
 }
 
 /// Whether a volume can be made for the capability: block with each known mode, mount with those in
-/// which no node writes beside others (CSI specification, 'CreateVolume').
+/// which no node writes while others have the volume (CSI specification, 'CreateVolume').
 pub fn is_supported(capability: &Capability) -> bool
     ensures { result ≡ is_supported capability.now }
 {

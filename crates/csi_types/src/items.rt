@@ -60,7 +60,7 @@ impl<T> Items<T> {
         vec
     }
 
-    /// The values, lent.
+    /// The values, by reference.
     pub fn as_slice(&self) -> &[T]
         ensures { result.now ≡ self.now }
     {

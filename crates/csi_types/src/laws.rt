@@ -14,7 +14,7 @@ pub fn map_entries()
     ensures { (m : TextMap) → from_entries (reverse (entries m)) ≡ m }
 {}
 
-/// Some two of a list meet a test exactly where one of them meets it with one that stands before it.
+/// Some two of a list meet a test exactly where one of them meets it with one before it.
 #[inline(always)]
 pub fn pairs<T>()
     ensures { (test : T → T → Bool) (xs : List T)

@@ -17,6 +17,10 @@
 //! parameters.insert(Text::from_str(alloc, "tier")?, Text::from_str(alloc, "fast")?)?;
 //! let method = method_of(b"/csi.v1.Controller/CreateVolume");
 //! ```
+//!
+//! # Not promised
+//!
+//! What is printed of a value, which rows of `test_bytes` show, and how much memory a value takes.
 #![tactic(auto)]
 
 mod boxed;

@@ -22,6 +22,9 @@ use std::marker::Model;
 ///
 /// Entries that come in rising order of their keys stand in a list, others in a tree: a map of one
 /// entry takes no more than its room.
+///
+/// Most maps have one entry, and most others come in order, as the codec writes them. The first key out of
+/// order moves those from it on to the tree, so an entry moves at most once.
 pub struct Map {
     listed: Vec<(Text, Text)>,
     // The keys are beyond those of the list.
@@ -95,7 +98,7 @@ impl Map {
         }
     }
 
-    /// Gives a key its value, in place of one that it had. Where memory is refused the map stays.
+    /// Gives a key its value, instead of one that it had. Where memory is refused the map stays.
     pub fn insert(&mut self, key: Text, value: Text) -> Result<(), AllocError>
         ensures ok { OnOk result (self.new ≡ map.insert self.old key value) }
         ensures err { OnErr result (self.new ≡ self.old) }

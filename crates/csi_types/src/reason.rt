@@ -171,6 +171,7 @@ impl Reason {
     }
 }
 
+// By hand: a derived one would state each text a second time.
 impl fmt::Display for Reason {
     fn fmt<W: fmt::Write>(&self, f: &mut fmt::Formatter<W>) -> fmt::Result {
         f.write_str(self.text())

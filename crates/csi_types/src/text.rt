@@ -82,7 +82,7 @@ impl Text {
         }
     }
 
-    /// A text, and another one behind it.
+    /// A text, and another one after it.
     pub fn joined(alloc: Global, first: &str, second: &str) -> Result<Self, AllocError>
         ensures { IfOk result (λ both. both ≡ first.now ++ second.now) }
     {
@@ -108,6 +108,9 @@ impl Text {
 
     /// Makes it equal to another text, in the memory that it has where that is enough. Where memory
     /// is refused it is empty.
+    ///
+    /// A field may come again 350,000 times in a message, and each time was an allocation. What outlives a
+    /// request is copied, and a copy has no room that is not used.
     pub fn set(&mut self, text: &str) -> Result<(), AllocError>
         ensures ok { OnOk result (self.new ≡ text.now) }
         ensures err { OnErr result (self.new ≡ []) }
@@ -127,7 +130,7 @@ impl Text {
         }
     }
 
-    /// The text, lent.
+    /// The text, by reference.
     pub fn as_str(&self) -> &str
         ensures bytes { result.now ≡ self.now }
         ensures utf8 { IsUtf8 self.now }
@@ -138,7 +141,7 @@ impl Text {
         }
     }
 
-    /// The bytes of the text, lent.
+    /// The bytes of the text, by reference.
     pub fn as_bytes(&self) -> &[u8]
         ensures bytes { result.now ≡ self.now }
         ensures utf8 { IsUtf8 self.now }

@@ -55,7 +55,7 @@ impl<const N: usize> Fixed<N> {
         }
     }
 
-    /// The bytes, lent.
+    /// The bytes, by reference.
     pub fn bytes(&self) -> &[u8]
         ensures value { result.now ≡ self.now }
         ensures short { length result.now ≤ N }
@@ -64,7 +64,7 @@ impl<const N: usize> Fixed<N> {
     }
 }
 
-/// All that stands before the body in the frame of a reply with status 0, for a body of so many bytes:
+/// All that is before the body in the frame of a reply with status 0, for a body of so many bytes:
 /// [`REPLY_HEAD_BYTES`].
 #[tactic(auto, unfolding(crate::specs::Envelope::reply))]
 pub fn reply_head(body_len: u32) -> FixedFrame

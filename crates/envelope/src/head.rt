@@ -193,7 +193,7 @@ fn parts(kind: Kind, bytes: &[u8]) -> (&[u8], &[u8])
     (text, body)
 }
 
-/// The call of a whole frame, lent from its bytes: they break nothing ([`look_at`]) and are all there
+/// The call of a whole frame, as parts of its bytes: they break nothing ([`look_at`]) and are all there
 /// ([`is_whole`]).
 #[inline(always)]
 pub fn call_of(bytes: &[u8]) -> Call<'_>
@@ -204,7 +204,7 @@ pub fn call_of(bytes: &[u8]) -> Call<'_>
     Call { path, message }
 }
 
-/// The reply of a whole frame, lent from its bytes: they break nothing ([`look_at`]) and are all there
+/// The reply of a whole frame, as parts of its bytes: they break nothing ([`look_at`]) and are all there
 /// ([`is_whole`]).
 #[tactic(auto, unfolding(crate::specs::Head::IsWhole))]
 pub fn reply_of(bytes: &[u8]) -> Reply<'_>

@@ -25,14 +25,14 @@ pub fn longer_keeps()
 {}
 
 /// What begins with the frame of a call is read as that call: [`take_frame`](crate::take_frame)
-/// answers nothing else.
+/// answers only that.
 pub fn call_read_back()
     ensures { (call : CallBytes) (more : List ℕ) (taken : Taken) → IsCall call
         → TakesFirst (frame call ++ more) taken → IsTaken call taken }
 {}
 
 /// What begins with the frame of a reply is read as that reply: [`take_reply`](crate::take_reply)
-/// answers nothing else.
+/// answers only that.
 pub fn reply_read_back()
     ensures { (r : ReplyBytes) (more : List ℕ) (taken : TakenReply) → IsReply r
         → TakesFirstReply (reply r ++ more) taken → IsTakenReply r taken }

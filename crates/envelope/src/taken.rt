@@ -16,7 +16,7 @@ pub enum Taken<'a> {
     Fault(FrameFault),
 }
 
-/// The first frame of these bytes, or the fault that stands in its place.
+/// The first frame of these bytes, or the fault that is there instead.
 ///
 /// The bytes are all that is left of the input, so a frame that has begun and is not whole is the fault
 /// `EndOfInput`. Takes no memory, and looks at no byte of the message.
@@ -33,7 +33,7 @@ pub fn take_frame(bytes: &[u8]) -> Taken<'_>
     }
 }
 
-/// How many bytes the first frame has, if any byte is left, or the fault that stands in its place.
+/// How many bytes the first frame has, if any byte is left, or the fault that is there instead.
 pub(crate) fn first_frame<F: Fault>(bytes: &[u8]) -> Result<Option<usize>, F>
     ensures { BeginsWith F.kind F.wrong_part F.place bytes.now result }
 {

@@ -16,7 +16,7 @@ pub enum TakenReply<'a> {
     Fault(ReplyFault),
 }
 
-/// The first reply of these bytes, or the fault that stands in its place.
+/// The first reply of these bytes, or the fault that is there instead.
 ///
 /// The bytes are all that is left of the input, so a frame that has begun and is not whole is the
 /// fault `EndOfInput`.

@@ -15,6 +15,8 @@ use std::marker::Model;
 /// [`FrameFault`], and replies where it is [`ReplyFault`].
 ///
 /// One buffer for the longest frame is reserved by `new`, and no later call takes memory.
+/// It is reserved capacity: appending within it cannot fail, so no other signature has an error for memory.
+///
 /// Contracts see it as three things: how many bytes the frames have that were given up (`past`), the bytes
 /// taken since then (`held`), and the fault, once it is known (`fault`). A fault stays for good.
 #[derive(Drop)]
@@ -172,7 +174,7 @@ impl<F: Fault> Cutter<F> {
 }
 
 impl Cutter<FrameFault> {
-    /// The call whose frame is whole, if one is, lent from the buffer.
+    /// The call whose frame is whole, if one is, as part of the buffer.
     pub fn frame(&self) -> Option<Call<'_>>
         ensures { MatchOption result (¬ BeginsFrame Calls self.now.held) (λ call. IsCall (bytes_of call)
             × (self.now.held ≡ frame (bytes_of call))) }
@@ -182,7 +184,7 @@ impl Cutter<FrameFault> {
 }
 
 impl Cutter<ReplyFault> {
-    /// The reply whose frame is whole, if one is, lent from the buffer.
+    /// The reply whose frame is whole, if one is, as part of the buffer.
     pub fn reply(&self) -> Option<Reply<'_>>
         ensures { MatchOption result (¬ BeginsFrame Replies self.now.held) (λ r. IsReply (reply_bytes_of r)
             × (self.now.held ≡ reply (reply_bytes_of r))) }

@@ -5,6 +5,7 @@ ghost use Rattle.frames_core.specs.Writing.{WrotePrefix};
 use std::io::{self, ErrorKind, Write};
 
 // Writes all of the bytes, or fails after a prefix of them.
+// std's `write_all` says what was written only if all was, and a change store that fails needs the rest.
 #[inline(always)]
 fn put<W: Write>(writer: &mut W, bytes: &[u8]) -> io::Result<()>
     ensures all { OnOk result (Appends (W.contents writer.old) (W.contents writer.new) bytes.now) }
@@ -28,6 +29,10 @@ fn put<W: Write>(writer: &mut W, bytes: &[u8]) -> io::Result<()>
 ///
 /// Where a write or the flush failed, or a write took nothing: then a prefix of the bytes was written, which
 /// may be none or all of them. An interrupted write is a failure.
+///
+/// # Not promised
+///
+/// That the bytes are flushed: rows of `test_bytes` show it.
 #[inline(always)]
 pub fn send<W: Write>(writer: &mut W, frame: &[u8]) -> io::Result<()>
     ensures all { OnOk result (Appends (W.contents writer.old) (W.contents writer.new) frame.now) }

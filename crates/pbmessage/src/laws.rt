@@ -6,7 +6,7 @@ ghost use Rattle.pbmessage.specs.Fields.{fields_of};
 
 use pbwire::laws::spelled;
 
-/// The fields of a payload are those that its bytes spell (Protocol Buffers encoding guide, 'Message
+/// The fields of a payload are those that its bytes encode (Protocol Buffers encoding guide, 'Message
 /// Structure').
 #[inline(always)]
 pub fn fields()

@@ -39,7 +39,7 @@ pub fn set_text(slot: &mut Text, payload: &[u8]) -> Result<(), AllocError>
     slot.set(unsafe { std::str::from_utf8_unchecked(payload) })
 }
 
-/// Whether the payload is by itself a list of good fields.
+/// Whether the payload, taken alone, is a list of good fields.
 pub fn is_message<P, M: Message<P>>(payload: &[u8]) -> bool
     ensures { IsTrue result ↔ AreGood (GoodField (Good M.schema)) payload.now }
 {
@@ -77,7 +77,7 @@ pub fn push_message<P, M: Message<P>>(
     Ok(())
 }
 
-/// Whether the payload is an entry of a map of texts: by itself a list of good fields.
+/// Whether the payload is an entry of a map of texts: taken alone, a list of good fields.
 pub fn is_entry(payload: &[u8]) -> bool
     ensures { IsTrue result ↔ AreGood (GoodField (Good map_entry_schema)) payload.now }
 {

@@ -209,7 +209,7 @@ fn append_joined(
     close_bytes(out, from)
 }
 
-/// Appends a field that holds bytes in two parts, one behind the other (wire type 2). After an `Err` the
+/// Appends a field that holds bytes in two parts, in their order (wire type 2). After an `Err` the
 /// vector is as it was.
 pub fn put_joined(
     out: &mut Vec<u8>,

@@ -1,4 +1,5 @@
-use Rattle.std.proofs.Common.{◌≡◌, ◌++◌, [], ◌∷◌, ℤ, List, OnOk, of_z, rules, subst, to_z, w64}
+use Rattle.std.proofs.Common.{◌≡◌, ◌++◌, [], ◌∷◌, ℕ, ℤ, List, OnOk, of_z, rules, subst, to_z, w64}
+use Rattle.std.specs.Fmt.{decimal}
 use Rattle.std.proofs.lemmas.Int.{to_z-of_z}
 use Rattle.pbwire.specs.Wire.{WireField}
 use Rattle.pbwire.specs.Writing.{spellings}
@@ -14,10 +15,11 @@ returns-clause-ok c =
     let entry = c.args.self.now in
     let old = c.args.out.now.items in
     let new = c.put_message-2.new.out.items in
-    let volume : ℤ → List WireField = λ z. payload_fields 1 (bytes_of (canon_volume (placed_volume z (entry.prefix.now ++ entry.suffix.now) entry.placement.now)) ∷ []) in
+    let volume : ℤ → List ℕ → List WireField = λ z digits. payload_fields 1 (bytes_of (canon_volume (placed_volume z (entry.prefix.now ++ digits) entry.placement.now)) ∷ []) in
     let nodes : List WireField = payload_fields 2 (bytes_of (canon_nodes entry.nodes.now) ∷ []) in
-    subst (λ (z : ℤ). OnOk c.put_message-2.result (new ≡ old ++ spellings (volume z ++ nodes))) (to_z-of_z w64 entry.bytes (search rules))
-    (wrote_then c.put_message-2.result old c.put_message.new.out.items new (volume (to_z w64 (of_z w64 entry.bytes))) nodes c.in_ok-put_message.ensures.ok c.put_message-2.ensures.ok)
+    subst (λ (z : ℤ). OnOk c.put_message-2.result (new ≡ old ++ spellings (volume z (decimal entry.number) ++ nodes))) (to_z-of_z w64 entry.bytes (search rules))
+    (subst (λ (digits : List ℕ). OnOk c.put_message-2.result (new ≡ old ++ spellings (volume (to_z w64 (of_z w64 entry.bytes)) digits ++ nodes))) c.format.ensures.text
+    (wrote_then c.put_message-2.result old c.put_message.new.out.items new (volume (to_z w64 (of_z w64 entry.bytes)) c.format.result.now) nodes c.in_ok-put_message.ensures.ok c.put_message-2.ensures.ok))
 
 pub returns-clause-kept : goal.returns-clause-kept
 returns-clause-kept c = keeps_on _ _ _ c.put_message-2.ensures.kept c.put_message.ensures.kept
