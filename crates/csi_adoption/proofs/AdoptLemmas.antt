@@ -90,7 +90,7 @@ module _ {S : Type 0} (g : Ghosts S) (config : Config) (conn two three : Held S)
   pub stands : HasCleanDisk (state g three) → (s : State) × store_holds g (three, totals) s
   stands clean = let it = the_state clean in (it.0, it.3)
 
-  pub is_adopted : OneState → ((s : S) (db : Trees) → IsTrue (g.view s).is_open → g.recovers s db → db ≡ (g.view s).committed) → (t : Tables S g) → store_of g t ≡ (three, totals) → (is_down g t ≡ false) × (refusals g t ≡ 0) → IsAdopted g config conn t
+  pub is_adopted : OneState → ((s : S) (db : Trees) → IsTrue (g.view s).is_open → g.recovers s db → db ≡ (g.view s).committed) → (t : Tables S) → store_of g t ≡ (three, totals) → (is_down g t ≡ false) × (refusals g t ≡ 0) → IsAdopted g config conn t
   is_adopted one law t over fresh =
       let clean_of : store_doubt g (store_of g t) ≡ 0 → HasCleanDisk (state g three) = λ z. sym (ap (store_doubt g) over) ∙ z in
       let left : (clean : HasCleanDisk (state g three)) (db : Trees) → (state g three).may_leave db → db ≡ (state g three).committed.trees =
@@ -146,7 +146,7 @@ module _ {S : Type 0} (g : Ghosts S) (config : Config) (conn two back : Held S) 
 
 module _ {S : Type 0} (g : Ghosts S) (config : Config) (conn two : Held S) (settled : IsSettled g conn two) (blank : (state g two).now.schema ≡ no_schema) where
   -- a keeper of the first State
-  pub is_made : IsInvariant config (first_state 1) → (t : Tables S g) → IsNewOver g two t → (store_doubt g (store_of g t) ≡ 0 → IsTrue (state g two).is_open) → IsAdopted g config conn t
+  pub is_made : IsInvariant config (first_state 1) → (t : Tables S) → IsNewOver g two t → (store_doubt g (store_of g t) ≡ 0 → IsTrue (state g two).is_open) → IsAdopted g config conn t
   is_made new t made was_open =
       let of_first : store_doubt g (store_of g t) ≡ 0 → IsStateOf (committed g config conn) (first_state 1) =
       λ z. let before : HasCleanDisk (state g two) = omega (arith, z, made.clean) in inr (sym (ap (λ (d : Database). d.schema) (settled.now before (was_open z))) ∙ blank, refl) in

@@ -35,7 +35,6 @@ module _ {S : Type 0} (g : Ghosts S) where
 
   pub chained : {X Y E F : Type 0} (a b c : Held S) (x : X) (r : Result Y F) → Scans g a b {E = E} (Ok x) → Scans g b c r → Scans g a c r
   chained a b c x r one two = record {
-    idle = two.idle;
     same = λ clean. on_ok r (λ same. unchanged_then (state g a) (state g b) (state g c) (one.same (clean_before b c r two clean)) same) (two.same clean);
     kept = λ clean. keeps_then (state g a) (state g b) (state g c) (one.kept (clean_before b c r two clean)) (two.kept clean);
     survives = survives_then (state g a) (state g b) (state g c) (λ _. ⊥) (λ _. ⊥) (λ _. ⊥) (λ _ db none. none) (λ _ db none. none) one.survives two.survives;
@@ -48,11 +47,11 @@ module _ {S : Type 0} (g : Ghosts S) where
 
   -- what was looked at so far stays, whatever is answered then
   pub ended : {X Y E F : Type 0} (a b : Held S) (x : X) (r : Result Y F) → Scans g a b {E = E} (Ok x) → Scans g a b r
-  ended a b x r one = record { idle = one.idle; same = λ clean. go r (one.same clean); kept = one.kept; survives = one.survives }
+  ended a b x r one = record { same = λ clean. go r (one.same clean); kept = one.kept; survives = one.survives }
     where
       go : {Y F : Type 0} (r : Result Y F) → IsUnchanged (state g a) (state g b) → OnOk r (IsUnchanged (state g a) (state g b))
       go (Ok y) same = same
       go (Err f) same = tt
 
   pub failed : {X Y E F : Type 0} (a b : Held S) (r : Result X E) (s : Result Y F) → IsErr s → Scans g a b r → Scans g a b s
-  failed a b r s err one = record { idle = one.idle; same = λ clean. never _ s err; kept = one.kept; survives = one.survives }
+  failed a b r s err one = record { same = λ clean. never _ s err; kept = one.kept; survives = one.survives }

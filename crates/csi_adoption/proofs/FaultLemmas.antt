@@ -1,6 +1,7 @@
 -- Checks one after the other, each of which ends them by its fault.
-use Rattle.std.proofs.Common.{◌≡◌, refl, Bool, true, false, List, ◌∷◌, Option, Some, None, Result, Ok, Err, IsErrAnd, ap, cond}
+use Rattle.std.proofs.Common.{◌≡◌, inl, inr, refl, Bool, true, false, List, [], ◌∷◌, Option, Some, None, Result, Ok, Err, IsErrAnd, ap, cond}
 use Rattle.sqlite.specs.declared.error.Error.{Error}
+use Rattle.csi_constraints.specs.Folds.{HasSome}
 use Rattle.csi_adoption.specs.Faults.{failure_of, first_fault, is_failure, is_no_memory, wants_memory}
 use Rattle.csi_adoption.specs.declared.fault.AdoptFault.{AdoptFault}
 use Rattle.csi_adoption.specs.declared.fault.AdoptFault.TheVariants.{Foreign, Newer, Broken, Store, NoMemory}
@@ -40,3 +41,9 @@ must_fail e none = go (is_failure e) none
     go : (b : Bool) → (b ≡ false → ⊥) → b ≡ true
     go true none = refl
     go false none = absurd (none refl)
+
+-- of parts that take no memory none does
+pub none_takes : {X : Type 0} (parts : List X) → HasSome (λ (x : X). ⊥) parts → ⊥
+none_takes [] h = h
+none_takes (x ∷ parts) (inl h) = h
+none_takes (x ∷ parts) (inr h) = none_takes parts h

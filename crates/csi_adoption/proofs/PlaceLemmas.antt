@@ -110,10 +110,6 @@ integers m n low = go (int_lt n m) refl
     go false is = is
     go true is = absurd (true≢false (sym (ap is_lt (value_cmp-Int n m ∙ ap (λ b. cond b Less (cond (int_lt m n) Greater Equal)) is)) ∙ low))
 
-none_second : {A B : Type 0} (test : A → B → Bool) (o : Option A) → are_some_and test o None ≡ false
-none_second test None = refl
-none_second test (Some a) = refl
-
 not_falling : (v w : Value) → is_lt (value_cmp w v) ≡ false → are_some_and (λ m n. int_lt n m) (as_integer v) (as_integer w) ≡ false
 not_falling (Int m) (Int n) low = integers m n low
 not_falling Null w low = refl

@@ -75,11 +75,6 @@ same_integers x y e = go (int_cmp x y) (int_ranks x y) e
     go Equal h e = h
     go Greater h e = absurd (true≢false (sym e))
 
-between : (x y : ℤ) → int_lt x y ≡ false → int_lt y x ≡ false → x ≡ y
-between x y low high =
-    let equal : int_cmp x y ≡ Equal = ap (λ b. cond b Less (cond (int_lt y x) Greater Equal)) low ∙ ap (λ b. cond b Greater Equal) high in
-    subst (λ o. MatchOrdering o (x <ℤ y) (x ≡ y) (y <ℤ x)) equal (int_ranks x y)
-
 neither_is : (a b : Bool) → (not a || b) ≡ false → (a ≡ true) × (b ≡ false)
 neither_is true b e = (refl, e)
 neither_is false b e = absurd (true≢false e)

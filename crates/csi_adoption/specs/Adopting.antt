@@ -71,7 +71,7 @@ module _ {S : Type 0} (g : Ghosts S) (config : Config) (conn : Held S) where
   committed = (state g conn).committed
 
   -- a keeper of the State of what was committed
-  pub record IsAdopted (t : Tables S g) : Type 0 where
+  pub record IsAdopted (t : Tables S) : Type 0 where
     pub clean : conn_doubt g conn ≤ (tables_model g t).doubt
     pub was_open : (tables_model g t).doubt ≡ 0 → IsTrue (state g conn).is_open
     -- there is such a State, it meets every constraint, and the keeper has it

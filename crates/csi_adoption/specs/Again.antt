@@ -19,14 +19,14 @@ module _ {S : Type 0} (g : Ghosts S) (config : Config) where
   -- whatever adoption answers of the connection: a keeper of the State, and a stop leaves no other; or the
   -- database or memory failed
   pub record IsTakenAs (conn : Held S) (s : State) : Type 0 where
-    pub taken : (t : Tables S g) → IsAdopted g config conn t → (tables_model g t).doubt ≡ 0 → (tables_model g t).holds s
-    pub settled : (t : Tables S g) → IsAdopted g config conn t → (tables_model g t).doubt ≡ 0 → (r : State) → (tables_model g t).survivors r → r ≡ s
+    pub taken : (t : Tables S) → IsAdopted g config conn t → (tables_model g t).doubt ≡ 0 → (tables_model g t).holds s
+    pub settled : (t : Tables S) → IsAdopted g config conn t → (tables_model g t).doubt ≡ 0 → (r : State) → (tables_model g t).survivors r → r ≡ s
     pub failed : (fault : AdoptFault) (back : Held S) → IsUnadopted g config conn fault back → HasCleanDisk (state g back)
         → IsTrue (state g back).is_open → is_failure fault ≡ true
 
   -- tables that were left by a stop of a keeper: they are one of its survivors, and any connection over them
   -- is taken as it
-  pub record IsTakenAfter (t : Tables S g) (db : Trees) : Type 0 where
+  pub record IsTakenAfter (t : Tables S) (db : Trees) : Type 0 where
     pub left : State
     pub survivor : (tables_model g t).survivors left
     pub again : (conn : Held S) → (committed g config conn).schema ≡ schema → (committed g config conn).trees ≡ db → IsInvariant config left
@@ -37,7 +37,7 @@ module _ {S : Type 0} (g : Ghosts S) (config : Config) where
 module _ {S : Type 0} (g : Ghosts S) where
   -- a keeper that ended
   abbrev pub EndsTaken : Type 0
-  EndsTaken = (config : Config) (t : Tables S g) (s : State) → (tables_model g t).holds s → IsInvariant config s → IsTakenAs g config (connection_of g t) s
+  EndsTaken = (config : Config) (t : Tables S) (s : State) → (tables_model g t).holds s → IsInvariant config s → IsTakenAs g config (connection_of g t) s
 
   -- tables of either format
   abbrev pub EitherTaken : Type 0
@@ -47,5 +47,5 @@ module _ {S : Type 0} (g : Ghosts S) where
 
   -- a keeper that a stop cut off
   abbrev pub StopsTaken : Type 0
-  StopsTaken = (config : Config) (t : Tables S g) (db : Trees) → (tables_model g t).doubt ≡ 0 → (tables_model g t).tied
+  StopsTaken = (config : Config) (t : Tables S) (db : Trees) → (tables_model g t).doubt ≡ 0 → (tables_model g t).tied
       → (state g (connection_of g t)).may_leave db → IsTakenAfter g config t db

@@ -1,10 +1,10 @@
 -- How the folds over a table begin, and what each part of them has become over its rows.
-use Rattle.std.specs.Prelude.{◌≡◌, ℕ, List, [], ◌∷◌, IfSome}
+use Rattle.std.specs.Prelude.{◌≡◌, ◌⊎◌, ℕ, Bool, false, List, [], ◌∷◌, Option, None, IfSome}
 use Rattle.std.specs.List.{AllZip}
 use Rattle.sqlite.specs.Order.{Row}
 use Rattle.csi_config.specs.declared.config.Config.{Config}
 use Rattle.csi_constraints.specs.Attachments.{has_flag, is_at_node}
-use Rattle.csi_constraints.specs.Coded.{has_cap, has_caps, has_params, key_at, keys_at, params_at}
+use Rattle.csi_constraints.specs.Coded.{SaysMessage, has_cap, has_caps, has_params, key_at, keys_at, params_at}
 use Rattle.csi_constraints.specs.Folds.{CountsRows, RisesOver, SumsText}
 use Rattle.csi_constraints.specs.Kinds.{has_attachment_kinds, has_volume_kinds}
 use Rattle.csi_constraints.specs.Named.{FindsBroken, FindsByTest}
@@ -37,7 +37,21 @@ pub record BeginsVolumes (config : Config) (m : Meta) (fold : VolumesFold) : Typ
   pub pool_volumes : AllZip (λ p sum. IsBegun 3 p.name One sum) config.pools fold.pool_volumes.parts.items
   pub none : fold.rows.rows ≡ 0
 
--- behind rows
+-- the row is the first that a part finds broken
+abbrev pub FindsFirst : {N : Type 0} → Option N → Bool → Type 0
+FindsFirst found passes = (found ≡ None) × (passes ≡ false)
+
+-- memory is asked for the name of the first row that breaks a constraint, and for a message that is read
+pub data VolumeTakesMemory (fold : VolumesFold) (row : Row) : Type 0 where
+  for_kinds : FindsFirst fold.kinds.found (has_volume_kinds row) → VolumeTakesMemory fold row
+  for_number : FindsFirst fold.number.found (is_numbered fold.number.test.test.next row) → VolumeTakesMemory fold row
+  for_name : FindsFirst fold.name.found (is_named row) → VolumeTakesMemory fold row
+  for_pool : FindsFirst fold.pool.found (is_in_pools fold.pool.test.test.config.now.pools row) → VolumeTakesMemory fold row
+  for_bytes : FindsFirst fold.bytes.found (is_sized row) → VolumeTakesMemory fold row
+  for_caps : fold.caps.found ≡ None → SaysMessage 4 row ⊎ (has_caps row ≡ false) → VolumeTakesMemory fold row
+  for_params : fold.params.found ≡ None → SaysMessage 5 row ⊎ (has_params fold.params.test.format row ≡ false) → VolumeTakesMemory fold row
+
+-- after rows
 pub record FoldsVolumes (first : VolumesFold) (rows : List Row) (now : VolumesFold) : Type 0 where
   pub kinds : FindsByTest (λ _. has_volume_kinds) first.kinds rows now.kinds
   pub rising : RisesOver first.rising rows now.rising
@@ -79,7 +93,14 @@ pub record BeginsAttachments (config : Config) (fold : AttachmentsFold) : Type 0
   pub node : IsUnbroken 1 2 fold.node
   pub node_volumes : AllZip (λ m sum. IsBegun 2 m.id One sum) config.nodes fold.node_volumes.parts.items
 
--- behind rows
+-- the same over attachments
+pub data AttachmentTakesMemory (fold : AttachmentsFold) (row : Row) : Type 0 where
+  for_kinds : FindsFirst fold.kinds.found (has_attachment_kinds row) → AttachmentTakesMemory fold row
+  for_cap : fold.cap.found ≡ None → SaysMessage 3 row ⊎ (has_cap row ≡ false) → AttachmentTakesMemory fold row
+  for_readonly : FindsFirst fold.readonly.found (has_flag row) → AttachmentTakesMemory fold row
+  for_node : FindsFirst fold.node.found (is_at_node fold.node.test.test.config.now.nodes row) → AttachmentTakesMemory fold row
+
+-- after rows
 pub record FoldsAttachments (first : AttachmentsFold) (rows : List Row) (now : AttachmentsFold) : Type 0 where
   pub kinds : FindsByTest (λ _. has_attachment_kinds) first.kinds rows now.kinds
   pub rising : RisesOver first.rising rows now.rising

@@ -1,5 +1,5 @@
 -- What a scan over the tables leaves, and what it shows.
-use Rattle.std.specs.Prelude.{◌≡◌, false, List, Result, IfOk, OnOk}
+use Rattle.std.specs.Prelude.{List, Result, IfOk, OnOk}
 use Rattle.sqlite.specs.Held.{Held, state}
 use Rattle.sqlite.specs.Order.{Row}
 use Rattle.sqlite.specs.State.{HasCleanDisk, IsUnchanged, KeepsCommit, Survives}
@@ -9,7 +9,6 @@ use Rattle.sqlite.specs.Tree.{Trees}
 module _ {S : Type 0} (g : Ghosts S) (old new : Held S) where
   -- nothing is changed or committed, and a stop leaves what it could leave before
   pub record Scans {X E : Type 0} (result : Result X E) : Type 0 where
-    pub idle : new.in_transaction ≡ false
     pub same : HasCleanDisk (state g new) → OnOk result (IsUnchanged (state g old) (state g new))
     pub kept : HasCleanDisk (state g new) → KeepsCommit (state g old) (state g new)
     pub survives : Survives (state g old) (state g new) (λ _. ⊥)

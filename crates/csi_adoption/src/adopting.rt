@@ -36,7 +36,7 @@ use csi_constraints::AttachmentConstraint;
 use csi_keeper::Totals;
 use csi_keeper::laws::first;
 use csi_sql::changes::set_format;
-use csi_sql::{FIRST_FORMAT, is_our_schema};
+use csi_sql::{FIRST_FORMAT, IdleConnection, is_our_schema};
 use csi_tables::laws::{latest, one_state};
 use csi_tables::{MakeFault, Tables};
 use sqlite::{Alter, Connection, Error};
@@ -69,11 +69,10 @@ pub(crate) struct TablesSeen {
 
 fn see_tables<S: Alter>(
     alloc: Global,
-    conn: &mut Connection<S>,
+    conn: &mut IdleConnection<S>,
     config: &Config,
     meta: Meta,
 ) -> Result<TablesSeen, Error>
-    requires idle { conn.old.in_transaction ≡ false }
     requires ours { HasCleanDisk (state S.Store conn.old) → conn.old.schema ≡ our_schema }
     ensures scans { Scans S.Store conn.old conn.new result }
     ensures failed { ScanFails S.Store conn.old conn.new result }
@@ -92,11 +91,10 @@ fn see_tables<S: Alter>(
 // is known to be at a node of the configuration then, so those of a volume are few.
 fn judge_joined<S: Alter>(
     alloc: Global,
-    conn: &mut Connection<S>,
+    conn: &mut IdleConnection<S>,
     config: &Config,
     tables: &TablesSeen,
 ) -> Result<(), AdoptFault>
-    requires idle { conn.old.in_transaction ≡ false }
     requires ours { HasCleanDisk (state S.Store conn.old) → conn.old.schema ≡ our_schema }
     ensures scans { Scans S.Store conn.old conn.new result }
     ensures failed { JudgingFails S.Store conn.old conn.new result }
@@ -122,12 +120,11 @@ fn judge_joined<S: Alter>(
 // Judges what was seen of the tables, and what is seen of two of them together.
 fn judge_seen<S: Alter>(
     alloc: Global,
-    conn: &mut Connection<S>,
+    conn: &mut IdleConnection<S>,
     config: &Config,
     meta: Meta,
     tables: &TablesSeen,
 ) -> Result<(), AdoptFault>
-    requires idle { conn.old.in_transaction ≡ false }
     requires ours { HasCleanDisk (state S.Store conn.old) → conn.old.schema ≡ our_schema }
     ensures scans { Scans S.Store conn.old conn.new result }
     ensures failed { JudgingFails S.Store conn.old conn.new result }
@@ -149,11 +146,10 @@ fn judge_seen<S: Alter>(
 // and so is lent to what may fail.
 fn judge_behind<S: Alter>(
     alloc: Global,
-    conn: &mut Connection<S>,
+    conn: &mut IdleConnection<S>,
     config: &Config,
     meta: Meta,
 ) -> Result<VolumesSeen, AdoptFault>
-    requires idle { conn.old.in_transaction ≡ false }
     requires ours { HasCleanDisk (state S.Store conn.old) → conn.old.schema ≡ our_schema }
     ensures scans { Scans S.Store conn.old conn.new result }
     ensures failed { JudgingFails S.Store conn.old conn.new result }
@@ -168,8 +164,7 @@ fn judge_behind<S: Alter>(
 }
 
 #[tactic(auto, using(crate::proofs::FaultLemmas::error_fails))]
-fn see_row<S: Alter>(conn: &mut Connection<S>) -> Result<Meta, AdoptFault>
-    requires idle { conn.old.in_transaction ≡ false }
+fn see_row<S: Alter>(conn: &mut IdleConnection<S>) -> Result<Meta, AdoptFault>
     requires ours { HasCleanDisk (state S.Store conn.old) → conn.old.schema ≡ our_schema }
     ensures scans { Scans S.Store conn.old conn.new result }
     ensures failed { JudgingFails S.Store conn.old conn.new result }
@@ -183,10 +178,9 @@ fn see_row<S: Alter>(conn: &mut Connection<S>) -> Result<Meta, AdoptFault>
 // Judges all rows, that of meta first.
 fn judge_rows<S: Alter>(
     alloc: Global,
-    conn: &mut Connection<S>,
+    conn: &mut IdleConnection<S>,
     config: &Config,
 ) -> Result<VolumesSeen, AdoptFault>
-    requires idle { conn.old.in_transaction ≡ false }
     requires ours { HasCleanDisk (state S.Store conn.old) → conn.old.schema ≡ our_schema }
     ensures scans { Scans S.Store conn.old conn.new result }
     ensures failed { JudgingFails S.Store conn.old conn.new result }
@@ -234,10 +228,9 @@ struct Judged {
 // The format and the totals, where the tables have our schema and their rows break no constraint.
 fn judge<S: Alter>(
     alloc: Global,
-    conn: &mut Connection<S>,
+    conn: &mut IdleConnection<S>,
     config: &Config,
 ) -> Result<Judged, AdoptFault>
-    requires idle { conn.old.in_transaction ≡ false }
     ensures scans { Scans S.Store conn.old conn.new result }
     ensures failed { JudgingFails S.Store conn.old conn.new result }
     ensures shut { TellsShut S.Store conn.new result }
@@ -269,9 +262,7 @@ fn judge<S: Alter>(
 }
 
 // Makes tables of the first format ones of the latest, by one statement.
-fn upgrade<S: Alter>(conn: &mut Connection<S>, format: u32) -> Result<(), Error>
-    requires idle { conn.old.in_transaction ≡ false }
-    ensures idle { conn.new.in_transaction ≡ false }
+fn upgrade<S: Alter>(conn: &mut IdleConnection<S>, format: u32) -> Result<(), Error>
     ensures stays { format ≢ FIRST_FORMAT → conn.new ≡ conn.old }
     ensures error_only_if { format ≢ FIRST_FORMAT → OnErr result ⊥ }
     ensures ok { HasCleanDisk (state S.Store conn.new)
@@ -294,11 +285,9 @@ fn upgrade<S: Alter>(conn: &mut Connection<S>, format: u32) -> Result<(), Error>
 // can fail.
 fn judge_and_upgrade<S: Alter>(
     alloc: Global,
-    conn: &mut Connection<S>,
+    conn: &mut IdleConnection<S>,
     config: &Config,
 ) -> Result<Totals, AdoptFault>
-    requires idle { conn.old.in_transaction ≡ false }
-    ensures idle { conn.new.in_transaction ≡ false }
     ensures taken { HasCleanDisk (state S.Store conn.new)
         → IfOk result (IsTaken config.now (state S.Store conn.old) (state S.Store conn.new)) }
     ensures failed { JudgingFails S.Store conn.old conn.new result }
@@ -324,7 +313,7 @@ fn judge_and_upgrade<S: Alter>(
 
 // Undoes nothing, as no transaction is open: what is seen then is what was committed.
 fn roll_back<S: Alter>(conn: &mut Connection<S>)
-    requires idle { conn.old.in_transaction ≡ false }
+    requires { conn.old.in_transaction ≡ false }
     ensures idle { conn.new.in_transaction ≡ false }
     ensures undone { HasCleanDisk (state S.Store conn.new)
         → IsUndone (state S.Store conn.old) (state S.Store conn.new) }
@@ -350,6 +339,11 @@ fn roll_back<S: Alter>(conn: &mut Connection<S>)
 /// nothing else. That the database failed has a cause, of which its error tells: its disk, a fault that shut
 /// the connection, or that it refuses what is asked. What was committed stays, and the connection is given
 /// back.
+///
+/// # Not promised
+///
+/// That its steps succeed, which rows of `test_tables` show, and the displayed texts. A file whose
+/// rowids do not rise is answered as a failed database; `sqlite` opens no such file.
 pub fn adopt<S: Alter>(
     alloc: Global,
     mut conn: Connection<S>,
@@ -372,8 +366,12 @@ pub fn adopt<S: Alter>(
             }),
         };
     }
+    let mut conn = IdleConnection::new(conn);
     match judge_and_upgrade(alloc, &mut conn, config) {
         Ok(totals) => Ok(Tables::over(conn, totals)),
-        Err(fault) => Err(AdoptError { fault, conn }),
+        Err(fault) => {
+            let conn = conn.into_connection();
+            Err(AdoptError { fault, conn })
+        }
     }
 }

@@ -1,6 +1,6 @@
 //! What scans over attachments show.
 
-ghost use Rattle.std.specs.Prelude.{◌≡◌, IfOk, false, map};
+ghost use Rattle.std.specs.Prelude.{◌≡◌, IfOk, map};
 ghost use Rattle.sqlite.specs.Held.{state};
 ghost use Rattle.sqlite.specs.State.{HasCleanDisk};
 ghost use Rattle.csi_sql.specs.Tables.{schema as our_schema};
@@ -17,13 +17,14 @@ use crate::starts::{rising_start, unbroken, unbroken_test};
 use crate::sums::node_sums;
 use csi_config::Config;
 use csi_constraints::{
-    FirstApart, FirstBroken, FirstUnowned, Fold, FoldEach, HasAttachmentKinds, HasCap, HasFlag,
+    FirstApart, FirstBroken, FirstUnowned, FoldEach, HasAttachmentKinds, HasCap, HasFlag,
     InfallibleTest, IsAtNode, Rising, RowName, TextSum, scan_attachments, scan_owners, scan_places,
 };
-use sqlite::{Alter, Connection, Error, ErrorCode, Row};
+use csi_sql::{Fold, IdleConnection};
+use sqlite::{Alter, Error, ErrorCode, Row};
 use std::alloc::{AllocError, Global};
 
-// What is found of each row of attachments behind its rowid. The rowids have to rise.
+// What is found of each row of attachments after its rowid. The rowids have to rise.
 #[derive(Drop)]
 struct AttachmentsFold<'a> {
     kinds: FirstBroken<InfallibleTest<HasAttachmentKinds>>,
@@ -35,10 +36,12 @@ struct AttachmentsFold<'a> {
 }
 
 impl Fold for AttachmentsFold<'_> {
-    ghost use Rattle.csi_adoption.specs.Folding.{FoldsAttachments};
+    ghost use Rattle.csi_adoption.specs.Folding.{AttachmentTakesMemory, FoldsAttachments};
     ghost use Rattle.csi_adoption.specs.facts.Starts.{attachments_start};
 
     ghost folds = { FoldsAttachments };
+
+    ghost takes_memory = { AttachmentTakesMemory };
 
     ghost starts = { attachments_start };
 
@@ -85,13 +88,12 @@ impl<'a> AttachmentsFold<'a> {
     }
 }
 
-/// Scans attachments, each behind its rowid.
+/// Scans attachments, each after its rowid.
 pub(crate) fn see_attachments<S: Alter>(
     alloc: Global,
-    conn: &mut Connection<S>,
+    conn: &mut IdleConnection<S>,
     config: &Config,
 ) -> Result<AttachmentsSeen, Error>
-    requires idle { conn.old.in_transaction ≡ false }
     requires ours { HasCleanDisk (state S.Store conn.old) → conn.old.schema ≡ our_schema }
     ensures scans { Scans S.Store conn.old conn.new result }
     ensures failed { ScanFails S.Store conn.old conn.new result }
@@ -113,9 +115,8 @@ pub(crate) fn see_attachments<S: Alter>(
 /// The first attachment whose volume does not stand, or has not its capability.
 pub(crate) fn see_owners<S: Alter>(
     alloc: Global,
-    conn: &mut Connection<S>,
+    conn: &mut IdleConnection<S>,
 ) -> Result<Option<RowName>, Error>
-    requires idle { conn.old.in_transaction ≡ false }
     requires ours { HasCleanDisk (state S.Store conn.old) → conn.old.schema ≡ our_schema }
     ensures scans { Scans S.Store conn.old conn.new result }
     ensures failed { ScanFails S.Store conn.old conn.new result }
@@ -134,9 +135,8 @@ pub(crate) fn see_owners<S: Alter>(
 /// The first attachment that cannot stand beside another of its volume.
 pub(crate) fn see_apart<S: Alter>(
     alloc: Global,
-    conn: &mut Connection<S>,
+    conn: &mut IdleConnection<S>,
 ) -> Result<Option<RowName>, Error>
-    requires idle { conn.old.in_transaction ≡ false }
     requires ours { HasCleanDisk (state S.Store conn.old) → conn.old.schema ≡ our_schema }
     ensures scans { Scans S.Store conn.old conn.new result }
     ensures failed { ScanFails S.Store conn.old conn.new result }

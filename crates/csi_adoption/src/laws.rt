@@ -25,14 +25,14 @@ pub fn meta_pass()
     ensures { PassesMeta }
 {}
 
-/// A count that is told up to 2^64 - 1 is the count, and a bound below that number holds of a sum that
-/// is told so exactly where it holds of the sum.
+/// A count that is reported up to 2^64 - 1 is the count, and a bound below that number holds of a sum
+/// that is reported so exactly where it holds of the sum.
 pub fn sums_told()
     ensures counts { TellsCounts }
     ensures rooms { TellsRooms }
 {}
 
-/// What is told of a pool is so of rows of volumes that pass: how many are its own, and their bytes.
+/// What is reported of a pool is so of rows of volumes that pass: how many are its own, and their bytes.
 pub fn pools_told()
     ensures { TellsPools }
 {}
@@ -42,13 +42,13 @@ pub fn pools_elsewhere()
     ensures { HasNoOtherPool }
 {}
 
-/// What is told of the pools, by their names, is how many volumes are found of each, and their bytes.
+/// What is reported of the pools, by their names, is how many volumes are found of each, and their bytes.
 pub fn totals_found()
     ensures { FindsTotals }
 {}
 
 /// What a keeper over tables left is adopted as the State that it had, or as what the stop left of it,
-/// unless the database or memory failed: the State has to meet the invariant, as each State does that
+/// unless the database or memory failed: the State must meet the invariant, as each State does that
 /// the volume machine leads to. After an end that is so of the keeper's own connection, and after a
 /// stop of any connection over the database that the stop left. Tables of either format of such a State
 /// are adopted as it.

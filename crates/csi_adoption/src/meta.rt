@@ -1,6 +1,6 @@
 //! The row of meta.
 
-ghost use Rattle.std.specs.Prelude.{◌≡◌, false, refl, IsPermutation, map};
+ghost use Rattle.std.specs.Prelude.{◌≡◌, refl, IsPermutation, map};
 ghost use Rattle.sqlite.specs.Held.{state};
 ghost use Rattle.sqlite.specs.State.{HasCleanDisk};
 ghost use Rattle.csi_sql.specs.Rows.{seen_meta};
@@ -11,10 +11,10 @@ ghost use Rattle.csi_adoption.specs.Scanning.{Scans, SeenBy};
 ghost use Rattle.csi_adoption.specs.declared.meta.MetaRows.TheVariants as meta;
 
 use crate::fault::{AdoptFault, Foreign};
-use csi_constraints::{Fold, integer_at, scan_meta};
-use csi_sql::{FIRST_FORMAT, LATEST_FORMAT};
+use csi_constraints::{integer_at, scan_meta};
+use csi_sql::{FIRST_FORMAT, Fold, IdleConnection, LATEST_FORMAT};
 use csi_types::MAX_NUMBER;
-use sqlite::{Alter, Connection, Error, Row};
+use sqlite::{Alter, Error, Row};
 
 /// What the row of meta tells.
 #[derive(Clone, Copy)]
@@ -124,8 +124,7 @@ pub(crate) fn judge_meta(rows: MetaRows) -> Result<Meta, AdoptFault>
 }
 
 /// Scans meta.
-pub(crate) fn see_meta<S: Alter>(conn: &mut Connection<S>) -> Result<MetaRows, Error>
-    requires idle { conn.old.in_transaction ≡ false }
+pub(crate) fn see_meta<S: Alter>(conn: &mut IdleConnection<S>) -> Result<MetaRows, Error>
     requires ours { HasCleanDisk (state S.Store conn.old) → conn.old.schema ≡ our_schema }
     ensures scans { Scans S.Store conn.old conn.new result }
     ensures failed { ScanFails S.Store conn.old conn.new result }

@@ -1,6 +1,6 @@
 //! What a scan over volumes shows.
 
-ghost use Rattle.std.specs.Prelude.{◌≡◌, ℕ, List, IfOk, false, map};
+ghost use Rattle.std.specs.Prelude.{◌≡◌, ℕ, List, IfOk, map};
 ghost use Rattle.sqlite.specs.Held.{state};
 ghost use Rattle.sqlite.specs.State.{HasCleanDisk};
 ghost use Rattle.csi_sql.specs.Rows.{seen_volume};
@@ -18,12 +18,13 @@ use crate::starts::{rising_start, unbroken, unbroken_test};
 use crate::sums::pool_sums;
 use csi_config::{Config, Pool};
 use csi_constraints::{
-    FirstBroken, Fold, FoldEach, HasCaps, HasParams, HasVolumeKinds, InfallibleTest, IsInPools,
-    IsNamed, IsNumbered, IsSized, Rising, RowCount, TextSum, Weight, scan_volumes,
+    FirstBroken, FoldEach, HasCaps, HasParams, HasVolumeKinds, InfallibleTest, IsInPools, IsNamed,
+    IsNumbered, IsSized, Rising, RowCount, TextSum, Weight, scan_volumes,
 };
 use csi_keeper::{Total, Totals};
+use csi_sql::{Fold, IdleConnection};
 use csi_types::copy_text;
-use sqlite::{Alter, Connection, Error, ErrorCode, Row};
+use sqlite::{Alter, Error, ErrorCode, Row};
 use std::alloc::{AllocError, Global};
 
 // What is found of each row of volumes, whose numbers have to rise.
@@ -43,10 +44,12 @@ struct VolumesFold<'a> {
 }
 
 impl Fold for VolumesFold<'_> {
-    ghost use Rattle.csi_adoption.specs.Folding.{FoldsVolumes};
+    ghost use Rattle.csi_adoption.specs.Folding.{FoldsVolumes, VolumeTakesMemory};
     ghost use Rattle.csi_adoption.specs.facts.Starts.{volumes_start};
 
     ghost folds = { FoldsVolumes };
+
+    ghost takes_memory = { VolumeTakesMemory };
 
     ghost starts = { volumes_start };
 
@@ -114,11 +117,10 @@ impl<'a> VolumesFold<'a> {
 /// Scans volumes.
 pub(crate) fn see_volumes<S: Alter>(
     alloc: Global,
-    conn: &mut Connection<S>,
+    conn: &mut IdleConnection<S>,
     config: &Config,
     meta: Meta,
 ) -> Result<VolumesSeen, Error>
-    requires idle { conn.old.in_transaction ≡ false }
     requires ours { HasCleanDisk (state S.Store conn.old) → conn.old.schema ≡ our_schema }
     ensures scans { Scans S.Store conn.old conn.new result }
     ensures failed { ScanFails S.Store conn.old conn.new result }

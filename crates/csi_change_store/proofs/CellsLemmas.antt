@@ -107,35 +107,6 @@ module _ (kinds : List Kind) (old : Cells) (number : ℕ) where
           let other : k ≢ number = λ e. eqb-false number k is (sym e) in
           rw map-set (get_or-set_other (map lent old.payloads) number k bytes.now [] other)
 
-  pub takes_number : (n : ℕ) → number < length old.numbers → TakesField kinds (record { number = number; part = Number n }) old (record old { numbers = set old.numbers number n })
-  takes_number n within = record {
-    numbers = λ k is. put k (eqb number k) refl;
-    bytes = λ k is. kept (eqb number k) (bytes_of old k);
-  }
-    where
-      kept : (b : Bool) (was : List ℕ) → was ≡ cond b was was
-      kept true was = refl
-      kept false was = refl
-
-      put : (k : ℕ) (b : Bool) → eqb number k ≡ b → get_or (set old.numbers number n) k 0 ≡ cond b n (get_or old.numbers k 0)
-      put k true is = let same : k ≡ number = sym (eqb-true number k is) in rw same (get_or-set_same old.numbers number n 0 within)
-      put k false is = let other : k ≢ number = λ e. eqb-false number k is (sym e) in get_or-set_other old.numbers number k n 0 other
-
-  -- a field that no row has a column for
-  pub takes_none : (e : WireField) → ((kind : Kind) → slice_get kinds e.number ≡ Some kind → (kind ≢ Integer) × (kind ≢ Bytes)) → TakesField kinds e old old
-  takes_none e none = record {
-    numbers = λ k is. other_number k (eqb e.number k) refl is;
-    bytes = λ k is. other_bytes k (eqb e.number k) refl is;
-  }
-    where
-      other_number : (k : ℕ) (b : Bool) → eqb e.number k ≡ b → slice_get kinds k ≡ Some Integer → number_of old k ≡ cond b (unwrap_or (number_in e.part) (number_of old k)) (number_of old k)
-      other_number k true at is = absurd ((none Integer (ap (slice_get kinds) (eqb-true e.number k at) ∙ is)).0 refl)
-      other_number k false at is = refl
-
-      other_bytes : (k : ℕ) (b : Bool) → eqb e.number k ≡ b → slice_get kinds k ≡ Some Bytes → bytes_of old k ≡ cond b (unwrap_or (bytes_in e.part) (bytes_of old k)) (bytes_of old k)
-      other_bytes k true at is = absurd ((none Bytes (ap (slice_get kinds) (eqb-true e.number k at) ∙ is)).1 refl)
-      other_bytes k false at is = refl
-
 -- ---- numbers
 
 -- what stands in a column of numbers is one that a row can have

@@ -118,20 +118,6 @@ module _ (p : List ℕ) where
   unread_meta unread (Token token) h = absurd (omega (arith, other_number 1 4 p token h))
   unread_meta unread Skipped h = absurd (omega (arith, h))
 
-  pub unread_volume : IsUnread volume_kinds p → (item : PageItem) → IsItem (bytes_field 2 p) item → ⊥
-  unread_volume unread (Meta row) h = absurd (omega (arith, other_number 2 1 p h.0 h.1))
-  unread_volume unread (Volume row) h = unspelled volume_kinds volume_of p h.0 row (same_payload 2 2 p h.0 h.1) unread h.2
-  unread_volume unread (Attachment row) h = absurd (omega (arith, other_number 2 3 p h.0 h.1))
-  unread_volume unread (Token token) h = absurd (omega (arith, other_number 2 4 p token h))
-  unread_volume unread Skipped h = absurd (omega (arith, h))
-
-  pub unread_attachment : IsUnread attachment_kinds p → (item : PageItem) → IsItem (bytes_field 3 p) item → ⊥
-  unread_attachment unread (Meta row) h = absurd (omega (arith, other_number 3 1 p h.0 h.1))
-  unread_attachment unread (Volume row) h = absurd (omega (arith, other_number 3 2 p h.0 h.1))
-  unread_attachment unread (Attachment row) h = unspelled attachment_kinds attachment_of p h.0 row (same_payload 3 3 p h.0 h.1) unread h.2
-  unread_attachment unread (Token token) h = absurd (omega (arith, other_number 3 4 p token h))
-  unread_attachment unread Skipped h = absurd (omega (arith, h))
-
 -- ---- faults
 
 pub malformed : (spelled : PageItem → Type 0) (fault : RowsFault) → fault ≡ Malformed → ((item : PageItem) → spelled item → ⊥) → IsItemFault spelled fault

@@ -36,24 +36,7 @@ fails_as item Refuses old new e why failed (Row n f) is =
     subst (λ x. FailsFor (IsRefusedAs item old (Some n)) old new x) (sym is.1) (fails_weaker (Refuses old) (IsRefusedAs item old (Some n)) old new e (λ r. (is.0, why e r)) failed)
 fails_as item Refuses old new e why failed NoMemory is = tt
 
-pub is_refusal : (number : Option ℕ) (e : Error) (fault : RowsFault) → IsFaultOf number e fault → IsRefusal fault
-is_refusal number e Malformed is = is
-is_refusal number e (Untyped n) is = is
-is_refusal number e (Flag n node) is = is
-is_refusal number e (Refused f) is = tt
-is_refusal number e (Row n f) is = tt
-is_refusal number e NoMemory is = tt
-
 module _ {S : Type 0} {g : store.Ghosts S} {a b : Held S} (item : PageItem) (Effect : Database → Database → Type 0) (Refuses : State → Error → Type 0) where
-  pub puts_ok : {X : Type 0} (x : X) → ((old new : Database) → Effect old new → Puts item old new) → RunsOver g a b schema Effect Refuses (Ok x) → PutsItem g a b item (Ok tt)
-  puts_ok x same ran = record {
-    ok = λ clean inside.
-        let step = ran.ok clean inside in
-        record { is_open = λ _. step.shown.is_open; committed = step.shown.committed_is; inside = step.shown.mode; effect = λ has. same _ _ (step.effect has) };
-    failed = λ clean inside has. tt;
-    nothing = record { kept = ran.kept; survives = ran.survives };
-  }
-
   pub puts_err : {X : Type 0} (e : Error) (fault : RowsFault) → ((s : State) (why : Error) → Refuses s why → RefusesItem item s why) → RunsOver g a b {X = X} schema Effect Refuses (Err e) → IsFaultOf (volume_number item) e fault → PutsItem g a b item (Err fault)
   puts_err e fault same ran is = record {
     ok = tt;
@@ -66,13 +49,6 @@ module _ {S : Type 0} (g : store.Ghosts S) (a : Held S) where
   nothing_done = record {
     kept = λ clean inside. record { was_open = λ h. h; committed = λ h. refl };
     survives = record { clean = omega arith; shield = λ h. h; counts = omega arith; limit = refl; closes = λ clean is_open. inl is_open; crash = λ clean db left. inl left };
-  }
-
-  pub puts_none : (item : PageItem) → ((db : Database) → Puts item db db) → PutsItem g a a item (Ok tt)
-  puts_none item same = record {
-    ok = λ clean inside. record { is_open = λ h. h; committed = refl; inside = inside; effect = λ has. same _ };
-    failed = λ clean inside has. tt;
-    nothing = nothing_done;
   }
 
 -- ---- many items
@@ -247,11 +223,6 @@ module _ {S : Type 0} (g : store.Ghosts S) where
           fails_so rest e item now t read is earlier inside fault (put.failed clean stepped.inside (all_schema t.done _ _ (stepped.effect has) ∙ has));
       nothing = nothing_then a b c t.nothing put.nothing (stays now t);
     })
-
-    -- there was no memory to note what was put
-    pub unnoted : (item : PageItem) (now after : Notes) (fault : RowsFault) (r : Result (Unit {0}) RowsFault) → IsErrAnd r (λ x. x ≡ fault) → fault ≡ NoMemory → Taking body mid before now a b → PutsItem g b c item (Ok tt) → TakesPage g a c body before after r
-    unnoted item now after fault (Ok x) at is t put = absurd at
-    unnoted item now after fault (Err x) at is t put = subst (λ y. TakesPage g a c body before after (Err y)) (sym (at ∙ is)) (record { ok = tt; fault = tt; failed = λ clean inside has. tt; nothing = nothing_then a b c t.nothing put.nothing (stays now t) })
 
   module _ (shorter : (bytes rest : List ℕ) (e : WireField) → field_at bytes ≡ Ok (e, rest) → length rest < length bytes) (body mid : List ℕ) (before now : Notes) (a b : Held S) (t : Taking body mid before now a b) where
     pub ends : mid ≡ [] → TakesPage g a b body before now (Ok tt)

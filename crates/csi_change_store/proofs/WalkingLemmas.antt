@@ -18,13 +18,6 @@ use Rattle.csi_change_store.proofs.PagesLemmas.{all_schema, extends_then, nothin
 -- ---- one page
 
 module _ {P : Type 0} (exchanged : P → P → List ℕ → Received → Type 0) (old new : P) where
-  pub pageless : (notes : Notes) (fault : ReadFault) → IsPageless exchanged old new notes.token fault → IsFaultAfter exchanged old new notes fault
-  pageless notes (Unasked fault) is = is
-  pageless notes (Unanswered received) is = is
-  pageless notes (Rows fault) is = absurd is
-  pageless notes Endless is = absurd is
-  pageless notes (Database e) is = absurd is
-
   pub page_taken : {S : Type 0} {g : store.Ghosts S} {a b : Held S} (body : List ℕ) (before after : Notes) → GivesPage exchanged old new before.token body → TakesPage g a b body (record before { token = [] }) after (Ok tt) → ReadsPage g a b exchanged old new before after
   page_taken body before after given takes = record { body = body; items = takes.ok.0; given = given; page = takes.ok.1; typed = takes.ok.2; noted_is = takes.ok.3; puts = takes.ok.4 }
 
@@ -69,16 +62,6 @@ module _ {P : Type 0} (exchanged : P → P → List ℕ → Received → Type 0)
       pub puts : ExtendsFrom g a b (PutsAll (all_items pages))
       pub nothing : CommitsNothing g a b
 
-    pub reading_starts : (old : P) (notes : Notes) (a : Held S) → notes ≡ no_notes → Reading old old notes a a
-    reading_starts old notes a is = record {
-      pages = [];
-      walks = (refl, is);
-      going = λ some. absurd (some refl);
-      typed = tt;
-      puts = λ clean inside. record { is_open = λ h. h; committed = refl; inside = inside; effect = λ has. refl };
-      nothing = nothing_done g a;
-    }
-
     module _ (old mid new : P) (notes : Notes) (a b c : Held S) (r : Reading old mid notes a b) where
       -- nothing is committed by what comes next either
       pub still_nothing : CommitsNothing g b c → CommitsNothing g a c
@@ -111,7 +94,3 @@ module _ {P : Type 0} (exchanged : P → P → List ℕ → Received → Type 0)
       pub reading_fails : (fault : ReadFault) (end : Result noted.Notes ReadFault) → IsErrAnd end (λ x. x ≡ fault) → IsFaultAfter exchanged mid new notes fault → IfErr end (IsReadFault exchanged old new)
       reading_fails fault (Ok x) at is = tt
       reading_fails fault (Err x) at is = subst (IsReadFault exchanged old new) (sym at) (record { pages = r.pages; notes = notes; mid = mid; walks = r.walks; after = is })
-
-    -- there are too many pages
-    pub endless : (old mid : P) (notes : Notes) (a b : Held S) → Reading old mid notes a b → IsReadFault exchanged old mid Endless
-    endless old mid notes a b r = record { pages = r.pages; notes = notes; mid = mid; walks = r.walks; after = refl }

@@ -1,5 +1,5 @@
-//! A change store behind a connection: another program keeps the changes of a State, and this one asks it for
-//! each.
+//! A change store at the other end of a connection: another program keeps the changes of a State, and this
+//! one asks it for each.
 //!
 //! [`RemoteChangeStore`] is a `ChangeStore` of `csi_through` over the other end of a connection, a [`Peer`].
 //! What a peer is asked for is a frame of the envelope (docs/PROTOCOL.md, "The change store"):
@@ -19,6 +19,13 @@
 //! let mut keeper = Through::copied(alloc, &mut tables, changes)?;
 //! keeper.apply(alloc, &Change::AddVolume(volume))?;
 //! ```
+//!
+//! # Not promised
+//!
+//! What a program at the other end does. Memory may be refused, and a write or a read may fail, at
+//! any time: so no clause refuses a `commit` that reports want of memory without asking, or an
+//! exchange that fails before the first byte of the frame or after its last one with no read. Rows
+//! of `tests/test_csid_change_store.py` do.
 #![tactic(auto)]
 
 mod asking;

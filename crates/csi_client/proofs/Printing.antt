@@ -110,16 +110,6 @@ fed_fault method read old new rest n a b refused f h fed one is =
       prompt_in method read rest old a b refused h one,
     )
 
-pub fed_open : (method : Option Method) (read : List ℕ) (old new : ReplyFramerState) (rest : List ℕ) (n : ℕ) (a b : Option (List ℕ)) (refused : Bool) → Live method read old a b refused → ReplyFed old new rest n → new.fault ≡ None → IsUnfinished new.held → Live method (read ++ take n rest) new a b refused
-fed_open method read old new rest n a b refused h fed none open_ = record {
-  replies = h.replies;
-  wrote = re_read method read a b h.replies old.held [] h.wrote (read ++ take n rest) new.held (split_taken method read old new rest n a b refused h fed);
-  refusals = h.refusals;
-  past = fed.past ∙ h.past;
-  unknown = none;
-  unfinished = open_;
-}
-
 -- of the reply that is whole this was written, behind all replies before it
 wrote_last : (method : Option Method) (read : List ℕ) (old new : ReplyFramerState) (rest : List ℕ) (n : ℕ) (a b c : Option (List ℕ)) (refused : Bool) (r : ReplyBytes) (last : List ℕ) → (h : Live method read old a b refused) → ReplyFed old new rest n → new.held ≡ reply r
     → Appends b c last → Wrote method (read ++ rest) a c h.replies (reply r ++ drop n rest) last
@@ -155,14 +145,6 @@ fed_shown method read old new next rest n a b c refused then_ r x h fed good is 
       unknown = refl;
       unfinished = subst (λ (s : ReplyFramerState). IsUnfinished s.held) e open_;
     })
-
-pub advanced_open : (old new : ReplyFramerState) (rest : List ℕ) (n : ℕ) → IsReady old → ReplyFed old new rest n → IsReady new → Advances old new (length rest) n
-advanced_open old new rest n ready f next = record {
-  count = fed_count Replies reply_part reply_place old new rest n f;
-  within = f.within;
-  some = some_fed Replies reply_part reply_place old new rest n ready.0 ready.1 f;
-  ready = next;
-}
 
 pub advanced : (old new next : ReplyFramerState) (rest : List ℕ) (n : ℕ) → IsReady old → ReplyFed old new rest n → next ≡ record { past = new.past + length new.held; held = []; fault = None } → IsUnfinished next.held → Advances old next (length rest) n
 advanced old new next rest n ready f e open_ =

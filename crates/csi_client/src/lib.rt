@@ -14,6 +14,11 @@
 //! send(&mut writer, &frame)?;
 //! let received = receive(alloc, &mut reader);
 //! ```
+//!
+//! # Not promised
+//!
+//! That a read or a write failed, or memory was refused, where an outcome says so. Rows of
+//! `tests/test_csictl_*.py` show it.
 #![tactic(auto)]
 
 mod again;

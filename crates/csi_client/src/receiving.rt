@@ -42,7 +42,7 @@ impl ReceivedReply {
         })
     }
 
-    /// The reply, lent.
+    /// The reply, by reference.
     pub fn as_reply(&self) -> Reply<'_>
         ensures { reply_bytes_of result ≡ reply_of self.now }
     {
@@ -99,7 +99,7 @@ fn gather<R: Read>(framer: &mut ReplyFramer, reader: &mut R) -> io::Result<()>
     unreachable!()
 }
 
-/// Reads the first reply of the input, and nothing behind the piece, of at most 4,096 bytes, in
+/// Reads the first reply of the input, and nothing after the piece, of at most 4,096 bytes, in
 /// which it ends. It makes at most 4,194,312 reads, as many as the longest reply has bytes.
 pub fn receive<R: Read>(alloc: Global, reader: &mut R) -> Received
     ensures { Receives (R.remaining reader.old) (R.remaining reader.new) result }

@@ -108,7 +108,7 @@ fn put_decoded(
 }
 
 /// Appends what the body of a reply says, as [`put_lines`](crate::put_lines) does, where the call
-/// was done (status 0) and its method is given; else nothing.
+/// was done (status 0) and its method is given; otherwise nothing.
 ///
 /// # Errors
 ///

@@ -62,14 +62,6 @@ each_same (k ∷ ks) js e = go (each_same ks) (key_of (capability_of k)) refl (e
 
 -- ---- what is read
 
--- bytes that say a message mean one
-pub is_meant : (bytes : List ℕ) (m : message.CreateVolume) → message_in bytes ≡ Some m → MeansMessage bytes
-is_meant bytes m is = go (read_request method.CreateVolume bytes) is
-  where
-    go : (r : Result Request ℕ) → created r ≡ Some m → IsOk r
-    go (Ok request) e = refl
-    go (Err at) e = absurd (cc)
-
 -- ---- what canonical bytes say
 
 itself : (bytes : List ℕ) → bytes_eq bytes bytes ≡ true

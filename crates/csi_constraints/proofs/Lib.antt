@@ -6,6 +6,6 @@ mod JoinLemmas
 mod NamedLemmas
 mod OrderLemmas
 mod RisingLemmas
-mod StreamLemmas
+mod ScanLemmas
 mod TableLemmas
 mod TextLemmas

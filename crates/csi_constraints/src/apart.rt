@@ -3,15 +3,15 @@
 ghost use Rattle.std.specs.Prelude.{◌≡◌, None, IfOk, IsSome, OnErr};
 ghost use Rattle.sqlite.specs.Order.{column};
 ghost use Rattle.csi_constraints.specs.Folds.{as_integer};
-ghost use Rattle.csi_constraints.specs.ScanFailing.{FailsForMemory};
+ghost use Rattle.csi_sql.specs.Folding.{FailsForMemory};
 ghost use Rattle.csi_constraints.specs.Apart.{AreCovered, DoNotFall, admits, apart_named, are_beside, is_written, last_attachment_at, covers};
 ghost use Rattle.csi_constraints.specs.facts.Starts.{none_covered};
 
 use crate::cells::integer_at;
-use crate::fold::Fold;
 use crate::joins::attached_at;
 use crate::named::{RowName, name_at};
 use csi_keeper::{Attachment, coexist};
+use csi_sql::Fold;
 use sqlite::{Error, Row};
 use std::alloc::Global;
 

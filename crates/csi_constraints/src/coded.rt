@@ -2,7 +2,7 @@
 
 ghost use Rattle.std.specs.Prelude.{◌≡◌, IfOk, IfSome, OnErr, ◌∷◌, []};
 ghost use Rattle.csi_tables.specs.Encoding.{FitCaps, FitParams};
-ghost use Rattle.csi_constraints.specs.ScanFailing.{FailsForMemory};
+ghost use Rattle.csi_sql.specs.Folding.{FailsForMemory};
 ghost use Rattle.csi_constraints.specs.Coded.{SaysMessage, has_cap, has_caps, has_params, key_at, keys_at, params_at};
 
 use crate::coding::{are_keys, are_params, key_in, keys_in, params_in};

@@ -7,7 +7,7 @@ ghost use Rattle.csi_types.specs.declared.method.Method.TheVariants.{CreateVolum
 ghost use Rattle.csi_codec.specs.Reading.{read_request};
 ghost use Rattle.csi_keeper.specs.Capability.{is_supported_key};
 ghost use Rattle.csi_tables.specs.Encoding.{caps_bytes, params_bytes, FitCaps, FitParams};
-ghost use Rattle.csi_constraints.specs.ScanFailing.{FailsForMemory};
+ghost use Rattle.csi_sql.specs.Folding.{FailsForMemory};
 ghost use Rattle.csi_constraints.specs.Values.{if_passes};
 ghost use Rattle.csi_constraints.specs.Coding.{MeansMessage, are_keys, are_params, is_small, each_key, is_before, key_in, keys_in, message_in, only, params_in, rise};
 

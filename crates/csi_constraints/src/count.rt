@@ -3,7 +3,7 @@
 ghost use Rattle.csi_constraints.specs.Folds.{CountsRows};
 ghost use Rattle.csi_constraints.specs.facts.Starts.{counts_none};
 
-use crate::fold::Fold;
+use csi_sql::Fold;
 use sqlite::{Error, Row};
 
 /// How many rows there are.

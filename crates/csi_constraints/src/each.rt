@@ -5,7 +5,7 @@ ghost use Rattle.std.specs.List.{AllZip};
 ghost use Rattle.csi_constraints.specs.Folds.{HasSome};
 ghost use Rattle.csi_constraints.specs.facts.Starts.{each_itself};
 
-use crate::fold::Fold;
+use csi_sql::Fold;
 use sqlite::{Error, Row};
 
 /// Folds of one type over the same rows, as one for each pool or for each node.

@@ -22,7 +22,7 @@ fn read_back()
     read_as_meant();
 }
 
-/// The constraints of a row of volumes are those of the volume that stands under the number.
+/// The constraints of a row of volumes are those of the volume with that number.
 pub fn volumes()
     ensures { (config : Config) (format next : ℕ) (e : ℕ × Volume) → VolumeAgrees config format next e }
 {
@@ -46,7 +46,7 @@ pub fn owners()
     read_back();
 }
 
-/// Two attachments are apart exactly where they are of one volume and cannot stand at two nodes.
+/// Two attachments are apart exactly where they are of one volume and cannot exist at two nodes.
 pub fn pairs()
     ensures { (e f : AttachmentKey × Attachment) → PairAgrees e f }
 {

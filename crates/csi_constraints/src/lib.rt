@@ -1,8 +1,8 @@
 //! The constraints that stored rows must meet, and the scans that test each row by them, in memory that does
 //! not grow with the number of rows.
 //!
-//! A scan is a query with a fixed text, and [`each_row`] hands the rows of its answer to a [`Fold`], one
-//! after the other. A fold is a relation between what it was, rows, and what it became (`folds`), which a row
+//! A scan is a query with a fixed text, and `csi_sql::each_row` hands the rows of its answer to a
+//! `csi_sql::Fold`, one after the other. A fold is a relation between what it was, rows, and what it became (`folds`), which a row
 //! more extends and no row leaves as it is. [`TextSum`] adds up over the rows of a text, [`RowCount`] counts
 //! them, [`Rising`] finds whether the integers of a column rise. A struct of folds that hands each row to all
 //! of its parts is a fold too, as [`FoldEach`] is of many of one type. So one scan judges a table by many
@@ -42,6 +42,11 @@
 //! };
 //! scan_volumes(&mut conn, &mut unsized_volume)?;
 //! ```
+//!
+//! # Not promised
+//!
+//! That a scan succeeds, what a fold is after an error, and how much memory a scan takes. Each
+//! part of the row of a scan, and the displayed texts, are shown by rows of `test_tables`.
 #![tactic(auto)]
 
 mod apart;
@@ -52,7 +57,6 @@ mod coded;
 mod coding;
 mod count;
 mod each;
-mod fold;
 mod joins;
 mod kinds;
 pub mod laws;
@@ -71,7 +75,6 @@ pub use cells::integer_at;
 pub use coded::{HasCap, HasCaps, HasParams};
 pub use count::RowCount;
 pub use each::FoldEach;
-pub use fold::{Fold, each_row};
 pub use kinds::{HasAttachmentKinds, HasVolumeKinds};
 pub use named::{FirstBroken, InfallibleTest, RowName};
 pub use owners::{FirstUnowned, KnownCaps};

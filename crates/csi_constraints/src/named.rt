@@ -4,13 +4,13 @@ ghost use Rattle.std.specs.Prelude.{◌≡◌, ◌⊎◌, false, None, IfOk, OnE
 ghost use Rattle.std.specs.Str.{is_utf8};
 ghost use Rattle.sqlite.specs.Order.{column};
 ghost use Rattle.csi_sql.specs.Cells.{as_text};
-ghost use Rattle.csi_constraints.specs.ScanFailing.{FailsForMemory};
+ghost use Rattle.csi_sql.specs.Folding.{FailsForMemory};
 ghost use Rattle.csi_constraints.specs.Named.{name_of};
 ghost use Rattle.csi_constraints.specs.Values.{if_passes};
 
 use crate::cells::{as_utf8, integer_at};
-use crate::fold::Fold;
 use crate::trial::{RowTest, RowTrial};
+use csi_sql::Fold;
 use csi_sql::values::text_at;
 use csi_types::Text;
 use sqlite::{Error, Row};

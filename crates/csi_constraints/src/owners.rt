@@ -3,7 +3,7 @@
 
 ghost use Rattle.std.specs.Prelude.{◌≡◌, None, Some, IfOk, OnOk};
 ghost use Rattle.csi_keeper.specs.Capability.{has_key};
-ghost use Rattle.csi_constraints.specs.ScanFailing.{FailsForMemory};
+ghost use Rattle.csi_sql.specs.Folding.{FailsForMemory};
 ghost use Rattle.csi_constraints.specs.Coding.{keys_in};
 ghost use Rattle.csi_constraints.specs.Joins.{is_owned};
 ghost use Rattle.csi_constraints.specs.Known.{AreCached, are_last, last_keys};
@@ -13,9 +13,9 @@ ghost use Rattle.csi_constraints.specs.facts.Starts.{still_found};
 
 use crate::coded::key_at;
 use crate::coding::keys_in;
-use crate::fold::Fold;
 use crate::named::{RowName, name_at};
 use csi_keeper::{CapKey, has_key};
+use csi_sql::Fold;
 use csi_sql::values::blob_at;
 use csi_types::Items;
 use sqlite::{Error, Row};
@@ -45,7 +45,7 @@ impl KnownCaps {
 /// The first attachment whose volume does not stand, or has not its capability (`scan_owners`).
 ///
 /// The keys of the caps that were read last are kept, and read again only where other caps come: once a
-/// volume, where its attachments come one after the other.
+/// volume, where its attachments follow one another.
 #[derive(Drop)]
 pub struct FirstUnowned {
     /// What holds the capabilities.

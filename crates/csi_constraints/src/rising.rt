@@ -1,11 +1,14 @@
 //! Integers that rise.
+//!
+//! A rowid that does not rise is a failure of the database. No clause of a connection rules it out, and a
+//! DELETE of an attachment goes by its rowid.
 
 ghost use Rattle.std.specs.Prelude.{◌≡◌};
 ghost use Rattle.csi_constraints.specs.Folds.{RisesOver, is_above};
 ghost use Rattle.csi_constraints.specs.facts.Starts.{rises_over_none};
 
 use crate::cells::integer_at;
-use crate::fold::Fold;
+use csi_sql::Fold;
 use sqlite::{Error, Row};
 
 fn is_above_last(last: Option<i64>, integer: i64) -> bool

@@ -1,23 +1,23 @@
 //! The scans: each a query with a fixed text over our tables.
 
-ghost use Rattle.std.specs.Prelude.{◌≡◌, IsPermutation, false, map};
+ghost use Rattle.std.specs.Prelude.{◌≡◌, IsPermutation, map};
 ghost use Rattle.sqlite.specs.Held.{state};
 ghost use Rattle.sqlite.specs.State.{HasCleanDisk};
 ghost use Rattle.csi_sql.specs.Rows.{seen_attachment, seen_meta, seen_volume};
 ghost use Rattle.csi_sql.specs.Tables.{schema as our_schema};
 ghost use Rattle.csi_constraints.specs.ScanFailing.{HasTooMany};
-ghost use Rattle.csi_constraints.specs.Scans.{FoldsOver, IsInOrder, keyed_attachment, owners};
+ghost use Rattle.csi_sql.specs.Folding.{FoldsOver};
+ghost use Rattle.csi_constraints.specs.Scans.{IsInOrder, keyed_attachment, owners};
 
-use crate::fold::{Fold, each_row};
-use sqlite::{Alter, Connection, Error};
+use csi_sql::{Fold, IdleConnection, each_row};
+use sqlite::{Alter, Error};
 
 /// Folds each row of meta: `k`, `format_no` and `next_number`.
 ///
 /// # Errors
 ///
 /// Where the rows cannot be read, and what the fold answers.
-pub fn scan_meta<S: Alter, F: Fold>(conn: &mut Connection<S>, fold: &mut F) -> Result<(), Error>
-    requires idle { conn.old.in_transaction ≡ false }
+pub fn scan_meta<S: Alter, F: Fold>(conn: &mut IdleConnection<S>, fold: &mut F) -> Result<(), Error>
     requires ours { HasCleanDisk (state S.Store conn.old) → conn.old.schema ≡ our_schema }
     ensures { FoldsOver S.Store conn.old conn.new F.folds fold.old fold.new
         (IsPermutation (map seen_meta ((state S.Store conn.old).now.trees 0)))
@@ -31,8 +31,10 @@ pub fn scan_meta<S: Alter, F: Fold>(conn: &mut Connection<S>, fold: &mut F) -> R
 /// # Errors
 ///
 /// Where the rows cannot be read, and what the fold answers.
-pub fn scan_volumes<S: Alter, F: Fold>(conn: &mut Connection<S>, fold: &mut F) -> Result<(), Error>
-    requires idle { conn.old.in_transaction ≡ false }
+pub fn scan_volumes<S: Alter, F: Fold>(
+    conn: &mut IdleConnection<S>,
+    fold: &mut F,
+) -> Result<(), Error>
     requires ours { HasCleanDisk (state S.Store conn.old) → conn.old.schema ≡ our_schema }
     ensures { FoldsOver S.Store conn.old conn.new F.folds fold.old fold.new
         (IsInOrder (map seen_volume ((state S.Store conn.old).now.trees 1)))
@@ -52,10 +54,9 @@ pub fn scan_volumes<S: Alter, F: Fold>(conn: &mut Connection<S>, fold: &mut F) -
 ///
 /// Where the rows cannot be read, and what the fold answers.
 pub fn scan_attachments<S: Alter, F: Fold>(
-    conn: &mut Connection<S>,
+    conn: &mut IdleConnection<S>,
     fold: &mut F,
 ) -> Result<(), Error>
-    requires idle { conn.old.in_transaction ≡ false }
     requires ours { HasCleanDisk (state S.Store conn.old) → conn.old.schema ≡ our_schema }
     ensures { FoldsOver S.Store conn.old conn.new F.folds fold.old fold.new
         (IsInOrder (map keyed_attachment ((state S.Store conn.old).now.trees 3)))
@@ -74,8 +75,10 @@ pub fn scan_attachments<S: Alter, F: Fold>(
 /// # Errors
 ///
 /// Where the rows cannot be read, and what the fold answers.
-pub fn scan_owners<S: Alter, F: Fold>(conn: &mut Connection<S>, fold: &mut F) -> Result<(), Error>
-    requires idle { conn.old.in_transaction ≡ false }
+pub fn scan_owners<S: Alter, F: Fold>(
+    conn: &mut IdleConnection<S>,
+    fold: &mut F,
+) -> Result<(), Error>
     requires ours { HasCleanDisk (state S.Store conn.old) → conn.old.schema ≡ our_schema }
     ensures { FoldsOver S.Store conn.old conn.new F.folds fold.old fold.new
         (IsInOrder (owners ((state S.Store conn.old).now.trees 3) ((state S.Store conn.old).now.trees 1)))
@@ -94,8 +97,10 @@ pub fn scan_owners<S: Alter, F: Fold>(conn: &mut Connection<S>, fold: &mut F) ->
 /// # Errors
 ///
 /// Where the rows cannot be read, and what the fold answers.
-pub fn scan_places<S: Alter, F: Fold>(conn: &mut Connection<S>, fold: &mut F) -> Result<(), Error>
-    requires idle { conn.old.in_transaction ≡ false }
+pub fn scan_places<S: Alter, F: Fold>(
+    conn: &mut IdleConnection<S>,
+    fold: &mut F,
+) -> Result<(), Error>
     requires ours { HasCleanDisk (state S.Store conn.old) → conn.old.schema ≡ our_schema }
     ensures { FoldsOver S.Store conn.old conn.new F.folds fold.old fold.new
         (IsInOrder (map seen_attachment ((state S.Store conn.old).now.trees 3)))

@@ -6,7 +6,7 @@ ghost use Rattle.std.specs.Cmp.Lexicographic.{slice_cmp};
 ghost use Rattle.sqlite.specs.Order.{column};
 ghost use Rattle.csi_constraints.specs.Folds.{is_text, weight_of};
 
-use crate::fold::Fold;
+use csi_sql::Fold;
 use csi_sql::values::{number_at, text_at};
 use sqlite::{Error, Row};
 use std::cmp::Ordering;

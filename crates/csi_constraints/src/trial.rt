@@ -2,7 +2,7 @@
 
 ghost use Rattle.std.specs.Prelude.{◌≡◌, Bool, IfOk, IsTrue, OnErr};
 ghost use Rattle.sqlite.specs.Order.{Row as Values};
-ghost use Rattle.csi_constraints.specs.ScanFailing.{FailsForMemory};
+ghost use Rattle.csi_sql.specs.Folding.{FailsForMemory};
 
 use sqlite::{Error, Row};
 

@@ -90,7 +90,7 @@ in_trees db s sound (inr it) = inr (subst (λ q. IsSound q db.trees) it.0 sound,
 
 -- what the laws of the machine say of a run over tables: what a stop may leave of it, and that the invariant is kept
 pub record RunLaws {D : Type 0} (g : Ghosts D) (config : Config) : Type 0 where
-  pub left : (old new : Tables (FileStore D g) over_files) (s : State) (events : List Event)
+  pub left : (old new : Tables (FileStore D g)) (s : State) (events : List Event)
       → Runs (volumes config) (seen config (tables_model over_files old)) (seen config (tables_model over_files new)) s events
       → ((t : State) → (tables_model over_files old).survivors t → t ≡ s)
       → (t : State) → (tables_model over_files new).survivors t → (t ≡ state_after (volumes config) s events) ⊎ IsPending config s events t
@@ -113,13 +113,13 @@ module _ {D : Type 0} (g : Ghosts D) where
 
   module _ (stays : SeenMayStay g) (one : OneState) (config : Config) (laws : RunLaws g config) (was : Image) (conn : Held (FileStore D g)) (opened : HasCleanDisk (file_state conn) → IsOpened conn)
       (found : HasCleanDisk (file_state conn) → FindsIn was (file_state conn)) where
-    abbrev model_of : Tables (FileStore D g) over_files → Model State
+    abbrev model_of : Tables (FileStore D g) → Model State
     model_of t = tables_model over_files t
 
     start : HasCleanDisk (file_state conn) → (s : State) → HasState was s → IsStateOf (file_state conn).committed s
     start clean s has = finds_state was s conn has (opened clean) (found clean)
 
-    module _ (t : Tables (FileStore D g) over_files) (it : IsAdopted over_files config conn t) (z : (model_of t).doubt ≡ 0) (s : State) (state_is : IsStateOf (file_state conn).committed s) where
+    module _ (t : Tables (FileStore D g)) (it : IsAdopted over_files config conn t) (z : (model_of t).doubt ≡ 0) (s : State) (state_is : IsStateOf (file_state conn).committed s) where
       holds_it : (model_of t).holds s × IsInvariant config s
       holds_it = let held = it.held z in subst (λ u. (model_of t).holds u × IsInvariant config u) (one_state_of one (file_state conn).committed held.0 s held.1 state_is) (held.3, held.2)
 

@@ -128,9 +128,6 @@ module _ {D : Type 0} (g : Ghosts D) (before mid : Files D) (log : OnlyReads g b
   as_before : (after : Files D) → AreAsBefore g mid after → AreAsBefore g before after
   as_before after it = record { seen = it.seen ∙ same_image; crash = λ left may. looked_at.crash left (it.crash left may) }
 
-  pub only_looked : IsNotLaidOut g before mid
-  only_looked = record { clean = looked_clean; kept = λ _ _. looked_at; crash = λ _ _ left may. inl (looked_at.crash left may) }
-
   pub looked_first : (after : Files D) → IsLaidOut g mid after → IsLaidOut g before after
   looked_first after it = record {
     clean = λ clean. looked_clean (it.clean clean);

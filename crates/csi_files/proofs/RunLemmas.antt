@@ -118,9 +118,3 @@ pub counted_uncopied : (config : Config) (first mid last : Model State) (served 
     → IsQuiet first mid → IsWhy first mid fault.NoMemory → ServesWith config mid last served unread left held holds → ServesFrom config first last served unread left held holds
 counted_uncopied config first mid last served unread left held holds none up quiet why it =
     counted_from config first mid last served unread left held holds quiet up (λ z s has invariant. why.count z config s has invariant ∙ none) it
-
--- a keeper that is not down and was not copied refused a read, where memory was not wanting
-pub only_refused : (first mid : Model State) (why : StoreFault) → first.is_down ≡ false → IsWhy first mid why → why ≢ fault.NoMemory → why ≡ fault.Refused
-only_refused first mid fault.NoMemory up it other = absurd (other refl)
-only_refused first mid fault.Refused up it other = refl
-only_refused first mid fault.Down up it other = absurd (true≢false (sym (it.down.0 refl) ∙ up))

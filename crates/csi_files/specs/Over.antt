@@ -37,17 +37,17 @@ pub record ServesFrom (config : Config) (first last : Model State) (served : Ser
 module _ {S : Type 0} (g : Ghosts S) (config : Config) (conn : Held S) where
   -- tables were adopted on a connection, and calls served over them
   pub record ServesOver (back : Held S) (served : Served) (unread left held holds : Option (List ℕ)) : Type 0 where
-    pub first : Tables S g
+    pub first : Tables S
     pub adopted : IsAdopted g config conn first
-    pub last : Tables S g
+    pub last : Tables S
     pub run : ServesFrom config (tables_model g first) (tables_model g last) served unread left held holds
     pub back_is : back ≡ connection_of g last
 
   -- tables were adopted on a connection, and read
   pub record IsRead (back : Held S) : Type 0 where
-    pub first : Tables S g
+    pub first : Tables S
     pub adopted : IsAdopted g config conn first
-    pub last : Tables S g
+    pub last : Tables S
     pub quiet : IsQuiet (tables_model g first) (tables_model g last)
     pub back_is : back ≡ connection_of g last
 

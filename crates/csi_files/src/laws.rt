@@ -16,7 +16,7 @@ pub fn found_again<D: Disk>(config: &Config)
     one_state();
 }
 
-/// A run of [`serve_made`](crate::serve_made) over two files, whichever of its ends it comes to, is a run of
+/// A run of [`serve_made`](crate::serve_made) over two files, whichever of its ends it has, is a run of
 /// a life of these files: a first one too, over files that hold no database yet. What is said is of each
 /// outcome of a crash after the run.
 ///

@@ -17,18 +17,21 @@ use csi_memory::MemKeeper;
 use csi_server::{RunEnd, serve};
 use csi_tables::Tables;
 use csi_through::{KeeperChanges, NotCopied, Through};
-use sqlite::{Alter, Connection};
+use sqlite::{Alter, Connection, Error};
 use sqlite_schema::schema::Schema;
 use std::alloc::Global;
 use std::io::{Read, Write};
 
-/// Is told what is done before the first call is answered.
+/// Is told what is done before the first call is answered, and why calls were refused after the last one.
 pub trait Observer {
     /// The database had no table, and new ones were made.
     fn made(&self);
 
     /// There was no memory for a copy of the volumes: each read is answered from the file.
     fn uncopied(&self);
+
+    /// The database refused a call, and this is what it answered the first time, as that the disk is full.
+    fn refused(&self, cause: &Error);
 }
 
 /// How calls are served over tables.
@@ -244,7 +247,12 @@ pub(crate) fn serve_over<S: Alter + Drop, O: Observer, R: Read, W: Write>(
     match serve_tables(
         alloc, config, tables, options, is_new, observer, reader, writer,
     ) {
-        Ok((served, tables)) => Ok((served, tables.into_connection())),
+        Ok((served, tables)) => {
+            if let Some(cause) = tables.cause() {
+                observer.refused(&cause);
+            }
+            Ok((served, tables.into_connection()))
+        }
         Err(NotCopied { fault, keeper }) => {
             Err(Unserved::NotCopied(fault, keeper.into_connection()))
         }

@@ -76,6 +76,10 @@ fn opening(rt: &HostRuntime) -> Result<Options, Error>
 /// # Errors
 ///
 /// As of [`serve_made`]; also where the operating system does not give the files. No call is read then.
+///
+/// # Not promised
+///
+/// What a program and its sockets do around the run.
 pub fn serve_path<S: Start, O: Observer, R: Read, W: Write>(
     rt: &HostRuntime,
     config: &Config,

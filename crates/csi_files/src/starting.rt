@@ -92,6 +92,16 @@ pub(crate) fn open_made<D: Disk + Drop>(
 /// nothing is read or written. `Left`, where the store refused a call, and `NotClosed`, where the close
 /// failed: the run is as said above, and what is left has the State after the calls, or the one that a
 /// refused call would have made.
+///
+/// # Not promised
+///
+/// That the disk returns what was written. That memory is there, and so that a run answers `Ok`:
+/// tests rule out a body that always answers `NotOpened`. That a run is copied unless it is not to
+/// be or memory was refused.
+///
+/// What a stop leaves of the repair of a file in which an earlier release was stopped, and that a
+/// file that was left half made is never refused for its WAL: rows show both. After `NotClosed`
+/// the State is said of the trees that the store reads and not of bytes.
 pub fn serve_made<D: Disk + Drop, O: Observer, R: Read, W: Write>(
     alloc: Global,
     config: &Config,

@@ -99,6 +99,7 @@ changed s (DetachAll n) = record s { attachments = retain_keys s.attachments (λ
 changed s (SetMutable n m) = record s { volumes = mutable_set s.volumes n m (get s.volumes n) }
 
 -- what the State has to be for a change: a premise of the promise
+-- (that no volume has the number follows from the invariant, which a keeper does not know)
 abbrev pub Allows : State → Change → Type 0
 Allows s (AddVolume v) = (v.number ≡ s.next) × (get s.volumes v.number ≡ None) × (named s v.name ≡ None)
 Allows s (RemoveVolume n) = attached s n ≡ []

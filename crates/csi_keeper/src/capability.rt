@@ -122,7 +122,7 @@ fn wider_mode(mode: u8) -> Option<u8>
     }
 }
 
-/// The kind of a key with the wider mode, if there is one: whoever has that has the key too.
+/// The kind of a key with the wider mode, if there is one: one that has it has the key too.
 pub fn wider_key(key: CapKey) -> Option<CapKey>
     ensures { result ≡ wider_key key }
 {
@@ -165,7 +165,7 @@ pub fn has_key(keys: &[CapKey], key: &CapKey) -> bool
 }
 
 /// Whether a volume can be made for the key: block with each known mode, mount with those in which
-/// no node writes beside others (CSI specification, 'CreateVolume').
+/// no node writes while others have the volume (CSI specification, 'CreateVolume').
 pub fn supported(key: &CapKey) -> bool
     ensures { result ≡ is_supported_key key.now }
 {

@@ -12,7 +12,7 @@ fn is_shared(mode: u8, readonly: bool) -> bool
     mode == 3 || mode == 5 || (mode == 4 && readonly)
 }
 
-/// Whether two attachments of one volume, at two nodes, can stand beside one another (CSI
+/// Whether two attachments of one volume, at two nodes, can exist together (CSI
 /// specification, 'CreateVolume', `VolumeCapability.AccessMode`): their modes are equal and are
 /// `MULTI_NODE_READER_ONLY` or `MULTI_NODE_MULTI_WRITER`, or `MULTI_NODE_SINGLE_WRITER` where at
 /// least one of the two is only read.

@@ -30,6 +30,13 @@ use std::alloc::Global;
 ///
 /// Any call but `refusals` may be answered `NoMemory` or `Refused`; the State stays then. What is
 /// answered belongs to the caller.
+///
+/// # Not promised
+///
+/// That a call succeeds where memory is there, that memory was refused where a call is answered
+/// so, and what calls cost. What a change does that the State does not allow. That what a keeper
+/// holds is a State at all: new keepers have one, each change keeps one, and over a file with rows
+/// `csi_adoption::adopt` shows it.
 pub trait Keeper {
     // What contracts see of it.
     ghost model: { Self → Model State };
@@ -44,15 +51,15 @@ pub trait Keeper {
     fn next_number(&mut self) -> Result<u64, StoreFault>
         ensures { Reads (model self.old) (model self.new) result (λ s n. n ≡ s.next) };
 
-    /// The volume that stands under a name, byte for byte; `None` where there is none.
+    /// The volume of a name, byte for byte; `None` where there is none.
     fn by_name(&mut self, alloc: Global, name: &str) -> Result<Option<Volume>, StoreFault>
         ensures { Reads (model self.old) (model self.new) result (λ s v. v ≡ named s name.now) };
 
-    /// The volume of a number; `None` where none stands.
+    /// The volume of a number; `None` where there is none.
     fn by_number(&mut self, alloc: Global, number: u64) -> Result<Option<Volume>, StoreFault>
         ensures { Reads (model self.old) (model self.new) result (λ s v. v ≡ get s.volumes number) };
 
-    /// The capability keys of the volume of a number; `None` where none stands. It costs no more than
+    /// The capability keys of the volume of a number; `None` where there is none. It costs no more than
     /// `by_number`, and less where a keeper need not copy the rest of the volume.
     fn caps_of(&mut self, alloc: Global, number: u64) -> Result<Option<Items<CapKey>>, StoreFault>
         ensures { Reads (model self.old) (model self.new) result
@@ -140,8 +147,8 @@ pub trait Keeper {
         Ok(listed_each(alloc, volumes.as_slice(), nodes)?)
     }
 
-    /// Folds what `listing` tells, volume by volume. It costs no more, and less where a keeper has no need of
-    /// the list.
+    /// Folds what `listing` reports, volume by volume. It costs no more, and less where a keeper has no need
+    /// of the list.
     ///
     /// After an error the fold has taken some of the volumes.
     fn fold_page<F: PageFold>(
@@ -159,7 +166,7 @@ pub trait Keeper {
         Ok(fold_listed(listed.as_slice(), fold)?)
     }
 
-    /// Makes a change, which the State has to allow: the items of `Change` say when it does. A
+    /// Makes a change, which the State must allow: the items of `Change` say when it does. A
     /// volume that is added has a number below 2^62, at most 2^62 bytes, and capabilities in order
     /// and without doubles.
     ///

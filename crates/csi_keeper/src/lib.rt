@@ -38,7 +38,7 @@ pub use coexistence::coexist;
 pub use copies::{copy_attachment, copy_key, copy_keys, copy_volume};
 pub use health::Health;
 pub use keeper::Keeper;
-pub use listed::{Listed, ListedRow, PageWithNodes, lent_at, listed_at, listed_each};
+pub use listed::{Listed, ListedRow, PageWithNodes, listed_at, listed_each};
 pub use page::{PageFold, fold_listed};
 pub use totals::{Total, Totals};
 pub use volume::{Attachment, Volume};

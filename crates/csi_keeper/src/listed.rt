@@ -21,7 +21,7 @@ pub struct Listed {
 }
 
 impl Listed {
-    /// The same, lent.
+    /// The same, by reference.
     #[inline(always)]
     pub fn lent(&self) -> ListedRow<'_>
         ensures { row_told result ≡ self.now }
@@ -57,7 +57,7 @@ pub struct PageWithNodes {
     pub nodes: Items<Items<Text>>,
 }
 
-/// What is told of a volume that is published at these nodes.
+/// What is reported of a volume that is published at these nodes.
 ///
 /// # Errors
 ///
@@ -74,20 +74,7 @@ pub fn listed_at(alloc: Global, volume: &Volume, nodes: Items<Text>) -> Result<L
     })
 }
 
-/// The same, lent.
-#[inline(always)]
-pub fn lent_at<'a>(volume: &'a Volume, nodes: &'a Items<Text>) -> ListedRow<'a>
-    ensures { row_told result ≡ listed_at volume.now nodes.now }
-{
-    ListedRow {
-        number: volume.number,
-        bytes: volume.bytes,
-        pool: &volume.pool,
-        nodes,
-    }
-}
-
-/// What is told of volumes and the nodes of each, of as many as there are of both.
+/// What is reported of volumes and the nodes of each, of as many as there are of both.
 ///
 /// # Errors
 ///

@@ -15,7 +15,7 @@ pub trait PageFold {
     /// What stays of a fold also where it fails.
     ghost keeps: { Self → Self → Type 0 };
 
-    /// Takes what is told of the next volume.
+    /// Takes what is reported of the next volume.
     ///
     /// # Errors
     ///
@@ -32,7 +32,7 @@ pub trait PageFold {
     ghost stays: { (fold : Self) → keeps fold fold };
 }
 
-/// Folds what is told of volumes.
+/// Folds what is reported of volumes.
 ///
 /// # Errors
 ///

@@ -95,6 +95,11 @@ fn append_creation<K: Keeper>(
 ///
 /// What the keeper answers, or want of memory for the body. The State is as before, and so is
 /// `out`, as it is after anything but [`Verdict::Done`]; a stop may then leave the change made.
+///
+/// # Not promised
+///
+/// That the keeper or memory does not fail, and how long an answer takes. A request that was
+/// answered with a fault may have been made after all: a stop may leave its change.
 #[inline(always)]
 pub fn append_answer<K: Keeper>(
     alloc: Global,

@@ -59,6 +59,12 @@ pub fn kept(config: &Config)
 /// requests that pass the checks of their arguments come anywhere. No page is refused for its token;
 /// what is listed stood at its page; nothing is listed twice; and what stood at each page of a walk
 /// that came to its end is listed.
+///
+/// # Not promised
+///
+/// That a walk ends while others add volumes, and that its pages show one moment. A page whose
+/// body no reply holds is refused and is no page of the walk: it is asked for again with its token
+/// and fewer entries.
 #[inline(always)]
 pub fn walk(config: &Config)
     ensures read { (s : State) (calls : List Call) → IsInvariant config.now s → AreChecked calls

@@ -13,7 +13,6 @@ use csi_codec::{ListedEntry, encode_entry};
 use csi_config::Config;
 use csi_keeper::{ListedRow, PageFold};
 use csi_rules::{ID_PREFIX, signed};
-use itoa::Buffer;
 use std::alloc::{AllocError, Global};
 
 // Appends the entry of a volume of this place.
@@ -28,11 +27,10 @@ fn put_placed(
         (response.List (entry_at config (row_told row.now) ∷ []) [])) }
     ensures kept { Keeps out.old.items out.new.items }
 {
-    let mut buffer = Buffer::new();
     let entry = ListedEntry {
         bytes: signed(row.bytes),
         prefix: ID_PREFIX,
-        suffix: buffer.format(row.number),
+        number: row.number,
         placement: &place.placement,
         nodes: row.nodes,
     };

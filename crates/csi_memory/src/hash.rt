@@ -7,6 +7,7 @@ ghost use Rattle.csi_memory.specs.Hashing.{hashed, name_hash, word_hashed};
 const MULTIPLIER: u64 = 0x9e37_79b9_7f4a_7c15;
 
 // The hash after one word more.
+// It is one-to-one in the word, so names of one length that differ in one word only never meet.
 #[inline(always)]
 fn hash_word(hash: u64, word: u64) -> u64
     ensures { result ≡ word_hashed hash word }

@@ -76,6 +76,10 @@ impl MemKeeper {
     /// # Errors
     ///
     /// Where memory is refused. The volumes stay.
+    ///
+    /// # Not promised
+    ///
+    /// After want of memory the next number may have risen to that of the volume.
     pub fn restore(&mut self, alloc: Global, volume: Volume) -> Result<(), AllocError>
         requires number { volume.number < 2 ^ 62 }
         requires bytes { volume.bytes ≤ 2 ^ 62 }

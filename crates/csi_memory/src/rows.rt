@@ -23,6 +23,7 @@ use csi_types::{Items, Text};
 use std::alloc::{AllocError, AllocFailed, Global};
 use std::collections::BTreeMap;
 use std::collections::btree_map::Range;
+use std::mem::replace;
 use std::ops::Bound;
 
 /// A copy of the volume of a number.
@@ -148,7 +149,8 @@ pub(crate) fn nodes_after(
         if nodes.len() >= count as usize {
             return Ok(nodes);
         }
-        nodes.push(walk.nodes_of(alloc, attachments, *number)?)?;
+        walk.go_to(alloc, attachments, *number)?;
+        nodes.push(replace(&mut walk.nodes, Items::new(alloc)))?;
     }
     Ok(nodes)
 }
@@ -177,8 +179,8 @@ pub(crate) fn fold_after<F: PageFold>(
             return Ok(());
         }
         left -= 1;
-        let nodes = walk.nodes_of(alloc, attachments, *number)?;
-        fold.add(&volume.listed_at(*number, &nodes))?;
+        walk.go_to(alloc, attachments, *number)?;
+        fold.add(&volume.listed_at(*number, &walk.nodes))?;
     }
     Ok(())
 }

@@ -10,6 +10,8 @@ use csi_types::{Items, Text};
 use std::alloc::{AllocError, Global};
 
 /// A volume without its number, which it is kept under.
+///
+/// A node of the tree has room for twice as many rows as it holds, so each byte here counts twice.
 #[derive(Drop)]
 pub(crate) struct StoredVolume {
     pub(crate) name: Text,

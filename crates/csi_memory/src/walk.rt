@@ -1,6 +1,6 @@
 //! A walk over the attachments in memory, beside one over the volumes.
 
-ghost use Rattle.std.specs.Prelude.{◌≡◌, IfOk};
+ghost use Rattle.std.specs.Prelude.{◌≡◌, [], OnOk};
 ghost use Rattle.csi_memory.specs.Memory.{nodes_in};
 ghost use Rattle.csi_memory.specs.Walking.{ahead, IsOver, TakesUpTo};
 
@@ -12,9 +12,9 @@ use std::collections::BTreeMap;
 use std::collections::btree_map::Range;
 use std::ops::Bound;
 
-/// A walk over the attachments in rising order, which is asked for the nodes of numbers that rise:
-/// each costs the attachments that it goes past, and takes no memory where it has none. For a number
-/// that does not rise they are looked for.
+/// A walk over the attachments in rising order, which goes to numbers that rise: each costs the attachments
+/// that it goes past, and takes no memory where it has none. For a number that does not rise they are looked
+/// for.
 #[derive(Drop)]
 pub(crate) struct Walk<'a> {
     // The attachment that is next, and those after it.
@@ -22,6 +22,8 @@ pub(crate) struct Walk<'a> {
     rest: Range<'a, (u64, Text), Attachment>,
     // Those of greater numbers are all ahead.
     passed: u64,
+    /// The nodes of the number that it went to last, in byte order.
+    pub(crate) nodes: Items<Text>,
 }
 
 /// A walk over the attachments of greater numbers.
@@ -39,14 +41,28 @@ pub(crate) fn walk_after(
         next: rest.next(),
         rest,
         passed: after,
+        nodes: Items::new(alloc),
     }
+}
+
+// Leaves no nodes.
+#[inline(always)]
+fn clear(alloc: Global, nodes: &mut Items<Text>)
+    ensures { nodes.new ≡ [] }
+{
+    if nodes.is_empty() {
+        return;
+    }
+    *nodes = Items::new(alloc);
 }
 
 impl<'a> Walk<'a> {
     // Takes the next attachment, unless its number is greater.
+    #[inline(always)]
     fn next_up_to(&mut self, number: u64) -> Option<(&'a (u64, Text), &'a Attachment)>
         ensures takes { TakesUpTo number (ahead self.old) result (ahead self.new) }
         ensures passed { self.new.passed ≡ self.old.passed }
+        ensures nodes { self.new.nodes ≡ self.old.nodes }
     {
         match self.next {
             Some((place, attachment)) if place.0 <= number => {
@@ -57,26 +73,27 @@ impl<'a> Walk<'a> {
         }
     }
 
-    /// The nodes of the attachments of a number, in byte order.
+    /// Goes to a number: its nodes are those of the number's attachments.
     #[inline(always)]
-    pub(crate) fn nodes_of(
+    pub(crate) fn go_to(
         &mut self,
         alloc: Global,
         attachments: &BTreeMap<(u64, Text), Attachment>,
         number: u64,
-    ) -> Result<Items<Text>, AllocError>
+    ) -> Result<(), AllocError>
         requires { IsOver attachments.now.entries self.old }
-        ensures nodes { IfOk result (λ xs. xs ≡ nodes_in attachments.now.entries number) }
+        ensures nodes { OnOk result (self.new.nodes ≡ nodes_in attachments.now.entries number) }
         ensures over { IsOver attachments.now.entries self.new }
     {
         if number <= self.passed {
-            return nodes_of(alloc, attachments, number);
+            self.nodes = nodes_of(alloc, attachments, number)?;
+            return Ok(());
         }
         self.passed = number;
-        let mut nodes = Items::new(alloc);
+        clear(alloc, &mut self.nodes);
         while let Some((place, attachment)) = self.next_up_to(number) {
-            push_node(alloc, &mut nodes, number, place, attachment)?;
+            push_node(alloc, &mut self.nodes, number, place, attachment)?;
         }
-        Ok(nodes)
+        Ok(())
     }
 }

@@ -147,7 +147,7 @@ fn pool_by<'a>(
     pool_requisite(alloc, rooms, wanted.requisite.as_slice(), size)
 }
 
-/// The pool from which a volume of this size is made: of the first term, in the order of
+/// The pool that a volume of this size is made in: of the first term, in the order of
 /// preference, for which a pool serves it and has room, the first such pool.
 pub fn choose<'a>(
     alloc: Global,

@@ -9,7 +9,7 @@ use csi_keeper::{CapKey, Keeper, StoreFault, Volume};
 use csi_types::{Items, Text};
 use std::alloc::Global;
 
-/// The volume of an id, with its number; `None` where none of that id stands. For a text that is no
+/// The volume of an id, with its number; `None` where there is none of that id. For a text that is no
 /// volume's id the keeper is not asked.
 ///
 /// # Errors
@@ -34,7 +34,7 @@ pub fn volume_of<K: Keeper>(
     }
 }
 
-/// The capability keys of the volume of an id, with its number; `None` where none of that id stands.
+/// The capability keys of the volume of an id, with its number; `None` where there is none of that id.
 /// For a text that is no volume's id the keeper is not asked.
 ///
 /// # Errors

@@ -150,6 +150,3 @@ consumes_none a b buf n e h = subst (λ (x : List ℕ). Consumes a b x) (ap (λ 
 
 pub consumes_same : (a b c : Option (List ℕ)) (read : List ℕ) → Consumes a b read → Consumes b c [] → Consumes a c read
 consumes_same a b c read h k = subst (λ (x : List ℕ). Consumes a c x) (append-nil read) (Consumes-trans a b c read [] h k)
-
-pub live_whole : {S : Type 0} (m : Machine S) (begin now : Model S) (s : S) (read piece : List ℕ) (n : ℕ) (fr : FramerState) (held holds : Option (List ℕ)) → n ≡ length piece → Live m begin now s (read ++ take n piece) fr held holds → Live m begin now s (read ++ piece) fr held holds
-live_whole m begin now s read piece n fr held holds e h = subst (λ (x : List ℕ). Live m begin now s (read ++ x) fr held holds) (take_all n piece (omega arith)) h

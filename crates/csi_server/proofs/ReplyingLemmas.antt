@@ -135,9 +135,6 @@ replying_more read old new next rest n call r held holds then_ h fed good is for
       written = subst (λ (x : List ℕ). Appends held then_ x) (sym (replies_push h.rs r)) (Appends-trans held holds then_ (flat_map reply h.rs) (reply r) h.written w);
     })
 
-pub replying_whole : (read piece : List ℕ) (n : ℕ) (s : FramerState) (held holds : Option (List ℕ)) → length piece ≤ n → Replying (read ++ take n piece) s held holds → Replying (read ++ piece) s held holds
-replying_whole read piece n s held holds few h = subst (λ (x : List ℕ). Replying (read ++ x) s held holds) (take_all n piece few) h
-
 -- what is so where it was put whole
 pub whole_put : {V E : Type 0} {P : Type 0} (put : Result V E) → OnOk put P → IsOk put → P
 whole_put (Ok v) all ok = all

@@ -63,7 +63,7 @@ pub fn formed_fault()
     decimal_is_text();
 }
 
-/// Each reply that the identity service has to any call, in a run or not, is one of the envelope's table.
+/// Each reply of the identity service to any call, in a run or not, is one of the envelope's table.
 pub fn formed_identity()
     ensures { (name version : List ℕ) (call : CallBytes) → length call.message ≤ MAX_MESSAGE_BYTES
         → IsReply ((identity name version).respond tt call).0 }
@@ -72,7 +72,7 @@ pub fn formed_identity()
     reading();
 }
 
-/// Each reply that the volume machine has to any call from any State, in a run or not, is one of the
+/// Each reply of the volume machine to any call from any State, in a run or not, is one of the
 /// envelope's table.
 pub fn formed_volumes()
     ensures { (config : AnyConfig) (s : MachineState) (call : CallBytes)
@@ -83,7 +83,7 @@ pub fn formed_volumes()
     reading();
 }
 
-/// From a State of the invariant a run of the volume machine, whatever its calls and marks, leaves one of the
+/// From a State of the invariant a run of the volume machine, with any calls and marks, leaves one of the
 /// invariant, and so is each State that [`pending`] says a stop may leave.
 pub fn kept(config: &Config)
     ensures run { (s : MachineState) (events : List Event) → IsInvariant config.now s
@@ -149,6 +149,15 @@ pub fn tries<K: Keeper>(config: &Config)
 /// calls a stop may end the session, which leaves what [`pending`] says. Calls that ask for nothing may come
 /// anywhere, from anyone. What the client hears of its requests, and each State that may be left in the end,
 /// are those of the requests taken once each.
+///
+/// # Not promised
+///
+/// That a request is ever answered, or that a start succeeds. What two clients hear whose requests
+/// come between each other's tries. That a new connection is over what the stop left: the law asks
+/// that of it.
+///
+/// A contract speaks of calls that returned. That a process which ends inside a call leaves what a
+/// disk leaves that fails from there on is shown by the rows of stops of `test_tables`.
 pub fn retry(config: &Config)
     ensures { (s t : MachineState) (requests : List Request) (sessions : List (List Exchange))
         (heard : List ReplyBytes) → IsInvariant config.now s

@@ -77,9 +77,22 @@ fn answer_piece<C, S: Service<C>, W: Write>(
 /// flushed as soon as its frame is whole, before the next frame is looked at. After a fault or a failed write
 /// nothing more is read. An interrupted read or write is a failure. Memory is taken for one buffer of frames
 /// at the start, and for the bodies of replies, in one buffer that is kept from call to call.
+/// That buffer is empty until the first body, so a refusal needs no memory, and want of it refuses that call.
 ///
 /// `serves` speaks of a service that is clean to its end, and `writes` of any: one reply of the envelope's
 /// table is written to each call.
+///
+/// # Not promised
+///
+/// That memory is there, that a read or a write succeeds, that a peer got what was written, and
+/// anything about time. A call may be refused for memory where memory was not refused: tests rule
+/// that out.
+///
+/// No clause knows the bytes of a reader or writer that does not report them, such as a socket; the
+/// body treats each alike, and tests of `csid` as a process compare what comes out. Rows of
+/// `test_bytes` show that a reply is flushed before the next frame is looked at, that no read is
+/// longer than 4,096 bytes, that none at all comes after a fault or a failed write, and that a
+/// read, write or flush that fails is not tried again.
 pub fn run_service<C, S: Service<C>, R: Read, W: Write>(
     alloc: Global,
     config: &C,

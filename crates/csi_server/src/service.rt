@@ -43,7 +43,7 @@ pub trait Service<C> {
         ensures room { HoldsBody result reply.new.items };
 }
 
-/// Empties `reply` and leaves room for a reply's head in it, behind which the body goes.
+/// Empties `reply` and leaves room for a reply's head in it, which the body follows.
 ///
 /// # Errors
 ///

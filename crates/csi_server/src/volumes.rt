@@ -107,7 +107,8 @@ impl<K: Keeper> Service<Config> for K {
 ///
 /// `writes` says without any premise what is written: one reply of the envelope's table to each call that was
 /// read. It also says that a fault or a failed write is the end of reading: no piece, of at most 4,096 bytes,
-/// is read after the one in which it shows.
+/// is read after the one in which it shows. So a fault is answered at once, also where the peer
+/// sends no more and keeps the connection open.
 pub fn serve<K: Keeper, R: Read, W: Write>(
     alloc: Global,
     config: &Config,

@@ -56,19 +56,3 @@ creates before text table it old new count has h =
 -- the three in turn, and no row is there yet
 pub has_no_row : {a b c d : Database} → Creates no_schema meta a b → Creates one_schema volumes b c → Creates two_schema attachments c d → HasNoRow d
 has_no_row one two three = (three.schema, three.others.0 ∙ two.others.0 ∙ one.empty, three.others.1.0 ∙ two.empty, three.empty)
-
--- the three in turn, and the first row
-pub makes_tables : (a b c d e : Database) → a.schema ≡ no_schema → (a.schema ≡ no_schema → Creates no_schema meta a b) → (b.schema ≡ one_schema → Creates one_schema volumes b c)
-    → (c.schema ≡ two_schema → Creates two_schema attachments c d) → (d.schema ≡ schema → AddsFirst d e) → MakesTables a e
-makes_tables a b c d e has one two three first =
-    let p = one has in
-    let q = two p.schema in
-    let none = has_no_row p q (three q.schema) in
-    let f = first none.0 in
-    record {
-      schema = f.schema ∙ none.0;
-      sound = f.sound;
-      meta = f.meta none.1;
-      volumes = f.volumes ∙ none.2;
-      attachments = f.attachments ∙ none.3;
-    }

@@ -13,6 +13,7 @@ mod ParamsLemmas
 mod ReadLemmas
 mod RefusingLemmas
 mod SelectLemmas
+mod StreamLemmas
 mod SureLemmas
 mod TablesLemmas
 mod TextLemmas

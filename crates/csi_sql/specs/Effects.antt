@@ -1,5 +1,5 @@
 -- What a change makes of the rows of the tables: meta is tree 0, volumes tree 1, attachments tree 3.
-use Rattle.std.specs.Prelude.{◌≡◌, ℕ, true, false, [], ◌∷◌, List, map, Result, IfOk, IsPermutation, IsTrue}
+use Rattle.std.specs.Prelude.{◌≡◌, ℕ, true, [], ◌∷◌, List, map, Result, IfOk, IsPermutation, IsTrue}
 use Rattle.std.specs.Ordering.{is_eq}
 use Rattle.sqlite.specs.declared.error.Error.{Error}
 use Rattle.sqlite.specs.Effect.{Database, IsDatabase}
@@ -14,7 +14,7 @@ use Rattle.csi_sql.specs.Failing.{FailsFrom, FailsOver}
 use Rattle.csi_sql.specs.Transactions.{StepsFrom, ChangesFrom, LeavesFrom, KeepsCommitted, LeavesNothingNew, IsUndone}
 use Rattle.csi_sql.specs.declared.formats.TheConstants.{LATEST_FORMAT}
 use Rattle.csi_sql.specs.Tables.{schema}
-use Rattle.csi_sql.specs.Rows.{number_value, bool_value, meta_row, volume_row, attachment_row, seen_meta, seen_volume, seen_attachment}
+use Rattle.csi_sql.specs.Rows.{meta_row, seen_meta, seen_attachment}
 
 -- ---- a statement, a transaction and a stop, under our schema
 
@@ -49,7 +49,6 @@ module _ {S : Type 0} (g : Ghosts S) (old new : Held S) where
   -- A call that only reads, in a transaction that is then undone: what it answers of the rows, and why it
   -- fails. A stop leaves what it could leave before.
   pub record ReadsOnly {X : Type 0} (What : Database → X → Type 0) (Refuses : State → Error → Type 0) (r : Result X Error) : Type 0 where
-    pub idle : new.in_transaction ≡ false
     pub ok : HasCleanDisk (state g new) → IfOk r (λ x. Reads (λ db. What db x) (state g old))
     pub undone : HasCleanDisk (state g new) → IsUndone (state g old) (state g new)
     pub failed : HasCleanDisk (state g new) → FailsOver schema Refuses (state g old) (state g new) r

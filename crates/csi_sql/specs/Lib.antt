@@ -2,6 +2,7 @@ pub mod Cells
 pub mod Deletes
 pub mod Effects
 pub mod Failing
+pub mod Folding
 pub mod Lent
 pub mod Making
 pub mod Ours

@@ -7,7 +7,7 @@ use Rattle.sqlite.specs.State.{State}
 use Rattle.sqlite.specs.declared.error.Error.{Error}
 use Rattle.sqlite.specs.declared.error.Error.TheVariants.{QueryReturnedNoRows}
 use Rattle.sqlite.specs.declared.types.Value.TheVariants.{Blob, Text}
-use Rattle.csi_sql.specs.Failing.{SqlRefuses, FailsFor, FailsOver, Unrefused}
+use Rattle.csi_sql.specs.Failing.{SqlRefuses, Unrefused}
 use Rattle.csi_sql.specs.Effects.{AddsVolume}
 use Rattle.csi_sql.specs.Rows.{number_value, seen_volume}
 use Rattle.csi_sql.specs.Tables.{schema}

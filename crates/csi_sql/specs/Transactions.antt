@@ -1,5 +1,5 @@
 -- What a statement, and a whole transaction, makes of a database under a schema.
-use Rattle.std.specs.Prelude.{◌≡◌, true, false, IsTrue, Result, OnErr, OnOk}
+use Rattle.std.specs.Prelude.{◌≡◌, true, IsTrue, Result, OnErr, OnOk}
 use Rattle.sqlite.specs.declared.error.Error.{Error}
 use Rattle.sqlite.specs.Effect.{Database}
 use Rattle.sqlite.specs.Held.{Held, state}
@@ -58,7 +58,6 @@ module _ {S : Type 0} (g : Ghosts S) (old new : Held S) where
   -- before, or the change.
   pub record CommitsOver {X : Type 0} (before : Schema) (Effect : Database → Database → Type 0) (Refuses : State → Error
       → Type 0) (r : Result X Error) : Type 0 where
-    pub idle : new.in_transaction ≡ false
     pub ok : HasCleanDisk (state g new) → OnOk r (ChangesFrom before Effect (state g old) (state g new))
     pub err : HasCleanDisk (state g new) → OnErr r (IsUndone (state g old) (state g new))
     pub failed : HasCleanDisk (state g new) → FailsOver before Refuses (state g old) (state g new) r

@@ -10,10 +10,12 @@
 //! - [`make_tables`] makes the tables in one transaction: whole, with the first row of meta, or not at all.
 //!   [`is_our_schema`] compares a schema with that of the tables, part by part (`specs/Ours.antt`): it looks
 //!   at no text of a CREATE, only at what it means.
+//! - [`IdleConnection`] is a connection on which no transaction is open. All that follows takes one.
 //! - [`changes`] has one transaction a change. After `Ok` it is made and committed, after an error the tables
 //!   are as they were; a stop leaves what it could leave before, or the tables after the change.
 //! - [`reads`] has a transaction a read, which is undone: it answers rows, leaves the tables, and adds
 //!   nothing to what a stop may leave. [`values`] has the cells of a row as numbers, truths, texts and bytes.
+//! - [`each_row`] hands the rows of a query to a [`Fold`], one after the other, and keeps none.
 //! - [`statements`] has the statements with fixed texts, a table a module, inside a transaction that the
 //!   caller ends. The SELECTs of rows are each a variant (`statements/select.rt`).
 //!
@@ -32,19 +34,30 @@
 //! if !is_our_schema(conn.schema()) {
 //!     make_tables(&mut conn)?;
 //! }
+//! let mut conn = IdleConnection::new(conn);
 //! changes::add_volume(&mut conn, 7, "pvc-7", 1 << 20, "p1", &caps, &params)?;
 //! let row = reads::by_number(&mut conn, 7)?;
 //! ```
+//!
+//! # Not promised
+//!
+//! That a statement succeeds; that memory was refused where an error says so, since a store may
+//! report want of memory at any time; which of the three faults of a disk it was; that a number, a
+//! name or a place that is taken is refused, which rows of `test_tables` show.
 #![tactic(auto)]
 
 pub mod changes;
+mod fold;
 mod formats;
+mod idle_connection;
 mod making;
 mod ours;
 pub mod reads;
 pub mod statements;
 pub mod values;
 
+pub use fold::{Fold, each_row};
 pub use formats::{FIRST_FORMAT, LATEST_FORMAT};
+pub use idle_connection::IdleConnection;
 pub use making::make_tables;
 pub use ours::is_our_schema;

@@ -60,8 +60,9 @@ fn create_tables<S: Alter>(tx: &mut Transaction<'_, S>) -> Result<(), Error>
 /// 1 as the next number, and all of it is committed. After an error nothing was made. A stop leaves what it
 /// could leave before, or the tables as they were made.
 pub fn make_tables<S: Alter>(conn: &mut Connection<S>) -> Result<(), Error>
-    requires idle { conn.old.in_transaction ≡ false }
-    ensures { CommitsOver S.Store conn.old conn.new no_schema MakesTables RefusesTables result }
+    requires { conn.old.in_transaction ≡ false }
+    ensures idle { conn.new.in_transaction ≡ false }
+    ensures makes { CommitsOver S.Store conn.old conn.new no_schema MakesTables RefusesTables result }
 {
     let mut tx = conn.transaction();
     create_tables(&mut tx)?;

@@ -1,10 +1,9 @@
 //! The reads, each in a transaction that is undone.
 //!
-//! Each asks that no transaction is open on the connection, and leaves it so. Numbers that are asked
-//! for are below 2^63. A row of a volume has the columns number, name, bytes, pool, caps and params.
-//! An error is the one of the statement that failed.
+//! Numbers that are asked for are below 2^63. A row of a volume has the columns number, name, bytes, pool,
+//! caps and params. An error is the one of the statement that failed.
 
-ghost use Rattle.std.specs.Prelude.{◌≡◌, ◌<◌, ◌^◌, [], ◌∷◌, false};
+ghost use Rattle.std.specs.Prelude.{◌≡◌, ◌<◌, ◌^◌, [], ◌∷◌};
 ghost use Rattle.sqlite.specs.declared.types.Value.TheVariants.{Text};
 ghost use Rattle.csi_sql.specs.Refusing.{HasNoNext, NothingRefuses};
 ghost use Rattle.csi_sql.specs.Effects.{ReadsOnly};
@@ -13,37 +12,35 @@ ghost use Rattle.csi_sql.specs.Selecting.{IsAsked, Tells};
 ghost use Rattle.csi_sql.specs.Shown.{IsFoundBy, IsNext, IsPage, IsPageWithNodes, IsShownOf, last_number};
 ghost use Rattle.csi_sql.specs.Statements.{attached_query, named_query, nodes_query, sizes_query, volume_query};
 
+use crate::idle_connection::IdleConnection;
 use crate::statements::meta::select_next;
 use crate::statements::select::{Select, select_rows};
 use crate::values::{first, number_at};
-use sqlite::{Alter, Connection, Error, Row};
+use sqlite::{Alter, Error, Row};
 
-/// The next number, in the one cell of the row, whatever the format is.
-pub fn next_number<S: Alter>(conn: &mut Connection<S>) -> Result<Row, Error>
-    requires idle { conn.old.in_transaction ≡ false }
+/// The next number, in the one cell of the row, of either format.
+pub fn next_number<S: Alter>(conn: &mut IdleConnection<S>) -> Result<Row, Error>
     ensures { ReadsOnly S.Store conn.old conn.new IsNext HasNoNext result }
 {
-    let mut tx = conn.transaction();
+    let mut tx = conn.0.transaction();
     let row = select_next(&mut tx)?;
     tx.rollback();
     Ok(row)
 }
 
-fn rows_of<S: Alter>(conn: &mut Connection<S>, read: &Select<'_>) -> Result<Vec<Row>, Error>
-    requires idle { conn.old.in_transaction ≡ false }
+fn rows_of<S: Alter>(conn: &mut IdleConnection<S>, read: &Select<'_>) -> Result<Vec<Row>, Error>
     requires asked { IsAsked read.now }
     ensures { ReadsOnly S.Store conn.old conn.new
         (λ db rows. Tells read.now db rows.items) NothingRefuses result }
 {
-    let mut tx = conn.transaction();
+    let mut tx = conn.0.transaction();
     let rows = select_rows(&mut tx, read)?;
     tx.rollback();
     Ok(rows)
 }
 
-/// The volume of a number; `None` where none stands.
-pub fn by_number<S: Alter>(conn: &mut Connection<S>, volume: u64) -> Result<Option<Row>, Error>
-    requires idle { conn.old.in_transaction ≡ false }
+/// The volume of a number; `None` where there is none.
+pub fn by_number<S: Alter>(conn: &mut IdleConnection<S>, volume: u64) -> Result<Option<Row>, Error>
     requires volume { volume < 2 ^ 63 }
     ensures { ReadsOnly S.Store conn.old conn.new
         (λ db found. IsFoundBy volume_query (db.trees 1)
@@ -53,9 +50,8 @@ pub fn by_number<S: Alter>(conn: &mut Connection<S>, volume: u64) -> Result<Opti
     Ok(first(rows))
 }
 
-/// The volume of a name, byte for byte; `None` where none stands.
-pub fn by_name<S: Alter>(conn: &mut Connection<S>, name: &str) -> Result<Option<Row>, Error>
-    requires idle { conn.old.in_transaction ≡ false }
+/// The volume of a name, byte for byte; `None` where there is none.
+pub fn by_name<S: Alter>(conn: &mut IdleConnection<S>, name: &str) -> Result<Option<Row>, Error>
     ensures { ReadsOnly S.Store conn.old conn.new
         (λ db found. IsFoundBy named_query (db.trees 1) (Text name.now ∷ []) found) NothingRefuses result }
 {
@@ -65,8 +61,7 @@ pub fn by_name<S: Alter>(conn: &mut Connection<S>, name: &str) -> Result<Option<
 
 /// The node, the capability and the flag readonly of each attachment of a volume, in byte order of
 /// the nodes.
-pub fn attachments<S: Alter>(conn: &mut Connection<S>, volume: u64) -> Result<Vec<Row>, Error>
-    requires idle { conn.old.in_transaction ≡ false }
+pub fn attachments<S: Alter>(conn: &mut IdleConnection<S>, volume: u64) -> Result<Vec<Row>, Error>
     requires volume { volume < 2 ^ 63 }
     ensures { ReadsOnly S.Store conn.old conn.new
         (λ db rows. IsShownOf nodes_query (db.trees 3)
@@ -76,8 +71,7 @@ pub fn attachments<S: Alter>(conn: &mut Connection<S>, volume: u64) -> Result<Ve
 }
 
 /// The number of each volume that is attached at a node, in rising order.
-pub fn attached_at<S: Alter>(conn: &mut Connection<S>, node: &str) -> Result<Vec<Row>, Error>
-    requires idle { conn.old.in_transaction ≡ false }
+pub fn attached_at<S: Alter>(conn: &mut IdleConnection<S>, node: &str) -> Result<Vec<Row>, Error>
     ensures { ReadsOnly S.Store conn.old conn.new
         (λ db rows. IsShownOf attached_query (db.trees 3)
         (Text node.now ∷ []) rows.items) NothingRefuses result }
@@ -86,8 +80,7 @@ pub fn attached_at<S: Alter>(conn: &mut Connection<S>, node: &str) -> Result<Vec
 }
 
 /// The bytes of each volume of a pool, in rising order of their numbers.
-pub fn sizes_in<S: Alter>(conn: &mut Connection<S>, pool: &str) -> Result<Vec<Row>, Error>
-    requires idle { conn.old.in_transaction ≡ false }
+pub fn sizes_in<S: Alter>(conn: &mut IdleConnection<S>, pool: &str) -> Result<Vec<Row>, Error>
     ensures { ReadsOnly S.Store conn.old conn.new
         (λ db rows. IsShownOf sizes_query (db.trees 1)
         (Text pool.now ∷ []) rows.items) NothingRefuses result }
@@ -96,8 +89,11 @@ pub fn sizes_in<S: Alter>(conn: &mut Connection<S>, pool: &str) -> Result<Vec<Ro
 }
 
 /// The volumes with a number greater than `after`, in rising order, and of these the first `count`.
-pub fn page<S: Alter>(conn: &mut Connection<S>, after: u64, count: u32) -> Result<Vec<Row>, Error>
-    requires idle { conn.old.in_transaction ≡ false }
+pub fn page<S: Alter>(
+    conn: &mut IdleConnection<S>,
+    after: u64,
+    count: u32,
+) -> Result<Vec<Row>, Error>
     requires after { after < 2 ^ 63 }
     ensures { ReadsOnly S.Store conn.old conn.new
         (λ db rows. IsPage after count db rows.items) NothingRefuses result }
@@ -129,16 +125,15 @@ fn last_of(volumes: &[Row], after: u64) -> u64
 
 /// The page of `page`, and the nodes that each of its volumes is attached at.
 pub fn page_with_nodes<S: Alter>(
-    conn: &mut Connection<S>,
+    conn: &mut IdleConnection<S>,
     after: u64,
     count: u32,
 ) -> Result<PageWithNodes, Error>
-    requires idle { conn.old.in_transaction ≡ false }
     requires after { after < 2 ^ 63 }
     ensures { ReadsOnly S.Store conn.old conn.new
         (λ db page. IsPageWithNodes after count db page.volumes.items page.places.items) NothingRefuses result }
 {
-    let mut tx = conn.transaction();
+    let mut tx = conn.0.transaction();
     let volumes = select_rows(&mut tx, &Select::Page(after, count))?;
     let places = select_rows(&mut tx, &Select::Places(after, last_of(&volumes, after)))?;
     tx.rollback();

@@ -41,7 +41,6 @@ module _ {S X : Type 0} {g : Ghosts S} {old new : Held S} {Why : Type 0} where
   -- a change that changes nothing
   pub stays : {r : Result X TablesFault} (change : Change) → ((s : State) → IsStorable s → changed s change ≡ s) → ConnStays g old new r → ConnChanges g old new change Why r
   stays {r = r} change same h = record {
-    idle = h.idle;
     made = on_ok_so (λ made. made change same) r h.made;
     failed = on_err_so (λ failed. failed change) r h.failed;
     refused = λ clean is s held known. refused_so ⊥ Why (state g old) (state g new) (λ none. absurd none) (h.refused clean is s held known);
@@ -51,7 +50,6 @@ module _ {S X : Type 0} {g : Ghosts S} {old new : Held S} {Why : Type 0} where
   -- a change behind a read that failed
   pub unmade : {Z : Type 0} {What : State → Z → Type 0} (change : Change) (r : Result X TablesFault) (fault : TablesFault) → ConnReads g old new What (Err fault) → IsErrAnd r (λ y. y ≡ fault) → ConnChanges g old new change Why r
   unmade change r fault h is = record {
-    idle = h.idle;
     made = never_ok r _ _ is;
     failed = on_err r (fails_quiet g change old new (is_quiet g old new h.undone h.survives));
     refused = λ clean told s held known. refused_so ⊥ Why (state g old) (state g new) (λ none. absurd none) (h.refused clean (handed_on r (Err fault) fault Refused is told refl) s held known);
@@ -62,7 +60,6 @@ module _ {S X : Type 0} {g : Ghosts S} {old new : Held S} {Why : Type 0} where
   pub changes_never : {Z : Type 0} {What : State → Z → Type 0} {z : Z} {x : X} (change : Change) → ConnReads g old new What (Ok z) → (conn_doubt g new ≡ 0 → (s : State) → conn_holds g old s → Allows s change → ⊥)
       → ConnChanges g old new change Why (Ok x)
   changes_never {x = x} change h never = record {
-    idle = h.idle;
     made = makes_never g change old new (is_quiet g old new h.undone h.survives) never;
     failed = tt;
     refused = λ clean is. made_unrefused x _ is;
@@ -74,14 +71,12 @@ module _ {S X : Type 0} {g : Ghosts S} {old new : Held S} {Why : Type 0} where
       → OnOk r ((s : State) → conn_doubt g new ≡ 0 → conn_holds g old s → Allows s change → IsStorable s → IsStorable (changed s change)) → OnErr r ((q : Text) → total_of b q ≡ total_of a q)
       → ConnChanges g old new change Why r → StoreChanges g (old, a) (new, b) change Why r
   beside (Ok x) change {a = a} {b = b} totals storable same h = record {
-    idle = h.idle;
     made = store_makes g change (old, a) (new, b) totals storable h.made;
     failed = tt;
     refused = λ clean is s held known. h.refused clean is s held.0 known;
     limit = h.limit;
   }
   beside (Err fault) change {a = a} {b = b} totals storable same h = record {
-    idle = h.idle;
     made = tt;
     failed = store_fails g change (old, a) (new, b) same h.failed;
     refused = λ clean is s held known. h.refused clean is s held.0 known;
@@ -93,11 +88,10 @@ module _ {S : Type 0} (g : Ghosts S) (back : ReadsBack) (change : Change) (Effec
     (steps : (s : State) (db after : Database) → db.schema ≡ schema → IsRows s db.trees → Allows s change → Effect db after → IsRows (changed s change) after.trees)
     {X Y : Type 0} {old new : Held S} {Refuses : sql.State → Error → Type 0} {Why : Type 0} where
   pub changes : {x : X} {y : Y} → ((s : S) (db : Trees) → IsTrue (g.view s).is_open → g.recovers s db → db ≡ (g.view s).committed) → CommitsOver g old new schema Effect Refuses (Ok x) → ConnChanges g old new change Why (Ok y)
-  changes {y = y} settled h = record { idle = h.idle; made = makes g back change Effect keeps steps old new h.survives settled h.ok; failed = tt; refused = λ clean is. made_unrefused y _ is; limit = h.survives.limit }
+  changes {y = y} settled h = record { made = makes g back change Effect keeps steps old new h.survives settled h.ok; failed = tt; refused = λ clean is. made_unrefused y _ is; limit = h.survives.limit }
 
   pub changes_not : (r : Result Y TablesFault) (e : Error) → (Refuses (state g old) e → Why) → CommitsOver g old new {X = X} schema Effect Refuses (Err e) → IsErrAnd r (λ y. y ≡ of_database e) → ConnChanges g old new change Why r
   changes_not r e why h is = record {
-    idle = h.idle;
     made = never_ok r _ _ is;
     failed = on_err r (fails g back change Effect keeps steps old new h.survives h.err);
     refused = λ clean told s held known. call_refused g old new Refuses Why e s (λ shows. why) (told_as r e is told) (h.failed clean) held;
@@ -110,7 +104,6 @@ module _ {S : Type 0} (g : Ghosts S) (back : ReadsBack) (change : Change) (Effec
     (steps : HasCleanDisk (state g new) → (s : State) → conn_holds g before s → (db after : Database) → db.schema ≡ schema → IsRows s db.trees → Allows s change → Effect db after → IsRows (changed s change) after.trees) where
   pub changes_behind : {x : X} {y : Y} → ((s : S) (db : Trees) → IsTrue (g.view s).is_open → g.recovers s db → db ≡ (g.view s).committed) → CommitsOver g old new schema Effect Refuses (Ok x) → ConnChanges g before new change Why (Ok y)
   changes_behind {y = y} settled h = record {
-    idle = h.idle;
     made = makes_behind g back change Effect keeps before old new (is_quiet g before old read.undone read.survives) steps h.survives settled h.ok;
     failed = tt;
     refused = λ clean is. made_unrefused y _ is;
@@ -120,7 +113,6 @@ module _ {S : Type 0} (g : Ghosts S) (back : ReadsBack) (change : Change) (Effec
   pub changes_not_behind : (r : Result Y TablesFault) (e : Error) → (HasCleanDisk (state g old) → (s : State) → conn_holds g before s → Shows (state g before) s → (state g old).now ≡ (state g before).now → (state g old).step_limit ≡ (state g before).step_limit → Refuses (state g old) e → Why)
       → CommitsOver g old new {X = X} schema Effect Refuses (Err e) → IsErrAnd r (λ y. y ≡ of_database e) → ConnChanges g before new change Why r
   changes_not_behind r e why h is = record {
-    idle = h.idle;
     made = never_ok r _ _ is;
     failed = on_err r (fails_behind g back change Effect keeps before old new (is_quiet g before old read.undone read.survives) steps h.survives h.err);
     refused = λ clean told s held known.

@@ -19,7 +19,7 @@ use Rattle.csi_keeper.specs.Texts.{text_cmp}
 use Rattle.csi_keeper.specs.declared.volume.Attachment.{Attachment}
 use Rattle.csi_keeper.specs.declared.volume.Volume.{Volume}
 use Rattle.csi_sql.specs.Cells.{as_number}
-use Rattle.csi_sql.specs.Rows.{number_value, seen_volume, seen_attachment}
+use Rattle.csi_sql.specs.Rows.{number_value, seen_attachment}
 use Rattle.csi_sql.specs.Shown.{IsShownOf, IsBeginningOf, last_number}
 use Rattle.csi_sql.specs.Statements.{page_query, places_query}
 use Rattle.csi_tables.specs.Holding.{IsRows, IsStored, IsPlaced, volume_entry, attachment_entry}

@@ -1,5 +1,5 @@
 -- What is read of cells and of rows, one after the other.
-use Rattle.std.proofs.Common.{◌≡◌, ◌∙◌, inl, inr, sym, ap, ap₂, subst, arith, ℕ, ◌+◌, ◌<◌, ◌==◌, true, refl, List, [], ◌∷◌, ◌++◌, append-nil, cond, filter, map, take, length, get_or, Option, Some, Ok, option_to_list}
+use Rattle.std.proofs.Common.{◌≡◌, ◌∙◌, inl, inr, sym, ap, ap₂, subst, arith, ℕ, ◌+◌, ◌<◌, ◌==◌, true, refl, List, [], ◌∷◌, ◌++◌, append-nil, cond, filter, map, take, length, get_or, Option, Some, option_to_list}
 use Rattle.std.specs.Bool.{⊤}
 use Rattle.std.specs.List.{AllByRecursion}
 use Rattle.std.proofs.lemmas.Bool.Decides.{nat_tests}
@@ -10,25 +10,13 @@ use Rattle.sqlite.specs.declared.types.Value.{Value}
 use Rattle.sqlite.specs.declared.types.Value.TheVariants as value
 use Rattle.sqlite_rules.proofs.ProbeLemmas.{mapped_has}
 use Rattle.sqlite_rules.specs.Lists.{Has}
-use Rattle.csi_types.specs.declared.method.Method.TheVariants.{CreateVolume}
-use Rattle.csi_types.specs.declared.requests.CreateVolume as message
-use Rattle.csi_types.specs.declared.requests.Request.TheVariants.{Create}
-use Rattle.csi_codec.specs.Reading.{read_request}
-use Rattle.csi_keeper.specs.Capability.{key_of}
 use Rattle.csi_keeper.specs.Texts.{Text}
 use Rattle.csi_keeper.specs.declared.capability.CapKey.{CapKey}
 use Rattle.csi_sql.specs.Cells.{as_blob, as_number}
 use Rattle.csi_sql.specs.Rows.{meta_row, number_value, seen_meta}
-use Rattle.csi_tables.specs.Reading.{AreKeysOf, AreReadOf, ShowNodes, ShowsNumber, is_number}
+use Rattle.csi_tables.specs.Reading.{AreReadOf, ShowNodes, ShowsNumber, is_number}
 use Rattle.csi_tables.proofs.CellLemmas.{read_more}
 use Rattle.csi_tables.proofs.PlaceLemmas.{numbers_differ, take_one, take_whole}
-
--- bytes are read as one request
-same_message : (bytes : List ℕ) (a b : message.CreateVolume) → read_request CreateVolume bytes ≡ Ok (Create a) → read_request CreateVolume bytes ≡ Ok (Create b) → a ≡ b
-same_message bytes a b one other = let both = sym one ∙ other in cc
-
-pub keys_unread : (bytes : List ℕ) (v : message.CreateVolume) → read_request CreateVolume bytes ≡ Ok (Create v) → ((js : List CapKey) → map Some js ≡ map key_of v.capabilities → ⊥) → (ks : List CapKey) → AreKeysOf bytes ks → ⊥
-keys_unread bytes v read none ks are = none ks (are.2 ∙ ap (λ (m : message.CreateVolume). map key_of m.capabilities) (same_message bytes are.0 v are.1 read))
 
 -- the bytes that a cell has
 pub one_blob : (cell : Value) (bytes other : List ℕ) → Some bytes ≡ as_blob cell → cell ≡ value.Blob other → other ≡ bytes

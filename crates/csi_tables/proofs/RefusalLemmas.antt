@@ -67,7 +67,6 @@ pub unread : {S X Y : Type 0} {g : Ghosts S} {old new : Held S} {Shown : Databas
     → (r : Result Y TablesFault) (e : Error) → ((s : State) → Shows (state g old) s → Refuses (state g old) e → ⊥) → ReadsOnly g old new Shown Refuses (Err e) → IsErrAnd r (λ y. y ≡ of_database e) → ConnReads g old new What r
 unread (Ok y) e never h is = absurd is
 unread {Y = Y} {g = g} {old = old} {new = new} {Refuses = Refuses} (Err fault) e never h is = record {
-  idle = h.idle;
   value = tt;
   refused = λ clean told s held known. call_refused g old new Refuses ⊥ e s (never s) (told_as {X = Y} (Err fault) e is told) (h.failed clean) held;
   undone = h.undone;
@@ -83,7 +82,6 @@ pub read_as : {S X Y : Type 0} {g : Ghosts S} {old new : Held S} {Shown : Databa
     → (r : Result Y TablesFault) → ReadsOnly g old new Shown Refuses (Ok x) → ((s : State) → Shows (state g old) s → Shown (state g old).now x → IfOk r (λ y. What s y))
     → ((s : State) → Shows (state g old) s → HasKnownModes s → Shown (state g old).now x → r ≡ Err Refused → ⊥) → ConnReads g old new What r
 read_as {g = g} {old = old} {new = new} {What = What} r h tells never = record {
-  idle = h.idle;
   value = each_told (conn_doubt g new ≡ 0) (conn_holds g old) What r (λ clean s held.
       let told = h.ok clean in
       let shows = held told.was_open in

@@ -13,34 +13,34 @@ use Rattle.csi_tables.specs.Refusing.{RefusesChange, StoreRefuses}
 use Rattle.csi_tables.specs.declared.tables.Tables.{Tables}
 
 module _ {S : Type 0} (g : Ghosts S) where
-  abbrev pub connection_of : Tables S g → Held S
+  abbrev pub connection_of : Tables S → Held S
   connection_of t = t.conn
 
   -- its connection, and the totals
-  abbrev pub store_of : Tables S g → Store S
+  abbrev pub store_of : Tables S → Store S
   store_of t = (t.conn, t.totals)
 
-  abbrev pub is_down : Tables S g → Bool
+  abbrev pub is_down : Tables S → Bool
   is_down t = t.health.is_down
 
-  abbrev pub refusals : Tables S g → ℕ
+  abbrev pub refusals : Tables S → ℕ
   refusals t = t.health.refusals
 
   -- what contracts see of it
-  abbrev pub tables_model : Tables S g → Model State
+  abbrev pub tables_model : Tables S → Model State
   tables_model t = model_with g (store_of t) t.health
 
   -- a call that is refused has its cause, which is not want of memory
-  abbrev pub TablesRefuses : {X : Type 0} → Tables S g → Tables S g → Type 0 → Result X StoreFault → Type 0
+  abbrev pub TablesRefuses : {X : Type 0} → Tables S → Tables S → Type 0 → Result X StoreFault → Type 0
   TablesRefuses old new Why result = StoreRefuses g (store_of old) (store_of new) Refused Why result
 
   -- what a change is refused for
-  abbrev pub refuses_change : Tables S g → Change → Type 0
+  abbrev pub refuses_change : Tables S → Change → Type 0
   refuses_change t change = RefusesChange change t.totals (state g t.conn)
 
   -- A keeper over tables that were made on a connection. Its State is the first one if the database had no
   -- table.
-  pub record IsNewOver (conn : Held S) (t : Tables S g) : Type 0 where
+  pub record IsNewOver (conn : Held S) (t : Tables S) : Type 0 where
     pub clean : conn_doubt g conn ≤ (tables_model t).doubt
     pub begun : (tables_model t).doubt ≡ 0 → (state g conn).now.schema ≡ no_schema → (tables_model t).holds (first_state 1)
     pub settled : (tables_model t).doubt ≡ 0 → (state g conn).now.schema ≡ no_schema → (s : State) → (tables_model t).survivors s → s ≡ first_state 1

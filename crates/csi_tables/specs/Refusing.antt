@@ -85,7 +85,6 @@ module _ {S : Type 0} (g : Ghosts S) (old new : Held S) where
   -- A read: what it answers of the State, and that nothing refuses it. What was committed stays, and a stop
   -- leaves what it could leave before.
   pub record ConnReads {X : Type 0} (What : State → X → Type 0) (r : Result X TablesFault) : Type 0 where
-    pub idle : new.in_transaction ≡ false
     pub value : IfOk r (λ x. ConnTells g old new (λ s. What s x))
     pub refused : ConnRefuses ⊥ r
     pub undone : HasCleanDisk (state g new) → IsUndone (state g old) (state g new)
@@ -94,7 +93,6 @@ module _ {S : Type 0} (g : Ghosts S) (old new : Held S) where
   -- A change: it is made, or it fails and may be left by a stop; and why it is refused. The limit on steps
   -- stays.
   pub record ConnChanges {X : Type 0} (change : Change) (Why : Type 0) (r : Result X TablesFault) : Type 0 where
-    pub idle : new.in_transaction ≡ false
     pub made : OnOk r (ConnMakes g old new change)
     pub failed : OnErr r (ConnFails g old new change)
     pub refused : ConnRefuses Why r
@@ -102,7 +100,6 @@ module _ {S : Type 0} (g : Ghosts S) (old new : Held S) where
 
   -- a call that makes any change that changes nothing
   pub record ConnStays {X : Type 0} (r : Result X TablesFault) : Type 0 where
-    pub idle : new.in_transaction ≡ false
     pub made : OnOk r ((change : Change) → ((s : State) → IsStorable s → changed s change ≡ s) → ConnMakes g old new change)
     pub failed : OnErr r ((change : Change) → ConnFails g old new change)
     pub refused : ConnRefuses ⊥ r
@@ -116,7 +113,6 @@ module _ {S : Type 0} (g : Ghosts S) (old new : Store S) where
 
   -- a change, with the totals
   pub record StoreChanges {X : Type 0} (change : Change) (Why : Type 0) (r : Result X TablesFault) : Type 0 where
-    pub idle : new.0.in_transaction ≡ false
     pub made : OnOk r (StoreMakes g old new change)
     pub failed : OnErr r (StoreFails g old new change)
     pub refused : StoreRefuses Refused Why r

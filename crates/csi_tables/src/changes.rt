@@ -4,7 +4,7 @@
 //! change is made and committed; after a fault the State stays, and a stop may leave the change made.
 //! The totals are moved only once the change is committed, and that takes no memory.
 
-ghost use Rattle.std.specs.Prelude.{◌≡◌, ◌<◌, ◌^◌, [], ◌∷◌, List, ℕ, false, IfOk, IsErrOf, IsUtf8, OnOk, option_map};
+ghost use Rattle.std.specs.Prelude.{◌≡◌, ◌<◌, ◌^◌, [], ◌∷◌, List, ℕ, IfOk, IsErrOf, IsUtf8, OnOk, option_map};
 ghost use Rattle.sqlite.specs.Held.{state};
 ghost use Rattle.csi_keeper.specs.State.{State, IsBounded, changed};
 ghost use Rattle.csi_keeper.specs.Totals.{HasRoom, IsReserved, total_of};
@@ -15,13 +15,13 @@ ghost use Rattle.csi_tables.specs.Refusing.{ConnChanges, ConnStays, StoreChanges
 ghost use Rattle.csi_tables.specs.declared.fault.TablesFault.TheVariants.{Refused};
 
 use crate::encoding::{read_back, write_caps, write_params};
-use crate::fault::TablesFault;
+use crate::fault::TablesError;
 use crate::read::by_number;
 use csi_keeper::{Attachment, CapKey, Change, Totals, Volume};
 use csi_sql::changes::{add_volume, attach, detach, detach_all, remove_volume, set_params};
-use csi_sql::reads;
+use csi_sql::{IdleConnection, reads};
 use csi_types::{Map, Text};
-use sqlite::{Alter, Connection};
+use sqlite::Alter;
 use std::alloc::{AllocError, Global};
 use std::slice::from_ref;
 
@@ -29,14 +29,14 @@ use std::slice::from_ref;
 pub(crate) const NUMBERS: u64 = 1 << 63;
 
 // Makes sure that one volume more can be counted in a pool without memory.
-fn reserve(alloc: Global, totals: &mut Totals, pool: &Text, bytes: u64) -> Result<(), TablesFault>
+fn reserve(alloc: Global, totals: &mut Totals, pool: &Text, bytes: u64) -> Result<(), TablesError>
     ensures room { OnOk result (HasRoom (total_of totals.old pool.now) bytes) }
     ensures reserved { OnOk result (IsReserved totals.new pool.now) }
     ensures unchanged { (q : List ℕ) → total_of totals.new q ≡ total_of totals.old q }
     ensures refused { IsErrOf result Refused → ¬ HasRoom (total_of totals.old pool.now) bytes }
 {
     if !totals.has_room(pool, bytes) {
-        return Err(TablesFault::Refused);
+        return Err(TablesError::refused());
     }
     totals.reserve(pool.copy(alloc)?)?;
     Ok(())
@@ -45,11 +45,10 @@ fn reserve(alloc: Global, totals: &mut Totals, pool: &Text, bytes: u64) -> Resul
 /// Adds a volume.
 pub(crate) fn make_volume<S: Alter>(
     alloc: Global,
-    conn: &mut Connection<S>,
+    conn: &mut IdleConnection<S>,
     totals: &mut Totals,
     volume: &Volume,
-) -> Result<(), TablesFault>
-    requires idle { conn.old.in_transaction ≡ false }
+) -> Result<(), TablesError>
     requires bounded { IsBounded (AddVolume volume.now) }
     ensures { StoreChanges S.Store (conn.old, totals.old) (conn.new, totals.new) (AddVolume volume.now)
         (RefusesAdding volume.now totals.old (state S.Store conn.old)) result }
@@ -73,8 +72,7 @@ pub(crate) fn make_volume<S: Alter>(
 
 // A change that changes nothing, as that of a number that no row has. A read tells whether the
 // connection is open, and what a stop leaves is the State then.
-fn make_nothing<S: Alter>(conn: &mut Connection<S>) -> Result<(), TablesFault>
-    requires idle { conn.old.in_transaction ≡ false }
+fn make_nothing<S: Alter>(conn: &mut IdleConnection<S>) -> Result<(), TablesError>
     ensures { ConnStays S.Store conn.old conn.new result }
 {
     read_back();
@@ -93,11 +91,10 @@ fn write_cap(alloc: Global, cap: &CapKey) -> Result<Vec<u8>, AllocError>
 /// Attaches a volume at a node.
 pub(crate) fn make_attachment<S: Alter>(
     alloc: Global,
-    conn: &mut Connection<S>,
+    conn: &mut IdleConnection<S>,
     number: u64,
     attachment: &Attachment,
-) -> Result<(), TablesFault>
-    requires idle { conn.old.in_transaction ≡ false }
+) -> Result<(), TablesError>
     ensures changes { ConnChanges S.Store conn.old conn.new (Attach number attachment.now)
         (RefusesAttaching number attachment.now (state S.Store conn.old)) result }
     ensures stored { OnOk result ((number < 2 ^ 63) × IsUtf8 attachment.now.node
@@ -105,7 +102,7 @@ pub(crate) fn make_attachment<S: Alter>(
 {
     read_back();
     if number >= NUMBERS {
-        return Err(TablesFault::Refused);
+        return Err(TablesError::refused());
     }
     let cap = write_cap(alloc, &attachment.cap)?;
     attach(
@@ -120,11 +117,10 @@ pub(crate) fn make_attachment<S: Alter>(
 
 /// Detaches a volume at a node.
 pub(crate) fn unmake_attachment<S: Alter>(
-    conn: &mut Connection<S>,
+    conn: &mut IdleConnection<S>,
     number: u64,
     node: &Text,
-) -> Result<(), TablesFault>
-    requires idle { conn.old.in_transaction ≡ false }
+) -> Result<(), TablesError>
     ensures { ConnChanges S.Store conn.old conn.new (Detach number node.now)
         (RefusesDetach number node.now (state S.Store conn.old)) result }
 {
@@ -138,10 +134,9 @@ pub(crate) fn unmake_attachment<S: Alter>(
 
 /// Detaches a volume at each node.
 pub(crate) fn unmake_attachments<S: Alter>(
-    conn: &mut Connection<S>,
+    conn: &mut IdleConnection<S>,
     number: u64,
-) -> Result<(), TablesFault>
-    requires idle { conn.old.in_transaction ≡ false }
+) -> Result<(), TablesError>
     ensures { ConnChanges S.Store conn.old conn.new (DetachAll number)
         (RefusesDetachAll number (state S.Store conn.old)) result }
 {
@@ -157,11 +152,10 @@ pub(crate) fn unmake_attachments<S: Alter>(
 /// the volume is removed.
 pub(crate) fn unmake_volume<S: Alter>(
     alloc: Global,
-    conn: &mut Connection<S>,
+    conn: &mut IdleConnection<S>,
     totals: &mut Totals,
     number: u64,
-) -> Result<(), TablesFault>
-    requires idle { conn.old.in_transaction ≡ false }
+) -> Result<(), TablesError>
     ensures { StoreChanges S.Store (conn.old, totals.old) (conn.new, totals.new) (RemoveVolume number)
         (RefusesRemoving number (state S.Store conn.old)) result }
 {
@@ -192,11 +186,10 @@ fn params_of(volume: Option<Volume>) -> Option<Map>
 /// with its parameters, which stay.
 pub(crate) fn make_mutable<S: Alter>(
     alloc: Global,
-    conn: &mut Connection<S>,
+    conn: &mut IdleConnection<S>,
     number: u64,
     mutable: &Map,
-) -> Result<(), TablesFault>
-    requires idle { conn.old.in_transaction ≡ false }
+) -> Result<(), TablesError>
     ensures changes { ConnChanges S.Store conn.old conn.new (SetMutable number mutable.now)
         (RefusesMutable number mutable.now (state S.Store conn.old)) result }
     ensures stored { OnOk result (conn_doubt S.Store conn.new ≡ 0 → (s : State)
@@ -219,11 +212,10 @@ pub(crate) fn make_mutable<S: Alter>(
 /// Makes a change.
 pub(crate) fn make<S: Alter>(
     alloc: Global,
-    conn: &mut Connection<S>,
+    conn: &mut IdleConnection<S>,
     totals: &mut Totals,
     change: &Change,
-) -> Result<(), TablesFault>
-    requires idle { conn.old.in_transaction ≡ false }
+) -> Result<(), TablesError>
     requires bounded { IsBounded change.now }
     ensures { StoreChanges S.Store (conn.old, totals.old) (conn.new, totals.new) change.now
         (RefusesChange change.now totals.old (state S.Store conn.old)) result }

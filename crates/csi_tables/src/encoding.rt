@@ -1,4 +1,4 @@
-//! Capabilities and parameters as they stand in a column: the canonical bytes of a
+//! Capabilities and parameters as they are in a column: the canonical bytes of a
 //! `CreateVolumeRequest` that has nothing else.
 //!
 //! So the format of a column is that of the request's fields, by their numbers, and a change of how
@@ -19,7 +19,7 @@ ghost use Rattle.csi_tables.specs.Encoding.{caps_bytes, params_bytes, AreKnown, 
 ghost use Rattle.csi_tables.specs.Reading.{AreKeysOf, AreParamsOf};
 ghost use Rattle.csi_tables.specs.declared.fault.TablesFault.TheVariants.{Refused};
 
-use crate::fault::TablesFault;
+use crate::fault::TablesError;
 use csi_codec::decode_create;
 use csi_codec::laws::{read_as_meant, round_trip};
 use csi_keeper::{CapKey, Kind, cap_key};
@@ -107,7 +107,7 @@ fn put_keys(out: &mut Vec<u8>, keys: &[CapKey]) -> Result<(), AllocError>
     Ok(())
 }
 
-/// The canonical bytes of capabilities, as they stand in a column.
+/// The canonical bytes of capabilities, as they are in a column.
 ///
 /// # Errors
 ///
@@ -121,7 +121,7 @@ pub fn write_caps(alloc: Global, keys: &[CapKey]) -> Result<Vec<u8>, AllocError>
     Ok(out)
 }
 
-/// The canonical bytes of parameters and of mutable parameters, as they stand in a column. Without
+/// The canonical bytes of parameters and of mutable parameters, as they are in a column. Without
 /// mutable parameters they are those of the parameters alone.
 ///
 /// # Errors
@@ -138,7 +138,7 @@ pub fn write_params(alloc: Global, params: &Map, mutable: &Map) -> Result<Vec<u8
     Ok(out)
 }
 
-fn read(alloc: Global, bytes: &[u8]) -> Result<CreateVolume, TablesFault>
+fn read(alloc: Global, bytes: &[u8]) -> Result<CreateVolume, TablesError>
     ensures ok { IfOk result (λ message. read_request Creating bytes.now ≡ Ok (Create message)) }
     ensures refused { IsErrOf result Refused → (m : Message)
         → read_request Creating bytes.now ≢ Ok (Create m) }
@@ -146,14 +146,14 @@ fn read(alloc: Global, bytes: &[u8]) -> Result<CreateVolume, TablesFault>
     Ok(decode_create(alloc, bytes)?)
 }
 
-fn keys_of(alloc: Global, capabilities: &[Capability]) -> Result<Items<CapKey>, TablesFault>
+fn keys_of(alloc: Global, capabilities: &[Capability]) -> Result<Items<CapKey>, TablesError>
     ensures ok { IfOk result (λ keys. map Some keys ≡ map key_of capabilities.now) }
     ensures refused { IsErrOf result Refused → (ks : List Key) → map Some ks ≢ map key_of capabilities.now }
 {
     let mut keys = Items::with_room(alloc, capabilities.len())?;
     for capability in capabilities {
         let Some(key) = cap_key(alloc, capability)? else {
-            return Err(TablesFault::Refused);
+            return Err(TablesError::refused());
         };
         keys.push(key)?;
     }
@@ -161,7 +161,7 @@ fn keys_of(alloc: Global, capabilities: &[Capability]) -> Result<Items<CapKey>, 
 }
 
 /// The keys whose bytes these are.
-pub(crate) fn read_caps(alloc: Global, bytes: &[u8]) -> Result<Items<CapKey>, TablesFault>
+pub(crate) fn read_caps(alloc: Global, bytes: &[u8]) -> Result<Items<CapKey>, TablesError>
     ensures ok { IfOk result (λ keys. (ks : List Key) → FitCaps ks → bytes.now ≡ caps_bytes ks → keys ≡ ks) }
     ensures refused { IsErrOf result Refused → (ks : List Key) → FitCaps ks → AreKnown ks
         → bytes.now ≢ caps_bytes ks }
@@ -174,7 +174,7 @@ pub(crate) fn read_caps(alloc: Global, bytes: &[u8]) -> Result<Items<CapKey>, Ta
 }
 
 /// The parameters and the mutable parameters whose bytes these are.
-pub(crate) fn read_params(alloc: Global, bytes: &[u8]) -> Result<(Map, Map), TablesFault>
+pub(crate) fn read_params(alloc: Global, bytes: &[u8]) -> Result<(Map, Map), TablesError>
     ensures ok { IfOk result (λ read. (p m : TextMap) → FitParams p m → bytes.now ≡ params_bytes p m
         → read ≡ (p, m)) }
     ensures refused { IsErrOf result Refused → (p m : TextMap) → FitParams p m

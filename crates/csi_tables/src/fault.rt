@@ -2,67 +2,112 @@
 
 ghost use Rattle.std.specs.Prelude.{◌≡◌};
 ghost use Rattle.csi_tables.specs.Answers.{answered, of_database, of_decoder};
-ghost use Rattle.csi_tables.specs.declared.fault.TablesFault.TheVariants.{NoMemory};
+ghost use Rattle.csi_tables.specs.declared.fault.TablesFault.TheVariants.{NoMemory, Refused};
 
 use csi_keeper::StoreFault;
 use pbmessage::DecodeFault;
 use sqlite::{Error, ErrorCode};
 use std::alloc::{AllocError, AllocFailed};
+use std::marker::Model;
 
-/// Why a call failed, of a keeper that is not down.
+/// Why a call over the tables failed, of a keeper that is not down.
 #[derive(Clone, Copy)]
-pub(crate) enum TablesFault {
+pub enum TablesFault {
     /// Memory was refused.
     NoMemory,
     /// The database refused the call, or a row is none that was written.
     Refused,
 }
 
-impl From<AllocError> for TablesFault {
-    ghost from_gives = { λ _ fault. fault ≡ NoMemory };
-
-    fn from(_: AllocError) -> TablesFault {
-        TablesFault::NoMemory
-    }
+/// A fault, and what the database answered where that is why. A contract sees the fault alone.
+#[derive(Drop)]
+pub struct TablesError {
+    /// The fault.
+    pub fault: TablesFault,
+    /// What the database answered.
+    pub cause: Option<Error>,
 }
 
-impl<T: Drop> From<AllocFailed<T>> for TablesFault {
-    ghost from_gives = { λ _ fault. fault ≡ NoMemory };
+impl Model for TablesError {
+    ghost use Rattle.csi_tables.specs.declared.fault.TablesFault.{TablesFault};
 
-    fn from(_: AllocFailed<T>) -> TablesFault {
-        TablesFault::NoMemory
-    }
+    ghost Value = { TablesFault };
+
+    ghost view = { λ e. e.fault };
 }
 
-impl From<DecodeFault> for TablesFault {
-    ghost from_gives = { λ error fault. fault ≡ of_decoder error };
+impl TablesError {
+    fn no_memory() -> TablesError
+        ensures { result ≡ NoMemory }
+    {
+        TablesError {
+            fault: TablesFault::NoMemory,
+            cause: None,
+        }
+    }
 
-    fn from(fault: DecodeFault) -> TablesFault {
-        match fault {
-            DecodeFault::NoMemory => TablesFault::NoMemory,
-            DecodeFault::Malformed { .. } => TablesFault::Refused,
+    /// A row is none that was written.
+    pub(crate) fn refused() -> TablesError
+        ensures { result ≡ Refused }
+    {
+        TablesError {
+            fault: TablesFault::Refused,
+            cause: None,
         }
     }
 }
 
-impl From<Error> for TablesFault {
+impl From<AllocError> for TablesError {
+    ghost from_gives = { λ _ fault. fault ≡ NoMemory };
+
+    fn from(_: AllocError) -> TablesError {
+        TablesError::no_memory()
+    }
+}
+
+impl<T: Drop> From<AllocFailed<T>> for TablesError {
+    ghost from_gives = { λ _ fault. fault ≡ NoMemory };
+
+    fn from(_: AllocFailed<T>) -> TablesError {
+        TablesError::no_memory()
+    }
+}
+
+impl From<DecodeFault> for TablesError {
+    ghost from_gives = { λ error fault. fault ≡ of_decoder error };
+
+    fn from(fault: DecodeFault) -> TablesError {
+        match fault {
+            DecodeFault::NoMemory => TablesError::no_memory(),
+            DecodeFault::Malformed { .. } => TablesError::refused(),
+        }
+    }
+}
+
+impl From<Error> for TablesError {
     ghost from_gives = { λ error fault. fault ≡ of_database error };
 
-    fn from(error: Error) -> TablesFault {
+    fn from(error: Error) -> TablesError {
         match error {
-            Error::SqliteFailure(ErrorCode::OutOfMemory) => TablesFault::NoMemory,
-            _ => TablesFault::Refused,
+            Error::SqliteFailure(ErrorCode::OutOfMemory) => TablesError::no_memory(),
+            _ => TablesError {
+                fault: TablesFault::Refused,
+                cause: Some(error),
+            },
         }
     }
 }
 
 /// An answer over the tables as that of a keeper that is not down.
-pub(crate) fn store_answer<T>(answer: Result<T, TablesFault>) -> Result<T, StoreFault>
+pub(crate) fn store_answer<T>(answer: Result<T, TablesError>) -> Result<T, StoreFault>
     ensures { result ≡ answered answer }
 {
-    match answer {
-        Ok(value) => Ok(value),
-        Err(TablesFault::NoMemory) => Err(StoreFault::NoMemory),
-        Err(TablesFault::Refused) => Err(StoreFault::Refused),
+    let error = match answer {
+        Ok(value) => return Ok(value),
+        Err(error) => error,
+    };
+    match error.fault {
+        TablesFault::NoMemory => Err(StoreFault::NoMemory),
+        TablesFault::Refused => Err(StoreFault::Refused),
     }
 }

@@ -22,6 +22,13 @@
 //! keeper.apply(alloc, &Change::AddVolume(volume))?;
 //! let conn = keeper.into_connection();
 //! ```
+//!
+//! # Not promised
+//!
+//! That calls succeed, and what comes back out of the columns: rows of `test_tables` show both.
+//! That memory was refused where a call is answered `NoMemory`: `tests/memory --tables` refuses
+//! each allocation of each call in turn. Why a call is answered `Refused` is said of States whose
+//! capabilities have known modes, as those of the invariant have.
 #![tactic(auto)]
 
 mod changes;
@@ -35,5 +42,7 @@ mod rows;
 mod tables;
 
 pub use encoding::{write_caps, write_params};
+pub use fault::{TablesError, TablesFault};
 pub use opening::MakeFault;
+pub use read::page_with_nodes;
 pub use tables::Tables;

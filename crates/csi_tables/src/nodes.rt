@@ -6,14 +6,14 @@ ghost use Rattle.csi_tables.specs.Places.{place_row, nodes_at, IsRisen, AreRisin
 ghost use Rattle.csi_tables.specs.Reading.{ShowNodes};
 ghost use Rattle.csi_tables.specs.declared.fault.TablesFault.TheVariants.{Refused};
 
-use crate::fault::TablesFault;
+use crate::fault::TablesError;
 use crate::rows::{number_in, text_in};
 use csi_types::{Items, Text};
 use sqlite::Row;
 use std::alloc::Global;
 
 // The nodes of a number, and how many places have no greater one. The places rise by number.
-fn nodes_of(alloc: Global, places: &[Row], number: u64) -> Result<(Items<Text>, usize), TablesFault>
+fn nodes_of(alloc: Global, places: &[Row], number: u64) -> Result<(Items<Text>, usize), TablesError>
     ensures nodes { IfOk result (λ found. (ps : List AttachmentKey) → IsRisen ps
         → places.now ≡ map place_row ps → found.0 ≡ nodes_at ps number) }
     ensures passed { IfOk result (λ found. (ps : List AttachmentKey) → IsRisen ps
@@ -43,7 +43,7 @@ pub(crate) fn nodes_of_each(
     alloc: Global,
     numbers: &[u64],
     places: &[Row],
-) -> Result<Items<Items<Text>>, TablesFault>
+) -> Result<Items<Items<Text>>, TablesError>
     ensures nodes { IfOk result (λ all. (ps : List AttachmentKey) → IsRisen ps → AreRising numbers.now
         → places.now ≡ map place_row ps
         → all ≡ map (nodes_at ps) numbers.now) }

@@ -14,7 +14,7 @@ ghost use Rattle.csi_tables.specs.Keeping.{connection_of, is_down, refusals, sto
 use crate::encoding::read_back;
 use crate::tables::Tables;
 use csi_keeper::Totals;
-use csi_sql::make_tables;
+use csi_sql::{IdleConnection, make_tables};
 use sqlite::{Alter, Connection, Error};
 use std::alloc::Global;
 
@@ -39,6 +39,11 @@ impl<S: Alter> Tables<S> {
     /// What the database answers, as where a table of such a name stands, or where memory is refused.
     /// Nothing is made then, and the connection is given back; a stop leaves what it could leave before,
     /// or the tables as they were to be made.
+    ///
+    /// # Not promised
+    ///
+    /// What comes of a database that has other tables, and that the call succeeds where memory is
+    /// there: rows of `test_tables` show it.
     pub fn make(alloc: Global, mut conn: Connection<S>) -> Result<Tables<S>, MakeFault<S>>
         requires idle { conn.in_transaction ≡ false }
         ensures made { IfOk result (λ tables. IsNewOver S.Store conn tables) }
@@ -56,7 +61,7 @@ impl<S: Alter> Tables<S> {
     {
         read_back();
         match make_tables(&mut conn) {
-            Ok(()) => Ok(Tables::new(conn, Totals::new(alloc))),
+            Ok(()) => Ok(Tables::new(IdleConnection::new(conn), Totals::new(alloc))),
             Err(error) => Err(MakeFault { error, conn }),
         }
     }
@@ -64,8 +69,7 @@ impl<S: Alter> Tables<S> {
     /// A keeper over tables that stand for a State, with what the State's pools have used; it is not
     /// down, and has refused nothing. Who takes a connection from elsewhere has to judge its rows
     /// first, as `csi_adoption::adopt` does.
-    pub fn over(conn: Connection<S>, totals: Totals) -> Tables<S>
-        requires idle { conn.in_transaction ≡ false }
+    pub fn over(conn: IdleConnection<S>, totals: Totals) -> Tables<S>
         requires stands { conn_doubt S.Store conn ≡ 0 → (s : State) × store_holds S.Store (conn, totals) s }
         ensures value { store_of S.Store result ≡ (conn, totals) }
         ensures fresh { (is_down S.Store result ≡ false) × (refusals S.Store result ≡ 0) }
@@ -78,6 +82,6 @@ impl<S: Alter> Tables<S> {
         ensures value { result ≡ connection_of S.Store self }
         ensures idle { result.in_transaction ≡ false }
     {
-        self.conn
+        self.conn.into_connection()
     }
 }

@@ -1,27 +1,25 @@
 //! Each read over a connection, in the values of the State.
 //!
-//! Each function asks that no transaction is open on the connection, and leaves it so. Where a row is
-//! none that was written, as only a disk that is not clean gives it, the read is refused.
+//! Where a row is none that was written, as only a disk that is not clean gives it, the read is refused.
 
-ghost use Rattle.std.specs.Prelude.{◌≡◌, ◌<◌, ◌^◌, false, IfOk};
+ghost use Rattle.std.specs.Prelude.{◌≡◌, ◌<◌, ◌^◌, IfOk};
 ghost use Rattle.std.specs.FinMap.{get};
 ghost use Rattle.csi_keeper.specs.Listing.{IsPageWithNodes};
 ghost use Rattle.csi_keeper.specs.State.{attached, attached_at, named, page, sizes};
 ghost use Rattle.csi_tables.specs.Reading.{TellsNext};
 ghost use Rattle.csi_tables.specs.Refusing.{ConnReads};
 
-use crate::fault::TablesFault;
+use crate::fault::TablesError;
 use crate::nodes::nodes_of_each;
 use crate::rows::{attachments_from, number_in, numbers_from, numbers_of, volume_of, volumes_from};
 use csi_keeper::{Attachment, PageWithNodes, Volume};
-use csi_sql::reads;
+use csi_sql::{IdleConnection, reads};
 use csi_types::Items;
-use sqlite::{Alter, Connection};
+use sqlite::Alter;
 use std::alloc::Global;
 
 /// The next number.
-pub(crate) fn next_number<S: Alter>(conn: &mut Connection<S>) -> Result<u64, TablesFault>
-    requires idle { conn.old.in_transaction ≡ false }
+pub(crate) fn next_number<S: Alter>(conn: &mut IdleConnection<S>) -> Result<u64, TablesError>
     ensures reads { ConnReads S.Store conn.old conn.new (λ s n. n ≡ s.next) result }
     ensures exact { IfOk result (λ n. TellsNext S.Store conn.old conn.new n) }
 {
@@ -32,10 +30,9 @@ pub(crate) fn next_number<S: Alter>(conn: &mut Connection<S>) -> Result<u64, Tab
 /// The volume of a number.
 pub(crate) fn by_number<S: Alter>(
     alloc: Global,
-    conn: &mut Connection<S>,
+    conn: &mut IdleConnection<S>,
     number: u64,
-) -> Result<Option<Volume>, TablesFault>
-    requires idle { conn.old.in_transaction ≡ false }
+) -> Result<Option<Volume>, TablesError>
     requires number { number < 2 ^ 63 }
     ensures { ConnReads S.Store conn.old conn.new (λ s v. v ≡ get s.volumes number) result }
 {
@@ -46,10 +43,9 @@ pub(crate) fn by_number<S: Alter>(
 /// The volume of a name.
 pub(crate) fn by_name<S: Alter>(
     alloc: Global,
-    conn: &mut Connection<S>,
+    conn: &mut IdleConnection<S>,
     name: &str,
-) -> Result<Option<Volume>, TablesFault>
-    requires idle { conn.old.in_transaction ≡ false }
+) -> Result<Option<Volume>, TablesError>
     ensures { ConnReads S.Store conn.old conn.new (λ s v. v ≡ named s name.now) result }
 {
     let found = reads::by_name(conn, name)?;
@@ -59,10 +55,9 @@ pub(crate) fn by_name<S: Alter>(
 /// The attachments of a volume, in byte order of their nodes.
 pub(crate) fn attachments<S: Alter>(
     alloc: Global,
-    conn: &mut Connection<S>,
+    conn: &mut IdleConnection<S>,
     number: u64,
-) -> Result<Items<Attachment>, TablesFault>
-    requires idle { conn.old.in_transaction ≡ false }
+) -> Result<Items<Attachment>, TablesError>
     requires number { number < 2 ^ 63 }
     ensures { ConnReads S.Store conn.old conn.new (λ s xs. xs ≡ attached s number) result }
 {
@@ -73,10 +68,9 @@ pub(crate) fn attachments<S: Alter>(
 /// The numbers of the volumes that are attached at a node, in rising order.
 pub(crate) fn attached_at<S: Alter>(
     alloc: Global,
-    conn: &mut Connection<S>,
+    conn: &mut IdleConnection<S>,
     node: &str,
-) -> Result<Items<u64>, TablesFault>
-    requires idle { conn.old.in_transaction ≡ false }
+) -> Result<Items<u64>, TablesError>
     ensures { ConnReads S.Store conn.old conn.new (λ s xs. xs ≡ attached_at s node.now) result }
 {
     let rows = reads::attached_at(conn, node)?;
@@ -86,10 +80,9 @@ pub(crate) fn attached_at<S: Alter>(
 /// The bytes of a pool's volumes, in rising order of their numbers.
 pub(crate) fn sizes_in<S: Alter>(
     alloc: Global,
-    conn: &mut Connection<S>,
+    conn: &mut IdleConnection<S>,
     pool: &str,
-) -> Result<Items<u64>, TablesFault>
-    requires idle { conn.old.in_transaction ≡ false }
+) -> Result<Items<u64>, TablesError>
     ensures { ConnReads S.Store conn.old conn.new (λ s xs. xs ≡ sizes s pool.now) result }
 {
     let rows = reads::sizes_in(conn, pool)?;
@@ -99,11 +92,10 @@ pub(crate) fn sizes_in<S: Alter>(
 /// The volumes with a greater number, in rising order, and of these the first `count`.
 pub(crate) fn page<S: Alter>(
     alloc: Global,
-    conn: &mut Connection<S>,
+    conn: &mut IdleConnection<S>,
     after: u64,
     count: u32,
-) -> Result<Items<Volume>, TablesFault>
-    requires idle { conn.old.in_transaction ≡ false }
+) -> Result<Items<Volume>, TablesError>
     requires after { after < 2 ^ 63 }
     ensures { ConnReads S.Store conn.old conn.new (λ s xs. xs ≡ page s after count) result }
 {
@@ -111,14 +103,18 @@ pub(crate) fn page<S: Alter>(
     volumes_from(alloc, &rows)
 }
 
-/// The volumes of a page, and the nodes of each, in byte order of their ids.
-pub(crate) fn page_with_nodes<S: Alter>(
+/// The volumes of a page, and the nodes of each, in byte order of their ids: of tables that nobody judged too.
+/// It is one read of the whole page.
+///
+/// # Errors
+///
+/// Where the database refuses the read, a row is none that was written, or memory is refused.
+pub fn page_with_nodes<S: Alter>(
     alloc: Global,
-    conn: &mut Connection<S>,
+    conn: &mut IdleConnection<S>,
     after: u64,
     count: u32,
-) -> Result<PageWithNodes, TablesFault>
-    requires idle { conn.old.in_transaction ≡ false }
+) -> Result<PageWithNodes, TablesError>
     requires after { after < 2 ^ 63 }
     ensures { ConnReads S.Store conn.old conn.new (λ s p. IsPageWithNodes s after count p) result }
 {

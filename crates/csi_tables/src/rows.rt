@@ -16,7 +16,7 @@ ghost use Rattle.csi_tables.specs.Reading.{AreReadOf, HasKeys, HasParams, IsRead
 ghost use Rattle.csi_tables.specs.declared.fault.TablesFault.TheVariants.{Refused};
 
 use crate::encoding::{read_caps, read_params};
-use crate::fault::TablesFault;
+use crate::fault::TablesError;
 use csi_keeper::{Attachment, CapKey, Volume};
 use csi_sql::values::{blob_at, flag_at};
 use csi_types::{Items, Map, Text};
@@ -24,7 +24,7 @@ use sqlite::Row;
 use std::alloc::{AllocError, Global};
 
 /// The text in a cell.
-pub(crate) fn text_in(row: &Row, at: usize) -> Result<Text, TablesFault>
+pub(crate) fn text_in(row: &Row, at: usize) -> Result<Text, TablesError>
     ensures ok { IfOk result (λ text. column row.now at ≡ Words text) }
     ensures refused { IsErrOf result Refused → (text : List ℕ) → IsUtf8 text
         → column row.now at ≢ Words text }
@@ -33,14 +33,14 @@ pub(crate) fn text_in(row: &Row, at: usize) -> Result<Text, TablesFault>
 }
 
 /// The number in a cell.
-pub(crate) fn number_in(row: &Row, at: usize) -> Result<u64, TablesFault>
+pub(crate) fn number_in(row: &Row, at: usize) -> Result<u64, TablesError>
     ensures ok { IfOk result (λ n. column row.now at ≡ number_value n) }
     ensures refused { IsErrOf result Refused → (n : ℕ) → column row.now at ≢ number_value n }
 {
     Ok(row.get(at)?)
 }
 
-fn caps_in(alloc: Global, row: &Row, at: usize) -> Result<Items<CapKey>, TablesFault>
+fn caps_in(alloc: Global, row: &Row, at: usize) -> Result<Items<CapKey>, TablesError>
     ensures ok { IfOk result (λ keys. (ks : List Key) → FitCaps ks → column row.now at ≡ Blob (caps_bytes ks)
         → keys ≡ ks) }
     ensures refused { IsErrOf result Refused → (ks : List Key) → FitCaps ks → AreKnown ks
@@ -50,11 +50,11 @@ fn caps_in(alloc: Global, row: &Row, at: usize) -> Result<Items<CapKey>, TablesF
 {
     match blob_at(row, at) {
         Some(bytes) => read_caps(alloc, bytes),
-        None => Err(TablesFault::Refused),
+        None => Err(TablesError::refused()),
     }
 }
 
-fn params_in(alloc: Global, row: &Row, at: usize) -> Result<(Map, Map), TablesFault>
+fn params_in(alloc: Global, row: &Row, at: usize) -> Result<(Map, Map), TablesError>
     ensures ok { IfOk result (λ read. (p m : TextMap) → FitParams p m
         → column row.now at ≡ Blob (params_bytes p m) → read ≡ (p, m)) }
     ensures refused { IsErrOf result Refused → (p m : TextMap) → FitParams p m
@@ -65,12 +65,12 @@ fn params_in(alloc: Global, row: &Row, at: usize) -> Result<(Map, Map), TablesFa
 {
     match blob_at(row, at) {
         Some(bytes) => read_params(alloc, bytes),
-        None => Err(TablesFault::Refused),
+        None => Err(TablesError::refused()),
     }
 }
 
 /// The volume that a row shows.
-pub(crate) fn volume_from(alloc: Global, row: &Row) -> Result<Volume, TablesFault>
+pub(crate) fn volume_from(alloc: Global, row: &Row) -> Result<Volume, TablesError>
     ensures ok { IfOk result (λ v. (e : ℕ × Stored) → IsStored e → row.now ≡ volume_entry e → v ≡ e.1) }
     ensures refused { IsErrOf result Refused → (e : ℕ × Stored) → IsReadable e → row.now ≢ volume_entry e }
     ensures exact { IfOk result (λ v. ShowsVolume row.now v) }
@@ -93,7 +93,7 @@ pub(crate) fn volume_from(alloc: Global, row: &Row) -> Result<Volume, TablesFaul
 }
 
 /// The volume of the row, if there is one.
-pub(crate) fn volume_of(alloc: Global, found: Option<Row>) -> Result<Option<Volume>, TablesFault>
+pub(crate) fn volume_of(alloc: Global, found: Option<Row>) -> Result<Option<Volume>, TablesError>
     ensures ok { IfOk result (λ v. (o : Option (ℕ × Stored)) → IfSome o IsStored
         → found ≡ option_map volume_entry o → v ≡ option_map (λ e. e.1) o) }
     ensures refused { IsErrOf result Refused → (o : Option (ℕ × Stored)) → IfSome o IsReadable
@@ -106,7 +106,7 @@ pub(crate) fn volume_of(alloc: Global, found: Option<Row>) -> Result<Option<Volu
     }
 }
 
-fn cap_in(alloc: Global, row: &Row, at: usize) -> Result<CapKey, TablesFault>
+fn cap_in(alloc: Global, row: &Row, at: usize) -> Result<CapKey, TablesError>
     ensures ok { IfOk result (λ key. (k : Key) → FitCaps (k ∷ [])
         → column row.now at ≡ Blob (caps_bytes (k ∷ [])) → key ≡ k) }
     ensures refused { IsErrOf result Refused → (k : Key) → FitCaps (k ∷ []) → AreKnown (k ∷ [])
@@ -116,12 +116,12 @@ fn cap_in(alloc: Global, row: &Row, at: usize) -> Result<CapKey, TablesFault>
     let mut keys = caps_in(alloc, row, at)?.into_vec();
     match keys.pop() {
         Some(key) if keys.is_empty() => Ok(key),
-        _ => Err(TablesFault::Refused),
+        _ => Err(TablesError::refused()),
     }
 }
 
 /// The attachment that a row of those of its volume shows. A `readonly` that is neither 0 nor 1 is refused.
-pub(crate) fn attachment_from(alloc: Global, row: &Row) -> Result<Attachment, TablesFault>
+pub(crate) fn attachment_from(alloc: Global, row: &Row) -> Result<Attachment, TablesError>
     ensures ok { IfOk result (λ a. (e : AttachmentKey × Placed) → IsPlaced e → row.now ≡ node_entry e
         → a ≡ e.1) }
     ensures refused { IsErrOf result Refused → (e : AttachmentKey × Placed) → IsReadablePlace e
@@ -129,7 +129,7 @@ pub(crate) fn attachment_from(alloc: Global, row: &Row) -> Result<Attachment, Ta
     ensures exact { IfOk result (λ a. ShowsAttachment row.now a) }
 {
     let Some(readonly) = flag_at(row, 2) else {
-        return Err(TablesFault::Refused);
+        return Err(TablesError::refused());
     };
     Ok(Attachment {
         node: text_in(row, 0)?,
@@ -139,7 +139,7 @@ pub(crate) fn attachment_from(alloc: Global, row: &Row) -> Result<Attachment, Ta
 }
 
 /// The volumes that rows show.
-pub(crate) fn volumes_from(alloc: Global, rows: &[Row]) -> Result<Items<Volume>, TablesFault>
+pub(crate) fn volumes_from(alloc: Global, rows: &[Row]) -> Result<Items<Volume>, TablesError>
     ensures ok { IfOk result (λ vs. (es : List (ℕ × Stored)) → AllByRecursion IsStored es
         → rows.now ≡ map volume_entry es → vs ≡ map (λ e. e.1) es) }
     ensures refused { IsErrOf result Refused → (es : List (ℕ × Stored)) → AllByRecursion IsReadable es
@@ -157,7 +157,7 @@ pub(crate) fn volumes_from(alloc: Global, rows: &[Row]) -> Result<Items<Volume>,
 pub(crate) fn attachments_from(
     alloc: Global,
     rows: &[Row],
-) -> Result<Items<Attachment>, TablesFault>
+) -> Result<Items<Attachment>, TablesError>
     ensures ok { IfOk result (λ xs. (es : List (AttachmentKey × Placed)) → AllByRecursion IsPlaced es
         → rows.now ≡ map node_entry es → xs ≡ map (λ e. e.1) es) }
     ensures refused { IsErrOf result Refused → (es : List (AttachmentKey × Placed))
@@ -183,7 +183,7 @@ pub(crate) fn numbers_of(alloc: Global, volumes: &[Volume]) -> Result<Vec<u64>, 
 }
 
 /// The numbers in the first column.
-pub(crate) fn numbers_from(alloc: Global, rows: &[Row]) -> Result<Items<u64>, TablesFault>
+pub(crate) fn numbers_from(alloc: Global, rows: &[Row]) -> Result<Items<u64>, TablesError>
     ensures ok { IfOk result (λ xs. (ns : List ℕ) → rows.now ≡ map (λ n. number_value n ∷ []) ns → xs ≡ ns) }
     ensures refused { IsErrOf result Refused → (ns : List ℕ) → rows.now ≢ map (λ n. number_value n ∷ []) ns }
     ensures exact { IfOk result (λ xs. AreReadOf ShowsNumber rows.now xs) }

@@ -7,15 +7,17 @@ ghost use Rattle.csi_keeper.specs.Listing.{IsPageWithNodes, listing};
 ghost use Rattle.csi_keeper.specs.State.{IsBounded, attached, attached_at, count_at, named, page, published_of_page, sizes, used};
 
 use crate::changes::{NUMBERS, make};
-use crate::fault::store_answer;
+use crate::fault::{TablesError, store_answer};
 use crate::read;
 use csi_keeper::{
     Attachment, CapKey, Change, Health, Keeper, Listed, PageWithNodes, StoreFault, Totals, Usage,
     Volume, listed_each,
 };
+use csi_sql::IdleConnection;
 use csi_types::{Items, Text};
-use sqlite::{Alter, Connection};
+use sqlite::{Alter, Error};
 use std::alloc::Global;
+use std::cell::Cell;
 
 /// A keeper over the tables of a database.
 ///
@@ -29,18 +31,24 @@ use std::alloc::Global;
 /// All of that is promised while the database has returned what was written to it: while the store's
 /// `HasCleanDisk` holds as the call ends. A call is one transaction, a removal two; what a pool
 /// has used is told from memory, without one.
+///
+/// # Not promised
+///
+/// What the rows hold once a fault of the disk has shut the connection: each State that has the
+/// pools' totals, and that rows can say, may be it. No read of the rows is answered then; what
+/// pools have used still is, and a survivor is as before.
 #[derive(Drop)]
 pub struct Tables<S: Alter> {
-    pub(crate) conn: Connection<S>,
+    pub(crate) conn: IdleConnection<S>,
     totals: Totals,
     health: Health,
-    ghost idle: { conn.in_transaction ≡ false },
+    // What the database answered the first call that it refused.
+    cause: Cell<Option<Error>>,
 }
 
 impl<S: Alter> Tables<S> {
     // Over a connection whose tables stand for a State, with what the State's pools have used.
-    pub(crate) fn new(conn: Connection<S>, totals: Totals) -> Tables<S>
-        requires idle { conn.in_transaction ≡ false }
+    pub(crate) fn new(conn: IdleConnection<S>, totals: Totals) -> Tables<S>
         ensures over { (result.conn ≡ conn) × (result.totals ≡ totals) }
         ensures fresh { (result.health.is_down ≡ false) × (result.health.refusals ≡ 0) }
     {
@@ -48,7 +56,23 @@ impl<S: Alter> Tables<S> {
             conn,
             totals,
             health: Health::new(),
+            cause: Cell::new(None),
         }
+    }
+
+    // Keeps what the database answered the first call that it refused.
+    fn note<T>(&self, answer: &Result<T, TablesError>) {
+        if let Err(error) = answer {
+            if self.cause.get().is_none() {
+                self.cause.set(error.cause);
+            }
+        }
+    }
+
+    /// What the database answered the first call that it refused, as that the disk is full. There is nothing
+    /// where it refused none, where memory was refused, or where a row is none that was written.
+    pub fn cause(&self) -> Option<Error> {
+        self.cause.get()
     }
 
     /// Whether each further call is answered `Down`. A change that was refused, also for memory,
@@ -80,6 +104,7 @@ impl<S: Alter> Keeper for Tables<S> {
     {
         self.health.start_call()?;
         let answer = read::next_number(&mut self.conn);
+        self.note(&answer);
         self.health.finish_call(store_answer(answer))
     }
 
@@ -91,6 +116,7 @@ impl<S: Alter> Keeper for Tables<S> {
     {
         self.health.start_call()?;
         let answer = read::by_name(alloc, &mut self.conn, name);
+        self.note(&answer);
         self.health.finish_call(store_answer(answer))
     }
 
@@ -106,6 +132,7 @@ impl<S: Alter> Keeper for Tables<S> {
             return Ok(None);
         }
         let answer = read::by_number(alloc, &mut self.conn, number);
+        self.note(&answer);
         self.health.finish_call(store_answer(answer))
     }
 
@@ -134,6 +161,7 @@ impl<S: Alter> Keeper for Tables<S> {
             return Ok(Items::new(alloc));
         }
         let answer = read::attachments(alloc, &mut self.conn, number);
+        self.note(&answer);
         self.health.finish_call(store_answer(answer))
     }
 
@@ -145,6 +173,7 @@ impl<S: Alter> Keeper for Tables<S> {
     {
         self.health.start_call()?;
         let answer = read::attached_at(alloc, &mut self.conn, node);
+        self.note(&answer);
         self.health.finish_call(store_answer(answer))
     }
 
@@ -167,6 +196,7 @@ impl<S: Alter> Keeper for Tables<S> {
     {
         self.health.start_call()?;
         let answer = read::sizes_in(alloc, &mut self.conn, pool);
+        self.note(&answer);
         self.health.finish_call(store_answer(answer))
     }
 
@@ -192,6 +222,7 @@ impl<S: Alter> Keeper for Tables<S> {
             return Ok(Items::new(alloc));
         }
         let answer = read::page(alloc, &mut self.conn, after, count);
+        self.note(&answer);
         self.health.finish_call(store_answer(answer))
     }
 
@@ -215,6 +246,7 @@ impl<S: Alter> Keeper for Tables<S> {
             });
         }
         let answer = read::page_with_nodes(alloc, &mut self.conn, after, count);
+        self.note(&answer);
         self.health.finish_call(store_answer(answer))
     }
 
@@ -267,6 +299,7 @@ impl<S: Alter> Keeper for Tables<S> {
             return Err(fault);
         }
         let answer = make(alloc, &mut self.conn, &mut self.totals, change);
+        self.note(&answer);
         self.health.finish_change(store_answer(answer))
     }
 

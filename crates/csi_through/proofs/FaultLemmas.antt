@@ -102,12 +102,6 @@ next_at s n (w ∷ vs) (suc i) v low is next = next_at s w.number vs i v (omega 
 pub on_err : {X E : Type 0} (P : E → Type 0) (r : Result X E) (e : E) → r ≡ Err e → P e → IfErr r P
 on_err {X} {E} P r e is p = subst (λ (r : Result X E). IfErr r P) (sym is) p
 
--- a memory counts nothing, so it has no fault but want of memory
-pub memory_alone : {X : Type 0} (r : Result X StoreFault) (fault : StoreFault) → r ≡ Err fault → 0 ≡ count_after 0 r → fault ≡ NoMemory
-memory_alone r NoMemory is none = refl
-memory_alone r Refused is none = absurd (let one : count_after 0 r ≡ 1 = ap (count_after 0) is in omega (arith, none, one))
-memory_alone r Down is none = absurd (let one : count_after 0 r ≡ 1 = ap (count_after 0) is in omega (arith, none, one))
-
 abbrev pub counted : ℕ → StoreFault → ℕ
 counted n fault = count_after {X = Unit {0}} n (Err fault)
 

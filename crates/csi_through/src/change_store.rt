@@ -15,7 +15,7 @@ pub trait ChangeStore {
     // What contracts see of it. How many calls were refused is not asked of it.
     ghost model: { Self → Model State };
 
-    /// Makes a change, which the State has to allow: the items of `Change` say when it does.
+    /// Makes a change, which the State must allow: the items of `Change` say when it does.
     ///
     /// After `Ok` the State is the one after the change, and so is what a stop leaves. After `NoMemory` or
     /// `Refused` the State stays; a stop leaves what it could have left before, or the State after the

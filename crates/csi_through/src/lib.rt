@@ -14,6 +14,13 @@
 //! keeper.apply(alloc, &Change::AddVolume(volume))?;
 //! let tables = keeper.into_change_store().into_keeper();
 //! ```
+//!
+//! # Not promised
+//!
+//! Any call of a keeper may be refused, so no clause says that the memory is asked for each
+//! change, or that a change for which it has no room is followed by refusals and not by reads from
+//! the change store. Rows of `test_bytes` show both. That memory was refused where `over` and
+//! `copied` say so is shown by `tests/test_csid_*.py`.
 #![tactic(auto)]
 
 mod change_store;

@@ -56,7 +56,7 @@ where
     number_of(word_at(words, place)?)
 }
 
-/// Appends a part of an answer, behind a comma where it is not the first.
+/// Appends a part of an answer, after a comma where it is not the first.
 ///
 /// # Errors
 ///

@@ -1,8 +1,6 @@
 //! Constraints of what is stored in tables in memory.
 
-ghost use Rattle.std.specs.Prelude.{◌≡◌, false};
-
-use crate::database::{make, run, without_tables};
+use crate::database::{idle, make, run, without_tables};
 use crate::scans::Scan;
 use csi_config::Config;
 use csi_constraints::{
@@ -10,8 +8,9 @@ use csi_constraints::{
     HasAttachmentKinds, HasCap, HasCaps, HasFlag, HasParams, HasVolumeKinds, InfallibleTest,
     IsAtNode, IsInPools, IsNamed, IsNumbered, IsSized, RowName, RowTrial, VolumeConstraint,
 };
+use csi_sql::IdleConnection;
 use csi_types::copy_text;
-use sqlite::{Alter, Connection};
+use sqlite::Alter;
 use std::alloc::Global;
 use std::fmt::{Display, Write};
 use test_kit::{RowFault, number_at, word_at, words_of};
@@ -21,21 +20,18 @@ pub(crate) fn answer(alloc: Global, row: &str) -> Result<String, RowFault> {
     let (constraint, statements) = row.split_once(" | ").ok_or(RowFault::NotRow)?;
     let config = Config::sample(alloc)?;
     let mut conn = without_tables(alloc)?;
-    look(alloc, &mut conn, &config, statements, constraint)
+    make(&mut conn)?;
+    run(&mut conn, statements)?;
+    look(alloc, &mut idle(conn)?, &config, constraint)
 }
 
-// The same over a connection.
+// Whether the rows of our tables meet a constraint.
 fn look<S: Alter>(
     alloc: Global,
-    conn: &mut Connection<S>,
+    conn: &mut IdleConnection<S>,
     config: &Config,
-    statements: &str,
     constraint: &str,
-) -> Result<String, RowFault>
-    requires { conn.old.in_transaction ≡ false }
-{
-    make(conn)?;
-    run(conn, statements)?;
+) -> Result<String, RowFault> {
     let words = words_of(alloc, constraint)?;
     match Scan::named(word_at(&words, 0)?)? {
         Scan::Meta => Err(RowFault::NotRow),
@@ -46,7 +42,7 @@ fn look<S: Alter>(
     }
 }
 
-fn ask_owners<S: Alter>(alloc: Global, conn: &mut Connection<S>) -> Result<String, RowFault> {
+fn ask_owners<S: Alter>(alloc: Global, conn: &mut IdleConnection<S>) -> Result<String, RowFault> {
     let mut fold = FirstUnowned {
         alloc,
         last: None,
@@ -60,7 +56,7 @@ fn ask_owners<S: Alter>(alloc: Global, conn: &mut Connection<S>) -> Result<Strin
     )
 }
 
-fn ask_places<S: Alter>(alloc: Global, conn: &mut Connection<S>) -> Result<String, RowFault> {
+fn ask_places<S: Alter>(alloc: Global, conn: &mut IdleConnection<S>) -> Result<String, RowFault> {
     let mut fold = FirstApart {
         alloc,
         last: None,
@@ -76,7 +72,7 @@ fn ask_places<S: Alter>(alloc: Global, conn: &mut Connection<S>) -> Result<Strin
 
 fn ask_volumes<S: Alter>(
     alloc: Global,
-    conn: &mut Connection<S>,
+    conn: &mut IdleConnection<S>,
     config: &Config,
     words: &[&str],
 ) -> Result<String, RowFault> {
@@ -120,7 +116,7 @@ fn ask_volumes<S: Alter>(
 
 fn ask_volume<S: Alter, T: RowTrial + Drop>(
     alloc: Global,
-    conn: &mut Connection<S>,
+    conn: &mut IdleConnection<S>,
     test: T,
     constraint: VolumeConstraint,
 ) -> Result<String, RowFault> {
@@ -129,7 +125,7 @@ fn ask_volume<S: Alter, T: RowTrial + Drop>(
 
 fn ask_attachments<S: Alter>(
     alloc: Global,
-    conn: &mut Connection<S>,
+    conn: &mut IdleConnection<S>,
     config: &Config,
     constraint: &str,
 ) -> Result<String, RowFault> {
@@ -168,7 +164,7 @@ fn ask_attachments<S: Alter>(
 // Whether all rows of a scan meet a constraint.
 fn ask<S: Alter, T: RowTrial + Drop>(
     alloc: Global,
-    conn: &mut Connection<S>,
+    conn: &mut IdleConnection<S>,
     scan: Scan,
     test: T,
     words: Words,

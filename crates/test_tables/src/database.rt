@@ -2,7 +2,7 @@
 
 ghost use Rattle.std.specs.Prelude.{◌≡◌, false, IfOk};
 
-use csi_sql::make_tables;
+use csi_sql::{IdleConnection, make_tables};
 use sqlite::{Alter, Connection, Error as SqlError, ErrorCode, MemStore};
 use std::alloc::Global;
 use test_kit::RowFault;
@@ -27,6 +27,14 @@ pub(crate) fn make<S: Alter>(conn: &mut Connection<S>) -> Result<(), RowFault>
     requires { conn.old.in_transaction ≡ false }
 {
     make_tables(conn).map_err(refused)
+}
+
+/// The connection, where no transaction was left open on it.
+pub(crate) fn idle<S: Alter + Drop>(conn: Connection<S>) -> Result<IdleConnection<S>, RowFault> {
+    if !conn.is_autocommit() {
+        return Err(RowFault::Refused("refused"));
+    }
+    Ok(IdleConnection::new(conn))
 }
 
 /// Carries out statements.

@@ -6,9 +6,9 @@ mod folds;
 mod scan;
 
 use crate::cells::or_none;
-use crate::database::{make, run, without_tables};
+use crate::database::{idle, make, run, without_tables};
 use csi_constraints::{FoldEach, Rising, TextSum, Weight};
-use csi_sql::is_our_schema;
+use csi_sql::{IdleConnection, is_our_schema};
 use folds::Showing;
 pub(crate) use scan::Scan;
 use sqlite::{Alter, Connection};
@@ -22,24 +22,11 @@ pub(crate) fn answer(alloc: Global, row: &str) -> Result<String, RowFault> {
     let (start, rest) = row.split_once(" | ").ok_or(RowFault::NotRow)?;
     let (question, statements) = rest.split_once(" | ").ok_or(RowFault::NotRow)?;
     let mut conn = without_tables(alloc)?;
-    look(alloc, &mut conn, start, statements, question)
+    begin(&mut conn, start, statements)?;
+    ask(alloc, &mut idle(conn)?, question)
 }
 
-// The same over a connection.
-fn look<S: Alter>(
-    alloc: Global,
-    conn: &mut Connection<S>,
-    start: &str,
-    statements: &str,
-    question: &str,
-) -> Result<String, RowFault>
-    requires { conn.old.in_transaction ≡ false }
-{
-    begin(conn, start, statements)?;
-    ask(alloc, conn, question)
-}
-
-// Begins a database so, behind these statements.
+// Begins a database so, after these statements.
 fn begin<S: Alter>(conn: &mut Connection<S>, start: &str, statements: &str) -> Result<(), RowFault>
     requires { conn.old.in_transaction ≡ false }
 {
@@ -55,7 +42,7 @@ fn begin<S: Alter>(conn: &mut Connection<S>, start: &str, statements: &str) -> R
 }
 
 // Whether the tables are ours, and nothing else is there.
-fn is_ours<S: Alter>(alloc: Global, conn: &Connection<S>) -> Result<String, RowFault> {
+fn is_ours<S: Alter>(alloc: Global, conn: &IdleConnection<S>) -> Result<String, RowFault> {
     let word = if is_our_schema(conn.schema()) {
         "ours"
     } else {
@@ -67,7 +54,7 @@ fn is_ours<S: Alter>(alloc: Global, conn: &Connection<S>) -> Result<String, RowF
 // What is asked of the rows of our tables.
 fn ask<S: Alter>(
     alloc: Global,
-    conn: &mut Connection<S>,
+    conn: &mut IdleConnection<S>,
     question: &str,
 ) -> Result<String, RowFault> {
     if question == "ours" {
@@ -88,7 +75,7 @@ fn ask<S: Alter>(
 // Each row.
 fn shown<S: Alter>(
     alloc: Global,
-    conn: &mut Connection<S>,
+    conn: &mut IdleConnection<S>,
     scan: Scan,
 ) -> Result<String, RowFault> {
     let mut fold = Showing {
@@ -102,7 +89,7 @@ fn shown<S: Alter>(
 // Whether each row has an integer in a column, and each is above those before it.
 fn judged<S: Alter>(
     alloc: Global,
-    conn: &mut Connection<S>,
+    conn: &mut IdleConnection<S>,
     scan: Scan,
     column: usize,
 ) -> Result<String, RowFault> {
@@ -138,7 +125,7 @@ fn sums_of(alloc: Global, words: &[&str]) -> Result<Vec<TextSum>, RowFault> {
 
 fn summed<S: Alter>(
     alloc: Global,
-    conn: &mut Connection<S>,
+    conn: &mut IdleConnection<S>,
     scan: Scan,
     sums: Vec<TextSum>,
 ) -> Result<String, RowFault> {

@@ -6,131 +6,180 @@ use crate::cells::{cell_text, or_none, put_row};
 use crate::database::{refused, without_tables};
 use crate::numbers::small_at;
 use csi_sql::values::flag_at;
-use csi_sql::{changes, make_tables, reads};
+use csi_sql::{IdleConnection, changes, make_tables, reads};
 use sqlite::{Alter, Connection, Error as SqlError, MemStore, Row};
 use std::alloc::Global;
 use test_kit::{AnswerRow, RowAnswer, RowFault, bytes_of, number_at, put_part, word_at, words_of};
 
-/// A database between two transactions. It does not know how it is stored, and nor do the proofs of its rows.
+/// A database between two rows. It does not know how it is stored, and nor do the proofs of its rows.
 #[derive(Drop)]
 pub(crate) struct Bench<S: Alter + Drop> {
-    conn: Connection<S>,
-    ghost idle: { conn.in_transaction ≡ false },
+    // The connection; `None` only while a row is answered.
+    conn: Option<IdleConnection<S>>,
 }
 
 /// A database in memory, without tables.
 pub(crate) fn in_memory(alloc: Global) -> Result<Bench<MemStore>, RowFault> {
     Ok(Bench {
-        conn: without_tables(alloc)?,
+        conn: Some(IdleConnection::new(without_tables(alloc)?)),
     })
-}
-
-impl<S: Alter + Drop> Bench<S> {
-    fn answer(&mut self, alloc: Global, row: &str) -> Result<String, RowFault> {
-        self.answer_words(alloc, &words_of(alloc, row)?)
-    }
-
-    fn answer_words(&mut self, alloc: Global, words: &[&str]) -> Result<String, RowFault> {
-        match word_at(words, 0)? {
-            "make" => done(alloc, make_tables(&mut self.conn)),
-            "add" => self.add(alloc, words),
-            "remove" => self.remove(alloc, words),
-            "attach" => self.attach(alloc, words),
-            "detach" => self.detach(alloc, words),
-            "params" => self.params(alloc, words),
-            "format" => done(alloc, changes::set_format(&mut self.conn)),
-            "first" => done(alloc, take_first_format(&mut self.conn)),
-            "meta" => all(alloc, meta(&mut self.conn)),
-            "next" | "number" | "name" => self.find(alloc, words),
-            "attachments" | "at" | "sizes" => self.list(alloc, words),
-            "page" | "nodes" => self.page(alloc, words),
-            _ => Err(RowFault::NotRow),
-        }
-    }
-
-    fn add(&mut self, alloc: Global, words: &[&str]) -> Result<String, RowFault> {
-        let number = small_at(words, 1)?;
-        let name = word_at(words, 2)?;
-        let bytes = small_at(words, 3)?;
-        let pool = word_at(words, 4)?;
-        let caps = bytes_of(alloc, word_at(words, 5)?)?;
-        let params = bytes_of(alloc, word_at(words, 6)?)?;
-        done(
-            alloc,
-            changes::add_volume(&mut self.conn, number, name, bytes, pool, &caps, &params),
-        )
-    }
-
-    fn params(&mut self, alloc: Global, words: &[&str]) -> Result<String, RowFault> {
-        let number = small_at(words, 1)?;
-        let params = bytes_of(alloc, word_at(words, 2)?)?;
-        done(alloc, changes::set_params(&mut self.conn, number, &params))
-    }
-
-    fn remove(&mut self, alloc: Global, words: &[&str]) -> Result<String, RowFault> {
-        done(
-            alloc,
-            changes::remove_volume(&mut self.conn, small_at(words, 1)?),
-        )
-    }
-
-    fn attach(&mut self, alloc: Global, words: &[&str]) -> Result<String, RowFault> {
-        let number = small_at(words, 1)?;
-        let node = word_at(words, 2)?;
-        let cap = bytes_of(alloc, word_at(words, 3)?)?;
-        let readonly = word_at(words, 4)? == "readonly";
-        done(
-            alloc,
-            changes::attach(&mut self.conn, number, node, &cap, readonly),
-        )
-    }
-
-    fn detach(&mut self, alloc: Global, words: &[&str]) -> Result<String, RowFault> {
-        let number = small_at(words, 1)?;
-        match word_at(words, 2)? {
-            "*" => done(alloc, changes::detach_all(&mut self.conn, number)),
-            node => done(alloc, changes::detach(&mut self.conn, number, node)),
-        }
-    }
-
-    // At most one row.
-    fn find(&mut self, alloc: Global, words: &[&str]) -> Result<String, RowFault> {
-        match word_at(words, 0)? {
-            "number" => found(alloc, reads::by_number(&mut self.conn, small_at(words, 1)?)),
-            "name" => found(alloc, reads::by_name(&mut self.conn, word_at(words, 1)?)),
-            _ => found(alloc, reads::next_number(&mut self.conn).map(Some)),
-        }
-    }
-
-    fn list(&mut self, alloc: Global, words: &[&str]) -> Result<String, RowFault> {
-        match word_at(words, 0)? {
-            "attachments" => attachments(
-                alloc,
-                reads::attachments(&mut self.conn, small_at(words, 1)?),
-            ),
-            "at" => all(
-                alloc,
-                reads::attached_at(&mut self.conn, word_at(words, 1)?),
-            ),
-            _ => all(alloc, reads::sizes_in(&mut self.conn, word_at(words, 1)?)),
-        }
-    }
-
-    fn page(&mut self, alloc: Global, words: &[&str]) -> Result<String, RowFault> {
-        let after = small_at(words, 1)?;
-        let count = number_at(words, 2)?;
-        if word_at(words, 0)? == "page" {
-            return all(alloc, reads::page(&mut self.conn, after, count));
-        }
-        let page = reads::page_with_nodes(&mut self.conn, after, count).map_err(refused)?;
-        both(alloc, &page.volumes, &page.places)
-    }
 }
 
 impl<S: Alter + Drop> AnswerRow for Bench<S> {
     fn answer_row(&mut self, rt: &HostRuntime, row: &str) -> Result<RowAnswer, RowFault> {
-        Ok(RowAnswer::Text(self.answer(rt.alloc(), row)?))
+        let words = words_of(rt.alloc(), row)?;
+        let conn = self.conn.take().ok_or(RowFault::NotRow)?;
+        let (answer, conn) = answer(rt.alloc(), conn, &words);
+        self.conn = Some(conn);
+        Ok(RowAnswer::Text(answer?))
     }
+}
+
+// The answer to a row, and the connection.
+fn answer<S: Alter + Drop>(
+    alloc: Global,
+    mut conn: IdleConnection<S>,
+    words: &[&str],
+) -> (Result<String, RowFault>, IdleConnection<S>) {
+    match word_at(words, 0) {
+        Ok(word @ ("make" | "first" | "meta")) => {
+            let mut conn = conn.into_connection();
+            let answer = on_connection(alloc, &mut conn, word);
+            (answer, IdleConnection::new(conn))
+        }
+        _ => {
+            let answer = on_tables(alloc, &mut conn, words);
+            (answer, conn)
+        }
+    }
+}
+
+// What no change and no read does.
+fn on_connection<S: Alter>(
+    alloc: Global,
+    conn: &mut Connection<S>,
+    word: &str,
+) -> Result<String, RowFault>
+    requires { conn.old.in_transaction ≡ false }
+    ensures { conn.new.in_transaction ≡ false }
+{
+    match word {
+        "make" => done(alloc, make_tables(conn)),
+        "first" => done(alloc, take_first_format(conn)),
+        _ => all(alloc, meta(conn)),
+    }
+}
+
+fn on_tables<S: Alter>(
+    alloc: Global,
+    conn: &mut IdleConnection<S>,
+    words: &[&str],
+) -> Result<String, RowFault> {
+    match word_at(words, 0)? {
+        "add" => add(alloc, conn, words),
+        "remove" => {
+            let number = small_at(words, 1)?;
+            done(alloc, changes::remove_volume(conn, number))
+        }
+        "attach" => attach(alloc, conn, words),
+        "detach" => detach(alloc, conn, words),
+        "params" => params(alloc, conn, words),
+        "format" => done(alloc, changes::set_format(conn)),
+        "next" | "number" | "name" => find(alloc, conn, words),
+        "attachments" | "at" | "sizes" => list(alloc, conn, words),
+        "page" | "nodes" => page(alloc, conn, words),
+        _ => Err(RowFault::NotRow),
+    }
+}
+
+fn add<S: Alter>(
+    alloc: Global,
+    conn: &mut IdleConnection<S>,
+    words: &[&str],
+) -> Result<String, RowFault> {
+    let number = small_at(words, 1)?;
+    let name = word_at(words, 2)?;
+    let bytes = small_at(words, 3)?;
+    let pool = word_at(words, 4)?;
+    let caps = bytes_of(alloc, word_at(words, 5)?)?;
+    let params = bytes_of(alloc, word_at(words, 6)?)?;
+    done(
+        alloc,
+        changes::add_volume(conn, number, name, bytes, pool, &caps, &params),
+    )
+}
+
+fn params<S: Alter>(
+    alloc: Global,
+    conn: &mut IdleConnection<S>,
+    words: &[&str],
+) -> Result<String, RowFault> {
+    let number = small_at(words, 1)?;
+    let params = bytes_of(alloc, word_at(words, 2)?)?;
+    done(alloc, changes::set_params(conn, number, &params))
+}
+
+fn attach<S: Alter>(
+    alloc: Global,
+    conn: &mut IdleConnection<S>,
+    words: &[&str],
+) -> Result<String, RowFault> {
+    let number = small_at(words, 1)?;
+    let node = word_at(words, 2)?;
+    let cap = bytes_of(alloc, word_at(words, 3)?)?;
+    let readonly = word_at(words, 4)? == "readonly";
+    done(alloc, changes::attach(conn, number, node, &cap, readonly))
+}
+
+fn detach<S: Alter>(
+    alloc: Global,
+    conn: &mut IdleConnection<S>,
+    words: &[&str],
+) -> Result<String, RowFault> {
+    let number = small_at(words, 1)?;
+    match word_at(words, 2)? {
+        "*" => done(alloc, changes::detach_all(conn, number)),
+        node => done(alloc, changes::detach(conn, number, node)),
+    }
+}
+
+// At most one row.
+fn find<S: Alter>(
+    alloc: Global,
+    conn: &mut IdleConnection<S>,
+    words: &[&str],
+) -> Result<String, RowFault> {
+    match word_at(words, 0)? {
+        "number" => found(alloc, reads::by_number(conn, small_at(words, 1)?)),
+        "name" => found(alloc, reads::by_name(conn, word_at(words, 1)?)),
+        _ => found(alloc, reads::next_number(conn).map(Some)),
+    }
+}
+
+fn list<S: Alter>(
+    alloc: Global,
+    conn: &mut IdleConnection<S>,
+    words: &[&str],
+) -> Result<String, RowFault> {
+    match word_at(words, 0)? {
+        "attachments" => attachments(alloc, reads::attachments(conn, small_at(words, 1)?)),
+        "at" => all(alloc, reads::attached_at(conn, word_at(words, 1)?)),
+        _ => all(alloc, reads::sizes_in(conn, word_at(words, 1)?)),
+    }
+}
+
+fn page<S: Alter>(
+    alloc: Global,
+    conn: &mut IdleConnection<S>,
+    words: &[&str],
+) -> Result<String, RowFault> {
+    let after = small_at(words, 1)?;
+    let count = number_at(words, 2)?;
+    if word_at(words, 0)? == "page" {
+        return all(alloc, reads::page(conn, after, count));
+    }
+    let page = reads::page_with_nodes(conn, after, count).map_err(refused)?;
+    both(alloc, &page.volumes, &page.places)
 }
 
 // Gives the tables the first format, which no statement of the crate does.

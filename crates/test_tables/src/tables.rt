@@ -1,7 +1,5 @@
 //! The volume machine over tables in memory.
 
-ghost use Rattle.std.specs.Prelude.{◌≡◌, false};
-
 mod calls;
 mod words;
 
@@ -9,10 +7,10 @@ use crate::database::{refused, without_tables};
 use calls::call;
 use csi_config::Config;
 use csi_keeper::Keeper;
-use csi_sql::reads;
+use csi_sql::{IdleConnection, reads};
 use csi_tables::Tables;
 use csi_types::{Method, method_named};
-use sqlite::{Alter, Connection, MemStore};
+use sqlite::{Alter, MemStore};
 use std::alloc::Global;
 use std::mem;
 use test_kit::{AnswerRow, RowAnswer, RowFault, bytes_of, reply_to};
@@ -77,13 +75,11 @@ fn remake<S: Alter + Drop>(
     let before = mem::replace(tables, new?);
     match Tables::make(alloc, before.into_connection()) {
         Ok(_) => Ok(String::from_str(alloc, "made")?),
-        Err(mut fault) => next_in(alloc, &mut fault.conn),
+        Err(fault) => next_in(alloc, &mut IdleConnection::new(fault.conn)),
     }
 }
 
-fn next_in<S: Alter>(alloc: Global, conn: &mut Connection<S>) -> Result<String, RowFault>
-    requires { conn.old.in_transaction ≡ false }
-{
+fn next_in<S: Alter>(alloc: Global, conn: &mut IdleConnection<S>) -> Result<String, RowFault> {
     let next = reads::next_number(conn).map_err(refused)?;
     numbers_in_words(alloc, &[next.get(0).map_err(refused)?])
 }

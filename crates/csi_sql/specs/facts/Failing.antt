@@ -335,7 +335,6 @@ module _ {S : Type 0} (g : Ghosts S) (before : Schema) (old : Held S) where
   undoes {X = X} {Effect = Effect} {Why = Why} {Refuses = Refuses} {mid = mid} r e same ran end dropped at is =
       let left = dropped.survives in
       subst (λ (h : Held S). CommitsOver g old h before Effect Refuses r) at (record {
-        idle = dropped.ended;
         ok = λ clean. never_ok r e _ is;
         err = λ clean. on_err r _ (undone_as (state g mid) (state g end) (ran.kept (omega (arith, left.clean)) refl) (dropped.undone clean));
         failed = λ clean has. handed r e _ is (fails_weaker (Why begun) (Refuses (state g old)) (state g old) (state g end) e same
@@ -355,7 +354,6 @@ module _ {S : Type 0} (g : Ghosts S) (before : Schema) (old : Held S) where
       let left = done.survives in
       let earlier : HasCleanDisk (state g end) → HasCleanDisk (state g mid) = λ clean. omega (arith, left.clean) in
       subst (λ (h : Held S). CommitsOver g old h before Effect Refuses r) at (record {
-        idle = done.ended;
         ok = λ clean. committed Effect (state g mid) (state g end) r (ran.ok (earlier clean) refl) (done.ok clean);
         err = λ clean. uncommitted Effect (state g mid) (state g end) r (ran.ok (earlier clean) refl) (ran.kept (earlier clean) refl) (done.err clean);
         failed = λ clean has. not_committed (Refuses (state g old)) Effect (state g mid) (state g end) r ran.survives (ran.ok (earlier clean) refl)

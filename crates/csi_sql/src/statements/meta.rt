@@ -27,6 +27,7 @@ pub fn update_format<S: Alter>(tx: &mut Transaction<'_, S>) -> Changed
     ensures same_reference { tx.new.conn.ghost_name ≡ tx.old.conn.ghost_name }
     ensures runs { RunsOver S.Store tx.old.conn.now tx.new.conn.now schema SetsFormat RefusesFormat result }
 {
+    // No parameter: a number in it would need a promise of which numbers it is given.
     tx.execute("UPDATE meta SET format_no = 2", &[]).and(Ok(()))
 }
 

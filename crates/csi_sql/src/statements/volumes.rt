@@ -54,7 +54,7 @@ pub fn insert_volume<S: Alter>(tx: &mut Transaction<'_, S>, row: &VolumeRow<'_>)
     .and(Ok(()))
 }
 
-/// Sets the params of the volume of a number, which is below 2^63; all else of it stays. Where no
+/// Sets the params of the volume of a number, which is below 2^63; the rest of it stays. Where no
 /// volume has the number the tables stay.
 pub fn update_params<S: Alter>(tx: &mut Transaction<'_, S>, volume: u64, params: &[u8]) -> Changed
     requires { volume < 2 ^ 63 }

@@ -3,7 +3,7 @@
 use csi_config::Config;
 use csi_files::{NotServed, Observer, ServeOptions, Served, serve_made};
 use csi_server::RunEnd;
-use sqlite::Options;
+use sqlite::{Error, Options};
 use sqlite_disk::{Disk, Files};
 use std::alloc::{AllocError, Global};
 
@@ -17,6 +17,8 @@ impl Observer for Unheard {
     fn made(&self) {}
 
     fn uncopied(&self) {}
+
+    fn refused(&self, _cause: &Error) {}
 }
 
 fn end_word(end: RunEnd) -> &'static str {

@@ -1,7 +1,7 @@
 //! A fold that shows rows.
 
 use crate::cells::put_row;
-use csi_constraints::Fold;
+use csi_sql::Fold;
 use sqlite::{Error, Row};
 use std::alloc::Global;
 

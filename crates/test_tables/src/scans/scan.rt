@@ -1,9 +1,9 @@
 //! Which scan is taken.
 
 use crate::database::refused;
-use csi_constraints::{Fold, scan_attachments, scan_meta, scan_owners, scan_places, scan_volumes};
-use csi_sql::is_our_schema;
-use sqlite::{Alter, Connection};
+use csi_constraints::{scan_attachments, scan_meta, scan_owners, scan_places, scan_volumes};
+use csi_sql::{Fold, IdleConnection, is_our_schema};
+use sqlite::Alter;
 use test_kit::RowFault;
 
 /// A scan over our tables.
@@ -29,15 +29,12 @@ impl Scan {
         }
     }
 
-    /// Folds each row that the scan shows, between two transactions and over our tables alone.
+    /// Folds each row that the scan shows, over our tables alone.
     pub(crate) fn over<S: Alter, F: Fold>(
         self,
-        conn: &mut Connection<S>,
+        conn: &mut IdleConnection<S>,
         fold: &mut F,
     ) -> Result<(), RowFault> {
-        if !conn.is_autocommit() {
-            return Err(RowFault::Refused("refused"));
-        }
         if !is_our_schema(conn.schema()) {
             return Err(RowFault::Refused("other tables"));
         }

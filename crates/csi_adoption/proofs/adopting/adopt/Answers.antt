@@ -21,22 +21,25 @@ returns-in-Err-clause-unadopted g c =
     (λ clean is_open. (c.in-Err.ensures.undone clean).was_open is_open)
     (tables_cause g.S.Store c.roll_back.new.conn c.in-Err.field-0.conn c.in-Err.field-0.error c.from.result c.from.ensures blank (λ clean. c.in-Err.ensures.failed clean blank)))
 
-pub over-requires-clause-stands : goal.over-requires-clause-stands
-over-requires-clause-stands g c =
+pub over-requires : goal.over-requires
+over-requires g c =
     let settled = is_settled g.S.Store c.args.conn c.set_step_limit.new.self c.roll_back.new.conn c.set_step_limit.ensures c.roll_back.ensures.undone c.roll_back.ensures.survives in
-    stands g.S.Store c.args.config.now c.args.conn c.roll_back.new.conn c.judge_and_upgrade.new.conn c.in-Ok-judge_and_upgrade.totals settled c.schema.ensures.live c.in-Ok-judge_and_upgrade.ensures.survives c.in-Ok-judge_and_upgrade.ensures.taken
+    let it = rw c.new-conn.ensures at c.in-Ok-judge_and_upgrade.ensures in
+    record { stands = stands g.S.Store c.args.config.now c.args.conn c.roll_back.new.conn c.judge_and_upgrade.new.conn c.in-Ok-judge_and_upgrade.totals settled c.schema.ensures.live it.survives it.taken }
 
 pub returns-in-Ok-judge_and_upgrade-clause-adopted : goal.returns-in-Ok-judge_and_upgrade-clause-adopted
 returns-in-Ok-judge_and_upgrade-clause-adopted g c =
     let settled = is_settled g.S.Store c.args.conn c.set_step_limit.new.self c.roll_back.new.conn c.set_step_limit.ensures c.roll_back.ensures.undone c.roll_back.ensures.survives in
-    is_adopted g.S.Store c.args.config.now c.args.conn c.roll_back.new.conn c.judge_and_upgrade.new.conn c.in-Ok-judge_and_upgrade.totals settled c.schema.ensures.live c.in-Ok-judge_and_upgrade.ensures.survives c.in-Ok-judge_and_upgrade.ensures.taken
+    let it = rw c.new-conn.ensures at c.in-Ok-judge_and_upgrade.ensures in
+    is_adopted g.S.Store c.args.config.now c.args.conn c.roll_back.new.conn c.judge_and_upgrade.new.conn c.in-Ok-judge_and_upgrade.totals settled c.schema.ensures.live it.survives it.taken
     c.one_state.ensures g.met.S.Store.settled c.over.result c.over.ensures.value c.over.ensures.fresh
 
 pub returns-in-Err-judge_and_upgrade-clause-unadopted : goal.returns-in-Err-judge_and_upgrade-clause-unadopted
 returns-in-Err-judge_and_upgrade-clause-unadopted g c =
     let settled = is_settled g.S.Store c.args.conn c.set_step_limit.new.self c.roll_back.new.conn c.set_step_limit.ensures c.roll_back.ensures.undone c.roll_back.ensures.survives in
-    let it = c.in-Err-judge_and_upgrade.ensures in
+    let it = rw c.new-conn.ensures at c.in-Err-judge_and_upgrade.ensures in
+    let back = c.into_connection-conn.ensures.value in
     let some = λ (none : c.roll_back.new.conn.schema ≡ no_schema). true≢false (sym (c.is_blank.ensures.true_if (c.schema.ensures.value ∙ none)) ∙ c.if-is_blank.false) in
-    is_refused g.S.Store c.args.config.now c.args.conn c.roll_back.new.conn c.judge_and_upgrade.new.conn c.in-Err-judge_and_upgrade.fault settled c.schema.ensures.live it.idle
+    rw back (is_refused g.S.Store c.args.config.now c.args.conn c.roll_back.new.conn c.judge_and_upgrade.new.conn c.in-Err-judge_and_upgrade.fault settled c.schema.ensures.live (rw back at c.into_connection-conn.ensures.idle)
     (settled_cause g.S.Store c.args.conn c.set_step_limit.new.self c.roll_back.new.conn c.judge_and_upgrade.new.conn c.in-Err-judge_and_upgrade.fault c.set_step_limit.ensures c.roll_back.ensures.undone c.roll_back.ensures.survives it.survives (λ clean is_open. (it.kept clean).was_open is_open) it.failed)
-    it.kept it.survives it.first it.other it.sound some it.shut
+    it.kept it.survives it.first it.other it.sound some it.shut)

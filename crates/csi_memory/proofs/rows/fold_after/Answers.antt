@@ -21,7 +21,7 @@ pub loop-number-preserved : goal.loop-number-preserved
 loop-number-preserved g c =
     let told = λ (e : ℕ × StoredVolume). listed_in c.args.attachments.now.entries (as_volume e.0 e.1) in
     let row : Bor ℕ × Bor StoredVolume = (c.in-Some.number, c.in-Some.volume) in
-    let is : row_told c.listed_at.result ≡ told (deref_pair row) = c.listed_at.ensures ∙ ap (listed_at (as_volume c.in-Some.number.now c.in-Some.volume.now)) c.in_ok-nodes.ensures.nodes in
+    let is : row_told c.listed_at.result ≡ told (deref_pair row) = c.listed_at.ensures ∙ ap (listed_at (as_volume c.in-Some.number.now c.in-Some.volume.now)) c.in_ok-go_to.ensures.nodes in
     record {
       folded =
           subst (λ rows. g.F.PageFold.folds c.args.fold.now rows c.add.new.self)

@@ -3,8 +3,8 @@ use Rattle.csi_sql.proofs.CommitLemmas.{done, undone}
 use Rattle.csi_sql.proofs.changes.set_params.Goals as goal
 
 pub returns : goal.returns
-returns g c = done g.S.Store c.args.conn.now c.commit.result (rw c.transaction-tx.ensures.begun at c.in_ok-update_params.ensures.runs) c.commit.new.self.0 c.commit.ensures (search rules)
+returns g c = done g.S.Store c.args.conn.now c.commit.result (rw (c.transaction-tx.ensures.begun, c.conn.view_is) at c.in_ok-update_params.ensures.runs) c.commit.new.self.0 c.commit.ensures (search rules)
 
 pub returns-in_err-update_params : goal.returns-in_err-update_params
 returns-in_err-update_params g c =
-    undone g.S.Store c.args.conn.now c.from_residual.result (λ why. why) (rw c.transaction-tx.ensures.begun at c.in_err-update_params.ensures.runs) c.drop-tx.new.self.0 c.drop-tx.ensures (search rules) c.from_residual.ensures.1
+    undone g.S.Store c.args.conn.now c.from_residual.result (λ why. why) (rw (c.transaction-tx.ensures.begun, c.conn.view_is) at c.in_err-update_params.ensures.runs) c.drop-tx.new.self.0 c.drop-tx.ensures (search rules) c.from_residual.ensures.1

@@ -47,7 +47,6 @@ returns-in_default-clause-stored g c clean s held h =
 
 pub returns-in_err-params-clause-changes : goal.returns-in_err-params-clause-changes
 returns-in_err-params-clause-changes g c = record {
-  idle = c.by_number.ensures.idle;
   made = search rules;
   failed = on_err c.from_residual-in_err-params.result (fails_quiet g.S.Store (SetMutable c.args.number c.args.mutable.now) c.args.conn.now c.by_number.new.conn (is_quiet g.S.Store c.args.conn.now c.by_number.new.conn c.by_number.ensures.undone c.by_number.ensures.survives));
   refused = search rules;

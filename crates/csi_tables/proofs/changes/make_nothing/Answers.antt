@@ -7,7 +7,6 @@ pub returns-in_err-next_number : goal.returns-in_err-next_number
 returns-in_err-next_number g c =
     let h = unread {What = λ _ _. Unit {0}} c.from_residual.result c.in_err-next_number.field-0.0 (λ s shows. has_next s shows) c.in_err-next_number.ensures c.from_residual.ensures.1 in
     record {
-      idle = h.idle;
       made = search rules;
       failed = on_err c.from_residual.result (λ change. fails_quiet g.S.Store change c.args.conn.now c.next_number.new.conn (is_quiet g.S.Store c.args.conn.now c.next_number.new.conn h.undone h.survives));
       refused = h.refused;
@@ -18,7 +17,6 @@ pub returns : goal.returns
 returns g c =
     let h = c.in_ok-next_number.ensures in
     record {
-      idle = h.idle;
       made = λ change same. makes_nothing g.S.Store change c.args.conn.now c.next_number.new.conn c.read_back.ensures g.met.S.Store.settled same
           (is_quiet g.S.Store c.args.conn.now c.next_number.new.conn h.undone h.survives) (λ clean. (h.ok clean).was_open);
       failed = tt;

@@ -1,4 +1,4 @@
-use Rattle.std.proofs.Common.{inr, ◌≡◌, ◌∙◌, ap, subst, arith, ◌+◌, List, Ok}
+use Rattle.std.proofs.Common.{rules, inr, ◌≡◌, ◌∙◌, ap, subst, arith, ◌+◌, List, Ok}
 use Rattle.csi_keeper.specs.declared.capability.CapKey.{CapKey}
 use Rattle.csi_keeper.specs.declared.change.Change.TheVariants.{AddVolume}
 use Rattle.csi_keeper.specs.facts.Totals.{totals_added}
@@ -35,3 +35,9 @@ returns g c =
     (changes g.S.Store c.read_back.ensures (AddVolume v) (AddsNumbered (volume_row v.number v.name v.bytes v.pool (caps_bytes v.caps) (params_bytes v.params v.mutable)) (v.number + 1)) (λ old new h. h.schema)
     (λ s old new has p allowed h. rows_added s v old new has p (omega (arith, c.requires.bounded.0)) c.as_str.ensures.utf8 c.as_str-2.ensures.utf8 fit c.in_ok-params.ensures.fits allowed h)
     g.met.S.Store.settled (rw (c.as_str.ensures.bytes, c.as_str-2.ensures.bytes, caps, params) at c.in_ok-add_volume.ensures))
+
+pub returns-in_err-reserve : goal.returns-in_err-reserve
+returns-in_err-reserve g c =
+    let r = c.from_residual-in_err-reserve.result in
+    let is = c.from_residual-in_err-reserve.ensures.1 in
+    beside r (AddVolume c.args.volume.now) (never_ok r _ _ is) (never_ok r _ _ is) (on_err r c.reserve.ensures.unchanged) (search rules)

@@ -1,4 +1,4 @@
-use Rattle.std.proofs.Common.{◌≡◌, ◌∙◌, ap, map, sym, subst, ℕ, List, Result, Err, refl}
+use Rattle.std.proofs.Common.{◌≡◌, ◌∙◌, ap, map, sym, subst, ℕ, Result, Err, refl}
 use Rattle.sqlite.specs.Held.{state}
 use Rattle.csi_keeper.specs.declared.volume.Volume.{Volume}
 use Rattle.csi_tables.specs.Places.{nodes_at, AreRising}

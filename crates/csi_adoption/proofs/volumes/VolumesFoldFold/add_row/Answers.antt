@@ -1,3 +1,4 @@
+use Rattle.csi_adoption.proofs.FaultLemmas.{none_takes}
 use Rattle.csi_adoption.proofs.volumes.VolumesFoldFold.add_row.Goals as goal
 
 pub returns-clause-folded : goal.returns-clause-folded
@@ -14,3 +15,9 @@ returns-clause-folded c first rows h = record {
   pool_volumes = (rw c.in_ok-add_row-10.was at c.add_row-10.ensures.folded) first.pool_volumes rows h.pool_volumes;
   rows_are = (rw c.in_ok-add_row-11.was at c.add_row-11.ensures.folded) first.rows rows h.rows_are;
 }
+
+pub returns-in_err-add_row-9-clause-error_only_if : goal.returns-in_err-add_row-9-clause-error_only_if
+returns-in_err-add_row-9-clause-error_only_if c = absurd (none_takes c.args.self.now.pool_bytes.parts.items (rw c.in_err-add_row-9.was at c.add_row-9.ensures.error_only_if))
+
+pub returns-in_err-add_row-10-clause-error_only_if : goal.returns-in_err-add_row-10-clause-error_only_if
+returns-in_err-add_row-10-clause-error_only_if c = absurd (none_takes c.args.self.now.pool_volumes.parts.items (rw c.in_err-add_row-10.was at c.add_row-10.ensures.error_only_if))

@@ -1,5 +1,5 @@
 -- Steps of a query that is read row by row.
-use Rattle.std.proofs.Common.{◌≡◌, ◌⊎◌, inl, inr, ◌∙◌, List, [], ◌∷◌, ◌++◌, length, length-append, append-nil, ap, refl, false, true, true≢false, IsTrue, ℕ, ◌+◌, arith, sym, subst, Ok, Err, Result, IfErr, OnOk, Option, Some, None}
+use Rattle.std.proofs.Common.{◌≡◌, ◌⊎◌, inl, inr, ◌∙◌, List, [], ◌∷◌, ◌++◌, length, length-append, append-nil, ap, refl, true≢false, IsTrue, ℕ, ◌+◌, arith, sym, subst, Ok, Err, Result, OnOk, Option, Some, None}
 use Rattle.std.specs.Result.{IsErrAnd}
 use Rattle.sqlite.specs.Effect.{Database}
 use Rattle.sqlite.specs.Clock.{timed}
@@ -17,12 +17,10 @@ use Rattle.sqlite.specs.Store.{Ghosts}
 use Rattle.sqlite.specs.View.{is_fault}
 use Rattle.sqlite_trees.specs.declared.error.StoreError.{StoreError}
 use Rattle.sqlite_trees.specs.declared.error.StoreError.TheVariants.{OutOfMemory, Io, Corrupt, Full, Broken, Unstorable}
-use Rattle.csi_sql.specs.Failing.{FailsFor, for_memory, by_disk, as_shut, at_limit, as_refused, SqlRefusesToRead, Unrefused}
-use Rattle.csi_sql.specs.Tables.{schema}
-use Rattle.csi_sql.specs.facts.Failing.{IsSure, fails_behind, fails_weaker, query_fails, sure_fails, sure_refused}
-use Rattle.csi_constraints.specs.ScanFailing.{HasTooMany, RefusesRows}
-use Rattle.csi_constraints.specs.Scans.{FoldsOver, HasFolded}
-use Rattle.csi_constraints.specs.Texts.{Scan, text}
+use Rattle.csi_sql.specs.Failing.{FailsFor, SqlRefusesToRead}
+use Rattle.csi_sql.specs.facts.Failing.{fails_behind, query_fails}
+use Rattle.csi_sql.specs.Folding.{RefusesRows}
+use Rattle.csi_sql.specs.Folding.{FoldsOver}
 
 pub commits_nothing : (sql : List ℕ) (params : Row) (old new : State) → (HasCleanDisk new → IsPlain (understood old.now.schema sql)) → Survives old new (CommitsShowing sql params old) → Survives old new (λ _. ⊥)
 commits_nothing sql params old new plain = survives_weaker old new _ _ (λ clean db. never_commits sql params old db (plain clean))
@@ -64,13 +62,6 @@ shown_from sql params a b c rows plain same h =
       subst (ShowsRows a c sql h.0 full rows) (sym none) (it.0, subst (λ (d : Database). IsSourceOf (reads_listing d.schema sql) d it.0) now it.1, it.2, unchanged_then a b c same it.3),
     )
 
--- ---- what was folded of rows, in other words of them
-
-scanned : {F X E : Type 0} (folds : F → List Row → F → Type 0) (old new : F) (P Q : List Row → Type 0) (r : Result X E) → ((rows : List Row) → P rows → Q rows)
-    → OnOk r (HasFolded folds old new P) → OnOk r (HasFolded folds old new Q)
-scanned folds old new P Q (Ok x) f h = (h.0, f h.0 h.1, h.2)
-scanned folds old new P Q (Err e) f h = tt
-
 -- ---- why it failed
 
 -- a query that is refused on a connection is refused as it was before, of the same database with the same limit
@@ -94,10 +85,6 @@ fault_of Corrupt is = refl
 fault_of Full is = refl
 fault_of Broken is = absurd (true≢false (sym is))
 fault_of Unstorable is = absurd (true≢false (sym is))
-
--- an error that is none of the disk's
-pub relays_other : (blamed : Option StoreError) (e : Error) → is_disk_error e ≡ false → Relays blamed e
-relays_other blamed e other kind named is = absurd (true≢false (sym is ∙ other))
 
 store_relays : (old new : State) (e : Error) → Fails old new ⊥ e → Relays new.blamed e
 store_relays old new e h kind named is = h.1 ∙ ap store_error (h.4 kind named (fault_of h.0 (sym (ap is_disk_error h.1) ∙ is)))
@@ -141,40 +128,3 @@ pub dropped : {S F X : Type 0} {g : Ghosts S} {old new : Held S} {folds : F → 
     → FoldsOver g old new folds before after (Shown text [] (state g old) (state g new)) Refuses r
 dropped {g = g} {old = old} {folds = folds} {before = before} {after = after} {Refuses = Refuses} {r = r} text last end is at =
     subst (λ (h : Held _). FoldsOver g old h folds before after (Shown text [] (state g old) (state g h)) Refuses r) (sym is ∙ at)
-
--- a scan is refused for nothing but its rows
-scan_fails : {S X : Type 0} (g : Ghosts S) (scan : Scan) → IsSure schema (text scan) [] → (old : Held S) (new : State) (r : Result X Error) → old.schema ≡ schema
-    → IfErr r (FailsFor (RefusesRows g (text scan) old) (state g old) new) → IfErr r (FailsFor (HasTooMany g old) (state g old) new)
-scan_fails g scan sure old new (Ok x) has h = tt
-scan_fails g scan sure old new (Err e) has h = go h
-  where
-    go : FailsFor (RefusesRows g (text scan) old) (state g old) new e → FailsFor (HasTooMany g old) (state g old) new e
-    go (for_memory is) = for_memory is
-    go (by_disk is more) = by_disk is more
-    go (as_shut is shut) = as_shut is shut
-    go (at_limit is some) = at_limit is some
-    go (as_refused (inl why)) = fails_weaker Unrefused (HasTooMany g old) (state g old) new e (λ none. absurd none) (sure_fails schema (text scan) [] sure (state g old) new e has (as_refused why))
-    go (as_refused (inr many)) = as_refused (scan, many)
-
-scan_told : {S X : Type 0} (g : Ghosts S) (scan : Scan) → IsSure schema (text scan) [] → (old : Held S) (new : State) (r : Result X Error) → old.schema ≡ schema
-    → IfErr r (λ e. Relays new.blamed e ⊎ RefusesRows g (text scan) old e) → IfErr r (λ e. Relays new.blamed e ⊎ HasTooMany g old e)
-scan_told g scan sure old new (Ok x) has h = tt
-scan_told g scan sure old new (Err e) has (inl relayed) = inl relayed
-scan_told g scan sure old new (Err e) has (inr (inl why)) =
-    inl (relays_other new.blamed e (ap is_disk_error (sure_refused schema (text scan) [] sure (state g old) new e has why).0))
-scan_told g scan sure old new (Err e) has (inr (inr many)) = inr (scan, many)
-
--- ---- a scan: a query of a fixed text
-
-pub looks_as : {S F X : Type 0} {g : Ghosts S} {old new : Held S} {folds : F → List Row → F → Type 0} {before after : F} {What : List Row → Type 0} {r : Result X Error}
-    → (scan : Scan) → IsSure schema (text scan) [] → (HasCleanDisk (state g old) → old.schema ≡ schema) → ((rows : List Row) → old.schema ≡ schema → Shown (text scan) [] (state g old) (state g new) rows → What rows)
-    → FoldsOver g old new folds before after (Shown (text scan) [] (state g old) (state g new)) (RefusesRows g (text scan) old) r → FoldsOver g old new folds before after What (HasTooMany g old) r
-looks_as {g = g} {old = old} {new = new} {folds = folds} {before = before} {after = after} {r = r} scan sure ours shows h = record {
-  idle = h.idle;
-  ok = λ clean. scanned folds before after _ _ r (λ rows. shows rows (ours (omega (arith, h.survives.clean)))) (h.ok clean);
-  failed = λ clean. scan_fails g scan sure old (state g new) r (ours (omega (arith, h.survives.clean))) (h.failed clean);
-  told = λ clean. scan_told g scan sure old (state g new) r (ours (omega (arith, h.survives.clean))) (h.told clean);
-  same = h.same;
-  kept = h.kept;
-  survives = h.survives;
-}

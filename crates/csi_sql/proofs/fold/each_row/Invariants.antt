@@ -3,7 +3,7 @@ use Rattle.sqlite.specs.Order.{Row as Values}
 use Rattle.sqlite.specs.State.{HasCleanDisk, IsUnchanged, Survives}
 use Rattle.sqlite.specs.Held.{state}
 use Rattle.sqlite.specs.Given.{HasGiven}
-use Rattle.csi_constraints.proofs.fold.each_row.Given as goal
+use Rattle.csi_sql.proofs.fold.each_row.Given as goal
 
 abbrev pub invariant-rows : goal.invariant-rows
 invariant-rows g l =

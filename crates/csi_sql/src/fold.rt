@@ -1,15 +1,15 @@
 //! The rows of a query, one at a time.
 
-ghost use Rattle.std.specs.Prelude.{◌≡◌, ◌++◌, ◌∷◌, [], List, false, OnErr, OnOk};
+ghost use Rattle.std.specs.Prelude.{◌≡◌, ◌++◌, ◌∷◌, [], List, OnErr, OnOk};
 ghost use Rattle.sqlite.specs.Given.{IsPlain};
 ghost use Rattle.sqlite.specs.Held.{state};
 ghost use Rattle.sqlite.specs.Listing.{understood};
 ghost use Rattle.sqlite.specs.Order.{Row as Values};
 ghost use Rattle.sqlite.specs.State.{HasCleanDisk, Shown};
-ghost use Rattle.csi_constraints.specs.ScanFailing.{FailsForMemory, RefusesRows};
-ghost use Rattle.csi_constraints.specs.Scans.{FoldsOver};
+ghost use Rattle.csi_sql.specs.Folding.{FailsForMemory, FoldsOver, RefusesRows};
 
-use sqlite::{Alter, Connection, Error, ErrorCode, Row};
+use crate::idle_connection::IdleConnection;
+use sqlite::{Alter, Error, ErrorCode, Row};
 
 /// What is made of rows, one after the other.
 pub trait Fold {
@@ -42,17 +42,16 @@ pub trait Fold {
 ///
 /// Where the query is refused or its rows cannot be read, and what `add_row` answers.
 pub fn each_row<S: Alter, F: Fold>(
-    conn: &mut Connection<S>,
+    conn: &mut IdleConnection<S>,
     sql: &str,
     fold: &mut F,
 ) -> Result<(), Error>
-    requires idle { conn.old.in_transaction ≡ false }
     requires plain { HasCleanDisk (state S.Store conn.old) → IsPlain (understood conn.old.schema sql.now) }
     ensures { FoldsOver S.Store conn.old conn.new F.folds fold.old fold.new
         (Shown sql.now [] (state S.Store conn.old) (state S.Store conn.new))
         (RefusesRows S.Store sql.now conn.old) result }
 {
-    let mut rows = conn.query(sql, &[])?;
+    let mut rows = conn.0.query(sql, &[])?;
     'rows: for _ in 0..u64::MAX {
         let Some(row) = rows.next()? else {
             return Ok(());

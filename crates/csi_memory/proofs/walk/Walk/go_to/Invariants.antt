@@ -2,11 +2,11 @@ use Rattle.std.proofs.Common.{◌≡◌, ◌++◌, length}
 use Rattle.csi_memory.specs.Memory.{nodes_in}
 use Rattle.csi_memory.specs.Walking.{ahead, AreAhead}
 use Rattle.csi_memory.proofs.WalkLemmas.{nodes_at}
-use Rattle.csi_memory.proofs.walk.Walk.nodes_of.Given as goal
+use Rattle.csi_memory.proofs.walk.Walk.go_to.Given as goal
 
 abbrev pub invariant-loop-place : goal.invariant-loop-place
 invariant-loop-place l = record {
-  told : l.nodes ++ nodes_at l.number (ahead l.self) ≡ nodes_in l.attachments.entries l.number;
+  told : l.self.nodes ++ nodes_at l.number (ahead l.self) ≡ nodes_in l.attachments.entries l.number;
   over : AreAhead l.attachments.entries (ahead l.self) l.number;
   passed : l.self.passed ≡ l.number;
 }

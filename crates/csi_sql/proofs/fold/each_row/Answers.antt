@@ -5,9 +5,9 @@ use Rattle.sqlite.proofs.Callers.{begun_plain, unchanged_then}
 use Rattle.sqlite.proofs.StateLemmas.{survives_then}
 use Rattle.csi_sql.specs.Failing.{as_refused, SqlRefusesToRead}
 use Rattle.csi_sql.specs.facts.Failing.{fails_weaker, handed, query_fails}
-use Rattle.csi_constraints.specs.ScanFailing.{RefusesRows}
-use Rattle.csi_constraints.proofs.StreamLemmas.{behind_rows, dropped, never_ok, one_longer, commits_nothing, fails_keeps, unchanged_keeps, failed_keeps, keeps_then, query_told, shown_from, told_behind, told_rows}
-use Rattle.csi_constraints.proofs.fold.each_row.Goals as goal
+use Rattle.csi_sql.specs.Folding.{RefusesRows}
+use Rattle.csi_sql.proofs.StreamLemmas.{behind_rows, dropped, never_ok, one_longer, commits_nothing, fails_keeps, unchanged_keeps, failed_keeps, keeps_then, query_told, shown_from, told_behind, told_rows}
+use Rattle.csi_sql.proofs.fold.each_row.Goals as goal
 
 pub returns-in_err-rows : goal.returns-in_err-rows
 returns-in_err-rows g c =
@@ -16,10 +16,9 @@ returns-in_err-rows g c =
     let e = c.in_err-rows.field-0.0 in
     let r = c.from_residual.result in
     let is = c.from_residual.ensures.1 in
-    let refused = rw c.in_err-rows.was at c.query.follows.holds-at-none in
+    let refused = rw (c.in_err-rows.was, c.conn.view_is) at c.query.follows.holds-at-none in
     let plain = λ (clean : HasCleanDisk new). c.requires.plain (omega (arith, refused.survives.clean)) in
     record {
-      idle = refused.mode c.requires.idle;
       ok = λ clean. never_ok r e _ is;
       failed = λ clean. handed r e _ is (fails_weaker (SqlRefusesToRead c.args.sql.now [] old) (RefusesRows g.S.Store c.args.sql.now c.args.conn.now) old new e (λ why. inl why) (query_fails c.args.sql.now [] old new e (plain clean) (refused.err clean)));
       told = λ clean. handed r e _ is (told_rows g.S.Store c.args.sql.now c.args.conn.now new e (query_told c.args.sql.now old new e (plain clean) (refused.err clean)));
@@ -30,9 +29,9 @@ returns-in_err-rows g c =
 
 pub rows-init : goal.rows-init
 rows-init g c =
-    let made = c.in_ok-rows.ensures in (
+    let made = rw c.conn.view_is at c.in_ok-rows.ensures in (
       refl,
-      made.mode c.requires.idle,
+      c.in_ok-rows.ensures.mode c.conn.invariant,
       commits_nothing _ _ _ _ (λ clean. c.requires.plain (omega (arith, made.survives.clean))) made.survives,
       λ clean. let b = begun_plain g.S.Store _ _ c.args.conn.now _ (c.requires.plain (omega (arith, made.survives.clean))) (made.begun clean) in ([], b.0, b.1, g.met.F.Fold.starts _, refl),
     )
@@ -48,7 +47,6 @@ returns-in_err-row g c =
     let is = c.from_residual-in_err-row.ensures.1 in
     let was = λ (clean : HasCleanDisk now). c.rows.invariant.3 (omega (arith, moved.survives.clean)) in
     dropped c.args.sql.now c.next.follows.lender-at-none.conn.now c.drop-rows.new.self.0 c.drop-rows.ensures (search rules) (record {
-      idle = moved.mode c.rows.invariant.1;
       ok = λ clean. never_ok r e _ is;
       failed = λ clean.
           let given = was clean in
@@ -74,7 +72,6 @@ returns-in_default g c =
     let was = λ (clean : HasCleanDisk now). c.rows.invariant.3 (omega (arith, moved.survives.clean)) in
     let same = λ (clean : HasCleanDisk now). unchanged_then old mid now (was clean).2 (rw c.in_ok-row.was at (moved.same clean)) in
     dropped c.args.sql.now c.next.follows.lender-at-none.conn.now c.drop-rows-in_default.new.self.0 c.drop-rows-in_default.ensures (search rules) (record {
-      idle = moved.mode c.rows.invariant.1;
       ok = λ clean.
           let given = was clean in
           let shown = (rw (c.in_ok-row.was, c.in_default.is) at (moved.ok clean)) c.args.sql.now [] given.0 given.1 in
@@ -103,7 +100,6 @@ rows-preserved g c =
 
 pub returns : goal.returns
 returns g c = record {
-  idle = search rules;
   ok = search rules;
   failed = λ clean.
       let late : HasCleanDisk (state g.S.Store c.rows.rows.conn.now) = search rules in
