@@ -1,6 +1,6 @@
-//! What both programs do with their command line and standard error: the arguments and those that are
-//! refused, lines of what went wrong, and what is done where standard input, output or error is closed, so
-//! that no file or connection gets the number of a standard handle.
+//! What both programs do with their command line, standard output and standard error: the arguments and those
+//! that are refused, words and sizes in columns, lines of what went wrong, and what is done where standard
+//! input, output or error is closed, so that no file or connection gets the number of a standard handle.
 //!
 //! ```rust
 //! let taken = occupy_closed(rt); // before anything is opened
@@ -16,10 +16,16 @@ mod command;
 mod lines;
 mod named;
 mod options;
+mod sizes;
 mod standard;
+mod table;
+mod words;
 
 pub use command::{ArgumentsFault, arguments, matches};
 pub use lines::{error_line, is_decimal, say};
 pub use named::{Cause, Named, cause};
 pub use options::{CommandLine, CommandOption, OPTION, Subcommand, Takes};
+pub use sizes::size_text;
 pub use standard::occupy_closed;
+pub use table::Table;
+pub use words::{or_dash, put_next, put_word, word};

@@ -62,7 +62,7 @@ fn say_no_memory(rt: &HostRuntime, program: &str) -> io::Result<()> {
     stderr.write_all(b": out of memory\n")
 }
 
-/// Says one line on standard error, behind the program's name. What in it would end the line, and every
+/// Says one line on standard error, after the program's name. What in it would end the line, and every
 /// other control, is escaped. That it cannot be written changes no status.
 pub fn say<T: Display>(rt: &HostRuntime, program: &str, what: &T) {
     let _ = match error_line(rt.alloc(), program, what) {

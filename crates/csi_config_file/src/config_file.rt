@@ -1,4 +1,6 @@
 //! A configuration from its text, a TOML document (TOML 1.0).
+//!
+//! It is read key by key: a derived reader has no clause on the value, and says little of what is wrong.
 
 ghost use Rattle.std.specs.Prelude.{◌≡◌, IfOk, OnOk, Some, None, if◌then◌else◌, option_and_then, option_map};
 ghost use Rattle.std.specs.FinMap.{insert};
@@ -202,7 +204,7 @@ impl<'a> Keys<'a> {
         }
     }
 
-    fn error(&self, key: Key, rule: KeyRule) -> ConfigError
+    pub(crate) fn error(&self, key: Key, rule: KeyRule) -> ConfigError
         ensures { result ≡ error.Key self.now.section key rule }
     {
         ConfigError::Key {
@@ -213,7 +215,7 @@ impl<'a> Keys<'a> {
     }
 
     // The value of a key, if it is there.
-    fn find(&self, key: Key) -> Option<&'a Value>
+    pub(crate) fn find(&self, key: Key) -> Option<&'a Value>
         ensures { option_map (λ value. view value.now) result
             ≡ get_member (key_text key) (table_view self.now.table.now) }
     {
@@ -231,7 +233,7 @@ impl<'a> Keys<'a> {
         }
     }
 
-    fn value(&self, key: Key) -> Result<&'a Value, ConfigError>
+    pub(crate) fn value(&self, key: Key) -> Result<&'a Value, ConfigError>
         ensures { IsRead (λ value. view value.now)
             (value_at self.now.section (table_view self.now.table.now) key) result }
     {
@@ -241,7 +243,7 @@ impl<'a> Keys<'a> {
         }
     }
 
-    fn text(&self, alloc: Global, key: Key) -> Result<Text, ConfigError>
+    pub(crate) fn text(&self, alloc: Global, key: Key) -> Result<Text, ConfigError>
         ensures { IsRead (λ read. read) (text_at self.now.section
             (table_view self.now.table.now) key) result }
     {
@@ -251,7 +253,7 @@ impl<'a> Keys<'a> {
         }
     }
 
-    fn count(&self, key: Key) -> Result<u64, ConfigError>
+    pub(crate) fn count(&self, key: Key) -> Result<u64, ConfigError>
         ensures { IsRead (λ read. read) (count_at self.now.section
             (table_view self.now.table.now) key) result }
     {
@@ -262,7 +264,7 @@ impl<'a> Keys<'a> {
     }
 
     // The segments of a pool; none where the key is missing.
-    fn segments(&self, alloc: Global) -> Result<Map, ConfigError>
+    pub(crate) fn segments(&self, alloc: Global) -> Result<Map, ConfigError>
         ensures { IsRead (λ read. read) (texts_of self.now.section
             (get_member (key_text key_of.Segments) (table_view self.now.table.now))) result }
     {
@@ -278,7 +280,11 @@ impl<'a> Keys<'a> {
 }
 
 // The table that an element of an array of tables is.
-fn element<'a>(value: &'a Value, key: Key, section: Section) -> Result<Keys<'a>, ConfigError>
+pub(crate) fn element<'a>(
+    value: &'a Value,
+    key: Key,
+    section: Section,
+) -> Result<Keys<'a>, ConfigError>
     ensures table { IsRead (λ keys. table_view keys.table.now) (table_in key (view value.now)) result }
     ensures section { IfOk result (λ keys. keys.section ≡ section) }
 {
@@ -418,6 +424,10 @@ fn line_of(before: &[u8]) -> usize {
 /// [`ConfigError::NotToml`] only where the bytes are not UTF-8, or no document by the grammar of TOML. Of a
 /// document the first key that is missing or of another type, in the order above; then the first fault of
 /// [`Config::new`].
+///
+/// # Not promised
+///
+/// The line of a fault of TOML, which tests show. Want of memory says nothing of the document.
 pub fn read_config(alloc: Global, bytes: &[u8]) -> Result<Config, ConfigError>
     ensures { IsOfText bytes.now result }
 {

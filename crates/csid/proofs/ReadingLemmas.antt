@@ -40,7 +40,7 @@ rows_of db s ours (inr none) = absurd (not_none (sym ours ∙ none.0))
 
 module _ {S : Type 0} (g : Ghosts S) (config : Config) (conn : Held S) {P : Type 0} (exchanged : P → P → List ℕ → Received → Type 0) (old : P) where
   -- the tables that adoption makes of a connection with the rows of all pages
-  pub taken : GivesRows → OneState → (mid new : P) (notes : Notes) (filled : Held S) (t : Tables S g) → ReadsRows g conn filled exchanged old mid notes → ChecksMeta exchanged mid new notes
+  pub taken : GivesRows → OneState → (mid new : P) (notes : Notes) (filled : Held S) (t : Tables S) → ReadsRows g conn filled exchanged old mid notes → ChecksMeta exchanged mid new notes
       → IsAdopted g config filled t → AreTaken g config conn exchanged old new t
   taken gives one mid new notes filled t rows settled adopted = record {
     asked = record { pages = rows.pages; notes = notes; mid = mid; read = rows.read; settled = settled };
@@ -62,7 +62,7 @@ module _ {S : Type 0} (g : Ghosts S) (config : Config) (conn : Held S) {P : Type
   }
 
   -- a memory that is a copy of the tables
-  copied_over : (t u : Tables S g) (through : Through MemKeeper (RemoteChangeStore P)) → AreTaken g config conn exchanged old through.change_store.peer t → IsQuiet (tables_model g t) (tables_model g u)
+  copied_over : (t u : Tables S) (through : Through MemKeeper (RemoteChangeStore P)) → AreTaken g config conn exchanged old through.change_store.peer t → IsQuiet (tables_model g t) (tables_model g u)
       → IsCopy (tables_model g t) (tables_model g u) through.memory → IsUnused through → IsCopied g config conn exchanged old through
   copied_over t u through it quiet copy unused = record {
     asked = it.asked;
@@ -74,7 +74,7 @@ module _ {S : Type 0} (g : Ghosts S) (config : Config) (conn : Held S) {P : Type
     unused = unused;
   }
 
-  pub copied : (t u : Tables S g) (through : Through MemKeeper (RemoteChangeStore P)) (peer : P) (change_store : RemoteChangeStore P) → AreTaken g config conn exchanged old peer t → IsQuiet (tables_model g t) (tables_model g u)
+  pub copied : (t u : Tables S) (through : Through MemKeeper (RemoteChangeStore P)) (peer : P) (change_store : RemoteChangeStore P) → AreTaken g config conn exchanged old peer t → IsQuiet (tables_model g t) (tables_model g u)
       → IsCopy (tables_model g t) (tables_model g u) through.memory → through.change_store ≡ change_store → (change_store.peer ≡ peer) × (change_store.is_down ≡ false)
       → (through.health.refusals ≡ 0) × (through.is_current ≡ true) × (through.health.is_down ≡ false) → IsCopied g config conn exchanged old through
   copied t u through peer change_store it quiet copy over begun fresh =

@@ -17,7 +17,7 @@ use Rattle.csi_files.specs.Path.{over_calls}
 use Rattle.csi_files.specs.Starting.{OpensMade}
 use Rattle.csid.specs.Taking.{IsTakenFrom}
 
-module _ {S : Type 0} (first : start.Ghosts S) (config : Config) (conn : Held (FileStore (Modelled Host S calls.ghosts first) over_calls)) (t : Tables (FileStore (Modelled Host S calls.ghosts first) over_calls) over_files) where
+module _ {S : Type 0} (first : start.Ghosts S) (config : Config) (conn : Held (FileStore (Modelled Host S calls.ghosts first) over_calls)) (t : Tables (FileStore (Modelled Host S calls.ghosts first) over_calls)) where
   pub taken : AreFoundAgain (over_calls {C = Host} {S = S} {g = calls.ghosts} {first = first}) config → OpensMade over_calls (image_at first) conn → IsAdopted over_files config conn t → IsTakenFrom first config t
   taken again opens it s may invariant z =
       let clean : HasCleanDisk (file_state conn) = omega (arith, it.clean, z) in

@@ -62,18 +62,18 @@ pub record IsUnused {P : Type 0} (through : Through MemKeeper (RemoteChangeStore
 
 module _ {S : Type 0} (g : Ghosts S) (config : Config) (conn : Held S) {P : Type 0} (exchanged : P → P → List ℕ → Received → Type 0) (old : P) where
   -- the disk returned what was written, and the database had no table
-  abbrev pub IsOverNone : Tables S g → Type 0
+  abbrev pub IsOverNone : Tables S → Type 0
   IsOverNone t = ((tables_model g t).doubt ≡ 0) × ((state g conn).now.schema ≡ no_schema)
 
   -- all was asked of the change store, and the tables have the State whose rows it gave
-  pub record AreTaken (new : P) (t : Tables S g) : Type 0 where
+  pub record AreTaken (new : P) (t : Tables S) : Type 0 where
     pub asked : AsksAll exchanged old new
     pub held : IsOverNone t → GiveOne config asked.pages (tables_model g t).holds
 
   -- all was asked of the change store, and both the tables and the memory have the State whose rows it gave
   pub record IsCopied (through : Through MemKeeper (RemoteChangeStore P)) : Type 0 where
     pub asked : AsksAll exchanged old through.change_store.peer
-    pub tables : Tables S g
+    pub tables : Tables S
     pub held : IsOverNone tables → GiveOne config asked.pages (λ s. (tables_model g tables).holds s × Holds through.memory s)
     pub unused : IsUnused through
 

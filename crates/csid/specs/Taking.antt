@@ -17,5 +17,5 @@ use Rattle.csi_files.specs.Starting.{MayStart}
 
 module _ {S : Type 0} (first : start.Ghosts S) (config : Config) where
   -- they have the State that a run over the files starts as, which held what `first` says
-  abbrev pub IsTakenFrom : Tables (FileStore (Modelled Host S calls.ghosts first) over_calls) over_files → Type 0
+  abbrev pub IsTakenFrom : Tables (FileStore (Modelled Host S calls.ghosts first) over_calls) → Type 0
   IsTakenFrom t = (s : State) → MayStart (image_at first) s → IsInvariant config s → (tables_model over_files t).doubt ≡ 0 → (tables_model over_files t).holds s

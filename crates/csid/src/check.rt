@@ -3,12 +3,15 @@
 
 ghost use Rattle.std.specs.Prelude.{◌≡◌, false};
 
-use crate::config::configuration;
+use crate::config::{checked_configuration, configuration};
 use crate::console::Console;
 use crate::content::{Content, read_content};
 use crate::copy::open_copy;
+use crate::existing::FileFault;
+use crate::explain::explain;
 use crate::failure::Failure;
-use crate::tables::{check_existing, database_failure, keeper_or_new};
+use crate::tables::{adoption_failure, check_existing, database_failure};
+use csi_adoption::{AdoptError, adopt};
 use csi_config::Config;
 use sqlite::{Alter, Connection};
 use std::fmt::{self, Display};
@@ -39,18 +42,18 @@ fn tell<T: Display>(rt: &HostRuntime, what: &T) -> Result<(), Failure> {
     }
 }
 
-/// Reads a configuration as `csid serve` does, and says what it has.
+/// Reads a configuration as `csid serve` does, and says what it has, or all of its faults.
 ///
 /// # Errors
 ///
 /// Where it is refused, the line cannot be written, or memory is refused.
 pub(crate) fn check_config(console: &Console<'_>, path: &str) -> Result<(), Failure> {
-    let config = configuration(console, Some(path), true)?;
+    let config = checked_configuration(console, path)?;
     tell(console.rt, &Summary { config: &config })
 }
 
 // What tables have that are adopted. It is read first, since an adoption makes them ones of the latest
-// format.
+// format. Of a row for which they are refused more is said.
 fn adopted<S: Alter + Drop>(
     console: &Console<'_>,
     path: &str,
@@ -59,11 +62,18 @@ fn adopted<S: Alter + Drop>(
 ) -> Result<Content, Failure>
     requires { conn.in_transaction ≡ false }
 {
+    let alloc = console.rt.alloc();
+    if conn.schema().tables.is_empty() {
+        return Err(Failure::of_tables(alloc, path, &FileFault::Blank));
+    }
     let content = read_content(&mut conn);
-    let _tables = keeper_or_new(console, path, conn, config, true)?;
+    if let Err(AdoptError { fault, mut conn }) = adopt(alloc, conn, config) {
+        explain(console, path, &mut conn, config, &fault);
+        return Err(adoption_failure(alloc, path, &fault));
+    }
     match content {
         Ok(content) => Ok(content),
-        Err(error) => Err(database_failure(console.rt.alloc(), path, &error)),
+        Err(error) => Err(database_failure(alloc, path, &error)),
     }
 }
 

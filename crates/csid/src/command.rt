@@ -1,5 +1,6 @@
 //! The command line.
 
+use crate::listing::Chosen;
 use clap::ArgMatches;
 use command_line::{
     ArgumentsFault, CommandLine, CommandOption, OPTION, Subcommand, Takes, is_decimal,
@@ -20,6 +21,15 @@ pub(crate) enum Task<'a> {
         tables: &'a str,
         /// The file of the configuration; without it the sample configuration.
         config: Option<&'a str>,
+    },
+    /// Tables are listed.
+    ListTables {
+        /// Their file.
+        tables: &'a str,
+        /// Which of their volumes.
+        chosen: Chosen<'a>,
+        /// In JSON, and not in columns.
+        is_json: bool,
     },
 }
 
@@ -87,7 +97,7 @@ const LOW_MEMORY: CommandOption = CommandOption {
     ..OPTION
 };
 
-static CHECKS: [CommandOption; 3] = [
+static CHECKS: [CommandOption; 8] = [
     CommandOption {
         name: "check-config",
         takes: Takes::Text("FILE"),
@@ -105,6 +115,39 @@ static CHECKS: [CommandOption; 3] = [
         beside: Some("check-tables"),
         help: "The configuration by which tables are judged; without it the sample configuration",
         ..CONFIG
+    },
+    CommandOption {
+        name: "list-tables",
+        takes: Takes::Text("FILE"),
+        help: "Lists the volumes of tables, and what each pool and node has of them, and ends; nothing is changed, also of tables that are served",
+        ..OPTION
+    },
+    CommandOption {
+        name: "name",
+        takes: Takes::Text("NAME"),
+        beside: Some("list-tables"),
+        help: "Lists the volume with this name alone",
+        ..OPTION
+    },
+    CommandOption {
+        name: "pool",
+        takes: Takes::Text("NAME"),
+        beside: Some("list-tables"),
+        help: "Lists the volumes of this pool alone",
+        ..OPTION
+    },
+    CommandOption {
+        name: "node",
+        takes: Takes::Text("ID"),
+        beside: Some("list-tables"),
+        help: "Lists the volumes that are published at this node alone",
+        ..OPTION
+    },
+    CommandOption {
+        name: "json",
+        beside: Some("list-tables"),
+        help: "Lists in JSON, with a volume a line",
+        ..OPTION
     },
 ];
 
@@ -202,6 +245,16 @@ pub(crate) fn odd_number<'a>(matches: &ArgMatches<'a>) -> Option<(&'static str, 
     None
 }
 
+/// What is wrong with two checks at once.
+pub(crate) fn odd_check<'a>(matches: &ArgMatches<'a>) -> Option<&'static str> {
+    if matches.get_str("list-tables").is_some() && matches.get_str("check-tables").is_some() {
+        return Some(
+            "the argument '--list-tables <FILE>' cannot be used with '--check-tables <FILE>'",
+        );
+    }
+    None
+}
+
 /// What is wrong with where a server is to have its volumes: it is one of two places.
 pub(crate) fn odd_store<'a>(matches: &ArgMatches<'a>) -> Option<&'static str> {
     let Some(("serve", arguments)) = matches.subcommand() else {
@@ -230,10 +283,26 @@ fn serve_task<'a>(arguments: &ArgMatches<'a>) -> Serving<'a> {
     }
 }
 
+// What a listing is asked for.
+fn list_task<'a>(arguments: &ArgMatches<'a>, tables: &'a str) -> Task<'a> {
+    Task::ListTables {
+        tables,
+        chosen: Chosen {
+            name: arguments.get_str("name"),
+            pool: arguments.get_str("pool"),
+            node: arguments.get_str("node"),
+        },
+        is_json: arguments.get_flag("json"),
+    }
+}
+
 // What the arguments without a subcommand ask for.
 fn plain_task<'a>(arguments: &ArgMatches<'a>) -> Task<'a> {
     if let Some(path) = arguments.get_str("check-config") {
         return Task::CheckConfig(path);
+    }
+    if let Some(tables) = arguments.get_str("list-tables") {
+        return list_task(arguments, tables);
     }
     match arguments.get_str("check-tables") {
         Some(tables) => Task::CheckTables {

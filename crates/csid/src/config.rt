@@ -6,7 +6,7 @@ ghost use Rattle.csid.specs.Statuses.{IsOrNoMemory};
 use crate::console::Console;
 use crate::failure::Failure;
 use csi_config::Config;
-use csi_config_file::{ConfigError, read_config, unknown_keys};
+use csi_config_file::{ConfigError, config_faults, read_config, unknown_keys};
 use std::alloc::Global;
 use std::fs;
 use std::io::ErrorKind;
@@ -42,6 +42,43 @@ fn tell_unknown(console: &Console<'_>, path: &str, bytes: &[u8]) {
             }
         }
         Err(_) => console.say(&"out of memory"),
+    }
+}
+
+// Says all faults of a configuration that is refused but the last one, which is given.
+fn tell_faults(console: &Console<'_>, path: &str, bytes: &[u8], refused: Failure) -> Failure
+    requires { IsOrNoMemory 3 refused }
+    ensures { IsOrNoMemory 3 result }
+{
+    let alloc = console.rt.alloc();
+    let Ok(faults) = config_faults(alloc, bytes) else {
+        return Failure::NoMemory;
+    };
+    let Some((last, others)) = faults.as_slice().split_last() else {
+        return refused;
+    };
+    for fault in others {
+        console.say_of(path, fault);
+    }
+    Failure::configuration(alloc, path, last)
+}
+
+/// The configuration of a file. Where it has faults, all are said.
+///
+/// # Errors
+///
+/// The last fault of the file, or why it cannot be read.
+pub(crate) fn checked_configuration(console: &Console<'_>, path: &str) -> Result<Config, Failure>
+    ensures { IfErr result (λ failure. IsOrNoMemory 3 failure) }
+{
+    let rt = console.rt;
+    let bytes = read_file(rt, path)?;
+    match config_of(rt.alloc(), path, bytes.as_slice()) {
+        Ok(config) => {
+            tell_unknown(console, path, bytes.as_slice());
+            Ok(config)
+        }
+        Err(refused) => Err(tell_faults(console, path, bytes.as_slice(), refused)),
     }
 }
 

@@ -45,7 +45,7 @@ fn number_of(text: &str) -> Option<u32> {
     }
 }
 
-/// The number of a group by its name, or else by its number.
+/// The number of a group by its name, or otherwise by its number.
 ///
 /// # Errors
 ///

@@ -1,4 +1,13 @@
 //! The server: calls on standard input, replies on standard output, or both on a socket.
+//!
+//! # Not promised
+//!
+//! What the sockets, the signals and the command line do. That nothing is answered before a change
+//! store was asked whether it leads is read off `GuardedWriter`, and `open_change_store` has no
+//! clause of what comes through its connection: `tests/test_csid_*.py` show both. That each
+//! connection is served by `csi_files::serve_path` is read off `serving.rt` and `socket.rt`.
+//!
+//! What is said of tables that were taken (`take_from`).
 #![tactic(auto)]
 
 mod change_store;
@@ -9,9 +18,11 @@ mod console;
 mod content;
 mod copy;
 mod existing;
+mod explain;
 mod failure;
 mod group;
 mod limits;
+mod listing;
 mod making;
 mod memory;
 mod peer;

@@ -13,6 +13,7 @@ fn names_no_file(path: &str) -> bool {
 
 /// Makes a file that is missing, for its owner alone, whatever the process's mask is. What cannot be made so
 /// is left to the opening, which says why.
+/// The kit's library would make a database with 0644.
 pub(crate) fn make_private(rt: &HostRuntime, path: &str) {
     if names_no_file(path) || !matches!(fs::exists(rt, path), Ok(false)) {
         return;

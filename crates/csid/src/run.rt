@@ -4,10 +4,13 @@ ghost use Rattle.std.specs.Prelude.{IfErr};
 ghost use Rattle.csid.specs.Statuses.{IsOrNoMemory};
 
 use crate::check::{check_config, check_tables};
-use crate::command::{Piped, Serving, Task, odd_number, odd_store, read_arguments, task_of};
+use crate::command::{
+    Piped, Serving, Task, odd_check, odd_number, odd_store, read_arguments, task_of,
+};
 use crate::config::configuration;
 use crate::console::Console;
 use crate::failure::{Endpoint, Failure, outcome};
+use crate::listing::list_tables;
 use crate::serving::{Answered, SilentObserver, TablesFile, serve_file};
 use crate::socket::{listen, serve_all};
 use crate::tables::{check_existing, check_wal, survey};
@@ -130,8 +133,8 @@ fn refused_number(alloc: Global, option: &str, number: &str) -> Failure
     Failure::Arguments(ArgumentsFault::refused(line))
 }
 
-// A server that is not told where it has its volumes, or is told two places.
-fn refused_store(alloc: Global, why: &str) -> Failure
+// Two options that cannot be had at once, or a server that is not told where it has its volumes.
+fn refused_options(alloc: Global, why: &str) -> Failure
     ensures { IsOrNoMemory 2 result }
 {
     Failure::Arguments(ArgumentsFault::refused(format!(in alloc; "{why}")))
@@ -142,14 +145,19 @@ fn obey(console: &Console<'_>, arguments: &ArgMatches<'_>) -> Result<(), Failure
     if let Some((option, number)) = odd_number(arguments) {
         return Err(refused_number(console.rt.alloc(), option, number));
     }
-    if let Some(why) = odd_store(arguments) {
-        return Err(refused_store(console.rt.alloc(), why));
+    if let Some(why) = odd_check(arguments).or_else(|| odd_store(arguments)) {
+        return Err(refused_options(console.rt.alloc(), why));
     }
     match task_of(arguments) {
         Task::Pipe(pipe) => answer_pipe(console, &pipe),
         Task::Serve(serving) => listening(console, &serving),
         Task::CheckConfig(path) => check_config(console, path),
         Task::CheckTables { tables, config } => check_tables(console, tables, config),
+        Task::ListTables {
+            tables,
+            chosen,
+            is_json,
+        } => list_tables(console, tables, &chosen, is_json),
     }
 }
 

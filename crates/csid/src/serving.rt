@@ -9,7 +9,7 @@ use crate::failure::Failure;
 use crate::tables::{adoption_failure, database_failure, prepare, store_failure};
 use csi_config::Config;
 use csi_files::{Closed, NotServed, NotServedAt, Observer, ServeOptions, Served, serve_path};
-use sqlite::{Start, Unknown};
+use sqlite::{Error, Start, Unknown};
 use sqlite_disk::Disk;
 use std::alloc::Global;
 use std::io::{Read, Write};
@@ -90,6 +90,8 @@ impl Observer for SilentObserver {
     fn made(&self) {}
 
     fn uncopied(&self) {}
+
+    fn refused(&self, _cause: &Error) {}
 }
 
 // Serves calls over the tables in a file, of which `start` stands for what it and its WAL held.

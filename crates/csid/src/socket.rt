@@ -20,6 +20,7 @@ use csi_files::{Observer, Served};
 use csi_keeper::Keeper;
 use csi_memory::MemKeeper;
 use csi_server::{RunEnd, serve};
+use sqlite::Error;
 use std::alloc::Global;
 use std::cell::Cell;
 use std::fs::{self, Permissions};
@@ -201,6 +202,13 @@ impl Observer for Announcer<'_> {
 
     fn uncopied(&self) {
         self.console.say_of(self.path, &NO_COPY);
+    }
+
+    fn refused(&self, cause: &Error) {
+        match format!(in self.console.rt.alloc(); "the database refused a call: {cause}") {
+            Ok(line) => self.console.say_of(self.path, &line),
+            Err(_) => self.console.say(&Failure::NoMemory),
+        }
     }
 }
 
@@ -428,7 +436,7 @@ fn serve_each(service: &Service<'_>, listener: UnixListener) -> io::Result<()> {
     Ok(())
 }
 
-/// Answers the calls of so many connections, one after the other, over the tables in a file.
+/// Answers the calls of so many connections, in order, over the tables in a file.
 ///
 /// # Errors
 ///

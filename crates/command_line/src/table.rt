@@ -1,0 +1,108 @@
+//! Rows of words in columns.
+
+use std::alloc::{AllocError, Global};
+
+// So many spaces are between the longest word of a column and the next column.
+const GAP: usize = 2;
+
+/// Rows of words, which are shown in columns: each is as wide as its longest word.
+#[derive(Drop)]
+pub struct Table {
+    rows: Vec<Vec<String>>,
+    widths: Vec<usize>,
+}
+
+fn put_spaces(out: &mut String, count: usize) -> Result<(), AllocError> {
+    for _ in 0..count {
+        out.push(' ')?;
+    }
+    Ok(())
+}
+
+// Appends the words of a row, each but the last with the spaces up to the next column.
+fn put_row(out: &mut String, row: &[String], widths: &[usize]) -> Result<(), AllocError> {
+    let mut missing = 0_usize;
+    for (word, width) in row.iter().zip(widths) {
+        put_spaces(out, missing)?;
+        out.push_str(word.as_str())?;
+        missing = width.saturating_sub(word.len()).saturating_add(GAP);
+    }
+    out.push('\n')
+}
+
+// Makes columns as wide as the words of a row.
+fn widen(widths: &mut Vec<usize>, row: &[String]) -> Result<(), AllocError> {
+    for (at, word) in row.iter().enumerate() {
+        match widths.get_mut(at) {
+            Some(width) => *width = (*width).max(word.len()),
+            None => widths.push(word.len())?,
+        }
+    }
+    Ok(())
+}
+
+impl Table {
+    /// A table without rows.
+    pub fn new(alloc: Global) -> Table {
+        Table {
+            rows: Vec::new(alloc),
+            widths: Vec::new(alloc),
+        }
+    }
+
+    /// A table with a row of headings.
+    ///
+    /// # Errors
+    ///
+    /// Where memory was refused.
+    pub fn with_headings(alloc: Global, headings: &[&'static str]) -> Result<Table, AllocError> {
+        let mut row = Vec::new(alloc);
+        for heading in headings {
+            row.push(String::from_str(alloc, heading)?)?;
+        }
+        let mut table = Table::new(alloc);
+        table.add(row)?;
+        Ok(table)
+    }
+
+    /// Adds a row.
+    ///
+    /// # Errors
+    ///
+    /// Where memory was refused.
+    pub fn add(&mut self, row: Vec<String>) -> Result<(), AllocError> {
+        widen(&mut self.widths, row.as_slice())?;
+        self.rows.push(row)?;
+        Ok(())
+    }
+
+    /// Adds a row of a heading and what it is of.
+    ///
+    /// # Errors
+    ///
+    /// Where memory was refused.
+    pub fn add_pair(
+        &mut self,
+        alloc: Global,
+        heading: &str,
+        word: String,
+    ) -> Result<(), AllocError> {
+        let mut row = Vec::new(alloc);
+        row.push(String::from_str(alloc, heading)?)?;
+        row.push(word)?;
+        self.add(row)
+    }
+
+    /// The lines of the table.
+    ///
+    /// # Errors
+    ///
+    /// Where memory was refused.
+    pub fn text(&self, alloc: Global) -> Result<String, AllocError> {
+        let mut out = String::new(alloc);
+        for row in &self.rows {
+            put_row(&mut out, row.as_slice(), self.widths.as_slice())?;
+        }
+        Ok(out)
+    }
+}

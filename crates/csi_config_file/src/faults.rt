@@ -1,0 +1,303 @@
+//! All faults of a configuration at once.
+
+use crate::config_file::{ConfigError, Key, KeyRule, Keys, Section, element};
+use csi_config::{
+    Config, ConfigFault, GRANULE_BYTES, Node, NodeRule, Plugin, Pool, PoolRule, Sizes,
+};
+use csi_types::{MAX_NODES, MAX_POOL_BYTES, MAX_POOLS, MAX_VOLUMES, Map, Text};
+use std::alloc::{AllocError, Global};
+use toml::{Table, Value};
+
+const FAULTLESS_SIZES: Sizes = Sizes {
+    default_bytes: GRANULE_BYTES,
+    greatest_bytes: GRANULE_BYTES,
+};
+
+// What was found so far.
+#[derive(Drop)]
+struct Faults {
+    alloc: Global,
+    found: Vec<ConfigError>,
+}
+
+impl Faults {
+    fn push(&mut self, fault: ConfigFault) -> Result<(), AllocError> {
+        self.found.push(ConfigError::Fault(fault))?;
+        Ok(())
+    }
+
+    // What was read, if it has no fault; its fault is added.
+    fn keep<T: Drop>(&mut self, read: Result<T, ConfigError>) -> Result<Option<T>, AllocError> {
+        match read {
+            Ok(part) => Ok(Some(part)),
+            Err(ConfigError::NoMemory) => Err(AllocError),
+            Err(error) => {
+                self.found.push(error)?;
+                Ok(None)
+            }
+        }
+    }
+
+    // A faultless plugin.
+    fn plugin(&self) -> Result<Plugin, AllocError> {
+        Ok(Plugin {
+            name: Text::from_str(self.alloc, "a")?,
+            version: Text::from_str(self.alloc, "1")?,
+        })
+    }
+
+    // A faultless pool.
+    fn pool(&self) -> Result<Pool, AllocError> {
+        Ok(Pool {
+            name: Text::from_str(self.alloc, "a")?,
+            bytes: GRANULE_BYTES,
+            segments: Map::new(self.alloc),
+        })
+    }
+
+    // Adds the fault of parts of which all but one have none.
+    fn judge(
+        &mut self,
+        plugin: Plugin,
+        sizes: Sizes,
+        pool: Pool,
+        node: Option<Node>,
+    ) -> Result<(), AllocError> {
+        let mut pools = Vec::new(self.alloc);
+        pools.push(pool)?;
+        let mut nodes = Vec::new(self.alloc);
+        if let Some(node) = node {
+            nodes.push(node)?;
+        }
+        if let Err(fault) = Config::new(plugin, sizes, pools, nodes) {
+            self.push(fault)?;
+        }
+        Ok(())
+    }
+
+    fn judge_plugin(&mut self, plugin: Plugin) -> Result<(), AllocError> {
+        let pool = self.pool()?;
+        self.judge(plugin, FAULTLESS_SIZES, pool, None)
+    }
+
+    fn judge_sizes(&mut self, default_bytes: u64, greatest_bytes: u64) -> Result<(), AllocError> {
+        let sizes = Sizes {
+            default_bytes,
+            greatest_bytes,
+        };
+        let plugin = self.plugin()?;
+        let pool = self.pool()?;
+        self.judge(plugin, sizes, pool, None)
+    }
+
+    fn judge_pool(&mut self, pool: Pool) -> Result<(), AllocError> {
+        let plugin = self.plugin()?;
+        self.judge(plugin, FAULTLESS_SIZES, pool, None)
+    }
+
+    fn judge_node(&mut self, node: Node) -> Result<(), AllocError> {
+        let plugin = self.plugin()?;
+        let pool = self.pool()?;
+        self.judge(plugin, FAULTLESS_SIZES, pool, Some(node))
+    }
+
+    // Adds the faults of the plugin.
+    fn add_plugin(&mut self, top: &Keys<'_>) -> Result<(), AllocError> {
+        let name = self.keep(top.text(self.alloc, Key::Name))?;
+        let version = self.keep(top.text(self.alloc, Key::VendorVersion))?;
+        if let Some(name) = name {
+            let mut plugin = self.plugin()?;
+            plugin.name = name;
+            self.judge_plugin(plugin)?;
+        }
+        if let Some(version) = version {
+            let mut plugin = self.plugin()?;
+            plugin.version = version;
+            self.judge_plugin(plugin)?;
+        }
+        Ok(())
+    }
+
+    // Adds the faults of the sizes: of each alone, or of both together where each alone has none.
+    fn add_sizes(&mut self, top: &Keys<'_>) -> Result<(), AllocError> {
+        let default_bytes = self.keep(top.count(Key::DefaultBytes))?;
+        let greatest_bytes = self.keep(top.count(Key::GreatestBytes))?;
+        let before = self.found.len();
+        if let Some(bytes) = default_bytes {
+            self.judge_sizes(bytes, MAX_POOL_BYTES)?;
+        }
+        if let Some(bytes) = greatest_bytes {
+            self.judge_sizes(GRANULE_BYTES, bytes)?;
+        }
+        match (default_bytes, greatest_bytes) {
+            (Some(default_bytes), Some(greatest_bytes)) if self.found.len() == before => {
+                self.judge_sizes(default_bytes, greatest_bytes)
+            }
+            _ => Ok(()),
+        }
+    }
+
+    // Adds that an earlier pool has a name, where one has it.
+    fn add_name(&mut self, names: &mut Vec<Text>, name: Text) -> Result<(), AllocError> {
+        if names.iter().any(|earlier| *earlier == name) {
+            self.push(ConfigFault::Pool {
+                name: name.copy(self.alloc)?,
+                rule: PoolRule::NameTwice,
+            })?;
+        }
+        names.push(name)?;
+        Ok(())
+    }
+
+    // Adds the faults of a pool, which comes after pools of these names. Its bytes, or none where they are
+    // not read.
+    fn add_pool(&mut self, keys: &Keys<'_>, names: &mut Vec<Text>) -> Result<u64, AllocError> {
+        let mut pool = self.pool()?;
+        let name = self.keep(keys.text(self.alloc, Key::Name))?;
+        let bytes = self.keep(keys.count(Key::Bytes))?;
+        if let Some(segments) = self.keep(keys.segments(self.alloc))? {
+            pool.segments = segments;
+        }
+        if let Some(name) = &name {
+            pool.name = name.copy(self.alloc)?;
+        }
+        if let Some(bytes) = bytes.filter(|bytes| *bytes <= MAX_POOL_BYTES) {
+            pool.bytes = bytes;
+        }
+        self.judge_pool(pool)?;
+        if let Some(name) = name {
+            self.add_name(names, name)?;
+        }
+        Ok(bytes.unwrap_or(0))
+    }
+
+    fn add_each_pool(&mut self, array: &[Value]) -> Result<(), AllocError> {
+        let mut names = Vec::new(self.alloc);
+        let mut sum: u64 = 0;
+        for (index, value) in array.iter().enumerate() {
+            let section = Section::Pool(index.saturating_add(1));
+            let Some(keys) = self.keep(element(value, Key::Pool, section))? else {
+                return Ok(());
+            };
+            sum = sum.saturating_add(self.add_pool(&keys, &mut names)?);
+        }
+        if sum > MAX_POOL_BYTES {
+            self.push(ConfigFault::AllBytes)?;
+        }
+        Ok(())
+    }
+
+    // Adds the faults of the pools.
+    fn add_pools(&mut self, top: &Keys<'_>) -> Result<(), AllocError> {
+        if let Some(pools) = self.keep(top.value(Key::Pool))? {
+            let Some(array) = pools.as_array() else {
+                self.found.push(top.error(Key::Pool, KeyRule::Tables))?;
+                return Ok(());
+            };
+            if array.is_empty() {
+                self.push(ConfigFault::NoPool)?;
+            }
+            if array.len() > MAX_POOLS {
+                self.push(ConfigFault::TooManyPools)?;
+            }
+            return self.add_each_pool(array.as_slice());
+        }
+        Ok(())
+    }
+
+    // Adds that an earlier node has an id, where one has it.
+    fn add_id(&mut self, ids: &mut Vec<Text>, id: Text) -> Result<(), AllocError> {
+        if ids.iter().any(|earlier| *earlier == id) {
+            self.push(ConfigFault::Node {
+                id: id.copy(self.alloc)?,
+                rule: NodeRule::IdTwice,
+            })?;
+        }
+        ids.push(id)?;
+        Ok(())
+    }
+
+    // Adds the faults of a node, which comes after nodes of these ids.
+    fn add_node(&mut self, keys: &Keys<'_>, ids: &mut Vec<Text>) -> Result<(), AllocError> {
+        let id = self.keep(keys.text(self.alloc, Key::Id))?;
+        let max_volumes = self.keep(keys.count(Key::MaxVolumes))?;
+        self.judge_node(Node {
+            id: match &id {
+                Some(id) => id.copy(self.alloc)?,
+                None => Text::from_str(self.alloc, "a")?,
+            },
+            max_volumes: 1,
+        })?;
+        if let (Some(id), Some(max_volumes)) = (&id, max_volumes) {
+            if max_volumes == 0 || max_volumes > MAX_VOLUMES {
+                self.push(ConfigFault::Node {
+                    id: id.copy(self.alloc)?,
+                    rule: NodeRule::Volumes,
+                })?;
+            }
+        }
+        match id {
+            Some(id) => self.add_id(ids, id),
+            None => Ok(()),
+        }
+    }
+
+    fn add_each_node(&mut self, array: &[Value]) -> Result<(), AllocError> {
+        let mut ids = Vec::new(self.alloc);
+        for (index, value) in array.iter().enumerate() {
+            let section = Section::Node(index.saturating_add(1));
+            let Some(keys) = self.keep(element(value, Key::Node, section))? else {
+                return Ok(());
+            };
+            self.add_node(&keys, &mut ids)?;
+        }
+        Ok(())
+    }
+
+    // Adds the faults of the nodes.
+    fn add_nodes(&mut self, top: &Keys<'_>) -> Result<(), AllocError> {
+        let Some(nodes) = top.find(Key::Node) else {
+            return Ok(());
+        };
+        let Some(array) = nodes.as_array() else {
+            self.found.push(top.error(Key::Node, KeyRule::Tables))?;
+            return Ok(());
+        };
+        if array.len() > MAX_NODES {
+            self.push(ConfigFault::TooManyNodes)?;
+        }
+        self.add_each_node(array.as_slice())
+    }
+
+    // Adds the faults of a document, part by part.
+    fn add_all(&mut self, table: &Table) -> Result<(), AllocError> {
+        let top = Keys::top_table(table);
+        self.add_plugin(&top)?;
+        self.add_sizes(&top)?;
+        self.add_pools(&top)?;
+        self.add_nodes(&top)
+    }
+}
+
+/// The faults of a document that [`read_config`](crate::read_config) refuses, all at once: of each key, of each
+/// pool and each node the first rule that it breaks alone, and of all of them together. A text that is no
+/// document has none.
+///
+/// # Errors
+///
+/// Where memory was refused.
+///
+/// # Not promised
+///
+/// Which faults are found: rows of tests show them. What is refused is for `read_config` to say.
+pub fn config_faults(alloc: Global, bytes: &[u8]) -> Result<Vec<ConfigError>, AllocError> {
+    let mut faults = Faults {
+        alloc,
+        found: Vec::new(alloc),
+    };
+    if let Ok(table) = toml::table_from_slice(alloc, bytes) {
+        faults.add_all(&table)?;
+    }
+    let Faults { found, .. } = faults;
+    Ok(found)
+}

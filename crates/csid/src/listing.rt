@@ -1,0 +1,165 @@
+//! `csid --list-tables`: the volumes of a file of tables, and how much each pool and node has of them. No
+//! configuration is read, no lock is taken, and nothing is changed.
+
+mod cells;
+mod json;
+mod output;
+mod sums;
+mod text;
+
+use crate::console::Console;
+use crate::copy::open_copy;
+use crate::existing::FileFault;
+use crate::failure::Failure;
+use crate::tables::check_existing;
+use csi_keeper::{PageWithNodes, Volume};
+use csi_sql::IdleConnection;
+use csi_tables::{TablesError, TablesFault, page_with_nodes};
+use csi_types::{Items, Text};
+use sqlite::FileStore;
+use sqlite_disk::Memory;
+use std::alloc::Global;
+
+// So many volumes are read at once.
+const PAGE: u32 = 1000;
+
+// No number of a volume is as great: a column has no greater one.
+const NUMBERS: u64 = 1 << 63;
+
+/// Which volumes are listed: those that have each of these that is given.
+#[derive(Clone, Copy)]
+pub(crate) struct Chosen<'a> {
+    /// This name.
+    pub(crate) name: Option<&'a str>,
+    /// This pool.
+    pub(crate) pool: Option<&'a str>,
+    /// An attachment at this node.
+    pub(crate) node: Option<&'a str>,
+}
+
+fn is_wanted(wanted: Option<&str>, text: &Text) -> bool {
+    match wanted {
+        Some(wanted) => wanted == text.as_str(),
+        None => true,
+    }
+}
+
+// Whether one of the nodes is wanted, or any volume is.
+fn is_at(wanted: Option<&str>, nodes: &Items<Text>) -> bool {
+    wanted.is_none() || nodes.as_slice().iter().any(|node| is_wanted(wanted, node))
+}
+
+impl Chosen<'_> {
+    fn has(&self, volume: &Volume, nodes: &Items<Text>) -> bool {
+        is_wanted(self.name, &volume.name)
+            && is_wanted(self.pool, &volume.pool)
+            && is_at(self.node, nodes)
+    }
+}
+
+/// What is done with each volume that is listed.
+trait Visit {
+    fn visit(&mut self, volume: &Volume, nodes: &Items<Text>) -> Result<(), Failure>;
+}
+
+fn visit_page<V: Visit>(
+    page: &PageWithNodes,
+    chosen: &Chosen<'_>,
+    visitor: &mut V,
+) -> Result<(), Failure> {
+    for (volume, nodes) in page.volumes.as_slice().iter().zip(page.nodes.as_slice()) {
+        if chosen.has(volume, nodes) {
+            visitor.visit(volume, nodes)?;
+        }
+    }
+    Ok(())
+}
+
+/// A copy of tables in memory.
+#[derive(Drop)]
+struct TablesCopy<'a> {
+    alloc: Global,
+    path: &'a str,
+    conn: IdleConnection<FileStore<Memory>>,
+}
+
+impl TablesCopy<'_> {
+    // Why a page cannot be read.
+    fn page_failure(&self, after: u64, error: &TablesError) -> Failure {
+        let alloc = self.alloc;
+        if let TablesFault::NoMemory = error.fault {
+            return Failure::NoMemory;
+        }
+        match format!(in alloc;
+            "the tables cannot be read after volume {after}: --check-tables says why"
+        ) {
+            Ok(why) => Failure::of_tables(alloc, self.path, &why),
+            Err(_) => Failure::NoMemory,
+        }
+    }
+
+    // Of the volumes with greater numbers the first ones.
+    fn page(&mut self, after: u64) -> Result<PageWithNodes, Failure> {
+        if after >= NUMBERS {
+            return Ok(PageWithNodes {
+                volumes: Items::new(self.alloc),
+                nodes: Items::new(self.alloc),
+            });
+        }
+        match page_with_nodes(self.alloc, &mut self.conn, after, PAGE) {
+            Ok(page) => Ok(page),
+            Err(error) => Err(self.page_failure(after, &error)),
+        }
+    }
+
+    // Visits each volume that is chosen, in the order of the numbers.
+    fn each<V: Visit>(&mut self, chosen: &Chosen<'_>, visitor: &mut V) -> Result<(), Failure> {
+        let mut after = 0;
+        for _ in 0..u32::MAX {
+            let page = self.page(after)?;
+            visit_page(&page, chosen, visitor)?;
+            let Some(last) = page.volumes.as_slice().last() else {
+                return Ok(());
+            };
+            after = last.number;
+        }
+        Ok(())
+    }
+}
+
+// A copy of the tables in a file, which there have to be.
+fn copy_of<'a>(rt: &HostRuntime, path: &'a str) -> Result<TablesCopy<'a>, Failure> {
+    if path.is_empty() {
+        return Err(Failure::NoTablesPath);
+    }
+    check_existing(rt, path)?;
+    let conn = IdleConnection::new(open_copy(rt, path)?);
+    if conn.schema().tables.is_empty() {
+        return Err(Failure::of_tables(rt.alloc(), path, &FileFault::Blank));
+    }
+    Ok(TablesCopy {
+        alloc: rt.alloc(),
+        path,
+        conn,
+    })
+}
+
+/// Lists the volumes of the tables in a file, as they were committed at one moment, and what pools and nodes
+/// have of them.
+///
+/// # Errors
+///
+/// Where the tables cannot be read, what is listed cannot be written, or memory is refused.
+pub(crate) fn list_tables(
+    console: &Console<'_>,
+    path: &str,
+    chosen: &Chosen<'_>,
+    is_json: bool,
+) -> Result<(), Failure> {
+    let mut tables = copy_of(console.rt, path)?;
+    if is_json {
+        json::write(console.rt, &mut tables, chosen)
+    } else {
+        text::write(console.rt, &mut tables, chosen)
+    }
+}

@@ -1,0 +1,97 @@
+//! The parts of a volume, as people read them.
+
+use command_line::{or_dash, put_next, put_word, size_text, word};
+use csi_keeper::{CapKey, Kind, Volume};
+use csi_types::{Items, Map, Text};
+use std::alloc::{AllocError, Global};
+
+// The access modes of the specification by their numbers ('CreateVolume', `VolumeCapability.AccessMode.Mode`).
+const MODES: [&str; 8] = [
+    "UNKNOWN",
+    "SINGLE_NODE_WRITER",
+    "SINGLE_NODE_READER_ONLY",
+    "MULTI_NODE_READER_ONLY",
+    "MULTI_NODE_SINGLE_WRITER",
+    "MULTI_NODE_MULTI_WRITER",
+    "SINGLE_NODE_SINGLE_WRITER",
+    "SINGLE_NODE_MULTI_WRITER",
+];
+
+/// The name of an access mode.
+pub(crate) fn mode_name(mode: u8) -> &'static str {
+    match MODES.get(usize::from(mode)) {
+        Some(name) => name,
+        None => MODES[0],
+    }
+}
+
+// What a volume may be used as.
+fn capability(alloc: Global, key: &CapKey) -> Result<String, AllocError> {
+    let mode = mode_name(key.mode);
+    match &key.kind {
+        Kind::Block => format!(in alloc; "block:{mode}"),
+        Kind::Mount(kind) if kind.is_empty() => format!(in alloc; "mount:{mode}"),
+        Kind::Mount(kind) => {
+            let kind = word(alloc, kind.as_str())?;
+            format!(in alloc; "{kind}:{mode}")
+        }
+    }
+}
+
+fn capabilities(alloc: Global, keys: &Items<CapKey>) -> Result<String, AllocError> {
+    let mut cell = String::new(alloc);
+    for key in keys {
+        put_next(&mut cell, ",", capability(alloc, key)?.as_str())?;
+    }
+    or_dash(cell)
+}
+
+fn pairs(alloc: Global, map: &Map) -> Result<String, AllocError> {
+    let mut cell = String::new(alloc);
+    for (key, value) in map {
+        put_next(&mut cell, ",", "")?;
+        put_word(&mut cell, key.as_str())?;
+        cell.push('=')?;
+        put_word(&mut cell, value.as_str())?;
+    }
+    or_dash(cell)
+}
+
+fn words(alloc: Global, texts: &Items<Text>) -> Result<String, AllocError> {
+    let mut cell = String::new(alloc);
+    for text in texts {
+        put_next(&mut cell, ",", "")?;
+        put_word(&mut cell, text.as_str())?;
+    }
+    or_dash(cell)
+}
+
+/// What is over the columns of volumes.
+pub(crate) const HEADINGS: [&str; 8] = [
+    "ID",
+    "NAME",
+    "POOL",
+    "SIZE",
+    "CAPABILITIES",
+    "PARAMETERS",
+    "MUTABLE",
+    "NODES",
+];
+
+/// The row of a volume.
+pub(crate) fn row(
+    alloc: Global,
+    volume: &Volume,
+    nodes: &Items<Text>,
+) -> Result<Vec<String>, AllocError> {
+    let mut row = Vec::new(alloc);
+    row.push(format!(in alloc; "vol-{}", volume.number)?)?;
+    row.push(word(alloc, volume.name.as_str())?)?;
+    row.push(word(alloc, volume.pool.as_str())?)?;
+    row.push(size_text(alloc, volume.bytes)?)?;
+    row.push(capabilities(alloc, &volume.caps)?)?;
+    row.push(pairs(alloc, &volume.params)?)?;
+    row.push(pairs(alloc, &volume.mutable)?)?;
+    row.push(words(alloc, nodes)?)?;
+    Ok(row)
+}
