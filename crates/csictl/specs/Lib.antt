@@ -1,2 +1,3 @@
 pub mod Faults
+pub mod Http2
 pub mod Statuses

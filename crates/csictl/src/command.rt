@@ -2,6 +2,7 @@
 
 use clap::ArgMatches;
 use command_line::{ArgumentsFault, CommandLine, CommandOption, OPTION, Subcommand, Takes};
+use std::alloc::{AllocError, Global};
 
 // What a call is made of: its method, the fields of its message, and the message as it is.
 static CALLED: [CommandOption; 15] = [
@@ -118,26 +119,34 @@ pub(crate) const TIMEOUT: &str = "timeout";
 
 static SHOW: [CommandOption; 1] = [METHOD];
 
+// How the server is reached, and how long it is waited for.
+const SOCKET: CommandOption = CommandOption {
+    name: "socket",
+    takes: Takes::Text("PATH"),
+    help: "The socket of the server: of csid, or the control socket of the front. Without it CSID_SOCKET of the environment; without that the first that exists of /run/csid-front/control.sock and /run/csid/csid.sock",
+    ..OPTION
+};
+
+const TRIED: CommandOption = CommandOption {
+    name: TRIES,
+    takes: Takes::Count("N", MOST_TRIES),
+    help: "How often the call is sent, on a new connection each time, until it is answered, as 5; 1 without it, and at most 10",
+    ..OPTION
+};
+
+const WAITED: CommandOption = CommandOption {
+    name: TIMEOUT,
+    takes: Takes::Count("SECONDS", 86_400),
+    help: "How long each try may take up to its reply, as 10; without it, as long as it takes",
+    ..OPTION
+};
+
+static REACHED: [CommandOption; 3] = [SOCKET, TRIED, WAITED];
+
 static CALL: [CommandOption; 5] = [
-    CommandOption {
-        name: "socket",
-        takes: Takes::Text("PATH"),
-        is_required: true,
-        help: "The socket of the server, as /run/csid.sock",
-        ..OPTION
-    },
-    CommandOption {
-        name: TRIES,
-        takes: Takes::Count("N", MOST_TRIES),
-        help: "How often the call is sent, on a new connection each time, until it is answered, as 5; 1 without it, and at most 10",
-        ..OPTION
-    },
-    CommandOption {
-        name: TIMEOUT,
-        takes: Takes::Count("SECONDS", 86_400),
-        help: "How long each try may take up to its reply, as 10; without it, as long as it takes",
-        ..OPTION
-    },
+    SOCKET,
+    TRIED,
+    WAITED,
     CommandOption {
         name: "json",
         help: "Shows the reply as one line of JSON, by the mapping of proto3 with all fields",
@@ -145,7 +154,7 @@ static CALL: [CommandOption; 5] = [
     },
     CommandOption {
         name: "all",
-        help: "Asks for all pages of ListVolumes, one after the other",
+        help: "Asks for all pages of ListVolumes, one after the other, over one connection",
         ..OPTION
     },
 ];
@@ -158,16 +167,120 @@ static VECTORS: [CommandOption; 1] = [CommandOption {
     ..OPTION
 }];
 
-/// What the arguments ask for; nothing where that is help or the version, which is printed then.
-///
-/// # Errors
-///
-/// Where the command line does not have them, printing fails, or memory is refused.
-pub(crate) fn read_arguments<'a>(
-    rt: &HostRuntime,
-    arguments: &'a [String],
-) -> Result<Option<ArgMatches<'a>>, ArgumentsFault> {
-    let subcommands = [
+const ID: CommandOption = CommandOption {
+    name: "volume",
+    takes: Takes::Place("ID"),
+    is_required: true,
+    help: "The id of the volume, as vol-1",
+    ..OPTION
+};
+
+const NODE: CommandOption = CommandOption {
+    name: "node",
+    takes: Takes::Place("NODE"),
+    help: "The id of the node, as n1",
+    ..OPTION
+};
+
+const MODE: CommandOption = CommandOption {
+    name: "mode",
+    takes: Takes::Text("MODE"),
+    help: "The access mode: its CSI name in lower case with hyphens, as multi-node-reader-only, or its number; single-node-writer without it",
+    ..OPTION
+};
+
+const FS: CommandOption = CommandOption {
+    name: "fs",
+    takes: Takes::Text("TEXT"),
+    help: "The volume is mounted with this file system, as ext4; without it, it is a block device",
+    ..OPTION
+};
+
+static VOLUMES: [CommandOption; 2] = [
+    CommandOption {
+        name: "node",
+        takes: Takes::Text("ID"),
+        help: "The volumes alone that are published to this node, as n1",
+        ..OPTION
+    },
+    CommandOption {
+        name: "json",
+        help: "Shows the volumes as one line of JSON, as call --json --all does",
+        ..OPTION
+    },
+];
+
+static VOLUME: [CommandOption; 1] = [ID];
+
+static CREATE: [CommandOption; 8] = [
+    CommandOption {
+        name: "name",
+        takes: Takes::Place("NAME"),
+        is_required: true,
+        help: "The name of the volume, as pvc-7",
+        ..OPTION
+    },
+    CommandOption {
+        name: "size",
+        takes: Takes::Text("SIZE"),
+        is_required: true,
+        help: "The least size: digits and at most one unit of B, Ki, Mi, Gi, Ti, Pi, Ei (1024) and k, K, M, G, T, P, E (1000), as 1Gi",
+        ..OPTION
+    },
+    CommandOption {
+        name: "limit",
+        takes: Takes::Text("SIZE"),
+        help: "The greatest size, as 2Gi",
+        ..OPTION
+    },
+    MODE,
+    FS,
+    CommandOption {
+        name: "parameters",
+        takes: Takes::Text("KEY=VALUE,.."),
+        help: "The parameters, as tier=fast,copies=2",
+        ..OPTION
+    },
+    CommandOption {
+        name: "mutable",
+        takes: Takes::Text("KEY=VALUE,.."),
+        help: "The parameters that can be changed, as iops=500",
+        ..OPTION
+    },
+    CommandOption {
+        name: "pool-topology",
+        takes: Takes::Text("KEY=VALUE,.."),
+        help: "The segments of the topology that the pool must have, as zone=a",
+        ..OPTION
+    },
+];
+
+static PUBLISH: [CommandOption; 5] = [
+    ID,
+    CommandOption {
+        is_required: true,
+        ..NODE
+    },
+    MODE,
+    FS,
+    CommandOption {
+        name: "readonly",
+        help: "The volume is attached for reading only",
+        ..OPTION
+    },
+];
+
+static UNPUBLISH: [CommandOption; 2] = [
+    ID,
+    CommandOption {
+        help: "The id of the node, as n1; without it, all nodes",
+        ..NODE
+    },
+];
+
+// The commands over frames.
+fn frame_commands() -> [Subcommand; 4] {
+    [
         Subcommand {
             name: "show",
             about: "Shows the replies of standard input, a line each, as no command does",
@@ -192,13 +305,95 @@ pub(crate) fn read_arguments<'a>(
             options: &VECTORS,
             shared: &[],
         },
-    ];
+    ]
+}
+
+// The commands that show volumes.
+fn listing_commands() -> [Subcommand; 4] {
+    [
+        Subcommand {
+            name: "volumes",
+            about: "Lists the volumes: size, topology, nodes and pool",
+            options: &VOLUMES,
+            shared: &REACHED,
+        },
+        Subcommand {
+            name: "nodes",
+            about: "Lists the nodes that volumes are published to",
+            options: &[],
+            shared: &REACHED,
+        },
+        Subcommand {
+            name: "pools",
+            about: "Lists the pools that volumes are in",
+            options: &[],
+            shared: &REACHED,
+        },
+        Subcommand {
+            name: "volume",
+            about: "Shows one volume",
+            options: &VOLUME,
+            shared: &REACHED,
+        },
+    ]
+}
+
+// The commands that change volumes.
+fn change_commands() -> [Subcommand; 4] {
+    [
+        Subcommand {
+            name: "create",
+            about: "Creates a volume",
+            options: &CREATE,
+            shared: &REACHED,
+        },
+        Subcommand {
+            name: "publish",
+            about: "Publishes a volume to a node",
+            options: &PUBLISH,
+            shared: &REACHED,
+        },
+        Subcommand {
+            name: "unpublish",
+            about: "Unpublishes a volume from a node, or from all",
+            options: &UNPUBLISH,
+            shared: &REACHED,
+        },
+        Subcommand {
+            name: "delete",
+            about: "Deletes a volume",
+            options: &VOLUME,
+            shared: &REACHED,
+        },
+    ]
+}
+
+fn commands(alloc: Global) -> Result<Vec<Subcommand>, AllocError> {
+    let mut commands = Vec::new(alloc);
+    commands.extend_from_slice(&frame_commands())?;
+    commands.extend_from_slice(&listing_commands())?;
+    commands.extend_from_slice(&change_commands())?;
+    Ok(commands)
+}
+
+/// What the arguments ask for; nothing where that is help or the version, which is printed then.
+///
+/// # Errors
+///
+/// Where the command line does not have them, printing fails, or memory is refused.
+pub(crate) fn read_arguments<'a>(
+    rt: &HostRuntime,
+    arguments: &'a [String],
+) -> Result<Option<ArgMatches<'a>>, ArgumentsFault> {
+    let Ok(subcommands) = commands(rt.alloc()) else {
+        return Err(ArgumentsFault::NoMemory);
+    };
     let line = CommandLine {
         name: "csictl",
         version: "0.1.0",
         about: "The client of csid: calls and replies are frames, as docs/PROTOCOL.md says",
         options: &[],
-        subcommands: &subcommands,
+        subcommands: subcommands.as_slice(),
     };
     command_line::matches(rt, &line, arguments)
 }

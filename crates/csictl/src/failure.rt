@@ -72,6 +72,18 @@ pub(crate) enum Failure {
     /// The value of this option is no number in decimal digits alone.
     #[error("--{0}: not decimal digits alone")]
     NotDecimal(&'static str),
+    /// The socket is not given, and there is none where the units have it.
+    #[error("no socket: give --socket PATH, or CSID_SOCKET in the environment; neither /run/csid-front/control.sock nor /run/csid/csid.sock exists")]
+    NoSocket,
+    /// This variable of the environment is not UTF-8.
+    #[error("{0}: no text")]
+    NotText(&'static str),
+    /// The value of this option is no size.
+    #[error("--{0}: no size: write digits and at most one unit, as 1Gi or 500M, for less than 2^63 bytes")]
+    NotSize(&'static str),
+    /// The value of this option is no access mode.
+    #[error("--{0}: no access mode: write a name, as single-node-writer, or a number")]
+    NotMode(&'static str),
     /// A pair has no `=`.
     #[error("a pair without '=': write KEY=VALUE,KEY=VALUE")]
     NotPair,
@@ -87,12 +99,18 @@ pub(crate) enum Failure {
     /// A reply is malformed.
     #[error("{0}")]
     Malformed(ReplyFault),
+    /// Something that speaks HTTP/2 is on the socket of this path.
+    #[error("{0}: a gRPC socket (HTTP/2): give the socket of csid, or the one that the front has by --control")]
+    OtherSocket(String),
     /// A body is no response of its method.
     #[error("the body is no response of the method")]
     BadBody,
     /// A listing goes on and on.
     #[error("the pages have no end")]
     NoEnd,
+    /// No volume has this id.
+    #[error("{0}: no volume has this id")]
+    NoVolume(String),
     /// A file, standard output or the socket failed: its name, and why.
     #[error("{0}")]
     System(Cause),
@@ -144,10 +162,16 @@ impl Failure {
             | Failure::NotPaged
             | Failure::NotHex
             | Failure::NotDecimal(_)
+            | Failure::NoSocket
+            | Failure::NotText(_)
+            | Failure::NotSize(_)
+            | Failure::NotMode(_)
             | Failure::NotPair
             | Failure::TooLong
             | Failure::NotVector { .. } => 2,
-            Failure::Malformed(_) | Failure::BadBody | Failure::NoEnd => 3,
+            Failure::NoVolume(_) => 1,
+            Failure::Malformed(_) | Failure::OtherSocket(_) | Failure::BadBody | Failure::NoEnd =>
+                3,
             Failure::System(_) | Failure::ReadFailed | Failure::WriteFailed => 5,
             Failure::NoMemory => 6,
         }

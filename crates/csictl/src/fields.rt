@@ -6,6 +6,8 @@ ghost use Rattle.csictl.specs.declared.fields.FieldFault.TheVariants.{NoMemory};
 
 use crate::command::fields;
 use crate::failure::Failure;
+use crate::modes::mode_of;
+use crate::sizes::bytes_of;
 use clap::ArgMatches;
 use command_line::{CommandOption, is_decimal};
 use csi_types::{
@@ -117,11 +119,48 @@ fn list_of<T: Drop>(alloc: Global, item: Option<T>) -> Result<Items<T>, FieldFau
     Ok(Items::from_vec(list))
 }
 
+// The range of sizes, where a bound is given.
+fn range_of(required: Option<i64>, limit: Option<i64>) -> Option<CapacityRange> {
+    if required.is_none() && limit.is_none() {
+        return None;
+    }
+    Some(CapacityRange {
+        required: required.unwrap_or(0),
+        limit: limit.unwrap_or(0),
+    })
+}
+
+// The size that an option gives with a unit.
+fn size(arguments: &ArgMatches<'_>, name: &'static str) -> Result<Option<i64>, Failure> {
+    let Some(text) = arguments.get_str(name) else {
+        return Ok(None);
+    };
+    match bytes_of(text) {
+        Some(bytes) => Ok(Some(bytes)),
+        None => Err(Failure::NotSize(name)),
+    }
+}
+
+// The access mode that an option gives by name; without it that of a single node that writes.
+fn mode(arguments: &ArgMatches<'_>) -> Result<i32, Failure> {
+    let Some(text) = arguments.get_str("mode") else {
+        return Ok(SINGLE_NODE_WRITER);
+    };
+    mode_of(text).ok_or(Failure::NotMode("mode"))
+}
+
+// The access mode where none is given.
+const SINGLE_NODE_WRITER: i32 = 1;
+
 /// The fields of a message, as the arguments of a command give them.
 #[derive(Clone, Copy)]
 pub(crate) struct Fields<'m, 'a> {
     alloc: Global,
     arguments: &'m ArgMatches<'a>,
+    range: Option<CapacityRange>,
+    mode: Option<i32>,
+    // Whether the arguments are those of a command for people.
+    is_person: bool,
 }
 
 impl<'m, 'a> Fields<'m, 'a> {
@@ -147,7 +186,36 @@ impl<'m, 'a> Fields<'m, 'a> {
                 return Err(Failure::NotDecimal(field.name));
             }
         }
-        Ok(Fields { alloc, arguments })
+        let required = arguments.get_one::<i64>("required");
+        let limit = arguments.get_one::<i64>("limit");
+        Ok(Fields {
+            alloc,
+            arguments,
+            range: range_of(required, limit),
+            mode: arguments.get_one::<i32>("mode"),
+            is_person: false,
+        })
+    }
+
+    /// The fields that the arguments of a command for people give: sizes with units, and access modes by name.
+    ///
+    /// # Errors
+    ///
+    /// Where one is none.
+    pub(crate) fn of_person(
+        alloc: Global,
+        arguments: &'m ArgMatches<'a>,
+    ) -> Result<Fields<'m, 'a>, Failure> {
+        let required = size(arguments, "size")?;
+        let limit = size(arguments, "limit")?;
+        let mode = mode(arguments)?;
+        Ok(Fields {
+            alloc,
+            arguments,
+            range: range_of(required, limit),
+            mode: Some(mode),
+            is_person: true,
+        })
     }
 
     /// The text of an option, or the empty text.
@@ -167,15 +235,7 @@ impl<'m, 'a> Fields<'m, 'a> {
 
     /// The range of sizes, where a bound is given.
     pub(crate) fn range(&self) -> Option<CapacityRange> {
-        let required = self.arguments.get_one::<i64>("required");
-        let limit = self.arguments.get_one::<i64>("limit");
-        if required.is_none() && limit.is_none() {
-            return None;
-        }
-        Some(CapacityRange {
-            required: required.unwrap_or(0),
-            limit: limit.unwrap_or(0),
-        })
+        self.range
     }
 
     // A mount of the file system that is given, or else a block device.
@@ -193,7 +253,7 @@ impl<'m, 'a> Fields<'m, 'a> {
 
     /// The one capability, where a mode is given.
     pub(crate) fn capability(&self) -> Result<Option<Capability>, FieldFault> {
-        let Some(mode) = self.arguments.get_one::<i32>("mode") else {
+        let Some(mode) = self.mode else {
             return Ok(None);
         };
         Ok(Some(Capability {
@@ -245,7 +305,12 @@ impl<'m, 'a> Fields<'m, 'a> {
 
     /// One requisite topology, where it is given.
     pub(crate) fn requirement(&self) -> Result<Option<Requirement>, FieldFault> {
-        let Some(segments) = self.pairs("topology")? else {
+        let option = if self.is_person {
+            "pool-topology"
+        } else {
+            "topology"
+        };
+        let Some(segments) = self.pairs(option)? else {
             return Ok(None);
         };
         Ok(Some(Requirement {

@@ -1,11 +1,12 @@
-//! The way to a server on a socket: a connection for each try of a call.
+//! The way to a server on a socket: a connection for each try of a call, or one for several calls.
 
 ghost use Rattle.std.specs.Prelude.{◌≡◌, ⊤};
 
 use crate::connection::Connection;
 use crate::failure::Failure;
+use crate::patience::Patience;
 use command_line::say;
-use csi_client::{Exchanges, Line, Received, pause_millis, receive};
+use csi_client::{Exchanges, Line, Received, ReceivedReply, call_again, pause_millis, receive};
 use envelope::ReplyFault;
 use frames_core::send;
 use std::io::{self, ErrorKind};
@@ -28,75 +29,150 @@ pub(crate) enum Unanswered {
     Failed(io::Error),
 }
 
-/// The way to a server.
+/// Connections to a server.
 #[derive(Drop)]
-pub(crate) struct SocketLine<'a> {
+struct Wire<'a> {
     rt: &'a HostRuntime,
     path: &'a str,
-    tries: u32,
     // How long one try may take.
     timeout: Option<Duration>,
-    exchanges: Exchanges,
-    // Why the last try was not answered.
-    unanswered: Option<Unanswered>,
+    // Whether a connection is kept for the next call, once the server has answered on it.
+    is_kept: bool,
+    kept: Option<Connection<'a>>,
+    // Whether what was read last came from a server of HTTP/2.
+    is_http2: bool,
 }
 
-impl<'a> SocketLine<'a> {
-    /// The way to the server of this socket, for so many tries, of which none takes longer than that.
-    pub(crate) fn new(
-        rt: &'a HostRuntime,
-        path: &'a str,
-        tries: u32,
-        timeout: Option<Duration>,
-    ) -> SocketLine<'a>
-        ensures { result.exchanges.made ≡ 0 }
-    {
-        SocketLine {
-            rt,
-            path,
-            tries,
-            timeout,
-            exchanges: Exchanges::none(),
-            unanswered: None,
+impl<'a> Wire<'a> {
+    // The connection that was kept, or a new one.
+    fn connection(&mut self) -> io::Result<Connection<'a>> {
+        match self.kept.take() {
+            Some(mut connection) => {
+                connection.begin(self.timeout)?;
+                Ok(connection)
+            }
+            None => Connection::new(self.rt, self.path, self.timeout),
         }
     }
 
-    /// Why the last try was not answered.
-    pub(crate) fn failure(&self) -> Failure {
-        let alloc = self.rt.alloc();
-        match &self.unanswered {
-            Some(why) => Failure::named(alloc, self.path, why),
-            None => Failure::named(alloc, self.path, &Unanswered::Closed),
-        }
-    }
-
-    // Says why the last try was not answered, and waits for the next one.
-    fn report_and_wait(&self, why: &Unanswered) {
-        let rt = self.rt;
-        let tried = u32::try_from(self.exchanges.made).unwrap_or(u32::MAX);
-        let turn = tried.saturating_add(1);
-        match format!(in rt.alloc(); "{}: {why}: try {turn} of {}", self.path, self.tries) {
-            Ok(text) => say(rt, "csictl", &text),
-            Err(_) => say(rt, "csictl", &"out of memory"),
-        }
-        let chance = rt.monotonic().map_or(0, |time| time.subsec_nanos());
-        thread::sleep(rt, Duration::from_millis(pause_millis(tried, chance)));
-    }
-
-    // A call on a new connection, up to its reply.
+    // A call on a connection, up to its reply.
     fn ask(&self, connection: &mut Connection<'_>, frame: &[u8]) -> io::Result<Received> {
         send(connection, frame)?;
-        connection.end_writing()?;
+        if !self.is_kept {
+            connection.end_writing()?;
+        }
         match receive(self.rt.alloc(), connection) {
             Received::Failed if connection.is_late => Err(io::Error::from(ErrorKind::TimedOut)),
             received => Ok(received),
         }
     }
 
-    // One connection, up to its reply.
-    fn converse(&self, frame: &[u8]) -> io::Result<Received> {
-        let mut connection = Connection::new(self.rt, self.path, self.timeout)?;
-        self.ask(&mut connection, frame)
+    // One call, up to its reply.
+    fn converse(&mut self, frame: &[u8]) -> io::Result<Received> {
+        let mut connection = self.connection()?;
+        let received = self.ask(&mut connection, frame)?;
+        self.is_http2 = connection.is_http2;
+        if self.is_kept && matches!(received, Received::Reply(_)) {
+            self.kept = Some(connection);
+        } else {
+            drop(connection);
+        }
+        Ok(received)
+    }
+}
+
+/// The way to a server.
+#[derive(Drop)]
+pub(crate) struct SocketLine<'a> {
+    wire: Wire<'a>,
+    patience: Patience,
+    exchanges: Exchanges,
+    // Why the last try was not answered.
+    unanswered: Option<Unanswered>,
+}
+
+impl<'a> SocketLine<'a> {
+    /// The way to the server of this socket. One connection serves several calls, or each has its own.
+    pub(crate) fn new(
+        rt: &'a HostRuntime,
+        path: &'a str,
+        patience: Patience,
+        is_kept: bool,
+    ) -> SocketLine<'a> {
+        let wire = Wire {
+            rt,
+            path,
+            timeout: patience.timeout,
+            is_kept,
+            kept: None,
+            is_http2: false,
+        };
+        SocketLine {
+            wire,
+            patience,
+            exchanges: Exchanges::none(),
+            unanswered: None,
+        }
+    }
+
+    // Why the last try was not answered.
+    fn failure(&self) -> Failure {
+        let alloc = self.wire.rt.alloc();
+        match &self.unanswered {
+            Some(why) => Failure::named(alloc, self.wire.path, why),
+            None => Failure::named(alloc, self.wire.path, &Unanswered::Closed),
+        }
+    }
+
+    // What is wrong with a reply that is none.
+    fn malformed(&self, fault: ReplyFault) -> Failure {
+        if !self.wire.is_http2 {
+            return Failure::Malformed(fault);
+        }
+        match String::from_str(self.wire.rt.alloc(), self.wire.path) {
+            Ok(path) => Failure::OtherSocket(path),
+            Err(_) => Failure::NoMemory,
+        }
+    }
+
+    // Forgets the tries of the call before.
+    fn begin(&mut self)
+        ensures { self.new.exchanges.made ≡ 0 }
+    {
+        self.exchanges = Exchanges::none();
+        self.unanswered = None;
+    }
+
+    /// The reply to a call, which is sent again while it is not answered.
+    ///
+    /// # Errors
+    ///
+    /// Where no try is answered, the reply is malformed, or memory is refused.
+    pub(crate) fn call(&mut self, frame: &[u8]) -> Result<ReceivedReply, Failure> {
+        let tries = self.patience.tries;
+        self.begin();
+        match call_again(self, frame, tries) {
+            Received::Reply(reply) => Ok(reply),
+            Received::Malformed(fault) => Err(self.malformed(fault)),
+            Received::NoMemory => Err(Failure::NoMemory),
+            Received::Nothing | Received::Failed => Err(self.failure()),
+        }
+    }
+
+    // Reports why the last try was not answered, and waits for the next one.
+    fn report_and_wait(&self, why: &Unanswered) {
+        let rt = self.wire.rt;
+        let tried = u32::try_from(self.exchanges.made).unwrap_or(u32::MAX);
+        let turn = tried.saturating_add(1);
+        match format!(in rt.alloc();
+            "{}: {why}: try {turn} of {}",
+            self.wire.path, self.patience.tries
+        ) {
+            Ok(text) => say(rt, "csictl", &text),
+            Err(_) => say(rt, "csictl", &"out of memory"),
+        }
+        let chance = rt.monotonic().map_or(0, |time| time.subsec_nanos());
+        thread::sleep(rt, Duration::from_millis(pause_millis(tried, chance)));
     }
 }
 
@@ -133,7 +209,7 @@ impl Line for SocketLine<'_> {
         if let Some(why) = &self.unanswered {
             self.report_and_wait(why);
         }
-        let (received, why) = outcome(self.converse(frame));
+        let (received, why) = outcome(self.wire.converse(frame));
         self.unanswered = why;
         self.exchanges.count(&received);
         received

@@ -2,18 +2,28 @@
 #![tactic(auto)]
 
 mod call;
+mod changes;
 mod command;
 mod connection;
 mod failure;
 mod fields;
 mod frame;
+mod groups;
+mod http2;
 mod json;
 mod line;
+mod listings;
 mod message;
+mod modes;
+mod pages;
+mod patience;
 mod reply;
 mod run;
 mod show;
+mod sizes;
+mod socket;
 mod vectors;
+mod words;
 
 use command_line::{occupy_closed, say};
 use std::process::ExitCode;

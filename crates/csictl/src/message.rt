@@ -14,6 +14,9 @@ use envelope::MAX_MESSAGE_BYTES;
 use hex::FromHexError;
 use std::alloc::{AllocError, Global};
 
+/// More pages than there are volumes: a server that has more goes round in a ring.
+pub(crate) const MOST_PAGES: u32 = 1_000_000;
+
 fn create(fields: &Fields<'_, '_>) -> Result<CreateVolume, FieldFault> {
     Ok(CreateVolume {
         name: fields.text("name")?,
@@ -190,6 +193,21 @@ pub(crate) fn frame(
     arguments: &ArgMatches<'_>,
 ) -> Result<Vec<u8>, Failure> {
     let message = message(alloc, method, arguments)?;
+    framed(alloc, method, &message)
+}
+
+/// The frame of the call of a method that the arguments of a command for people ask for.
+///
+/// # Errors
+///
+/// Where they ask for none, or memory was refused.
+pub(crate) fn frame_of_person(
+    alloc: Global,
+    method: Method,
+    arguments: &ArgMatches<'_>,
+) -> Result<Vec<u8>, Failure> {
+    let fields = Fields::of_person(alloc, arguments)?;
+    let message = message_of(alloc, method, &fields)?;
     framed(alloc, method, &message)
 }
 

@@ -105,6 +105,20 @@ pub(crate) fn show_json(
     Ok(Ended::with(is_refused))
 }
 
+/// A line of JSON with all entries of a listing.
+///
+/// # Errors
+///
+/// Where memory is refused.
+pub(crate) fn entries_line(alloc: Global, entries: &[Entry]) -> Result<String, AllocError> {
+    let mut values = Vec::new(alloc);
+    for entry in entries {
+        values.push(json::entry(alloc, entry)?)?;
+    }
+    let value = json::listing(alloc, values, "")?;
+    line(alloc, &value)
+}
+
 /// The entries of a listing, page by page.
 #[derive(Drop)]
 pub(crate) struct Listing {

@@ -2,9 +2,11 @@
 
 use crate::command::read_arguments;
 use crate::failure::{Ended, Failure};
-use crate::{call, frame, show, vectors};
+use crate::listings::What;
+use crate::{call, changes, frame, listings, show, vectors};
 use clap::ArgMatches;
 use command_line::arguments;
+use csi_types::Method;
 
 // Does what the arguments ask.
 fn obey(rt: &HostRuntime, arguments: &ArgMatches<'_>) -> Result<Ended, Failure> {
@@ -12,8 +14,23 @@ fn obey(rt: &HostRuntime, arguments: &ArgMatches<'_>) -> Result<Ended, Failure> 
         Some(("frame", arguments)) => frame::run(rt, arguments),
         Some(("call", arguments)) => call::run(rt, arguments),
         Some(("vectors", arguments)) => vectors::run(rt, arguments),
-        Some((_, arguments)) => show::run(rt, arguments),
+        Some((name, arguments)) => obey_person(rt, name, arguments),
         None => show::run_plain(rt),
+    }
+}
+
+// The same of the commands for people, and of `show`.
+fn obey_person(rt: &HostRuntime, name: &str, arguments: &ArgMatches<'_>) -> Result<Ended, Failure> {
+    match name {
+        "volumes" => listings::run(rt, What::Volumes, arguments),
+        "nodes" => listings::run(rt, What::Nodes, arguments),
+        "pools" => listings::run(rt, What::Pools, arguments),
+        "volume" => listings::run(rt, What::Volume, arguments),
+        "create" => changes::run(rt, Method::CreateVolume, arguments),
+        "publish" => changes::run(rt, Method::ControllerPublishVolume, arguments),
+        "unpublish" => changes::run(rt, Method::ControllerUnpublishVolume, arguments),
+        "delete" => changes::run(rt, Method::DeleteVolume, arguments),
+        _ => show::run(rt, arguments),
     }
 }
 

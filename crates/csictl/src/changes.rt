@@ -1,0 +1,104 @@
+//! `csictl create`, `csictl publish`, `csictl unpublish` and `csictl delete`.
+
+use crate::failure::{Ended, Failure};
+use crate::line::SocketLine;
+use crate::message::frame_of_person;
+use crate::patience::Patience;
+use crate::reply::{show_lines, write};
+use crate::sizes::size_text;
+use crate::socket;
+use clap::ArgMatches;
+use command_line::word;
+use csi_client::ReceivedReply;
+use csi_codec::decode_response;
+use csi_types::{Method, Response, VolumeInfo};
+use std::alloc::{AllocError, Global};
+
+// The reply to the call that the arguments ask for.
+fn asked(
+    rt: &HostRuntime,
+    method: Method,
+    arguments: &ArgMatches<'_>,
+) -> Result<ReceivedReply, Failure> {
+    let frame = frame_of_person(rt.alloc(), method, arguments)?;
+    let patience = Patience::of(arguments)?;
+    let path = socket::find(rt, arguments)?;
+    let mut line = SocketLine::new(rt, path.as_str(), patience, false);
+    line.call(&frame)
+}
+
+fn created(alloc: Global, volume: &VolumeInfo) -> Result<String, AllocError> {
+    let id = word(alloc, volume.id.as_str())?;
+    let size = size_text(alloc, volume.bytes)?;
+    format!(in alloc; "created {id}, {size}\n")
+}
+
+fn published(alloc: Global, arguments: &ArgMatches<'_>) -> Result<String, AllocError> {
+    let id = word(alloc, arguments.get_str("volume").unwrap_or(""))?;
+    let node = word(alloc, arguments.get_str("node").unwrap_or(""))?;
+    format!(in alloc; "published {id} to {node}\n")
+}
+
+fn unpublished(alloc: Global, arguments: &ArgMatches<'_>) -> Result<String, AllocError> {
+    let id = word(alloc, arguments.get_str("volume").unwrap_or(""))?;
+    match arguments.get_str("node") {
+        Some(node) => {
+            let node = word(alloc, node)?;
+            format!(in alloc; "unpublished {id} from {node}\n")
+        }
+        None => format!(in alloc; "unpublished {id} from all nodes\n"),
+    }
+}
+
+fn deleted(alloc: Global, arguments: &ArgMatches<'_>) -> Result<String, AllocError> {
+    let id = word(alloc, arguments.get_str("volume").unwrap_or(""))?;
+    format!(in alloc; "deleted {id}\n")
+}
+
+// The line of what was done.
+fn line_of(
+    alloc: Global,
+    arguments: &ArgMatches<'_>,
+    response: &Response,
+) -> Result<String, Failure> {
+    match response {
+        Response::Create(Some(volume)) => Ok(created(alloc, volume)?),
+        Response::Publish(_) => Ok(published(alloc, arguments)?),
+        Response::Unpublish => Ok(unpublished(alloc, arguments)?),
+        Response::Delete => Ok(deleted(alloc, arguments)?),
+        _ => Err(Failure::BadBody),
+    }
+}
+
+// The same of the body of a reply. The response is lent, so that what owns one does nothing else that may fail.
+fn line_of_body(
+    alloc: Global,
+    method: Method,
+    arguments: &ArgMatches<'_>,
+    body: &[u8],
+) -> Result<String, Failure> {
+    match decode_response(alloc, method, body) {
+        Ok(response) => line_of(alloc, arguments, &response),
+        Err(fault) => Err(Failure::from(fault)),
+    }
+}
+
+/// Makes the call of a change, again while it is not answered, and shows a line of what was done, or the refusal.
+///
+/// # Errors
+///
+/// Where the arguments ask for no call, it is not answered, its reply is malformed, writing fails, or memory
+/// is refused.
+pub(crate) fn run(
+    rt: &HostRuntime,
+    method: Method,
+    arguments: &ArgMatches<'_>,
+) -> Result<Ended, Failure> {
+    let reply = asked(rt, method, arguments)?;
+    if reply.status != 0 {
+        return show_lines(rt, method, &reply.as_reply());
+    }
+    let line = line_of_body(rt.alloc(), method, arguments, reply.body.as_slice())?;
+    write(rt, line.as_bytes())?;
+    Ok(Ended::Done)
+}

@@ -1,0 +1,149 @@
+//! `csictl volumes`, `csictl nodes`, `csictl pools` and `csictl volume`.
+
+use crate::call::show;
+use crate::failure::{Ended, Failure};
+use crate::groups::{nodes_text, pools_text};
+use crate::line::SocketLine;
+use crate::pages::{Walked, walk};
+use crate::patience::Patience;
+use crate::reply::{entries_line, write};
+use crate::socket;
+use crate::words::{context_word, id_word, nodes_word, pool_word, size_word, topology_word};
+use clap::ArgMatches;
+use command_line::Table;
+use csi_types::{Entry, Method};
+use std::alloc::{AllocError, Global};
+
+/// What is shown of a listing.
+#[derive(Clone, Copy)]
+pub(crate) enum What {
+    Volumes,
+    Nodes,
+    Pools,
+    Volume,
+}
+
+// Whether an entry is of a volume that is published to this node.
+fn is_at(entry: &Entry, node: &str) -> bool {
+    let Some(nodes) = &entry.nodes else {
+        return false;
+    };
+    for one in nodes {
+        if one.as_str() == node {
+            return true;
+        }
+    }
+    false
+}
+
+// Takes out of a listing what is not published to the node that the arguments may name.
+fn select(arguments: &ArgMatches<'_>, entries: &mut Vec<Entry>) {
+    if let Some(node) = arguments.get_str("node") {
+        entries.retain(|entry| is_at(entry, node));
+    }
+}
+
+fn volume_row(alloc: Global, entry: &Entry) -> Result<Vec<String>, AllocError> {
+    let volume = entry.volume.as_ref();
+    let mut row = Vec::new(alloc);
+    row.push(id_word(alloc, volume)?)?;
+    row.push(size_word(alloc, volume)?)?;
+    row.push(topology_word(alloc, volume)?)?;
+    row.push(nodes_word(alloc, entry.nodes.as_ref())?)?;
+    row.push(pool_word(alloc, volume)?)?;
+    Ok(row)
+}
+
+fn volumes_text(alloc: Global, entries: &[Entry]) -> Result<String, AllocError> {
+    let mut table = Table::with_headings(alloc, &["ID", "SIZE", "TOPOLOGY", "NODES", "POOL"])?;
+    for entry in entries {
+        table.add(volume_row(alloc, entry)?)?;
+    }
+    table.text(alloc)
+}
+
+// The entry of the volume with an id.
+fn entry_of<'e>(entries: &'e [Entry], id: &str) -> Option<&'e Entry> {
+    for entry in entries {
+        if let Some(volume) = &entry.volume {
+            if volume.id.as_str() == id {
+                return Some(entry);
+            }
+        }
+    }
+    None
+}
+
+// All that an entry says.
+fn entry_text(alloc: Global, entry: &Entry) -> Result<String, AllocError> {
+    let volume = entry.volume.as_ref();
+    let mut table = Table::new(alloc);
+    table.add_pair(alloc, "ID", id_word(alloc, volume)?)?;
+    table.add_pair(alloc, "SIZE", size_word(alloc, volume)?)?;
+    table.add_pair(alloc, "TOPOLOGY", topology_word(alloc, volume)?)?;
+    table.add_pair(alloc, "NODES", nodes_word(alloc, entry.nodes.as_ref())?)?;
+    table.add_pair(alloc, "POOL", pool_word(alloc, volume)?)?;
+    table.add_pair(alloc, "CONTEXT", context_word(alloc, volume)?)?;
+    table.text(alloc)
+}
+
+fn volume_text(alloc: Global, entries: &[Entry], id: &str) -> Result<String, Failure> {
+    match entry_of(entries, id) {
+        Some(entry) => Ok(entry_text(alloc, entry)?),
+        None => Err(Failure::NoVolume(String::from_str(alloc, id)?)),
+    }
+}
+
+// What is shown of the entries.
+fn text_of(
+    alloc: Global,
+    what: What,
+    arguments: &ArgMatches<'_>,
+    entries: &[Entry],
+) -> Result<String, Failure> {
+    match what {
+        What::Volumes if arguments.get_flag("json") => Ok(entries_line(alloc, entries)?),
+        What::Volumes => Ok(volumes_text(alloc, entries)?),
+        What::Nodes => Ok(nodes_text(alloc, entries)?),
+        What::Pools => Ok(pools_text(alloc, entries)?),
+        What::Volume => volume_text(alloc, entries, arguments.get_str("volume").unwrap_or("")),
+    }
+}
+
+// All pages, or the refusal of one.
+fn walked(rt: &HostRuntime, arguments: &ArgMatches<'_>) -> Result<Walked, Failure> {
+    let patience = Patience::of(arguments)?;
+    let path = socket::find(rt, arguments)?;
+    let mut line = SocketLine::new(rt, path.as_str(), patience, true);
+    walk(rt.alloc(), arguments, &mut line)
+}
+
+/// Asks for all pages of ListVolumes over one connection, and shows what their entries say.
+///
+/// # Errors
+///
+/// Where a call is not answered, a reply is malformed, no volume has the id that is asked for, writing fails, or
+/// memory is refused.
+pub(crate) fn run(
+    rt: &HostRuntime,
+    what: What,
+    arguments: &ArgMatches<'_>,
+) -> Result<Ended, Failure> {
+    match walked(rt, arguments)? {
+        Walked::All(entries) => {
+            let mut entries = entries;
+            select(arguments, &mut entries);
+            let text = text_of(rt.alloc(), what, arguments, entries.as_slice())?;
+            write(rt, text.as_bytes())?;
+            Ok(Ended::Done)
+        }
+        Walked::Refused(reply) | Walked::Outdated(reply) => {
+            show(
+                rt,
+                Method::ListVolumes,
+                &reply.as_reply(),
+                arguments.get_flag("json"),
+            )
+        }
+    }
+}

@@ -1,0 +1,41 @@
+//! How often a call is sent, and how long each try may take.
+
+ghost use Rattle.std.specs.Prelude.{◌≤◌};
+
+use crate::command::{MOST_TRIES, TIMEOUT, TRIES};
+use crate::failure::Failure;
+use clap::ArgMatches;
+use command_line::is_decimal;
+use std::time::Duration;
+
+/// How often a call is sent at most, and how long each try may take.
+#[derive(Clone, Copy)]
+pub(crate) struct Patience {
+    pub(crate) tries: u32,
+    pub(crate) timeout: Option<Duration>,
+    ghost least: { 1 ≤ tries },
+    ghost most: { tries ≤ 10 },
+}
+
+// The number that an option gives.
+fn number(arguments: &ArgMatches<'_>, name: &'static str) -> Result<Option<u32>, Failure> {
+    match arguments.get_str(name) {
+        Some(text) if !is_decimal(text) => Err(Failure::NotDecimal(name)),
+        _ => Ok(arguments.get_one::<u32>(name)),
+    }
+}
+
+impl Patience {
+    /// What the arguments say: once without them, and as long as it takes.
+    ///
+    /// # Errors
+    ///
+    /// Where a number is given otherwise than in decimal digits alone.
+    pub(crate) fn of(arguments: &ArgMatches<'_>) -> Result<Patience, Failure> {
+        let tries = number(arguments, TRIES)?.unwrap_or(1).clamp(1, MOST_TRIES);
+        let timeout = number(arguments, TIMEOUT)?.map(|seconds| Duration::from_secs(u64::from(
+            seconds,
+        )));
+        Ok(Patience { tries, timeout })
+    }
+}

@@ -1,0 +1,128 @@
+//! What an entry of a listing says, as words of a line: `-` where it says nothing.
+
+use crate::sizes::size_text;
+use command_line::{or_dash, put_next, put_word, word};
+use csi_types::{Items, Map, Text, VolumeInfo};
+use std::alloc::{AllocError, Global};
+
+// What the context of a volume has under this key is its pool (csid says it in each volume).
+const POOL: &str = "pool";
+
+/// The pairs of a map, with commas between them.
+///
+/// # Errors
+///
+/// Where memory is refused.
+pub(crate) fn pairs_word(alloc: Global, pairs: &Map) -> Result<String, AllocError> {
+    let mut out = String::new(alloc);
+    for (key, value) in pairs {
+        put_next(&mut out, ",", "")?;
+        put_word(&mut out, key.as_str())?;
+        out.push('=')?;
+        put_word(&mut out, value.as_str())?;
+    }
+    or_dash(out)
+}
+
+// The topologies of a volume, with semicolons between them.
+fn topologies_word(alloc: Global, topologies: &Items<Map>) -> Result<String, AllocError> {
+    let mut out = String::new(alloc);
+    for segments in topologies {
+        let word = pairs_word(alloc, segments)?;
+        put_next(&mut out, ";", word.as_str())?;
+    }
+    or_dash(out)
+}
+
+/// The nodes that a volume is published to, with commas between them.
+///
+/// # Errors
+///
+/// Where memory is refused.
+pub(crate) fn nodes_word(alloc: Global, nodes: Option<&Items<Text>>) -> Result<String, AllocError> {
+    let mut out = String::new(alloc);
+    let Some(nodes) = nodes else {
+        return or_dash(out);
+    };
+    for node in nodes {
+        put_next(&mut out, ",", "")?;
+        put_word(&mut out, node.as_str())?;
+    }
+    or_dash(out)
+}
+
+/// The id of a volume.
+///
+/// # Errors
+///
+/// Where memory is refused.
+pub(crate) fn id_word(alloc: Global, volume: Option<&VolumeInfo>) -> Result<String, AllocError> {
+    match volume {
+        Some(volume) => word(alloc, volume.id.as_str()),
+        None => word(alloc, ""),
+    }
+}
+
+/// The size of a volume.
+///
+/// # Errors
+///
+/// Where memory is refused.
+pub(crate) fn size_word(alloc: Global, volume: Option<&VolumeInfo>) -> Result<String, AllocError> {
+    match volume {
+        Some(volume) => size_text(alloc, volume.bytes),
+        None => word(alloc, ""),
+    }
+}
+
+/// The topologies of a volume.
+///
+/// # Errors
+///
+/// Where memory is refused.
+pub(crate) fn topology_word(
+    alloc: Global,
+    volume: Option<&VolumeInfo>,
+) -> Result<String, AllocError> {
+    match volume {
+        Some(volume) => topologies_word(alloc, &volume.topology),
+        None => word(alloc, ""),
+    }
+}
+
+// What a map has under a key, or the empty text.
+fn value_of<'m>(pairs: &'m Map, wanted: &str) -> &'m str {
+    for (key, value) in pairs {
+        if key.as_str() == wanted {
+            return value.as_str();
+        }
+    }
+    ""
+}
+
+/// The pool of a volume, if its context says it.
+///
+/// # Errors
+///
+/// Where memory is refused.
+pub(crate) fn pool_word(alloc: Global, volume: Option<&VolumeInfo>) -> Result<String, AllocError> {
+    match volume {
+        Some(volume) => word(alloc, value_of(&volume.context, POOL)),
+        None => word(alloc, ""),
+    }
+}
+
+/// The context of a volume.
+///
+/// # Errors
+///
+/// Where memory is refused.
+pub(crate) fn context_word(
+    alloc: Global,
+    volume: Option<&VolumeInfo>,
+) -> Result<String, AllocError> {
+    match volume {
+        Some(volume) => pairs_word(alloc, &volume.context),
+        None => word(alloc, ""),
+    }
+}
