@@ -13,6 +13,9 @@ import (
 	"fomaheti/frames"
 )
 
+// How soon it is seen that a caller gave up while csid has its call. A deadline is seen at once.
+const cancelTime = 5 * time.Millisecond
+
 // backend hands calls to csid, one after the other over one connection, since csid serves one connection at a time.
 type backend struct {
 	path string
@@ -47,7 +50,7 @@ func newBackend(path string, late time.Duration) *backend {
 }
 
 // call hands a call to csid when it is its turn, and gives the reply. No call is sent twice that csid may have done: where an error comes it has done
-// it, or not, and the caller has to repeat it.
+// it, or not, and the caller must repeat it.
 func (b *backend) call(ctx context.Context, path string, message []byte) (frames.Reply, error) {
 	came := time.Now()
 	if err := b.takeTurn(ctx); err != nil {
@@ -59,26 +62,62 @@ func (b *backend) call(ctx context.Context, path string, message []byte) (frames
 			<-b.turn
 			return frames.Reply{}, err
 		}
-		sent := b.send(path, message)
-		select {
-		case got := <-sent:
-			b.settle(got)
-			if got.isUndone && isOld && ctx.Err() == nil {
-				// csid closed the connection in this moment, as one that was idle.
-				continue
-			}
-			<-b.turn
-			return got.answer, got.err
-		case <-ctx.Done():
-			b.kept.SetDeadline(time.Now().Add(b.late))
-			go b.awaitLate(sent)
-			return frames.Reply{}, ctx.Err()
+		b.kept.begin(path, message)
+		got := b.exchange(ctx)
+		if got.isUnderWay() {
+			b.leave()
+			return frames.Reply{}, ended(ctx)
+		}
+		b.settle(got)
+		if got.isUndone && isOld && ended(ctx) == nil {
+			// csid closed the connection in this moment, as one that was idle.
+			continue
+		}
+		<-b.turn
+		return got.answer, got.err
+	}
+}
+
+// exchange carries the call that has the turn until it has an outcome, or its caller gave it up.
+func (b *backend) exchange(ctx context.Context) outcome {
+	for {
+		look := time.Now().Add(cancelTime)
+		if deadline, isLimited := ctx.Deadline(); isLimited && deadline.Before(look) {
+			look = deadline
+		}
+		if got := b.kept.exchange(look); !got.isUnderWay() || ended(ctx) != nil {
+			return got
 		}
 	}
 }
 
+// ended is why a caller waits no longer. A deadline counts from its time on, also where the context learns of it a little later.
+func ended(ctx context.Context) error {
+	if err := ctx.Err(); err != nil {
+		return err
+	}
+	if deadline, isLimited := ctx.Deadline(); isLimited && !time.Now().Before(deadline) {
+		return context.DeadlineExceeded
+	}
+	return nil
+}
+
+// leave gives up the call that has the turn. One of which csid may have something is carried to its end first, and its late reply is dropped, so that the
+// connection stays as clean as after any other call.
+func (b *backend) leave() {
+	if b.kept.sent == 0 {
+		<-b.turn
+		return
+	}
+	deadline := time.Now().Add(b.late)
+	go func() {
+		b.settle(b.kept.exchange(deadline))
+		<-b.turn
+	}()
+}
+
 // takeTurn waits for the turn. A call whose deadline is nearer than an exchange usually takes lets the others that wait go before it,
-// once: with more callers than there is time for, most calls that are sent would else be given up before their replies.
+// once: with more callers than there is time for, most calls that are sent would otherwise be given up before their replies.
 func (b *backend) takeTurn(ctx context.Context) error {
 	for isLast := false; ; isLast = true {
 		select {
@@ -97,7 +136,7 @@ func (b *backend) takeTurn(ctx context.Context) error {
 // ready sees to a connection on which nothing is on its way: the one that is kept, or a new one. A call that came before a connection
 // failed is told of that, so those who wait need not fail one after the other.
 func (b *backend) ready(ctx context.Context, came time.Time) (isOld bool, err error) {
-	if err := ctx.Err(); err != nil {
+	if err := ended(ctx); err != nil {
 		return false, err
 	}
 	if b.kept != nil && b.kept.isQuiet() {
@@ -119,26 +158,7 @@ func (b *backend) ready(ctx context.Context, came time.Time) (isOld bool, err er
 	return false, nil
 }
 
-// send begins an exchange over the connection that is kept.
-func (b *backend) send(path string, message []byte) <-chan outcome {
-	sent := make(chan outcome, 1)
-	go func(c *connection) {
-		begin := time.Now()
-		got := c.exchange(path, message)
-		got.took = time.Since(begin)
-		sent <- got
-	}(b.kept)
-	return sent
-}
-
-// awaitLate gives the turn of a call that was given up to the next one, once its late reply came and was dropped. So the connection
-// stays as clean as behind any other call.
-func (b *backend) awaitLate(sent <-chan outcome) {
-	b.settle(<-sent)
-	<-b.turn
-}
-
-// settle draws from an outcome what the next call has to know. After status 13 csid refuses each further change over the connection.
+// settle draws from an outcome what the next call must know. After status 13 csid refuses each further change over the connection.
 func (b *backend) settle(got outcome) {
 	if got.err == nil {
 		b.life.shows()

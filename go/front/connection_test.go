@@ -1,6 +1,7 @@
 package main
 
 import (
+	"bytes"
 	"errors"
 	"io"
 	"net"
@@ -8,6 +9,8 @@ import (
 	"syscall"
 	"testing"
 	"time"
+
+	"google.golang.org/grpc/codes"
 
 	"fomaheti/fixtures"
 	"fomaheti/frames"
@@ -46,6 +49,12 @@ func pair(t *testing.T) (*connection, net.Conn) {
 	return conn, other
 }
 
+// call makes a call over a connection, with no deadline that matters.
+func call(conn *connection, message []byte) outcome {
+	conn.begin("/a/b", message)
+	return conn.exchange(time.Now().Add(10 * time.Second))
+}
+
 func TestQuietConnection(t *testing.T) {
 	conn, other := pair(t)
 	conn.SetDeadline(time.Unix(0, 1))
@@ -53,7 +62,7 @@ func TestQuietConnection(t *testing.T) {
 		t.Error("a connection on which nothing came, though its last call ended by its deadline, is not quiet")
 	}
 	go answering(notFound)(other)
-	if got := conn.exchange("/a/b", nil); got.err != nil {
+	if got := call(conn, nil); got.err != nil {
 		t.Errorf("the deadline of the last call is one of the next: %v", got)
 	}
 	conn, other = pair(t)
@@ -72,11 +81,62 @@ func TestQuietConnection(t *testing.T) {
 	}
 }
 
+// A connection that was used just now is not looked at, but bytes of it that were received already are never passed over.
+func TestConnectionInUse(t *testing.T) {
+	conn, other := pair(t)
+	go answering(append(notFound, notFound...))(other)
+	if got := call(conn, nil); got.err != nil || conn.isQuiet() {
+		t.Errorf("%v, and a second reply came with the first", got)
+	}
+	conn, other = pair(t)
+	other.Close()
+	conn.usedAt = time.Now().Add(time.Minute)
+	if !conn.isQuiet() {
+		t.Error("it was looked at")
+	}
+	conn.usedAt = time.Now().Add(-idleTime)
+	if conn.isQuiet() {
+		t.Error("it was not looked at")
+	}
+}
+
+// A call that deadlines stop, wherever they do, goes on where it stopped.
+func TestInterruptedCall(t *testing.T) {
+	conn, other := pair(t)
+	message := make([]byte, frames.MaxMessageBytes)
+	for i := range message {
+		message[i] = byte(i >> 8)
+	}
+	came := make(chan frames.Request, 1)
+	go func() {
+		time.Sleep(20 * time.Millisecond)
+		request, err := frames.NewRequests(other).Next()
+		if err == nil {
+			came <- request
+		}
+		for _, part := range notFound {
+			other.Write([]byte{part})
+			time.Sleep(2 * time.Millisecond)
+		}
+	}()
+	conn.begin("/a/b", message)
+	stops, got := 0, conn.exchange(time.Now())
+	for ; got.isUnderWay(); got = conn.exchange(time.Now().Add(time.Millisecond)) {
+		stops++
+	}
+	if got.err != nil || got.answer.Code != codes.NotFound || stops < 10 {
+		t.Errorf("%v, stopped %d times", got, stops)
+	}
+	if request := <-came; request.Path != "/a/b" || !bytes.Equal(request.Message, message) {
+		t.Errorf("csid got %s and %d bytes", request.Path, len(request.Message))
+	}
+}
+
 // What is called undone may be sent again, so it has to be so that csid cannot have had all of it.
 func TestUndoneCall(t *testing.T) {
 	conn, other := pair(t)
 	other.Close()
-	if got := conn.exchange("/a/b", []byte{1}); got.err != errUnanswered || !got.isUndone {
+	if got := call(conn, []byte{1}); got.err != errUnanswered || !got.isUndone {
 		t.Errorf("to a csid that went before: %v", got)
 	}
 	conn, other = pair(t)
@@ -84,7 +144,7 @@ func TestUndoneCall(t *testing.T) {
 		other.Read(make([]byte, 1))
 		other.Close()
 	}()
-	if got := conn.exchange("/a/b", make([]byte, frames.MaxMessageBytes)); got.err != errUnanswered || !got.isUndone {
+	if got := call(conn, make([]byte, frames.MaxMessageBytes)); got.err != errUnanswered || !got.isUndone {
 		t.Errorf("to a csid that took a part: %v", got)
 	}
 }
@@ -129,7 +189,7 @@ func TestClosedConnection(t *testing.T) {
 			other.Write(fromHex(t, row.sends))
 			other.Close()
 		}()
-		if got := conn.exchange("/a/b", nil); !errors.Is(got.err, row.want) || got.isUndone != row.isUndone {
+		if got := call(conn, nil); !errors.Is(got.err, row.want) || got.isUndone != row.isUndone {
 			t.Errorf("%s: %v", row.name, got)
 		}
 		<-went

@@ -16,7 +16,9 @@ func told(t *testing.T) map[string]map[string]bool {
 	h := replying(t, "00 0000 00 00000005 0880808007")
 	h.standsBy = true
 	h.metrics.ended(probe, codes.OK, time.Second)
-	families, err := newRegistry(h, nil).Gather()
+	listings := newListings(h, room)
+	listings.keep(&listing{})
+	families, err := newRegistry(h, nil, listings).Gather()
 	if err != nil {
 		t.Fatal(err)
 	}

@@ -26,6 +26,9 @@ const (
 	clientWindow = 1 << 20
 )
 
+// How many goroutines are kept for calls. A new one would have to grow its stack for each call; calls beyond these have one all the same.
+const callWorkers = 32
+
 // What the names and values of the headers of one call may have, with 32 bytes for each (RFC 9113, section 6.5.2). A call keeps them until it ends.
 const maxHeaderBytes = 16 << 10
 
@@ -42,18 +45,21 @@ type handler struct {
 	messages *messages
 	metrics  *metrics
 	log      *logger
-	// Whether the health service of gRPC is answered.
-	hasHealth bool
+	// Whether the health service of gRPC is answered, and whether each change is logged.
+	hasHealth  bool
+	logChanges bool
 	// Whether the front has --standby, and whether it waits for csid. Why it does is told then, so what is asked meanwhile has no lines.
 	standsBy  bool
 	isWaiting atomic.Bool
 }
 
 func newHandler(asked options, log *logger) *handler {
-	return &handler{
+	h := &handler{
 		backend: newBackend(asked.csid, asked.late), messages: newMessages(asked.waiting << 20), metrics: newMetrics(), log: log,
-		hasHealth: asked.health, standsBy: asked.standby > 0,
+		hasHealth: asked.health, logChanges: asked.logChanges, standsBy: asked.standby > 0,
 	}
+	h.isWaiting.Store(h.standsBy)
+	return h
 }
 
 func newServer(h *handler) *grpc.Server {
@@ -66,6 +72,7 @@ func newServer(h *handler) *grpc.Server {
 		grpc.InitialConnWindowSize(clientWindow),
 		grpc.MaxHeaderListSize(maxHeaderBytes),
 		grpc.ConnectionTimeout(greetingTime),
+		grpc.NumStreamWorkers(callWorkers),
 	)
 }
 
@@ -73,31 +80,47 @@ func newServer(h *handler) *grpc.Server {
 func (h *handler) handle(_ interface{}, stream grpc.ServerStream) error {
 	begin := time.Now()
 	path, _ := grpc.MethodFromServerStream(stream)
-	err := h.answer(path, stream)
-	why, took := status.Convert(err), time.Since(begin)
-	h.metrics.ended(path, why.Code(), took)
-	if err != nil {
-		h.log.refuses(path, why, took)
-	}
+	asked, err := h.answer(path, stream)
+	h.ended("", path, asked, status.Convert(err), time.Since(begin))
 	return err
 }
 
-func (h *handler) answer(path string, stream grpc.ServerStream) error {
+// ended counts a call that came over a socket (an empty name is that of gRPC), and logs it where it was refused, or where it was a change that is logged.
+func (h *handler) ended(socket, path string, asked *change, why *status.Status, took time.Duration) {
+	h.metrics.ended(path, why.Code(), took)
+	if why.Code() != codes.OK {
+		h.log.refuses(socket, path, asked, why, took)
+	} else if asked != nil {
+		h.log.changes(socket, path, asked, took)
+	}
+}
+
+// answer answers a call of a client, and gives the change that it asks for, where that is logged.
+func (h *handler) answer(path string, stream grpc.ServerStream) (*change, error) {
 	if !frames.IsPath(path) {
-		return status.Error(codes.Unimplemented, "unknown method")
+		return nil, status.Error(codes.Unimplemented, "unknown method")
 	}
 	message, err := h.messages.receive(stream)
 	if err != nil {
-		return err
+		return nil, err
 	}
 	defer h.messages.giveBack(message)
 	h.metrics.waiting.Inc()
 	body, err := h.respond(stream.Context(), path, message)
 	h.metrics.waiting.Dec()
+	asked := h.loggedChange(path, message, body)
 	if err != nil {
-		return err
+		return asked, err
 	}
-	return stream.SendMsg(&body)
+	return asked, stream.SendMsg(&body)
+}
+
+// loggedChange is the change that a call asks for, where each is logged; otherwise nil.
+func (h *handler) loggedChange(path string, message, body []byte) *change {
+	if !h.logChanges {
+		return nil
+	}
+	return changeOf(path, message, body)
 }
 
 func (h *handler) respond(ctx context.Context, path string, message []byte) ([]byte, error) {
@@ -109,18 +132,31 @@ func (h *handler) respond(ctx context.Context, path string, message []byte) ([]b
 
 // ask hands a call to csid, and gives the body of the reply, or what an orchestrator is told.
 func (h *handler) ask(ctx context.Context, path string, message []byte) ([]byte, error) {
-	answer, err := h.backend.call(ctx, path, message)
+	answer, err := h.reply(ctx, path, message)
 	if err != nil {
 		return nil, refusal(ctx, err)
 	}
-	if answer.Code == codes.Internal && openReasons[answer.Text] {
-		h.metrics.refusals.WithLabelValues(answer.Text).Inc()
+	if isOpen(answer) {
 		return nil, status.Error(codes.Unavailable, answer.Text)
 	}
 	if answer.Code != codes.OK {
 		return nil, status.Error(answer.Code, answer.Text)
 	}
 	return answer.Body, nil
+}
+
+// reply hands a call to csid, and gives the reply as it is.
+func (h *handler) reply(ctx context.Context, path string, message []byte) (frames.Reply, error) {
+	answer, err := h.backend.call(ctx, path, message)
+	if err == nil && isOpen(answer) {
+		h.metrics.refusals.WithLabelValues(answer.Text).Inc()
+	}
+	return answer, err
+}
+
+// isOpen tells whether it is open after a reply whether a change was made.
+func isOpen(answer frames.Reply) bool {
+	return answer.Code == codes.Internal && openReasons[answer.Text]
 }
 
 // openReasons are the texts of status 13 behind which it is open whether a change was made. An orchestrator is then told UNAVAILABLE:
@@ -130,8 +166,8 @@ var openReasons = map[string]bool{"out of memory": true, "store refused": true, 
 // refusal is the answer to a call that got no reply. It has one of the codes after which an orchestrator takes the outcome as open,
 // and repeats the call.
 func refusal(ctx context.Context, err error) error {
-	if ctx.Err() != nil {
-		return status.FromContextError(ctx.Err()).Err()
+	if ended := ended(ctx); ended != nil {
+		return status.FromContextError(ended).Err()
 	}
 	return status.Errorf(codes.Unavailable, "csid: %v", err)
 }

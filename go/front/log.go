@@ -45,10 +45,13 @@ type entry struct {
 	Address string    `json:"address,omitempty"`
 	Reason  string    `json:"reason,omitempty"`
 	Dropped uint64    `json:"dropped,omitempty"`
-	*refusedCall
+	// The socket over which the calls came that the line is about; that of gRPC has no name.
+	Socket string `json:"socket,omitempty"`
+	*endedCall
+	*change
 }
 
-type refusedCall struct {
+type endedCall struct {
 	Path         string     `json:"path"`
 	Code         codes.Code `json:"code"`
 	Text         string     `json:"text"`
@@ -118,11 +121,34 @@ func (l *logger) isReady() {
 	l.tell(text, entry{Level: levelInfo, Message: text})
 }
 
-// refuses tells of a call that was refused. Its message goes into no log: it may have secrets.
-func (l *logger) refuses(path string, why *status.Status, took time.Duration) {
-	call := &refusedCall{shownPath(path), why.Code(), why.Message(), took.Milliseconds()}
-	text := fmt.Sprintf("%s %d %q %d ms", call.Path, call.Code, call.Text, call.Milliseconds)
-	l.tell(text, entry{Level: levelWarn, Message: "call refused", refusedCall: call})
+// refuses tells of a call that was refused, and about which volume it was where that is logged. Nothing else of its message goes into the log: it may have
+// secrets.
+func (l *logger) refuses(socket, path string, asked *change, why *status.Status, took time.Duration) {
+	l.ends(entry{Level: levelWarn, Message: "call refused", Socket: socket}, path, asked, why, took)
+}
+
+// changes tells of a change that was made.
+func (l *logger) changes(socket, path string, asked *change, took time.Duration) {
+	l.ends(entry{Level: levelInfo, Message: "change", Socket: socket}, path, asked, status.New(codes.OK, ""), took)
+}
+
+func (l *logger) ends(line entry, path string, asked *change, why *status.Status, took time.Duration) {
+	line.endedCall, line.change = &endedCall{shownPath(path), why.Code(), why.Message(), took.Milliseconds()}, asked
+	call := line.endedCall
+	l.tell(fmt.Sprintf("%s%s %d %q %d ms%s", via(line.Socket), call.Path, call.Code, call.Text, call.Milliseconds, asked.words()), line)
+}
+
+// malformed tells of a frame over a socket that is no call.
+func (l *logger) malformed(socket string, fault error) {
+	l.tell(via(socket)+fault.Error(), entry{Level: levelWarn, Message: "malformed call", Socket: socket, Error: fault.Error()})
+}
+
+// via is how a line of text begins that is about a call over a socket.
+func via(socket string) string {
+	if socket == "" {
+		return ""
+	}
+	return socket + " "
 }
 
 // saying takes lines of others, and names these in JSON.

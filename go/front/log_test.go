@@ -69,23 +69,43 @@ func TestLines(t *testing.T) {
 		},
 		{
 			func(l *logger) {
-				l.refuses("/a/b", status.New(codes.FailedPrecondition, "volume is in use"), 1999*time.Microsecond)
+				l.refuses("", "/a/b", nil, status.New(codes.FailedPrecondition, "volume is in use"), 1999*time.Microsecond)
 			},
 			"front: /a/b 9 \"volume is in use\" 1 ms\n",
 			fields{"level": "warn", "message": "call refused", "path": "/a/b", "code": 9.0, "text": "volume is in use", "milliseconds": 1.0},
 		},
 		{
-			func(l *logger) { l.refuses("/a/b", status.New(codes.Unavailable, "\"a\"\n"), 0) },
+			func(l *logger) { l.refuses("", "/a/b", nil, status.New(codes.Unavailable, "\"a\"\n"), 0) },
 			"front: /a/b 14 \"\\\"a\\\"\\n\" 0 ms\n",
 			fields{"level": "warn", "message": "call refused", "path": "/a/b", "code": 14.0, "text": "\"a\"\n", "milliseconds": 0.0},
 		},
 		{
-			func(l *logger) { l.refuses("/a\n", status.New(codes.Unimplemented, ""), 0) },
+			func(l *logger) {
+				l.refuses("control", "/a/b", &change{Volume: "vol-1", Node: "n 1"}, status.New(codes.NotFound, "node not found"), 0)
+			},
+			"front: control /a/b 5 \"node not found\" 0 ms volume=vol-1 node=\"n 1\"\n",
+			fields{"level": "warn", "message": "call refused", "socket": "control", "path": "/a/b", "code": 5.0, "text": "node not found", "milliseconds": 0.0,
+				"volume": "vol-1", "node": "n 1"},
+		},
+		{
+			func(l *logger) { l.changes("", "/a/b", &change{Name: "pvc-1", Volume: "vol-1"}, 2*time.Millisecond) },
+			"front: /a/b 0 \"\" 2 ms name=pvc-1 volume=vol-1\n",
+			fields{"level": "info", "message": "change", "path": "/a/b", "code": 0.0, "text": "", "milliseconds": 2.0, "name": "pvc-1", "volume": "vol-1"},
+		},
+		{
+			func(l *logger) { l.malformed("control", errors.New("bad flag at byte 3")) },
+			"front: control bad flag at byte 3\n",
+			fields{"level": "warn", "message": "malformed call", "socket": "control", "error": "bad flag at byte 3"},
+		},
+		{
+			func(l *logger) { l.refuses("", "/a\n", nil, status.New(codes.Unimplemented, ""), 0) },
 			"front: \"/a\\n\" 12 \"\" 0 ms\n",
 			fields{"level": "warn", "message": "call refused", "path": `"/a\n"`, "code": 12.0, "text": "", "milliseconds": 0.0},
 		},
 		{
-			func(l *logger) { l.refuses("/"+strings.Repeat("a", 200), status.New(codes.Unimplemented, ""), 0) },
+			func(l *logger) {
+				l.refuses("", "/"+strings.Repeat("a", 200), nil, status.New(codes.Unimplemented, ""), 0)
+			},
 			"front: \"/" + strings.Repeat("a", 127) + "\" 12 \"\" 0 ms\n",
 			fields{"level": "warn", "message": "call refused", "path": `"/` + strings.Repeat("a", 127) + `"`, "code": 12.0, "text": "", "milliseconds": 0.0},
 		},

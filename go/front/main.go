@@ -11,6 +11,7 @@ import (
 	"net"
 	"os"
 	"os/signal"
+	"runtime"
 	"syscall"
 	"time"
 
@@ -37,11 +38,20 @@ const lastLinesTime = time.Second
 func main() {
 	// A reader of standard error who has gone ends nothing.
 	signal.Ignore(syscall.SIGPIPE)
+	useOneProcessor()
 	asked, err := readOptions(os.Args[1:], os.Getenv("CSI_ENDPOINT"), os.Stdout)
 	log := newLog(os.Stderr, asked.logFormat)
 	status := run(asked, err, log)
 	log.queue.End(lastLinesTime)
 	os.Exit(status)
+}
+
+// useOneProcessor keeps all goroutines on one processor, unless GOMAXPROCS says otherwise. A call passes through several that wait for one another, and waking
+// one on another processor takes longer than its work.
+func useOneProcessor() {
+	if os.Getenv("GOMAXPROCS") == "" {
+		runtime.GOMAXPROCS(1)
+	}
 }
 
 // run is all that the front does with the options that were read, or refused; and its status.
@@ -57,8 +67,12 @@ func run(asked options, err error, log *logger) int {
 		fmt.Println("front", version)
 		return done
 	}
-	f := &front{asked, log, newHandler(asked, log), make(chan os.Signal, 2), make(chan error, 2), make(chan error, 1)}
+	f := &front{asked, log, newHandler(asked, log), nil, make(chan os.Signal, 2), make(chan error, 2), make(chan error, 1)}
 	signal.Notify(f.stop, syscall.SIGTERM, syscall.SIGINT)
+	if f.control, err = startControl(f.handler, asked); err != nil {
+		return f.fails(err, noSocket)
+	}
+	defer f.control.close()
 	if asked.standby > 0 {
 		return f.standBy()
 	}
@@ -78,6 +92,7 @@ type front struct {
 	asked   options
 	log     *logger
 	handler *handler
+	control *control
 	stop    chan os.Signal
 	// Failures of what takes connections.
 	failed chan error
@@ -118,7 +133,9 @@ func take(server *grpc.Server, listener net.Listener) error {
 func (f *front) end(server *grpc.Server) int {
 	ended := make(chan struct{})
 	go func() {
+		f.control.stop()
 		server.GracefulStop()
+		f.control.wait()
 		close(ended)
 	}()
 	select {

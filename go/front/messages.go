@@ -3,6 +3,7 @@ package main
 import (
 	"context"
 	"io"
+	"runtime"
 	"sync"
 	"time"
 
@@ -28,6 +29,7 @@ var errLate = status.Error(codes.Unavailable, "the message did not come in time,
 // messages bounds what the messages of all calls take that wait for their turn or for their replies.
 type messages struct {
 	receiving chan struct{}
+	idle      chan *receiver
 	limit     int
 	mutex     sync.Mutex
 	bytes     int
@@ -37,7 +39,7 @@ type messages struct {
 }
 
 func newMessages(limit int) *messages {
-	return &messages{receiving: make(chan struct{}, maxReceived), limit: limit}
+	return &messages{receiving: make(chan struct{}, maxReceived), idle: make(chan *receiver, maxReceived), limit: limit}
 }
 
 // receive receives the message of a call, and counts it until it is given back.
@@ -99,25 +101,83 @@ func (m *messages) waits(more int) {
 	m.waiting += more
 }
 
-// inTime gives what is received, unless it is late. The end of the call ends the receiving then.
-func (m *messages) inTime(receive func() ([]byte, error)) (message []byte, err error) {
-	begin, received := time.Now(), make(chan struct{})
-	var came []byte
-	var failure error
-	go func() {
-		defer close(received)
-		came, failure = receive()
-	}()
+// receiver receives messages in a goroutine of its own, which is kept for the next one: a new goroutine would have to grow its stack each time.
+type receiver struct {
+	next    chan func() ([]byte, error)
+	done    chan struct{}
+	message []byte
+	err     error
+}
+
+func newReceiver() *receiver {
+	r := &receiver{next: make(chan func() ([]byte, error), 1), done: make(chan struct{}, 1)}
+	go r.run()
+	return r
+}
+
+func (r *receiver) run() {
+	for receive := range r.next {
+		r.message, r.err = receive()
+		r.done <- struct{}{}
+	}
+}
+
+// receiver is one that receives nothing.
+func (m *messages) receiver() *receiver {
+	select {
+	case r := <-m.idle:
+		return r
+	default:
+		return newReceiver()
+	}
+}
+
+// keep keeps a receiver for the next message, unless enough are kept.
+func (m *messages) keep(r *receiver) {
+	r.message, r.err = nil, nil
+	select {
+	case m.idle <- r:
+	default:
+		close(r.next)
+	}
+}
+
+// inTime gives what is received, unless it is late. The end of the call ends the receiving then, and the receiver is not used again.
+func (m *messages) inTime(receive func() ([]byte, error)) ([]byte, error) {
+	begin, r := time.Now(), m.receiver()
+	r.next <- receive
+	if !r.isDone() && !m.awaits(r, begin) {
+		close(r.next)
+		return nil, errLate
+	}
+	m.came()
+	message, err := r.message, r.err
+	m.keep(r)
+	return message, err
+}
+
+// isDone lets the receiver go first, and reports whether it has the message: most have come whole with the headers of their calls.
+func (r *receiver) isDone() bool {
+	runtime.Gosched()
+	select {
+	case <-r.done:
+		return true
+	default:
+		return false
+	}
+}
+
+// awaits reports whether a receiver is done before its message is late.
+func (m *messages) awaits(r *receiver, begin time.Time) bool {
 	looks := time.NewTicker(lookTime)
 	defer looks.Stop()
 	for {
 		select {
-		case <-received:
-			m.came()
-			return came, failure
+		case <-r.done:
+			return true
 		case <-looks.C:
 			if m.isLate(begin) {
-				return nil, errLate
+				return false
 			}
 		}
 	}

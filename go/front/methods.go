@@ -2,11 +2,13 @@ package main
 
 // Paths that the front itself calls or answers.
 const (
-	identity    = "/csi.v1.Identity/"
-	controller  = "/csi.v1.Controller/"
-	probe       = identity + "Probe"
-	getCapacity = controller + "GetCapacity"
-	healthCheck = "/grpc.health.v1.Health/Check"
+	identity     = "/csi.v1.Identity/"
+	controller   = "/csi.v1.Controller/"
+	probe        = identity + "Probe"
+	createVolume = controller + "CreateVolume"
+	getCapacity  = controller + "GetCapacity"
+	listVolumes  = controller + "ListVolumes"
+	healthCheck  = "/grpc.health.v1.Health/Check"
 )
 
 // otherMethod is the label of each method that is not one of the table: a client can call any, and each label is a series.
@@ -17,12 +19,12 @@ var methods = map[string]bool{
 	identity + "GetPluginInfo":                true,
 	identity + "GetPluginCapabilities":        true,
 	probe:                                     true,
-	controller + "CreateVolume":               true,
+	createVolume:                              true,
 	controller + "DeleteVolume":               true,
 	controller + "ControllerPublishVolume":    true,
 	controller + "ControllerUnpublishVolume":  true,
 	controller + "ValidateVolumeCapabilities": true,
-	controller + "ListVolumes":                true,
+	listVolumes:                               true,
 	getCapacity:                               true,
 	controller + "ControllerGetCapabilities":  true,
 	controller + "ControllerModifyVolume":     true,

@@ -3,6 +3,7 @@ package main
 import (
 	"context"
 	"runtime"
+	"sync"
 	"time"
 
 	"github.com/prometheus/client_golang/prometheus"
@@ -22,6 +23,15 @@ type metrics struct {
 	seconds  *prometheus.HistogramVec
 	waiting  prometheus.Gauge
 	refusals *prometheus.CounterVec
+	// The series of the methods of the table. A look-up by labels takes longer.
+	series map[string]*series
+}
+
+// series are those of one method: how many calls were answered, by code, and how long they took. The latter is made with the first call.
+type series struct {
+	calls   [codes.Unauthenticated + 1]prometheus.Counter
+	once    sync.Once
+	seconds prometheus.Observer
 }
 
 func newMetrics() *metrics {
@@ -45,10 +55,13 @@ func newMetrics() *metrics {
 
 // begin tells each counter that can be foreseen as 0: where one begins at 1, Prometheus sees no increase.
 func (m *metrics) begin() {
+	m.series = map[string]*series{}
 	for method := range methods {
-		for code := codes.OK; code <= codes.Unauthenticated; code++ {
-			m.calls.WithLabelValues(method, code.String())
+		own := &series{}
+		for code := range own.calls {
+			own.calls[code] = m.calls.WithLabelValues(method, codes.Code(code).String())
 		}
+		m.series[method] = own
 	}
 	for reason := range openReasons {
 		m.refusals.WithLabelValues(reason)
@@ -61,13 +74,19 @@ func newCounter(name, help string) prometheus.Counter {
 
 // ended counts a call that was answered.
 func (m *metrics) ended(path string, code codes.Code, took time.Duration) {
+	if own := m.series[path]; own != nil && int(code) < len(own.calls) {
+		own.once.Do(func() { own.seconds = m.seconds.WithLabelValues(path) })
+		own.calls[code].Inc()
+		own.seconds.Observe(took.Seconds())
+		return
+	}
 	method := methodLabel(path)
 	m.calls.WithLabelValues(method, code.String()).Inc()
 	m.seconds.WithLabelValues(method).Observe(took.Seconds())
 }
 
-// newRegistry has all that is told at /metrics.
-func newRegistry(h *handler, topologies []topology) *prometheus.Registry {
+// newRegistry has all that is told at /metrics; of pools and nodes nothing where there are no listings.
+func newRegistry(h *handler, topologies []topology, listings *listings) *prometheus.Registry {
 	registry := prometheus.NewRegistry()
 	registry.MustRegister(
 		h.metrics.calls, h.metrics.seconds, h.metrics.waiting, h.metrics.refusals,
@@ -80,6 +99,9 @@ func newRegistry(h *handler, topologies []topology) *prometheus.Registry {
 	)
 	if h.standsBy {
 		registry.MustRegister(standingBy(h))
+	}
+	if listings != nil {
+		registry.MustRegister(listings)
 	}
 	return registry
 }

@@ -60,7 +60,7 @@ func TestConventions(t *testing.T) {
 	h := inFront(path + ".absent")
 	h.standsBy = true
 	h.metrics.ended(probe, codes.OK, time.Second)
-	faults, err := testutil.GatherAndLint(newRegistry(h, nil))
+	faults, err := testutil.GatherAndLint(newRegistry(h, nil, newListings(h, room)))
 	if err != nil || len(faults) > 0 {
 		t.Errorf("%v, %v", faults, err)
 	}

@@ -1,6 +1,7 @@
 package main
 
 import (
+	"context"
 	"fmt"
 	"log"
 	"net"
@@ -21,9 +22,9 @@ const (
 )
 
 // newMonitor answers who watches the front: /metrics for Prometheus, /healthz for a liveness probe, and /livez for that of a front that stands by.
-func newMonitor(h *handler, topologies []topology) http.Handler {
+func newMonitor(h *handler, topologies []topology, listings *listings) http.Handler {
 	mux := http.NewServeMux()
-	mux.Handle("/metrics", promhttp.HandlerFor(newRegistry(h, topologies), promhttp.HandlerOpts{MaxRequestsInFlight: maxScrapes}))
+	mux.Handle("/metrics", promhttp.HandlerFor(newRegistry(h, topologies, listings), promhttp.HandlerOpts{MaxRequestsInFlight: maxScrapes}))
 	mux.HandleFunc("/healthz", h.healthz)
 	if h.standsBy {
 		mux.HandleFunc("/livez", h.livez)
@@ -41,9 +42,14 @@ func startMonitor(h *handler, asked options, failed chan<- error) error {
 	if err != nil {
 		return fmt.Errorf("--metrics: %w", err)
 	}
+	var all *listings
+	if asked.configuration != nil {
+		all = newListings(h, asked.configuration)
+		go all.run(context.Background())
+	}
 	h.log.listens(listener.Addr().String())
 	server := &http.Server{
-		Handler:      newMonitor(h, asked.topologies),
+		Handler:      newMonitor(h, asked.topologies, all),
 		ReadTimeout:  requestTime,
 		WriteTimeout: answerTime,
 		ErrorLog:     log.New(saying{h.log, "HTTP server"}, "", 0),

@@ -16,7 +16,8 @@ import (
 const usage = `Answers gRPC calls on a Unix socket by a csid that serves another one (docs/DEPLOY.md).
 
 usage: front --csid PATH [--listen PATH] [--grace TIME] [--late TIME] [--waiting MIB] [--log-format text|json]
-             [--standby TIME] [--health] [--metrics HOST:PORT [--metrics-topology KEY=VALUE,..]..]
+             [--log-changes] [--control PATH [--control-group NAME]] [--standby TIME] [--health]
+             [--metrics HOST:PORT [--metrics-topology KEY=VALUE,..].. [--config FILE]]
        front --version
 `
 
@@ -31,13 +32,20 @@ type options struct {
 	late      time.Duration
 	waiting   int
 	logFormat string
+	// Whether each change has a line.
+	logChanges bool
+	// Where calls are taken in csid's own envelope; nowhere if it is empty. A group that may connect there has a name or a number.
+	control      string
+	controlGroup string
 	// How long csid may answer nothing. Where it is 0 that has no bound, and the socket is made without csid.
 	standby time.Duration
 	health  bool
 	// Where metrics are told; nowhere if it is empty.
 	metrics    string
 	topologies []topology
-	version    bool
+	// What csid has room for; nil where there is no --config.
+	configuration *configuration
+	version       bool
 }
 
 // readOptions reads the words that were given; endpoint is the value of CSI_ENDPOINT, and counts where no --listen is given.
@@ -51,10 +59,14 @@ func readOptions(given []string, endpoint string, shown io.Writer) (options, err
 	flags.DurationVar(&asked.late, "late", time.Minute, "how long csid may take for the reply to a call that was given up, before its connection is closed: a `TIME`")
 	flags.IntVar(&asked.waiting, "waiting", 64, "how many `MIB` the messages of all calls that wait may have together")
 	flags.StringVar(&asked.logFormat, "log-format", textLines, "the `FORMAT` of lines on standard error: text, or json for one object a line")
+	flags.BoolVar(&asked.logChanges, "log-changes", false, "log each call that changes volumes, with the name or id of its volume and its node")
+	flags.StringVar(&asked.control, "control", "", "the `PATH` of a socket on which calls are taken as csid takes them, for csictl")
+	flags.StringVar(&asked.controlGroup, "control-group", "", "the `NAME` or number of the group that may connect to the socket of --control; without it its owner alone may")
 	flags.Func("standby", "make the socket only once csid is ready, and end where csid answered nothing for so long, 1s to 1h: a `TIME`", asked.setStandby)
 	flags.BoolVar(&asked.health, "health", false, "answer gRPC's health service: Check, by a Probe")
 	flags.StringVar(&asked.metrics, "metrics", "", "the `HOST:PORT` on which /metrics and /healthz are answered over HTTP; port 0 is any that is free, and the log says which")
 	flags.Func("metrics-topology", "a topology whose available capacity is one of the metrics, as `KEY=VALUE,..`; may be given again", asked.addTopology)
+	flags.Func("config", "the configuration of csid, a `FILE`: what its pools and nodes have room for, and what all volumes take of it, are among the metrics", asked.setConfiguration)
 	flags.BoolVar(&asked.version, "version", false, "print the version, and end")
 	if err := words.Parse(flags, given, usage, shown); err != nil {
 		return options{}, err
@@ -77,6 +89,9 @@ func checked(asked options) (options, error) {
 	if asked.listen == asked.csid {
 		return options{}, errors.New("the two sockets are one")
 	}
+	if asked, err = checkControl(asked); err != nil {
+		return options{}, err
+	}
 	if asked.late < 0 {
 		return options{}, fmt.Errorf("--late: %v is below 0", asked.late)
 	}
@@ -92,10 +107,30 @@ func checked(asked options) (options, error) {
 	return asked, nil
 }
 
+func checkControl(asked options) (options, error) {
+	if asked.control == "" {
+		if asked.controlGroup != "" {
+			return options{}, errors.New("--control-group: there is no --control")
+		}
+		return asked, nil
+	}
+	var err error
+	if asked.control, err = socketPath(asked.control, "--control"); err != nil {
+		return options{}, err
+	}
+	if asked.control == asked.csid || asked.control == asked.listen {
+		return options{}, errors.New("--control: it is one of the other sockets")
+	}
+	return asked, nil
+}
+
 func checkMetrics(asked options) error {
 	if asked.metrics == "" {
 		if len(asked.topologies) > 0 {
 			return errors.New("--metrics-topology: there is no --metrics")
+		}
+		if asked.configuration != nil {
+			return errors.New("--config: there is no --metrics")
 		}
 		return nil
 	}
@@ -117,6 +152,11 @@ func (asked *options) setStandby(given string) (err error) {
 		return fmt.Errorf("%v is not %v to %v", asked.standby, leastStandby, mostStandby)
 	}
 	return nil
+}
+
+func (asked *options) setConfiguration(path string) (err error) {
+	asked.configuration, err = readConfiguration(path)
+	return err
 }
 
 // addTopology takes one --metrics-topology. Each is one series, so none can be there twice.

@@ -10,6 +10,8 @@ import (
 	"time"
 )
 
+const sampleConfiguration = "[[pool]]\nname = \"p\"\nbytes = 1048576\n"
+
 func TestOptions(t *testing.T) {
 	with := func(grace, late time.Duration, waiting int) options {
 		return options{listen: "l", csid: "c", grace: grace, late: late, waiting: waiting, logFormat: "text"}
@@ -17,7 +19,7 @@ func TestOptions(t *testing.T) {
 	elsewhere := with(20*time.Second, time.Minute, 64)
 	elsewhere.listen = "/run/csi.sock"
 	inJSON := with(20*time.Second, time.Minute, 64)
-	inJSON.logFormat, inJSON.health = "json", true
+	inJSON.logFormat, inJSON.health, inJSON.logChanges = "json", true, true
 	watched := func(metrics string, topologies ...topology) options {
 		asked := with(20*time.Second, time.Minute, 64)
 		asked.metrics, asked.topologies = metrics, topologies
@@ -26,6 +28,13 @@ func TestOptions(t *testing.T) {
 	standing := func(length time.Duration) options {
 		asked := with(20*time.Second, time.Minute, 64)
 		asked.standby = length
+		return asked
+	}
+	configured := watched(":9809")
+	configured.configuration = &configuration{Pools: []pool{{"p", 1048576}}}
+	controlled := func(group string) options {
+		asked := with(20*time.Second, time.Minute, 64)
+		asked.control, asked.controlGroup = "k", group
 		return asked
 	}
 	rows := []struct {
@@ -39,12 +48,15 @@ func TestOptions(t *testing.T) {
 		{"--csid c", "/run/csi.sock", elsewhere},
 		{"--csid unix:c", "unix:l", with(20*time.Second, time.Minute, 64)},
 		{"--csid c --listen unix://l", "unix:///run/csi.sock", with(20*time.Second, time.Minute, 64)},
-		{"--csid c --listen l --log-format json --health", "", inJSON},
+		{"--csid c --listen l --log-format json --health --log-changes", "", inJSON},
+		{"--csid c --listen l --control unix://k", "", controlled("")},
+		{"--csid c --listen l --control k --control-group csid", "", controlled("csid")},
 		{"--csid c --listen l --standby 1s", "", standing(time.Second)},
 		{"--csid c --listen l --standby 60m", "", standing(time.Hour)},
 		{"--csid c --listen l --metrics 127.0.0.1:0", "", watched("127.0.0.1:0")},
 		{"--csid c --listen l --metrics [::1]:65535", "", watched("[::1]:65535")},
 		{"--csid c --listen l --metrics :9809", "", watched(":9809")},
+		{"--csid c --listen l --metrics :9809 --config " + fileOf(t, sampleConfiguration), "", configured},
 		{"--csid c --listen l --metrics-topology zone=a --metrics :9809 --metrics-topology zone=b,rack=", "", watched(":9809",
 			topology{"zone=a", fromHex(t, "1a0b 0a09 0a047a6f6e65 120161")},
 			topology{"zone=b,rack=", fromHex(t, "1a15 0a09 0a047a6f6e65 120162 0a08 0a047261636b 1200")})},
@@ -74,6 +86,10 @@ func TestRefusedOptions(t *testing.T) {
 		{"--csid c --listen l --waiting x", "", "waiting"},
 		{"--csid c --listen l --log-format xml", "", `--log-format: "xml" is neither text nor json`},
 		{"--csid c --listen l --log-format=", "", `--log-format: "" is neither text nor json`},
+		{"--csid c --listen l --control c", "", "--control: it is one of the other sockets"},
+		{"--csid c --listen l --control unix:l", "", "--control: it is one of the other sockets"},
+		{"--csid c --listen l --control tcp://127.0.0.1:1", "", "--control: \"tcp://127.0.0.1:1\" is no Unix socket"},
+		{"--csid c --listen l --control-group csid", "", "--control-group: there is no --control"},
 		{"--csid c --listen l --standby 0", "", "standby: 0s is not 1s to 1h0m0s"},
 		{"--csid c --listen l --standby 999ms", "", "standby: 999ms is not 1s to 1h0m0s"},
 		{"--csid c --listen l --standby 61m", "", "standby: 1h1m0s is not 1s to 1h0m0s"},
@@ -89,6 +105,8 @@ func TestRefusedOptions(t *testing.T) {
 		{"--csid c --listen l --metrics :0 --metrics-topology zone=a,zone=b", "", `the key "zone" is there twice`},
 		{"--csid c --listen l --metrics :0 --metrics-topology zone=a --metrics-topology zone=a", "", "it is there twice"},
 		{"--csid c --listen l --metrics :0 --metrics-topology zone=\xff", "", "it is not UTF-8"},
+		{"--csid c --listen l --metrics :0 --config /absent/config.toml", "", "-config: open /absent/config.toml: no such file or directory"},
+		{"--csid c --listen l --config " + fileOf(t, sampleConfiguration), "", "--config: there is no --metrics"},
 		{"--version x", "", "a word that is not known"},
 		{"--csid", "l", "needs an argument"},
 	}
@@ -105,7 +123,7 @@ func TestHelp(t *testing.T) {
 	if !errors.Is(err, flag.ErrHelp) {
 		t.Error(err)
 	}
-	for _, word := range []string{"usage: ", "-csid", "-listen", "-grace", "-late", "-waiting", "-log-format", "-standby", "-health", "-metrics", "-metrics-topology", "-version"} {
+	for _, word := range []string{"usage: ", "-csid", "-listen", "-grace", "-late", "-waiting", "-log-format", "-log-changes", "-control", "-control-group", "-standby", "-health", "-metrics", "-metrics-topology", "-config", "-version"} {
 		if !strings.Contains(shown.String(), word) {
 			t.Errorf("no %s in %s", word, shown.String())
 		}

@@ -65,7 +65,7 @@ func (h *handler) question(ctx context.Context, path string, message []byte, kin
 		value, is, err = lastField(body, 1, kind)
 	}
 	if err != nil && !h.isWaiting.Load() {
-		h.log.refuses(path, status.Convert(err), time.Since(begin))
+		h.log.refuses("", path, nil, status.Convert(err), time.Since(begin))
 	}
 	return value, is, err
 }
@@ -99,19 +99,33 @@ func (h *handler) capacity(ctx context.Context, asked topology) (int64, error) {
 
 // lastField is the last field of a message with this number and wire type, without its tag.
 func lastField(message []byte, number protowire.Number, kind protowire.Type) (value []byte, is bool, err error) {
+	err = eachField(message, func(gotNumber protowire.Number, gotKind protowire.Type, got []byte) error {
+		if gotNumber == number && gotKind == kind {
+			value, is = got, true
+		}
+		return nil
+	})
+	if err != nil {
+		return nil, false, err
+	}
+	return value, is, nil
+}
+
+// eachField hands on each field of a message, without its tag, until one is refused.
+func eachField(message []byte, take func(number protowire.Number, kind protowire.Type, value []byte) error) error {
 	for len(message) > 0 {
-		gotNumber, gotKind, size := protowire.ConsumeTag(message)
+		number, kind, size := protowire.ConsumeTag(message)
 		if size < 0 {
-			return nil, false, errNoMessage
+			return errNoMessage
 		}
 		message = message[size:]
-		if size = protowire.ConsumeFieldValue(gotNumber, gotKind, message); size < 0 {
-			return nil, false, errNoMessage
+		if size = protowire.ConsumeFieldValue(number, kind, message); size < 0 {
+			return errNoMessage
 		}
-		if gotNumber == number && gotKind == kind {
-			value, is = message[:size], true
+		if err := take(number, kind, message[:size]); err != nil {
+			return err
 		}
 		message = message[size:]
 	}
-	return value, is, nil
+	return nil
 }

@@ -168,7 +168,7 @@ func TestLiveness(t *testing.T) {
 		if row.path == busy {
 			h.backend.life.shows()
 		}
-		newMonitor(h, nil).ServeHTTP(answer, httptest.NewRequest("GET", "/livez", nil).WithContext(ctx))
+		newMonitor(h, nil, nil).ServeHTTP(answer, httptest.NewRequest("GET", "/livez", nil).WithContext(ctx))
 		cancel()
 		if answer.Code != row.status || answer.Body.String() != row.text {
 			t.Errorf("%s: %d, %q", row.name, answer.Code, answer.Body)

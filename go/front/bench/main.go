@@ -1,9 +1,11 @@
-// bench measures calls through the front beside the same calls to csid alone over its socket (bench/front runs it), and how service comes
-// back behind a stop of csid, and under callers who give up (go/front/stalls does).
+// bench measures calls through the front beside the same calls to csid alone over its socket, or beside a driver in Go (bench/front runs it), and how
+// service comes back after a stop of csid, and under callers who give up (go/front/stalls does).
 //
 // usage: bench calls CSID FRONT [ROUNDS]
 //
+//	bench driver CSID FRONT DRIVER [ROUNDS]
 //	bench stop CSID FRONT FILE
+//	bench quiet CSID FRONT FILE
 //	bench hasty CSID FRONT
 package main
 
@@ -36,6 +38,10 @@ greatest_bytes = 8388608
 [[pool]]
 name = "p1"
 bytes = 1099511627776
+
+[[node]]
+id = "n1"
+max_volumes = 1000
 `
 
 const controller = "/csi.v1.Controller/"
@@ -45,19 +51,21 @@ type caller interface {
 	call(path string, message []byte) ([]byte, error)
 }
 
-// work is what is measured: calls number i of a caller, and how many they are.
+// work is what is measured: calls number i of a caller, how many they are, and whether they change volumes.
 type work struct {
-	name  string
-	calls int
-	do    func(c caller, caller, i int) error
+	name    string
+	calls   int
+	changes bool
+	do      func(c caller, caller, i int) error
 }
 
 var works = []work{
-	{"probe", 1, func(c caller, _, _ int) error { return wants(c, "/csi.v1.Identity/Probe", nil, []byte{0x0a, 2, 8, 1}) }},
-	{"probe of 64 KiB", 1, func(c caller, _, _ int) error {
+	{"probe", 1, false, func(c caller, _, _ int) error { return wants(c, "/csi.v1.Identity/Probe", nil, []byte{0x0a, 2, 8, 1}) }},
+	{"probe of 64 KiB", 1, false, func(c caller, _, _ int) error {
 		return wants(c, "/csi.v1.Identity/Probe", padded, []byte{0x0a, 2, 8, 1})
 	}},
-	{"create and delete", 2, createAndDelete},
+	{"create and delete", 2, true, createAndDelete},
+	{"mix", 5, true, mix},
 }
 
 // padded is a message of one unknown field of 65,536 bytes.
@@ -72,18 +80,53 @@ func wants(c caller, path string, message, want []byte) error {
 }
 
 func createAndDelete(c caller, caller, i int) error {
+	volume, err := create(c, caller, i)
+	if err != nil {
+		return err
+	}
+	return wants(c, controller+"DeleteVolume", volume, []byte{})
+}
+
+// create makes a volume, and gives field 1 of the messages that name it.
+func create(c caller, caller, i int) ([]byte, error) {
 	name := fmt.Sprintf("pvc-%d-%d", caller, i)
 	message := append([]byte{0x0a, byte(len(name))}, name...)
 	body, err := c.call(controller+"CreateVolume", append(message, 0x1a, 6, 0x0a, 0, 0x1a, 2, 8, 1))
 	if err != nil {
-		return err
+		return nil, err
 	}
-	// A Volume behind its tag and length: 1 MiB in field 1, and the id in field 2.
+	// A Volume after its tag and length: 1 MiB in field 1, and the id in field 2.
 	if len(body) < 8 || !bytes.Equal(body[2:7], []byte{8, 0x80, 0x80, 0x40, 0x12}) || int(body[7]) > len(body)-8 {
-		return fmt.Errorf("no volume: %x", body)
+		return nil, fmt.Errorf("no volume: %x", body)
 	}
 	id := body[8 : 8+body[7]]
-	return wants(c, controller+"DeleteVolume", append([]byte{0x0a, byte(len(id))}, id...), []byte{})
+	return append([]byte{0x0a, byte(len(id))}, id...), nil
+}
+
+// readonly is the body of ControllerPublishVolume: the context "readonly", "false".
+var readonly = []byte("\x0a\x11\x0a\x08readonly\x12\x05false")
+
+// mix is the life of a volume: it is made, published, listed with up to nine others, unpublished and deleted.
+func mix(c caller, caller, i int) error {
+	volume, err := create(c, caller, i)
+	if err != nil {
+		return err
+	}
+	published := append(append([]byte(nil), volume...), 0x12, 2, 'n', '1')
+	if err := wants(c, controller+"ControllerPublishVolume", append(published, 0x1a, 6, 0x0a, 0, 0x1a, 2, 8, 1), readonly); err != nil {
+		return err
+	}
+	page, err := c.call(controller+"ListVolumes", []byte{8, 10})
+	if err != nil {
+		return err
+	}
+	if !bytes.Contains(page, []byte("\x12\x04\x0a\x02n1")) {
+		return fmt.Errorf("a page without a published volume: %x", page)
+	}
+	if err := wants(c, controller+"ControllerUnpublishVolume", published, []byte{}); err != nil {
+		return err
+	}
+	return wants(c, controller+"DeleteVolume", volume, []byte{})
 }
 
 // direct is one connection to csid, which callers use in turn.
@@ -145,20 +188,32 @@ type round struct {
 
 // measure lets the callers do the work in rounds of a second, and shows the best of them.
 func measure(name string, w work, callers []caller, rounds int) error {
-	var best round
+	best, err := bestRounds(w, [][]caller{callers}, rounds)
+	if err != nil {
+		return err
+	}
+	times := best[0].times
+	middle, late := times[len(times)/2], times[len(times)*99/100]
+	fmt.Printf("%-18s %-14s %d callers: %7.0f calls/s, a call %5d us at the middle, %6d us at 99 of 100\n", w.name, name, len(callers),
+		best[0].rate, middle.Microseconds(), late.Microseconds())
+	return nil
+}
+
+// bestRounds lets each of some groups of callers do the work in rounds of a second, in turn, and gives the best round of each.
+func bestRounds(w work, groups [][]caller, rounds int) ([]round, error) {
+	best := make([]round, len(groups))
 	for i := 0; i < rounds; i++ {
-		next, err := oneRound(w, callers, time.Second)
-		if err != nil {
-			return fmt.Errorf("%s: %w", w.name, err)
-		}
-		if next.rate > best.rate {
-			best = next
+		for number, callers := range groups {
+			next, err := oneRound(w, callers, time.Second)
+			if err != nil {
+				return nil, fmt.Errorf("%s: %w", w.name, err)
+			}
+			if next.rate > best[number].rate {
+				best[number] = next
+			}
 		}
 	}
-	middle, late := best.times[len(best.times)/2], best.times[len(best.times)*99/100]
-	fmt.Printf("%-18s %-14s %d callers: %7.0f calls/s, a call %5d us at the middle, %6d us at 99 of 100\n", w.name, name, len(callers),
-		best.rate, middle.Microseconds(), late.Microseconds())
-	return nil
+	return best, nil
 }
 
 // oneRound lets the callers do the work for so long.
@@ -229,7 +284,21 @@ func startCsid(program, folder, socket, tables string) (*exec.Cmd, error) {
 	return start(socket, program, words...)
 }
 
-// throughFront measures each work with one caller and with eight, each with a connection of its own.
+// maxCallers is how many callers there are at most, each with a connection of its own.
+const maxCallers = 8
+
+func newCallers(socket string) (callers []caller, err error) {
+	for len(callers) < maxCallers {
+		each, err := newSidecar(socket)
+		if err != nil {
+			return nil, err
+		}
+		callers = append(callers, each)
+	}
+	return callers, nil
+}
+
+// throughFront measures each work with one caller and with eight.
 func throughFront(program, csid, folder string, rounds int) error {
 	socket := filepath.Join(folder, "csi.sock")
 	front, err := start(socket, program, "--csid", csid, "--listen", socket)
@@ -238,13 +307,9 @@ func throughFront(program, csid, folder string, rounds int) error {
 	}
 	defer front.Wait()
 	defer front.Process.Kill()
-	var callers []caller
-	for len(callers) < 8 {
-		each, err := newSidecar(socket)
-		if err != nil {
-			return err
-		}
-		callers = append(callers, each)
+	callers, err := newCallers(socket)
+	if err != nil {
+		return err
 	}
 	return measureAll("front and csid", callers, rounds)
 }
@@ -257,7 +322,11 @@ func alone(csid string, rounds int) error {
 	}
 	defer conn.Close()
 	each := &direct{Conn: conn}
-	return measureAll("csid alone", []caller{each, each, each, each, each, each, each, each}, rounds)
+	callers := make([]caller, maxCallers)
+	for i := range callers {
+		callers[i] = each
+	}
+	return measureAll("csid alone", callers, rounds)
 }
 
 func measureAll(name string, callers []caller, rounds int) error {
@@ -302,29 +371,41 @@ func rounds(words []string) (int, error) {
 	return count, nil
 }
 
+// errWords is of a command line that is not understood.
+var errWords = errors.New("usage: bench calls CSID FRONT [ROUNDS]; bench driver CSID FRONT DRIVER [ROUNDS]; bench stop|quiet CSID FRONT FILE; bench hasty CSID FRONT")
+
+// do does what the words ask for.
+func do(words []string) error {
+	if len(words) < 3 {
+		return errWords
+	}
+	csid, front, more := words[1], words[2], words[3:]
+	switch kind := words[0]; {
+	case kind == "calls" && len(more) <= 1:
+		count, err := rounds(more)
+		if err != nil {
+			return err
+		}
+		return run(csid, front, count)
+	case kind == "driver" && 1 <= len(more) && len(more) <= 2:
+		count, err := rounds(more[1:])
+		if err != nil {
+			return err
+		}
+		return compare(csid, front, more[0], count)
+	case kind == "stop" && len(more) == 1:
+		return behindFront(csid, front, more[0], stop)
+	case kind == "quiet" && len(more) == 1:
+		return behindFront(csid, front, more[0], quiet)
+	case kind == "hasty" && len(more) == 0:
+		return behindFront(csid, front, "", hasty)
+	}
+	return errWords
+}
+
 func main() {
 	log.SetFlags(0)
-	words := os.Args[1:]
-	if len(words) < 3 || (words[0] == "stop" || words[0] == "quiet") != (len(words) == 4) && words[0] != "calls" {
-		log.Fatal("usage: bench calls CSID FRONT [ROUNDS]; bench stop CSID FRONT FILE; bench quiet CSID FRONT FILE; bench hasty CSID FRONT")
-	}
-	var err error
-	switch csid, front := words[1], words[2]; words[0] {
-	case "calls":
-		var count int
-		if count, err = rounds(words[3:]); err == nil {
-			err = run(csid, front, count)
-		}
-	case "stop":
-		err = behindFront(csid, front, words[3], stop)
-	case "quiet":
-		err = behindFront(csid, front, words[3], quiet)
-	case "hasty":
-		err = behindFront(csid, front, "", hasty)
-	default:
-		err = errors.New(words[0] + " is not known")
-	}
-	if err != nil {
+	if err := do(os.Args[1:]); err != nil {
 		log.Fatal("bench: ", err)
 	}
 }

@@ -68,8 +68,10 @@ func (c *client) send(ctx context.Context, path string, message []byte) answer {
 		why := status.Convert(err)
 		return refused(why.Code(), why.Message())
 	}
-	return ok(hex.EncodeToString(body))
+	return ok(hexOf(body))
 }
+
+func hexOf(body []byte) string { return hex.EncodeToString(body) }
 
 // call makes a call with a message in hexadecimal, and no deadline that matters.
 func (c *client) call(t *testing.T, path, message string) answer {

@@ -10,6 +10,7 @@ import (
 	"os/exec"
 	"path/filepath"
 	"reflect"
+	"regexp"
 	"strings"
 	"testing"
 	"time"
@@ -77,6 +78,35 @@ func TestLogInJSON(t *testing.T) {
 		if !reflect.DeepEqual(line, want[i]) {
 			t.Errorf("logged %v, wanted %v", line, want[i])
 		}
+	}
+}
+
+// With --log-changes each call that changes volumes is a line, done or refused, with the name or the id of its volume and its node, and nothing else of the
+// message; calls that change none have none.
+func TestLogOfChanges(t *testing.T) {
+	t.Parallel()
+	const secrets = "2a07 0a0168 12027077"
+	csid := startFake(t, step{write: okFrame(volume1)}, step{write: okFrame("")}, step{write: refusalFrame(9, "volume is published elsewhere")}, step{write: okFrame("")},
+		step{write: okFrame("")}, step{close: true})
+	process, socket := controlled(t, csid.socket, "--log-changes")
+	front := newClient(t, process.Socket)
+	front.call(t, controller+"CreateVolume", createA+secrets)
+	front.call(t, controller+"ListVolumes", "")
+	front.call(t, controller+"ControllerPublishVolume", vol1+n1+block+secrets)
+	if _, err := control(t, socket, frameOf(t, controller+"ControllerUnpublishVolume", vol1+n1)); err != nil {
+		t.Error(err)
+	}
+	front.call(t, controller+"ControllerModifyVolume", vol1+"1a06 0a016b 120176")
+	front.call(t, controller+"DeleteVolume", vol1)
+	processes.Eventually(t, "five lines", func() bool { return strings.Count(process.Log.String(), "\n") >= 5 })
+	want := []string{
+		"CreateVolume 0 \"\" N ms name=a volume=vol-1", "ControllerPublishVolume 9 \"volume is published elsewhere\" N ms volume=vol-1 node=n1",
+		"control ControllerUnpublishVolume 0 \"\" N ms volume=vol-1 node=n1", "ControllerModifyVolume 0 \"\" N ms volume=vol-1",
+		"DeleteVolume 14 \"csid: the connection was closed unanswered: see the log of csid\" N ms volume=vol-1",
+	}
+	got := regexp.MustCompile(` [0-9]+ ms`).ReplaceAllString(strings.ReplaceAll(process.Log.String(), controller, ""), " N ms")
+	if got != "front: "+strings.Join(want, "\nfront: ")+"\n" {
+		t.Errorf("logged %q", got)
 	}
 }
 

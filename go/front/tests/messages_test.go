@@ -79,42 +79,48 @@ func TestRoomBehindCallsThatFail(t *testing.T) {
 	}
 }
 
-// Many clients with many great messages take no more memory than the bound and what gRPC has on the way.
+// Many clients with many great messages take no more memory than the bound and what gRPC has on the way. Those that have room are served, and the others are
+// refused: for want of room, or because they came too slowly, as they do where other programs have the processors.
 func TestManyGreatMessages(t *testing.T) {
 	t.Parallel()
-	const clients, calls = 8, 256
+	const clients, calls, room = 8, 256, 64
 	let := make(chan struct{})
 	csid := startFake(t, step{write: okFrame("")}, step{wait: let, write: okFrame("01")})
 	process := processes.StartFront(t, csid.socket)
 	newClient(t, process.Socket).wants(t, "/a/first", "", ok(""))
 	message := make([]byte, 1048576)
-	var full int32
+	var full, late, served int32
 	over := make(chan struct{})
 	go func() {
 		defer close(over)
 		processes.Together(clients, func(int) {
 			front := newClient(t, process.Socket)
 			processes.Together(calls, func(int) {
-				if got := front.send(context.Background(), "/a/b", message); strings.Contains(got.text, "all calls that wait") {
+				got := front.send(context.Background(), "/a/b", message)
+				switch {
+				case strings.Contains(got.text, "all calls that wait"):
 					atomic.AddInt32(&full, 1)
-				} else if got != ok("01") && got != ok(ready) {
+				case strings.Contains(got.text, "did not come in time"):
+					atomic.AddInt32(&late, 1)
+				case got == ok("01") || got == ok(ready):
+					atomic.AddInt32(&served, 1)
+				default:
 					t.Errorf("%v", got)
 				}
 			})
 		})
 	}()
-	const wanted = clients*calls - 64
-	processes.Eventually(t, "calls that are refused", func() bool { return atomic.LoadInt32(&full) == wanted })
+	processes.GoesOn(t, "calls that are refused", clients*calls-room, func() int { return int(atomic.LoadInt32(&full) + atomic.LoadInt32(&late)) })
 	taken := process.ResidentBytes(t)
-	t.Logf("%d MiB", taken>>20)
 	if taken > 512<<20 {
 		t.Errorf("the front takes %d MiB", taken>>20)
 	}
 	close(let)
 	<-over
-	if full != wanted {
-		t.Errorf("%d calls were refused", full)
+	if full == 0 || served != room {
+		t.Errorf("%d calls were served, %d had no room, %d came too slowly", served, full, late)
 	}
+	t.Logf("%d MiB, %d calls came too slowly", taken>>20, late)
 }
 
 // Callers that never send their messages, as many as a client can have, hold up the others for a while at most, and take no room. Those that nobody

@@ -308,6 +308,41 @@ func TestMetricsOfPools(t *testing.T) {
 	})
 }
 
+// What 205 volumes on three pages take of a pool of 1 TiB, and one of them of a node, as a front finds it at its start.
+func TestMetricsOfListings(t *testing.T) {
+	t.Parallel()
+	const volumes = 205
+	csid := processes.NewServer(t, withNode).Start(t)
+	earlier := processes.StartFront(t, csid.Socket())
+	front := newClient(t, earlier.Socket)
+	for i := 0; i < volumes; i++ {
+		if _, got := create(soon(t, processes.Patience), front, fmt.Sprintf("pvc-%d", i)); got.code != codes.OK {
+			t.Fatal(got)
+		}
+	}
+	front.wants(t, controller+"ControllerPublishVolume", vol1+n1+block, ok("0a11 0a08 726561646f6e6c79 1205 66616c7365"))
+	earlier.Kill()
+	config := filepath.Join(processes.Folder(t), "config.toml")
+	if err := os.WriteFile(config, []byte(withNode), 0o600); err != nil {
+		t.Fatal(err)
+	}
+	_, monitor := watched(t, csid.Socket(), "--config", config)
+	var got map[string]string
+	processes.Eventually(t, "a listing", func() bool {
+		got = series(t, monitor)
+		return got["csid_front_listing_timestamp_seconds"] != ""
+	})
+	for name, value := range map[string]string{
+		"csid_front_volumes": "205", "csid_front_max_volumes": "100000", `csid_front_pool_size_bytes{pool="p1"}`: "1.099511627776e+12",
+		`csid_front_pool_used_bytes{pool="p1"}`: "2.1495808e+08", `csid_front_pool_free_bytes{pool="p1"}`: "1.099296669696e+12", `csid_front_pool_volumes{pool="p1"}`: "205",
+		`csid_front_node_max_volumes{node="n1"}`: "1000", `csid_front_node_attachments{node="n1"}`: "1",
+	} {
+		if got[name] != value {
+			t.Errorf("%s is %q, wanted %s", name, got[name], value)
+		}
+	}
+}
+
 func TestHealthOverHTTP(t *testing.T) {
 	t.Parallel()
 	csid := processes.NewServer(t, "")

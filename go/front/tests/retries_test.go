@@ -45,7 +45,7 @@ func lives(volumes int) (calls []oneCall) {
 // calls without a kill, and leaves the same volumes.
 func TestRepeatedCallsOverKills(t *testing.T) {
 	t.Parallel()
-	const volumes, kills = 80, 8
+	const volumes, kills = 160, 24
 	calls := lives(volumes)
 	calm := newClient(t, processes.StartFront(t, processes.NewServer(t, withNode).Start(t).Socket()).Socket)
 	var wanted []answer

@@ -19,14 +19,19 @@ import (
 // Patience is how long anything may take before a test gives it up.
 const Patience = 20 * time.Second
 
-// program is the path that a variable of the environment says, else one from the top of the repository on.
+// pathOf is the path that a variable of the environment says, otherwise one from the top of the repository on.
+func pathOf(variable, otherwise string) string {
+	if path := os.Getenv(variable); path != "" {
+		return path
+	}
+	_, here, _, _ := runtime.Caller(0)
+	return filepath.Join(filepath.Dir(here), "../../../..", otherwise)
+}
+
+// program is the path of a program that has to be there.
 func program(t *testing.T, variable, otherwise string) string {
 	t.Helper()
-	path := os.Getenv(variable)
-	if path == "" {
-		_, here, _, _ := runtime.Caller(0)
-		path = filepath.Join(filepath.Dir(here), "../../../..", otherwise)
-	}
+	path := pathOf(variable, otherwise)
 	if _, err := os.Stat(path); err != nil {
 		t.Fatalf("no program (%s says where it is): %v", variable, err)
 	}
@@ -37,6 +42,9 @@ func program(t *testing.T, variable, otherwise string) string {
 func FrontProgram(t *testing.T) string { return program(t, "FRONT", "go/front/out/front") }
 func CsidProgram(t *testing.T) string  { return program(t, "CSID", "crates/csid/out/csid") }
 func EtcdProgram(t *testing.T) string  { return program(t, "CSID_ETCD", "go/etcd/out/csid-etcd") }
+
+// ClientProgram is the path where a built csictl would be.
+func ClientProgram() string { return pathOf("CSICTL", "crates/csictl/out/csictl") }
 
 // ErrorLog is what a process wrote to standard error so far.
 type ErrorLog struct {
@@ -132,6 +140,24 @@ func Eventually(t *testing.T, what string, is func() bool) {
 		}
 	}
 	t.Fatalf("waited in vain for %s", what)
+}
+
+// GoesOn waits until a count is so much, however long that takes, as long as it grows.
+func GoesOn(t *testing.T, what string, wanted int, count func() int) {
+	t.Helper()
+	last, end := -1, time.Now()
+	for ; ; time.Sleep(2 * time.Millisecond) {
+		got := count()
+		if got >= wanted {
+			return
+		}
+		if got > last {
+			last, end = got, time.Now().Add(Patience)
+		}
+		if time.Now().After(end) {
+			t.Fatalf("waited in vain for %s: %d of %d", what, got, wanted)
+		}
+	}
 }
 
 // Together runs so many callers at once, and waits for them.

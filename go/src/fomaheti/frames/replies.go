@@ -42,13 +42,12 @@ func IsPath(path string) bool {
 	return 0 < len(path) && len(path) <= MaxPathBytes
 }
 
-// RequestHead is the frame of a call without its message, which follows it.
-func RequestHead(path string, messageBytes int) []byte {
-	head := make([]byte, 0, 2+len(path)+1+4)
-	head = append(head, byte(len(path)>>8), byte(len(path)))
-	head = append(head, path...)
-	head = append(head, 0)
-	return append(head, byte(messageBytes>>24), byte(messageBytes>>16), byte(messageBytes>>8), byte(messageBytes))
+// AppendRequestHead appends the frame of a call without its message, which follows it.
+func AppendRequestHead(frame []byte, path string, messageBytes int) []byte {
+	frame = append(frame, byte(len(path)>>8), byte(len(path)))
+	frame = append(frame, path...)
+	frame = append(frame, 0)
+	return append(frame, byte(messageBytes>>24), byte(messageBytes>>16), byte(messageBytes>>8), byte(messageBytes))
 }
 
 // isStatus tells whether a reply can have the status.
@@ -61,26 +60,131 @@ func isStatus(code codes.Code) bool {
 	return false
 }
 
-// ReadReply reads one reply. What breaks a rule is told as soon as it is read, and not waited behind.
-func ReadReply(in *bufio.Reader) (Reply, error) {
-	first, err := in.ReadByte()
-	if err != nil {
-		return Reply{}, err
-	}
-	answer := Reply{Code: codes.Code(first)}
-	if !isStatus(answer.Code) {
-		return Reply{}, Malformed(fmt.Sprintf("status %d", first))
-	}
-	if answer.Text, err = readText(in, answer.Code); err != nil {
-		return Reply{}, inside(err)
-	}
-	if answer.Body, err = readBody(in, answer.Code); err != nil {
-		return Reply{}, inside(err)
-	}
-	return answer, nil
+// Replies is a stream of replies, which are read one after the other.
+type Replies struct {
+	in *bufio.Reader
+	// The reply whose body is being read, and how much of the body has been read. There is none where body is nil.
+	code codes.Code
+	text string
+	body []byte
+	read int
 }
 
-// inside is the error of a read behind the first byte of a reply, where an end is never right.
+func NewReplies(in io.Reader) *Replies {
+	// Bodies longer than this are read without passing through the buffer.
+	return &Replies{in: bufio.NewReaderSize(in, 4<<10)}
+}
+
+// Buffered is how many bytes were received and belong to no reply that was read.
+func (r *Replies) Buffered() int { return r.in.Buffered() }
+
+// Next reads the next reply. What breaks a rule is reported as soon as it is received. Where the reader fails by a deadline, Next can be called
+// again, and goes on where it stopped.
+func (r *Replies) Next() (Reply, error) {
+	if r.body == nil {
+		if err := r.readHead(); err != nil {
+			return Reply{}, r.inside(err)
+		}
+	}
+	for r.read < len(r.body) {
+		count, err := r.in.Read(r.body[r.read:])
+		r.read += count
+		if err != nil && r.read < len(r.body) {
+			return Reply{}, inside(err)
+		}
+	}
+	reply := Reply{r.code, r.text, r.body}
+	r.body = nil
+	return reply, nil
+}
+
+// readHead reads all of a reply before its body. It takes the bytes out of the buffer only once all of them are there.
+func (r *Replies) readHead() error {
+	code, err := r.peekStatus()
+	if err != nil {
+		return err
+	}
+	textBytes, err := r.peekTextLength(code)
+	if err != nil {
+		return err
+	}
+	text, err := r.peekText(textBytes)
+	if err != nil {
+		return err
+	}
+	bodyBytes, err := r.peekBodyLength(code, textBytes)
+	if err != nil {
+		return err
+	}
+	// The text is a part of the buffer, which Discard leaves as it is.
+	r.code, r.text, r.body, r.read = code, string(text), make([]byte, bodyBytes), 0
+	_, err = r.in.Discard(1 + 2 + textBytes + 1 + 4)
+	return err
+}
+
+func (r *Replies) peekStatus() (codes.Code, error) {
+	head, err := r.in.Peek(1)
+	if err != nil {
+		return 0, err
+	}
+	code := codes.Code(head[0])
+	if !isStatus(code) {
+		return 0, Malformed(fmt.Sprintf("status %d", head[0]))
+	}
+	return code, nil
+}
+
+func (r *Replies) peekTextLength(code codes.Code) (int, error) {
+	head, err := r.in.Peek(3)
+	if err != nil {
+		return 0, err
+	}
+	size := int(binary.BigEndian.Uint16(head[1:]))
+	if size > MaxTextBytes || (code == codes.OK && size != 0) {
+		return 0, Malformed("text length")
+	}
+	return size, nil
+}
+
+func (r *Replies) peekText(size int) ([]byte, error) {
+	head, err := r.in.Peek(3 + size)
+	if err != nil {
+		return nil, err
+	}
+	for _, character := range head[3:] {
+		if !isShown(character) {
+			return nil, Malformed("text")
+		}
+	}
+	return head[3:], nil
+}
+
+func (r *Replies) peekBodyLength(code codes.Code, textBytes int) (int, error) {
+	head, err := r.in.Peek(3 + textBytes + 1)
+	if err != nil {
+		return 0, err
+	}
+	if head[3+textBytes] != 0 {
+		return 0, Malformed("flag")
+	}
+	if head, err = r.in.Peek(3 + textBytes + 1 + 4); err != nil {
+		return 0, err
+	}
+	size := binary.BigEndian.Uint32(head[3+textBytes+1:])
+	if size > MaxBodyBytes || (code != codes.OK && size != 0) {
+		return 0, Malformed("body length")
+	}
+	return int(size), nil
+}
+
+// inside is the error of a read in a reply, where an end is right only before its first byte.
+func (r *Replies) inside(err error) error {
+	if r.in.Buffered() == 0 {
+		return err
+	}
+	return inside(err)
+}
+
 func inside(err error) error {
 	if IsClosing(err) {
 		return io.ErrUnexpectedEOF
@@ -88,53 +192,7 @@ func inside(err error) error {
 	return err
 }
 
-// IsClosing tells whether the peer closed the connection: an end where it read all that was sent, else a reset or a broken pipe.
+// IsClosing tells whether the peer closed the connection: an end where it read all that was sent, otherwise a reset or a broken pipe.
 func IsClosing(err error) bool {
 	return err == io.EOF || errors.Is(err, syscall.ECONNRESET) || errors.Is(err, syscall.EPIPE)
-}
-
-// readText reads a text behind its length.
-func readText(in *bufio.Reader, code codes.Code) (string, error) {
-	var length [2]byte
-	if _, err := io.ReadFull(in, length[:]); err != nil {
-		return "", err
-	}
-	size := binary.BigEndian.Uint16(length[:])
-	if size > MaxTextBytes || (code == codes.OK && size != 0) {
-		return "", Malformed("text length")
-	}
-	text := make([]byte, size)
-	if _, err := io.ReadFull(in, text); err != nil {
-		return "", err
-	}
-	for _, character := range text {
-		if character < 0x20 || character > 0x7e {
-			return "", Malformed("text")
-		}
-	}
-	return string(text), nil
-}
-
-// readBody reads a body behind its flag and its length.
-func readBody(in *bufio.Reader, code codes.Code) ([]byte, error) {
-	flag, err := in.ReadByte()
-	if err != nil {
-		return nil, err
-	}
-	if flag != 0 {
-		return nil, Malformed("flag")
-	}
-	var length [4]byte
-	if _, err := io.ReadFull(in, length[:]); err != nil {
-		return nil, err
-	}
-	size := binary.BigEndian.Uint32(length[:])
-	if size > MaxBodyBytes || (code != codes.OK && size != 0) {
-		return nil, Malformed("body length")
-	}
-	body := make([]byte, size)
-	if _, err := io.ReadFull(in, body); err != nil {
-		return nil, err
-	}
-	return body, nil
 }

@@ -1,9 +1,9 @@
 package frames
 
 import (
-	"bufio"
 	"bytes"
 	"io"
+	"os"
 	"strings"
 	"testing"
 
@@ -26,7 +26,7 @@ func TestRequestHead(t *testing.T) {
 		{"/a/b", 1048576, "0004 2f612f62 00 00100000"},
 	}
 	for _, row := range rows {
-		if got := RequestHead(row.path, row.length); !bytes.Equal(got, fromHex(t, row.want)) {
+		if got := AppendRequestHead(nil, row.path, row.length); !bytes.Equal(got, fromHex(t, row.want)) {
 			t.Errorf("%s, %d bytes: %x", row.path, row.length, got)
 		}
 	}
@@ -58,14 +58,14 @@ func TestGoodReply(t *testing.T) {
 		{"0d 0000 00 00000000", Reply{codes.Internal, "", []byte{}}},
 	}
 	for _, row := range rows {
-		got, err := ReadReply(bufio.NewReader(bytes.NewReader(fromHex(t, row.bytes))))
+		got, err := NewReplies(bytes.NewReader(fromHex(t, row.bytes))).Next()
 		if err != nil || got.Code != row.want.Code || got.Text != row.want.Text || !bytes.Equal(got.Body, row.want.Body) {
 			t.Errorf("%s: %v, %v", row.bytes, got, err)
 		}
 	}
 }
 
-// Each fault is told though nothing follows: a csid that stays silent behind it would else hold up the call.
+// Each fault is told though nothing follows: a csid that stays silent behind it would otherwise hold up the call.
 func TestMalformedReply(t *testing.T) {
 	rows := []struct{ bytes, want string }{
 		{"01", "status 1"}, {"02", "status 2"}, {"04", "status 4"}, {"07", "status 7"}, {"0e", "status 14"}, {"10", "status 16"}, {"ff", "status 255"},
@@ -77,7 +77,7 @@ func TestMalformedReply(t *testing.T) {
 	for _, row := range rows {
 		silent, other := io.Pipe()
 		go other.Write(fromHex(t, row.bytes))
-		if _, err := ReadReply(bufio.NewReader(silent)); err != Malformed(row.want) {
+		if _, err := NewReplies(silent).Next(); err != Malformed(row.want) {
 			t.Errorf("%s: %v", row.bytes, err)
 		}
 	}
@@ -92,9 +92,63 @@ func TestReplyCutShort(t *testing.T) {
 			if length == 0 {
 				want = io.EOF
 			}
-			if _, err := ReadReply(bufio.NewReader(bytes.NewReader(all[:length]))); err != want {
+			if _, err := NewReplies(bytes.NewReader(all[:length])).Next(); err != want {
 				t.Errorf("%s, %d bytes: %v", whole, length, err)
 			}
 		}
+	}
+}
+
+// interrupted gives one byte a read, and a deadline that is over before each of them.
+type interrupted struct {
+	bytes []byte
+	isDue bool
+}
+
+func (r *interrupted) Read(into []byte) (int, error) {
+	if r.isDue = !r.isDue; r.isDue {
+		return 0, os.ErrDeadlineExceeded
+	}
+	if len(r.bytes) == 0 {
+		return 0, io.EOF
+	}
+	into[0], r.bytes = r.bytes[0], r.bytes[1:]
+	return 1, nil
+}
+
+// A reply is read to its end however often a deadline stops it, and the bytes after it are those of the next one.
+func TestInterruptedReply(t *testing.T) {
+	const whole = "00 0000 00 00000004 0a020801 05 0002 4142 00 00000000 00 0000 00 00000000"
+	replies := NewReplies(&interrupted{bytes: fromHex(t, whole)})
+	next := func() (reply Reply, stops int, err error) {
+		for reply, err = replies.Next(); err == os.ErrDeadlineExceeded; reply, err = replies.Next() {
+			stops++
+		}
+		return reply, stops, err
+	}
+	for _, want := range []struct {
+		reply Reply
+		bytes int
+	}{{Reply{codes.OK, "", []byte{0x0a, 2, 8, 1}}, 12}, {Reply{codes.NotFound, "AB", nil}, 10}, {Reply{codes.OK, "", nil}, 8}} {
+		got, stops, err := next()
+		if err != nil || got.Code != want.reply.Code || got.Text != want.reply.Text || !bytes.Equal(got.Body, want.reply.Body) || stops != want.bytes {
+			t.Errorf("%v, %v, stopped %d times, wanted %v", got, err, stops, want)
+		}
+	}
+	if _, _, err := next(); err != io.EOF {
+		t.Errorf("the end: %v", err)
+	}
+}
+
+// The greatest reply is read, also one that comes with the next one in the same packet.
+func TestGreatestReply(t *testing.T) {
+	body := bytes.Repeat([]byte{7}, MaxBodyBytes)
+	refusal := Reply{codes.Internal, strings.Repeat("a", MaxTextBytes), nil}
+	replies := NewReplies(bytes.NewReader(Reply{codes.OK, "", body}.Append(refusal.Append(nil))))
+	if got, err := replies.Next(); err != nil || got.Text != refusal.Text || replies.Buffered() == 0 {
+		t.Errorf("%v, %v, and then %d bytes", got, err, replies.Buffered())
+	}
+	if got, err := replies.Next(); err != nil || !bytes.Equal(got.Body, body) || replies.Buffered() != 0 {
+		t.Errorf("a body of %d bytes, %v, and then %d", len(got.Body), err, replies.Buffered())
 	}
 }

@@ -29,7 +29,7 @@ func TestGoodRequests(t *testing.T) {
 // The greatest parts of a call are read, and a place behind them counts all of their bytes.
 func TestGreatestRequest(t *testing.T) {
 	want := Request{strings.Repeat("~", 128), make([]byte, 1048576)}
-	frame := append(RequestHead(want.Path, len(want.Message)), want.Message...)
+	frame := append(AppendRequestHead(nil, want.Path, len(want.Message)), want.Message...)
 	requests := NewRequests(bytes.NewReader(append(frame, 0, 0)))
 	got, err := requests.Next()
 	if err != nil || got.Path != want.Path || !bytes.Equal(got.Message, want.Message) {

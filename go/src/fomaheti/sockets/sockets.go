@@ -6,7 +6,9 @@ import (
 	"fmt"
 	"net"
 	"os"
+	"os/user"
 	"path/filepath"
+	"strconv"
 	"sync"
 	"syscall"
 )
@@ -17,6 +19,44 @@ type Socket struct {
 	path  string
 	file  os.FileInfo
 	close sync.Once
+}
+
+// ListenForGroup makes a socket to which its owner alone may connect, with the mode 0600, or its owner and a group, with 0660.
+func ListenForGroup(path, group string) (*Socket, error) {
+	number, err := groupNumber(group)
+	if err != nil {
+		return nil, err
+	}
+	// The mode is that of the umask from the beginning: between the making of a file and the setting of its mode anybody could open it.
+	before := syscall.Umask(0o177)
+	socket, err := Listen(path)
+	syscall.Umask(before)
+	if err != nil || group == "" {
+		return socket, err
+	}
+	if err = os.Lchown(path, -1, number); err == nil {
+		err = os.Chmod(path, 0o660)
+	}
+	if err != nil {
+		socket.Close()
+		return nil, err
+	}
+	return socket, nil
+}
+
+// groupNumber is the number of a group that is given by its name or its number.
+func groupNumber(group string) (int, error) {
+	if group == "" {
+		return 0, nil
+	}
+	if number, err := strconv.ParseUint(group, 10, 31); err == nil {
+		return int(number), nil
+	}
+	found, err := user.LookupGroup(group)
+	if err != nil {
+		return 0, err
+	}
+	return strconv.Atoi(found.Gid)
 }
 
 // Listen makes a socket. One that nobody answers on is what an earlier process left, and gives way; any other file

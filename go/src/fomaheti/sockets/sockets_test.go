@@ -4,6 +4,8 @@ import (
 	"net"
 	"os"
 	"path/filepath"
+	"strconv"
+	"syscall"
 	"testing"
 	"time"
 )
@@ -100,5 +102,33 @@ func TestFileOfTheSocket(t *testing.T) {
 		if other != nil {
 			other.Close()
 		}
+	}
+}
+
+// The mode is that of the owner alone, whatever the umask is, or of a group beside him; the umask is as it was afterwards.
+func TestSocketForGroup(t *testing.T) {
+	before := syscall.Umask(0o002)
+	defer syscall.Umask(before)
+	for group, want := range map[string]os.FileMode{"": 0o600, strconv.Itoa(os.Getgid()): 0o660} {
+		path := filepath.Join(t.TempDir(), "control.sock")
+		socket, err := ListenForGroup(path, group)
+		if err != nil {
+			t.Fatal(err)
+		}
+		file, err := os.Lstat(path)
+		if err != nil || file.Mode().Perm() != want || file.Sys().(*syscall.Stat_t).Gid != uint32(os.Getgid()) {
+			t.Errorf("group %q: %v, %v", group, file, err)
+		}
+		socket.Close()
+	}
+	if now := syscall.Umask(0o002); now != 0o002 {
+		t.Errorf("the umask is %o", now)
+	}
+	path := filepath.Join(t.TempDir(), "control.sock")
+	if _, err := ListenForGroup(path, "no group has this name"); err == nil {
+		t.Error("a group that is not there was taken")
+	}
+	if _, err := os.Lstat(path); !os.IsNotExist(err) {
+		t.Errorf("a socket was made: %v", err)
 	}
 }

@@ -1,0 +1,95 @@
+package main
+
+import (
+	"strconv"
+	"strings"
+
+	"google.golang.org/protobuf/encoding/protowire"
+)
+
+// What csid takes of a name or an id, in bytes; a longer one is refused, and cut in the log.
+const (
+	maxNameBytes = 128
+	maxNodeBytes = 256
+)
+
+// change is what the log says of a call that changes volumes: about which volume it is, by the name or the id, and at which node. Nothing else of a message
+// is read: it may have secrets.
+type change struct {
+	Name   string `json:"name,omitempty"`
+	Volume string `json:"volume,omitempty"`
+	Node   string `json:"node,omitempty"`
+}
+
+// changes is the number of each field of a request that is in the log (docs/PROTOCOL.md, "Messages"), by the method; 0 where there is none.
+var changes = map[string]struct{ name, volume, node protowire.Number }{
+	createVolume:                             {name: 1},
+	controller + "DeleteVolume":              {volume: 1},
+	controller + "ControllerPublishVolume":   {volume: 1, node: 2},
+	controller + "ControllerUnpublishVolume": {volume: 1, node: 2},
+	controller + "ControllerModifyVolume":    {volume: 1},
+}
+
+// changeOf is the change that a call asks for; nil where it asks for none. A volume that was created has its id from the body of the reply.
+func changeOf(path string, message, body []byte) *change {
+	fields, is := changes[path]
+	if !is {
+		return nil
+	}
+	asked := &change{
+		Name:   textOf(message, fields.name, maxNameBytes),
+		Volume: textOf(message, fields.volume, maxNameBytes),
+		Node:   textOf(message, fields.node, maxNodeBytes),
+	}
+	if path == createVolume {
+		// Field 1 is the volume, and field 2 of that its id.
+		asked.Volume = textOf(fieldOf(body, 1), 2, maxNameBytes)
+	}
+	return asked
+}
+
+// fieldOf is what a field of bytes has; nothing where there is none, or the message is none.
+func fieldOf(message []byte, number protowire.Number) []byte {
+	if number == 0 {
+		return nil
+	}
+	value, is, err := lastField(message, number, protowire.BytesType)
+	if err != nil || !is {
+		return nil
+	}
+	bytes, _ := protowire.ConsumeBytes(value)
+	return bytes
+}
+
+// textOf is the text of a field, of so many bytes at most.
+func textOf(message []byte, number protowire.Number, most int) string {
+	bytes := fieldOf(message, number)
+	if len(bytes) > most {
+		bytes = bytes[:most]
+	}
+	return string(bytes)
+}
+
+// words is how a line of text ends that is about a change.
+func (c *change) words() string {
+	if c == nil {
+		return ""
+	}
+	var line strings.Builder
+	for _, part := range []struct{ key, value string }{{"name", c.Name}, {"volume", c.Volume}, {"node", c.Node}} {
+		if part.value != "" {
+			line.WriteString(" " + part.key + "=" + shownWord(part.value))
+		}
+	}
+	return line.String()
+}
+
+// shownWord is a text as one word of a line.
+func shownWord(text string) string {
+	for i := 0; i < len(text); i++ {
+		if text[i] <= ' ' || text[i] >= 0x7f || text[i] == '"' {
+			return strconv.QuoteToASCII(text)
+		}
+	}
+	return text
+}

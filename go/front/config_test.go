@@ -1,0 +1,50 @@
+package main
+
+import (
+	"os"
+	"path/filepath"
+	"reflect"
+	"strings"
+	"testing"
+)
+
+// fileOf is the path of a file with a text.
+func fileOf(t *testing.T, text string) string {
+	t.Helper()
+	path := filepath.Join(t.TempDir(), "config.toml")
+	if err := os.WriteFile(path, []byte(text), 0o600); err != nil {
+		t.Fatal(err)
+	}
+	return path
+}
+
+// The sample of docs/OPERATING.md, whose pools and nodes are known, and keys that csid has and the front does not need.
+func TestConfiguration(t *testing.T) {
+	_, sample, _ := strings.Cut(page(t, "docs/OPERATING.md"), "\n```\n")
+	sample, _, _ = strings.Cut(sample, "```\n")
+	got, err := readConfiguration(fileOf(t, sample))
+	want := &configuration{[]pool{{"p1", 10485760}, {"p2", 4194304}}, []node{{"n1", 2}, {"n2", 2}}}
+	if err != nil || !reflect.DeepEqual(got, want) {
+		t.Errorf("%v, %v", got, err)
+	}
+	if got, err := readConfiguration(fileOf(t, "[[pool]]\nname = \"p\"\nbytes = 1048576\nunknown = [1]\n")); err != nil || len(got.Nodes) != 0 {
+		t.Errorf("a pool without nodes: %v, %v", got, err)
+	}
+}
+
+func TestRefusedConfiguration(t *testing.T) {
+	const p, n = "[[pool]]\nname = \"p\"\nbytes = 1048576\n", "[[node]]\nid = \"n\"\nmax_volumes = 1\n"
+	rows := []struct{ text, want string }{
+		{"", "there is no pool"}, {n, "there is no pool"}, {"pool = 1", "pool"}, {"[[pool", "toml: "}, {p + p, `pool "p"`}, {p + n + n, `node "n"`},
+		{"[[pool]]\nname = \"p\"\n", `pool "p"`}, {"[[pool]]\nbytes = 1\n", `pool ""`}, {"[[pool]]\nname = \"p\"\nbytes = \"1\"\n", "bytes"},
+		{"[[pool]]\nname = \"p\"\nbytes = -1\n", `pool "p"`}, {p + "[[node]]\nid = \"n\"\n", `node "n"`}, {p + "[[node]]\nmax_volumes = 1\n", `node ""`},
+	}
+	for _, row := range rows {
+		if got, err := readConfiguration(fileOf(t, row.text)); err == nil || !strings.Contains(err.Error(), row.want) {
+			t.Errorf("%q: %v, %v", row.text, got, err)
+		}
+	}
+	if _, err := readConfiguration(filepath.Join(t.TempDir(), "absent")); !os.IsNotExist(err) {
+		t.Errorf("a file that is not there: %v", err)
+	}
+}

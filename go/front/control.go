@@ -1,0 +1,215 @@
+package main
+
+import (
+	"context"
+	"errors"
+	"fmt"
+	"net"
+	"sync"
+	"syscall"
+	"time"
+
+	"google.golang.org/grpc/codes"
+	"google.golang.org/grpc/status"
+
+	"fomaheti/frames"
+	"fomaheti/sockets"
+)
+
+// The bounds of the control socket: how many connections are served at once, how long a peer may take until its next call is whole, and for taking a reply.
+const (
+	maxControls  = 16
+	nextCallTime = time.Minute
+	takeTime     = 10 * time.Second
+)
+
+// How long no connection is taken after one that could not be.
+const acceptPause = time.Second
+
+// How often it is looked whether a peer that waits for a reply is still there.
+const peerLookTime = 100 * time.Millisecond
+
+// viaControl is the word of log lines about calls that came over the control socket.
+const viaControl = "control"
+
+// control answers calls in the envelope of docs/PROTOCOL.md over a Unix socket, as csid does: who uses csictl need not wait until the front leaves csid's one
+// connection. Each connection has one call at a time, which has its turn like those of gRPC.
+type control struct {
+	handler *handler
+	socket  *sockets.Socket
+	places  chan struct{}
+	served  sync.WaitGroup
+	mutex   sync.Mutex
+	conns   map[*net.UnixConn]bool
+	isEnded bool
+}
+
+// startControl begins to answer at --control, if there is one.
+func startControl(h *handler, asked options) (*control, error) {
+	if asked.control == "" {
+		return nil, nil
+	}
+	socket, err := sockets.ListenForGroup(asked.control, asked.controlGroup)
+	if err != nil {
+		return nil, fmt.Errorf("--control: %w", err)
+	}
+	c := &control{handler: h, socket: socket, places: make(chan struct{}, maxControls), conns: map[*net.UnixConn]bool{}}
+	go c.serve()
+	return c, nil
+}
+
+// serve serves connections until the socket is closed. Those that come while as many as can be are served wait in the backlog.
+func (c *control) serve() {
+	for {
+		c.places <- struct{}{}
+		conn, err := c.socket.AcceptUnix()
+		if errors.Is(err, net.ErrClosed) {
+			return
+		}
+		if err != nil {
+			// The process has no file left, say.
+			fmt.Fprintf(saying{c.handler.log, viaControl}, "taking a connection of --control: %v", err)
+			time.Sleep(acceptPause)
+		} else if !c.add(conn) {
+			conn.Close()
+		} else {
+			go c.serveOne(conn)
+			continue
+		}
+		<-c.places
+	}
+}
+
+func (c *control) serveOne(conn *net.UnixConn) {
+	c.answerAll(conn)
+	conn.Close()
+	c.remove(conn)
+	<-c.places
+}
+
+func (c *control) add(conn *net.UnixConn) bool {
+	c.mutex.Lock()
+	defer c.mutex.Unlock()
+	if !c.isEnded {
+		c.conns[conn] = true
+		c.served.Add(1)
+	}
+	return !c.isEnded
+}
+
+func (c *control) remove(conn *net.UnixConn) {
+	c.mutex.Lock()
+	defer c.mutex.Unlock()
+	delete(c.conns, conn)
+	c.served.Done()
+}
+
+// close removes the socket. A nil control has none.
+func (c *control) close() {
+	if c != nil {
+		c.socket.Close()
+	}
+}
+
+// stop takes no further call. Those that run go on.
+func (c *control) stop() {
+	if c == nil {
+		return
+	}
+	c.close()
+	c.mutex.Lock()
+	defer c.mutex.Unlock()
+	c.isEnded = true
+	for conn := range c.conns {
+		conn.SetReadDeadline(time.Unix(0, 1))
+	}
+}
+
+// wait waits until no call runs.
+func (c *control) wait() {
+	if c != nil {
+		c.served.Wait()
+	}
+}
+
+// answerAll answers the calls of a connection, one after the other, until it ends or has one that gets no reply. A fault of the envelope is answered as
+// csid answers it, and nothing of it goes to csid.
+func (c *control) answerAll(conn *net.UnixConn) {
+	requests := frames.NewRequests(conn)
+	for c.awaits(conn) {
+		request, err := requests.Next()
+		var fault frames.Fault
+		if errors.As(err, &fault) {
+			c.handler.log.malformed(viaControl, fault)
+			c.reply(conn, frames.Reply{Code: codes.InvalidArgument, Text: fault.Error()})
+		}
+		if err != nil {
+			return
+		}
+		answer, err := c.answer(conn, request)
+		if err != nil || c.reply(conn, answer) != nil {
+			return
+		}
+	}
+}
+
+// awaits sets the time of the next call, unless the front takes no further one.
+func (c *control) awaits(conn *net.UnixConn) bool {
+	c.mutex.Lock()
+	defer c.mutex.Unlock()
+	return !c.isEnded && conn.SetReadDeadline(time.Now().Add(nextCallTime)) == nil
+}
+
+func (c *control) reply(conn *net.UnixConn, answer frames.Reply) error {
+	conn.SetWriteDeadline(time.Now().Add(takeTime))
+	_, err := conn.Write(answer.Append(nil))
+	return err
+}
+
+// answer has a call done by csid. Where csid gives no reply there is none: whoever made the call takes it as one that csid itself left unanswered.
+func (c *control) answer(conn *net.UnixConn, request frames.Request) (frames.Reply, error) {
+	begin := time.Now()
+	ctx, cancel := context.WithCancel(context.Background())
+	defer cancel()
+	go cancelGone(ctx, cancel, conn)
+	c.handler.metrics.waiting.Inc()
+	answer, err := c.handler.reply(ctx, request.Path, request.Message)
+	c.handler.metrics.waiting.Dec()
+	why := status.New(answer.Code, answer.Text)
+	if err != nil {
+		why = status.Convert(refusal(ctx, err))
+	}
+	c.handler.ended(viaControl, request.Path, c.handler.loggedChange(request.Path, request.Message, answer.Body), why, time.Since(begin))
+	return answer, err
+}
+
+// cancelGone cancels a context once the peer of a connection has closed it. A peer that has closed its sending half alone waits for the reply.
+func cancelGone(ctx context.Context, cancel func(), conn *net.UnixConn) {
+	looks := time.NewTicker(peerLookTime)
+	defer looks.Stop()
+	for {
+		select {
+		case <-ctx.Done():
+			return
+		case <-looks.C:
+			if isGone(conn) {
+				cancel()
+				return
+			}
+		}
+	}
+}
+
+// isGone reports whether a peer has closed its end: a send of no byte then fails.
+func isGone(conn *net.UnixConn) bool {
+	raw, err := conn.SyscallConn()
+	if err != nil {
+		return true
+	}
+	gone := false
+	err = raw.Control(func(file uintptr) {
+		_, err := syscall.SendmsgN(int(file), nil, nil, nil, syscall.MSG_DONTWAIT|syscall.MSG_NOSIGNAL)
+		gone = err == syscall.EPIPE
+	})
+	return err != nil || gone
+}

@@ -1,0 +1,209 @@
+package main
+
+import (
+	"bytes"
+	"context"
+	"io"
+	"net"
+	"os"
+	"path/filepath"
+	"strings"
+	"sync"
+	"testing"
+	"time"
+
+	"fomaheti/frames"
+)
+
+// written is what a log has so far.
+type written struct {
+	mutex sync.Mutex
+	text  bytes.Buffer
+}
+
+func (w *written) Write(line []byte) (int, error) {
+	w.mutex.Lock()
+	defer w.mutex.Unlock()
+	return w.text.Write(line)
+}
+
+func (w *written) String() string {
+	w.mutex.Lock()
+	defer w.mutex.Unlock()
+	return w.text.String()
+}
+
+// controlled is a control socket before a csid, and what its log has.
+func controlled(t *testing.T, csid string) (*control, string, *written) {
+	t.Helper()
+	asked := options{csid: csid, late: time.Minute, waiting: 1, control: filepath.Join(t.TempDir(), "control.sock")}
+	log := &written{}
+	c, err := startControl(newHandler(asked, newLogger(log, textLines)), asked)
+	if err != nil {
+		t.Fatal(err)
+	}
+	t.Cleanup(c.close)
+	return c, asked.control, log
+}
+
+func dial(t *testing.T, path string) *net.UnixConn {
+	t.Helper()
+	conn, err := net.DialUnix("unix", nil, &net.UnixAddr{Name: path, Net: "unix"})
+	if err != nil {
+		t.Fatal(err)
+	}
+	conn.SetDeadline(time.Now().Add(10 * time.Second))
+	t.Cleanup(func() { conn.Close() })
+	return conn
+}
+
+const shortFrame = "0004 2f612f62 00 00000000"
+
+// Calls of one connection are answered one after the other, also by one that ends its writing at once, with the bytes that csid answers.
+func TestControlCalls(t *testing.T) {
+	path, _ := csid(t, answering(fromHex(t, "09 0002 4142 00 00000000")))
+	_, socket, log := controlled(t, path)
+	conn := dial(t, socket)
+	conn.Write(fromHex(t, shortFrame+shortFrame))
+	conn.CloseWrite()
+	got, err := io.ReadAll(conn)
+	if want := fromHex(t, "09 0002 4142 00 00000000 09 0002 4142 00 00000000"); err != nil || !bytes.Equal(got, want) {
+		t.Errorf("%x, %v", got, err)
+	}
+	if lines := strings.Count(log.String(), "front: control /a/b 9 \"AB\" "); lines != 2 {
+		t.Errorf("logged %q", log)
+	}
+}
+
+// A malformed envelope is refused as csid refuses it, and csid sees nothing of it.
+func TestMalformedControlCall(t *testing.T) {
+	path, connections := csid(t, answering(notFound))
+	_, socket, log := controlled(t, path)
+	for bytes, text := range map[string]string{
+		"0000": "bad path length at byte 0", "0004 2f612f20": "bad path at byte 5", "0004 2f612f62 01": "bad flag at byte 6",
+		"0004 2f612f62 00 00100001": "message too long at byte 7", "0004 2f61": "end of input at byte 4",
+	} {
+		conn := dial(t, socket)
+		conn.Write(fromHex(t, bytes))
+		conn.CloseWrite()
+		want := string(frames.Reply{Code: 3, Text: text}.Append(nil))
+		if got, err := io.ReadAll(conn); err != nil || string(got) != want {
+			t.Errorf("%s: %q, %v, wanted %q", bytes, got, err, want)
+		}
+		if !strings.Contains(log.String(), "front: control "+text+"\n") {
+			t.Errorf("logged %q", log)
+		}
+	}
+	if *connections != 0 {
+		t.Errorf("%d connections to csid", *connections)
+	}
+}
+
+// A call that csid does not answer is not answered.
+func TestUnansweredControlCall(t *testing.T) {
+	path, _ := csid(t, func(net.Conn) {})
+	_, socket, log := controlled(t, path)
+	conn := dial(t, socket)
+	conn.Write(fromHex(t, shortFrame))
+	if got, err := io.ReadAll(conn); err != nil || len(got) > 0 {
+		t.Errorf("%x, %v", got, err)
+	}
+	if want := `front: control /a/b 14 "csid: the connection was closed unanswered: see the log of csid" `; !strings.HasPrefix(log.String(), want) {
+		t.Errorf("logged %q", log)
+	}
+}
+
+// A call whose peer goes while it waits for its turn is never sent; one whose peer waits for the reply alone is.
+func TestControlPeerThatGoes(t *testing.T) {
+	paths := make(chan string, 9)
+	path, _ := csid(t, func(conn net.Conn) {
+		for requests := frames.NewRequests(conn); ; {
+			request, err := requests.Next()
+			if err != nil {
+				return
+			}
+			paths <- request.Path
+			conn.Write(notFound)
+		}
+	})
+	c, socket, log := controlled(t, path)
+	if err := c.handler.backend.takeTurn(soon(t)); err != nil {
+		t.Fatal(err)
+	}
+	gone, waiting := dial(t, socket), dial(t, socket)
+	gone.Write(fromHex(t, "0005 2f676f6e65 00 00000000"))
+	gone.Close()
+	waiting.Write(fromHex(t, shortFrame))
+	waiting.CloseWrite()
+	for begin := time.Now(); !strings.Contains(log.String(), "front: control /gone 1 "); time.Sleep(time.Millisecond) {
+		if time.Since(begin) > 10*time.Second {
+			t.Fatalf("logged %q", log)
+		}
+	}
+	<-c.handler.backend.turn
+	if got, err := io.ReadAll(waiting); err != nil || !bytes.Equal(got, notFound) {
+		t.Errorf("%x, %v", got, err)
+	}
+	if first := <-paths; first != "/a/b" || len(paths) > 0 {
+		t.Errorf("csid got %s, and %d more", first, len(paths))
+	}
+}
+
+// At the end a call that runs is answered, and one that is not whole is not.
+func TestEndOfControl(t *testing.T) {
+	let := make(chan struct{})
+	path, _ := csid(t, func(conn net.Conn) {
+		if isCalled(conn) {
+			<-let
+			conn.Write(notFound)
+		}
+		isCalled(conn)
+	})
+	c, socket, _ := controlled(t, path)
+	runs, idle := dial(t, socket), dial(t, socket)
+	runs.Write(fromHex(t, shortFrame+shortFrame))
+	idle.Write([]byte{0})
+	for begin := time.Now(); len(c.handler.backend.turn) == 0 || len(c.places) < 3; time.Sleep(time.Millisecond) {
+		if time.Since(begin) > 10*time.Second {
+			t.Fatal("no call runs")
+		}
+	}
+	c.stop()
+	// The connection is reset where the byte was not read yet.
+	if got, err := io.ReadAll(idle); err != nil && !frames.IsClosing(err) || len(got) > 0 {
+		t.Errorf("of a part of a call: %x, %v", got, err)
+	}
+	close(let)
+	if got, err := io.ReadAll(runs); err != nil && !frames.IsClosing(err) || !bytes.Equal(got, notFound) {
+		t.Errorf("of two calls, of which one runs: %x, %v", got, err)
+	}
+	c.wait()
+	if _, err := os.Lstat(socket); !os.IsNotExist(err) {
+		t.Errorf("the socket: %v", err)
+	}
+}
+
+func TestPeerThatIsGone(t *testing.T) {
+	listener, path := listening(t)
+	own := dial(t, path)
+	other, err := listener.Accept()
+	if err != nil {
+		t.Fatal(err)
+	}
+	if isGone(own) {
+		t.Error("it is there")
+	}
+	other.(*net.UnixConn).CloseWrite()
+	if isGone(own) {
+		t.Error("it reads still")
+	}
+	other.Close()
+	if !isGone(own) {
+		t.Error("it has gone")
+	}
+	ctx, cancel := context.WithCancel(context.Background())
+	cancelGone(ctx, cancel, own)
+	if ctx.Err() == nil {
+		t.Error("nothing was cancelled")
+	}
+}

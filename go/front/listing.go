@@ -1,0 +1,236 @@
+package main
+
+import (
+	"context"
+	"errors"
+	"sync"
+	"time"
+
+	"github.com/prometheus/client_golang/prometheus"
+	"google.golang.org/grpc/status"
+	"google.golang.org/protobuf/encoding/protowire"
+)
+
+// What a listing costs csid is bounded by the pause between two pages, each of 100 volumes at most, and by the pause from the beginning of a listing to that of
+// the next one; after one that failed it is shorter.
+const (
+	pagePause    = 100 * time.Millisecond
+	listingPause = time.Minute
+	failurePause = 10 * time.Second
+)
+
+// The most volumes that csid has (docs/OPERATING.md, "Limits"), and the most pages that are asked for in one listing: ten times as many as those are in.
+const (
+	maxVolumes = 100_000
+	maxPages   = maxVolumes / 100 * 10
+)
+
+// listing is what all volumes take, by one walk over the pages of ListVolumes. Volumes that come or go meanwhile are in it or not.
+type listing struct {
+	endedAt time.Time
+	volumes int
+	// Of each pool, by the name in a volume's context, and of each node.
+	pools       map[string]poolUse
+	attachments map[string]int
+}
+
+type poolUse struct {
+	volumes int
+	bytes   int64
+}
+
+// listings lists all volumes again and again, and reports as metrics what the last whole listing has beside what the configuration has room for.
+type listings struct {
+	handler *handler
+	config  *configuration
+	// The pauses of the constants, but in tests.
+	pagePause, listingPause, failurePause time.Duration
+	mutex                                 sync.Mutex
+	last                                  *listing
+}
+
+func newListings(h *handler, config *configuration) *listings {
+	return &listings{handler: h, config: config, pagePause: pagePause, listingPause: listingPause, failurePause: failurePause}
+}
+
+// run lists volumes until the context ends. A front that stands by asks for none: its csid may not serve.
+func (l *listings) run(ctx context.Context) {
+	for ctx.Err() == nil {
+		next := l.failurePause
+		if !l.handler.isWaiting.Load() {
+			begin := time.Now()
+			if l.list(ctx) == nil {
+				next = l.listingPause - time.Since(begin)
+			}
+		}
+		pause(ctx, next)
+	}
+}
+
+func pause(ctx context.Context, length time.Duration) {
+	timer := time.NewTimer(length)
+	defer timer.Stop()
+	select {
+	case <-timer.C:
+	case <-ctx.Done():
+	}
+}
+
+// list walks over all pages, and keeps what they have. Why a page was refused is in the log.
+func (l *listings) list(ctx context.Context) error {
+	begin, listed := time.Now(), &listing{pools: map[string]poolUse{}, attachments: map[string]int{}}
+	token := ""
+	for pages := 0; pages < maxPages; pages++ {
+		if pages > 0 {
+			pause(ctx, l.pagePause)
+		}
+		asked, cancel := context.WithTimeout(ctx, questionTime)
+		var message []byte
+		if token != "" {
+			message = bytesField(2, []byte(token))
+		}
+		body, err := l.handler.ask(asked, listVolumes, message)
+		cancel()
+		if err == nil {
+			token, err = listed.addPage(body)
+		}
+		if err != nil {
+			if ctx.Err() == nil && !l.handler.isWaiting.Load() {
+				l.handler.log.refuses("", listVolumes, nil, status.Convert(err), time.Since(begin))
+			}
+			return err
+		}
+		if token == "" {
+			listed.endedAt = time.Now()
+			l.keep(listed)
+			return nil
+		}
+	}
+	return errors.New("the pages of ListVolumes have no end")
+}
+
+func (l *listings) keep(listed *listing) {
+	l.mutex.Lock()
+	defer l.mutex.Unlock()
+	l.last = listed
+}
+
+func (l *listings) kept() *listing {
+	l.mutex.Lock()
+	defer l.mutex.Unlock()
+	return l.last
+}
+
+// addPage adds the volumes of a page (docs/PROTOCOL.md, "Messages"), and gives the token of the next one; an empty token is that of the last page.
+func (l *listing) addPage(body []byte) (token string, err error) {
+	err = eachField(body, func(number protowire.Number, kind protowire.Type, value []byte) error {
+		if kind != protowire.BytesType {
+			return nil
+		}
+		bytes, _ := protowire.ConsumeBytes(value)
+		switch number {
+		case 1:
+			return l.addEntry(bytes)
+		case 2:
+			token = string(bytes)
+		}
+		return nil
+	})
+	return token, err
+}
+
+// addEntry adds a volume, of which field 1 is what it is, and field 1 of field 2 the nodes where it is.
+func (l *listing) addEntry(entry []byte) error {
+	l.volumes++
+	return eachField(entry, func(number protowire.Number, kind protowire.Type, value []byte) error {
+		if kind != protowire.BytesType {
+			return nil
+		}
+		bytes, _ := protowire.ConsumeBytes(value)
+		switch number {
+		case 1:
+			return l.addVolume(bytes)
+		case 2:
+			return eachField(bytes, func(number protowire.Number, kind protowire.Type, value []byte) error {
+				if number == 1 && kind == protowire.BytesType {
+					node, _ := protowire.ConsumeString(value)
+					l.attachments[node]++
+				}
+				return nil
+			})
+		}
+		return nil
+	})
+}
+
+// addVolume adds the bytes of a volume, its field 1, to those of its pool, which the entry "pool" of the context, its field 3, names.
+func (l *listing) addVolume(volume []byte) error {
+	var bytes uint64
+	var name string
+	err := eachField(volume, func(number protowire.Number, kind protowire.Type, value []byte) error {
+		switch {
+		case number == 1 && kind == protowire.VarintType:
+			bytes, _ = protowire.ConsumeVarint(value)
+		case number == 3 && kind == protowire.BytesType:
+			entry, _ := protowire.ConsumeBytes(value)
+			if string(fieldOf(entry, 1)) == "pool" {
+				name = string(fieldOf(entry, 2))
+			}
+		}
+		return nil
+	})
+	use := l.pools[name]
+	l.pools[name] = poolUse{use.volumes + 1, use.bytes + int64(bytes)}
+	return err
+}
+
+// What is reported of pools, nodes and volumes.
+var (
+	poolSize        = newDesc("pool_size_bytes", "Bytes of a pool, by the configuration.", "pool")
+	poolUsed        = newDesc("pool_used_bytes", "Bytes of a pool that its volumes take, by the last listing.", "pool")
+	poolFree        = newDesc("pool_free_bytes", "Bytes of a pool that are free, by the configuration and the last listing.", "pool")
+	poolVolumes     = newDesc("pool_volumes", "Volumes of a pool, by the last listing.", "pool")
+	nodeMaxVolumes  = newDesc("node_max_volumes", "How many volumes can be attached at a node, by the configuration.", "node")
+	nodeAttachments = newDesc("node_attachments", "Volumes that are attached at a node, by the last listing.", "node")
+	volumesMost     = newDesc("max_volumes", "How many volumes csid can have.")
+	volumesNow      = newDesc("volumes", "Volumes that there are, by the last listing.")
+	listedAt        = newDesc("listing_timestamp_seconds", "When the last listing of all volumes ended, as seconds since 1970.")
+)
+
+func newDesc(name, help string, labels ...string) *prometheus.Desc {
+	return prometheus.NewDesc(namespace+"_"+name, help, labels, nil)
+}
+
+func (l *listings) Describe(metrics chan<- *prometheus.Desc) {
+	for _, desc := range []*prometheus.Desc{poolSize, poolUsed, poolFree, poolVolumes, nodeMaxVolumes, nodeAttachments, volumesMost, volumesNow, listedAt} {
+		metrics <- desc
+	}
+}
+
+// Collect reports what the configuration has, and once there was a whole listing what that has of the pools and nodes of the configuration.
+func (l *listings) Collect(metrics chan<- prometheus.Metric) {
+	report := func(desc *prometheus.Desc, value float64, labels ...string) {
+		metrics <- prometheus.MustNewConstMetric(desc, prometheus.GaugeValue, value, labels...)
+	}
+	last := l.kept()
+	report(volumesMost, maxVolumes)
+	if last != nil {
+		report(volumesNow, float64(last.volumes))
+		report(listedAt, float64(last.endedAt.UnixMilli())/1000)
+	}
+	for _, pool := range l.config.Pools {
+		report(poolSize, float64(pool.Bytes), pool.Name)
+		if last != nil {
+			use := last.pools[pool.Name]
+			report(poolUsed, float64(use.bytes), pool.Name)
+			report(poolFree, float64(pool.Bytes-use.bytes), pool.Name)
+			report(poolVolumes, float64(use.volumes), pool.Name)
+		}
+	}
+	for _, node := range l.config.Nodes {
+		report(nodeMaxVolumes, float64(node.MaxVolumes), node.ID)
+		if last != nil {
+			report(nodeAttachments, float64(last.attachments[node.ID]), node.ID)
+		}
+	}
+}
