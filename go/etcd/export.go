@@ -91,20 +91,25 @@ func export(asked options, to io.Writer, lines *log.Logger) error {
 	return err
 }
 
-// print prints all but the end.
-func (r *reading) print(k keys, out io.Writer) (found counts, err error) {
+// readMeta reads the row of meta, without which there are no rows.
+func (r *reading) readMeta(k keys) (row meta, err error) {
 	read, err := r.get(k.meta())
 	if err != nil {
-		return found, err
+		return row, err
 	}
 	if len(read.Kvs) == 0 {
-		return found, errNoMeta
+		return row, errNoMeta
 	}
-	row, err := readMeta(read.Kvs[0].Value)
+	if row, err = readMeta(read.Kvs[0].Value); err != nil {
+		return row, broken(k, k.meta(), err)
+	}
+	return row, checkFormat(row)
+}
+
+// print prints all but the end.
+func (r *reading) print(k keys, out io.Writer) (found counts, err error) {
+	row, err := r.readMeta(k)
 	if err != nil {
-		return found, broken(k, k.meta(), err)
-	}
-	if err := checkFormat(row); err != nil {
 		return found, err
 	}
 	if err := printed(out, "BEGIN;\n"+row.statement()); err != nil {

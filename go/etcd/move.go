@@ -40,13 +40,15 @@ func checkFormat(row meta) error {
 	return nil
 }
 
-// once makes the first row, or brings rows from a file of csid into etcd, or from there into one. It neither has the lock nor a socket.
+// once makes the first row, brings rows from a file of csid into etcd or from there into one, or lists them. It neither has the lock nor a socket.
 func once(asked options, lines *log.Logger) int {
 	switch {
 	case asked.isNew:
 		return told("--new", makeNew(asked, os.Stdout), lines)
 	case asked.isExport:
 		return told("--export", export(asked, os.Stdout, lines), lines)
+	case asked.isList:
+		return told("--list", list(asked, os.Stdout), lines)
 	default:
 		return told("--import", importRows(asked, os.Stdin, os.Stdout), lines)
 	}

@@ -25,6 +25,8 @@ usage: csid-etcd --name NAME --listen PATH [--endpoints HOST:PORT,..] [--cacert 
                  [--user NAME[:PASSWORD]] [--password-file PATH] [--timeout TIME]
        csid-etcd --export --name NAME [--endpoints HOST:PORT,..] [--cacert PATH] [--cert PATH --key PATH]
                  [--user NAME[:PASSWORD]] [--password-file PATH] [--timeout TIME]
+       csid-etcd --list [--volume NAME] [--pool NAME] [--node ID] [--json] --name NAME [--endpoints HOST:PORT,..]
+                 [--cacert PATH] [--cert PATH --key PATH] [--user NAME[:PASSWORD]] [--password-file PATH] [--timeout TIME]
        csid-etcd --version
 `
 
@@ -56,6 +58,9 @@ type options struct {
 	isNew        bool
 	isExport     bool
 	isImport     bool
+	isList       bool
+	chosen       chosen
+	isJSON       bool
 	version      bool
 }
 
@@ -81,6 +86,11 @@ func readOptions(given []string, shown io.Writer) (options, error) {
 	flags.BoolVar(&asked.isNew, "new", false, "make the first row in an etcd that has none, and end")
 	flags.BoolVar(&asked.isExport, "export", false, "print all rows as SQL for a file of csid, and end")
 	flags.BoolVar(&asked.isImport, "import", false, "put the rows of standard input into an etcd that has none, and end")
+	flags.BoolVar(&asked.isList, "list", false, "list the volumes, and what each pool and node has of them, and end")
+	flags.StringVar(&asked.chosen.volume, "volume", "", "list the volume with this `NAME` alone")
+	flags.StringVar(&asked.chosen.pool, "pool", "", "list the volumes of the pool with this `NAME` alone")
+	flags.StringVar(&asked.chosen.node, "node", "", "list the volumes that are published at the node with this `ID` alone")
+	flags.BoolVar(&asked.isJSON, "json", false, "list in JSON, with a volume a line")
 	flags.BoolVar(&asked.version, "version", false, "print the version, and end")
 	if err := words.Parse(flags, given, usage, shown); err != nil {
 		return options{}, err
@@ -99,14 +109,18 @@ func readOptions(given []string, shown io.Writer) (options, error) {
 	return asked, check(asked)
 }
 
-// onceFlags are what is done once, and then the program ends; servingFlags are the options of one that stays and answers csid.
+// onceFlags are what is done once, and then the program ends; listFlags are the options of --list, and servingFlags those of a program that stays and
+// answers csid.
 var (
-	onceFlags    = map[string]bool{"new": true, "export": true, "import": true}
+	onceFlags    = map[string]bool{"new": true, "export": true, "import": true, "list": true}
+	listFlags    = map[string]bool{"volume": true, "pool": true, "node": true, "json": true}
 	servingFlags = map[string]bool{"listen": true, "lease": true, "id": true, "revision": true, "accept-older": true, "existing": true}
 )
 
 // isOnce tells whether something is done once.
-func (asked options) isOnce() bool { return asked.isNew || asked.isExport || asked.isImport }
+func (asked options) isOnce() bool {
+	return asked.isNew || asked.isExport || asked.isImport || asked.isList
+}
 
 // checkOnce refuses what says nothing beside that which is done once.
 func checkOnce(flags *flag.FlagSet) (err error) {
@@ -121,8 +135,12 @@ func checkOnce(flags *flag.FlagSet) (err error) {
 		}
 	})
 	flags.Visit(func(given *flag.Flag) {
-		if once != "" && servingFlags[given.Name] && err == nil {
+		switch {
+		case err != nil:
+		case once != "" && servingFlags[given.Name]:
 			err = fmt.Errorf("--%s: not with --%s", given.Name, once)
+		case once != "list" && listFlags[given.Name]:
+			err = fmt.Errorf("--%s: not without --list", given.Name)
 		}
 	})
 	return err

@@ -1,7 +1,6 @@
 package main
 
 import (
-	"bufio"
 	"context"
 	"errors"
 	"io"
@@ -21,7 +20,7 @@ func TestReplyNotTaken(t *testing.T) {
 	state := &leadership{}
 	state.set(nil, refuse("waiting"))
 	s := &server{state: state, say: t.Logf}
-	call := frames.RequestHead(leadPath, 0)
+	call := frames.AppendRequestHead(nil, leadPath, 0)
 	connect := func() net.Conn {
 		own, other := net.Pipe()
 		t.Cleanup(func() { own.Close() })
@@ -39,7 +38,7 @@ func TestReplyNotTaken(t *testing.T) {
 	begin := time.Now()
 	second := connect()
 	second.SetReadDeadline(begin.Add(replyTime))
-	reply, err := frames.ReadReply(bufio.NewReader(second))
+	reply, err := frames.NewReplies(second).Next()
 	if took := time.Since(begin); err != nil || reply.Text != "waiting" || took > replyTime/2 {
 		t.Errorf("%v, %v, behind %v", reply, err, took)
 	}
@@ -57,7 +56,7 @@ func TestReplacedWhileItWaits(t *testing.T) {
 		own.SetDeadline(time.Now().Add(replyTime))
 		all[i] = own
 		s.take(other)
-		if _, err := own.Write(frames.RequestHead(leadPath, 0)); err != nil {
+		if _, err := own.Write(frames.AppendRequestHead(nil, leadPath, 0)); err != nil {
 			t.Fatal(err)
 		}
 		if i == 0 {
@@ -68,10 +67,10 @@ func TestReplacedWhileItWaits(t *testing.T) {
 		}
 	}
 	go io.Copy(io.Discard, all[0])
-	if reply, err := frames.ReadReply(bufio.NewReader(all[1])); err != io.EOF {
+	if reply, err := frames.NewReplies(all[1]).Next(); err != io.EOF {
 		t.Errorf("the one before the newest: %v, %v", reply, err)
 	}
-	if reply, err := frames.ReadReply(bufio.NewReader(all[2])); err != nil || reply.Text != "waiting" {
+	if reply, err := frames.NewReplies(all[2]).Next(); err != nil || reply.Text != "waiting" {
 		t.Errorf("the newest: %v, %v", reply, err)
 	}
 }
@@ -185,10 +184,10 @@ func TestReadAhead(t *testing.T) {
 		}
 		call := func(conn net.Conn, path string, message []byte) (frames.Reply, error) {
 			conn.SetDeadline(time.Now().Add(20 * time.Second))
-			if _, err := conn.Write(append(frames.RequestHead(path, len(message)), message...)); err != nil {
+			if _, err := conn.Write(append(frames.AppendRequestHead(nil, path, len(message)), message...)); err != nil {
 				return frames.Reply{}, err
 			}
-			return frames.ReadReply(bufio.NewReader(conn))
+			return frames.NewReplies(conn).Next()
 		}
 		conn := connect()
 		if reply, err := call(conn, readPath, nil); err != nil || reply.Code != codes.OK {

@@ -2,7 +2,6 @@
 package tests
 
 import (
-	"bufio"
 	"encoding/hex"
 	"fmt"
 	"net"
@@ -62,7 +61,7 @@ func (p program) says(t *testing.T, text string) {
 // link is a connection to a csid-etcd.
 type link struct {
 	net.Conn
-	in *bufio.Reader
+	in *frames.Replies
 }
 
 func (p program) dial(t *testing.T) *link {
@@ -80,16 +79,16 @@ func dial(socket string) (*link, error) {
 	if err != nil {
 		return nil, err
 	}
-	return &link{conn, bufio.NewReader(conn)}, nil
+	return &link{conn, frames.NewReplies(conn)}, nil
 }
 
 // call makes a call; an error is an end without a reply.
 func (l *link) call(path string, message []byte) (frames.Reply, error) {
 	l.SetDeadline(time.Now().Add(processes.Patience))
-	if _, err := l.Write(append(frames.RequestHead(path, len(message)), message...)); err != nil {
+	if _, err := l.Write(append(frames.AppendRequestHead(nil, path, len(message)), message...)); err != nil {
 		return frames.Reply{}, err
 	}
-	return frames.ReadReply(l.in)
+	return l.in.Next()
 }
 
 // wants makes a call with a message in hexadecimal, and compares its reply: OK and a body, or a status and a text.

@@ -14,7 +14,6 @@ import (
 
 	"../../front/tests/processes"
 	"./clusters"
-	"fomaheti/frames"
 )
 
 // Each change is seen in etcd as the bytes that stand here, and is read again.
@@ -120,7 +119,7 @@ func TestMalformedFrame(t *testing.T) {
 	// The call of Make before had so many bytes.
 	l.SetDeadline(time.Now().Add(processes.Patience))
 	want := fmt.Sprintf("bad flag at byte %d", 7+len(makePath)+3)
-	if reply, err := frames.ReadReply(l.in); err != nil || reply.Code != codes.InvalidArgument || reply.Text != want {
+	if reply, err := l.in.Next(); err != nil || reply.Code != codes.InvalidArgument || reply.Text != want {
 		t.Errorf("%d %q, %v, wanted %q", reply.Code, reply.Text, err, want)
 	}
 	if reply, err := l.call(readPath, nil); err == nil {
@@ -292,8 +291,8 @@ func TestNewestConnection(t *testing.T) {
 func (l *link) ends(t *testing.T) {
 	t.Helper()
 	l.SetDeadline(time.Now().Add(processes.Patience))
-	if got, err := l.in.ReadByte(); err != io.EOF {
-		t.Errorf("the connection was not closed: %d, %v", got, err)
+	if got, err := l.in.Next(); err != io.EOF {
+		t.Errorf("the connection was not closed: %v, %v", got, err)
 	}
 }
 

@@ -1,0 +1,166 @@
+package main
+
+import (
+	"bufio"
+	"errors"
+	"io"
+	"sort"
+
+	"google.golang.org/protobuf/encoding/protowire"
+)
+
+// What --list prints is what csid --list-tables prints of a file (docs/OPERATING.md, "Look into tables").
+
+var errColumns = errors.New("its caps or params are not those of a volume")
+
+// capability is what a volume may be used as: a block device, or a mount of a file system.
+type capability struct {
+	isMount bool
+	fsType  string
+	mode    uint64
+}
+
+// listed is a volume with the nodes that it is published at.
+type listed struct {
+	volume
+	capabilities        []capability
+	parameters, mutable map[string]string
+	nodes               []string
+}
+
+// modeNames are the access modes of CSI by their numbers ("CreateVolume", VolumeCapability.AccessMode.Mode).
+var modeNames = []string{
+	"UNKNOWN", "SINGLE_NODE_WRITER", "SINGLE_NODE_READER_ONLY", "MULTI_NODE_READER_ONLY", "MULTI_NODE_SINGLE_WRITER", "MULTI_NODE_MULTI_WRITER",
+	"SINGLE_NODE_SINGLE_WRITER", "SINGLE_NODE_MULTI_WRITER",
+}
+
+func (c capability) modeName() string {
+	if c.mode < uint64(len(modeNames)) {
+		return modeNames[c.mode]
+	}
+	return modeNames[0]
+}
+
+// readCapability reads a VolumeCapability: block is field 1, mount field 2 with its fs_type in field 1, and access_mode field 3 with the mode in field 1.
+func readCapability(message []byte) (read capability, err error) {
+	err = readFields(message, func(got field) error {
+		if got.kind != protowire.BytesType {
+			return errMessage
+		}
+		switch got.number {
+		case 1:
+			read.isMount = false
+		case 2:
+			read.isMount = true
+			return readInto(got.bytes, map[protowire.Number]target{1: &read.fsType})
+		case 3:
+			return readInto(got.bytes, map[protowire.Number]target{1: &read.mode})
+		}
+		return nil
+	})
+	return read, err
+}
+
+// readPair reads an entry of a map: its key and its value.
+func readPair(message []byte, into map[string]string) error {
+	var key, value string
+	if err := readInto(message, map[protowire.Number]target{1: &key, 2: &value}); err != nil {
+		return err
+	}
+	into[key] = value
+	return nil
+}
+
+// readListed reads the columns of a volume, which are fields of a CreateVolumeRequest: capabilities are field 3, parameters field 4, and mutable
+// parameters field 8.
+func readListed(row volume) (*listed, error) {
+	read := &listed{volume: row, parameters: map[string]string{}, mutable: map[string]string{}}
+	err := readFields(append(append([]byte{}, row.caps...), row.params...), func(got field) error {
+		switch {
+		case got.kind != protowire.BytesType:
+			return errMessage
+		case got.number == 3:
+			one, err := readCapability(got.bytes)
+			read.capabilities = append(read.capabilities, one)
+			return err
+		case got.number == 4:
+			return readPair(got.bytes, read.parameters)
+		case got.number == 8:
+			return readPair(got.bytes, read.mutable)
+		}
+		return errMessage
+	})
+	if err != nil {
+		return nil, errColumns
+	}
+	return read, nil
+}
+
+// chosen says which volumes are listed: those that have each of these that is given.
+type chosen struct{ volume, pool, node string }
+
+func (c chosen) has(v *listed) bool {
+	isAt := c.node == ""
+	for _, node := range v.nodes {
+		isAt = isAt || node == c.node
+	}
+	return isAt && (c.volume == "" || v.name == c.volume) && (c.pool == "" || v.pool == c.pool)
+}
+
+// readAll reads all volumes at one revision, in the order of their numbers, with their nodes in the order of their ids.
+func (r *reading) readAll(k keys) (volumes []*listed, err error) {
+	found := map[uint64]*listed{}
+	var at []attachment
+	err = r.each(k, func(row tableRow) error {
+		switch row := row.(type) {
+		case volume:
+			read, err := readListed(row)
+			if err != nil {
+				return broken(k, k.volume(row.number), err)
+			}
+			found[row.number] = read
+			volumes = append(volumes, read)
+		case attachment:
+			at = append(at, row)
+		}
+		return nil
+	})
+	for _, row := range at {
+		if v := found[row.number]; v != nil {
+			v.nodes = append(v.nodes, row.node)
+		}
+	}
+	sort.Slice(volumes, func(i, j int) bool { return volumes[i].number < volumes[j].number })
+	return volumes, err
+}
+
+// list prints the volumes that are chosen, and what pools and nodes have of them. It needs no lock.
+func list(asked options, to io.Writer) error {
+	client, err := connect(asked)
+	if err != nil {
+		return err
+	}
+	defer client.Close()
+	r := &reading{client: client, timeout: asked.timeout}
+	k := keys{asked.name}
+	if _, err := r.readMeta(k); err != nil {
+		return err
+	}
+	all, err := r.readAll(k)
+	if err != nil {
+		return err
+	}
+	var volumes []*listed
+	for _, v := range all {
+		if asked.chosen.has(v) {
+			volumes = append(volumes, v)
+		}
+	}
+	out := bufio.NewWriter(to)
+	if asked.isJSON {
+		writeJSON(out, volumes)
+	} else {
+		writeTable(out, volumes)
+	}
+	return out.Flush()
+}

@@ -1,0 +1,142 @@
+package tests
+
+import (
+	"encoding/json"
+	"fmt"
+	"os/exec"
+	"path/filepath"
+	"reflect"
+	"strings"
+	"testing"
+	"time"
+
+	"../../front/tests/processes"
+	"./clusters"
+)
+
+const listedThree = `ID     NAME  POOL  SIZE   CAPABILITIES              PARAMETERS  MUTABLE  NODES
+vol-1  a     ssd   1 MiB  block:SINGLE_NODE_WRITER  -           -        n
+
+POOL  VOLUMES  SIZE
+ssd   1        1 MiB
+
+NODE  VOLUMES  SIZE
+n     1        1 MiB
+`
+
+const listedNone = "ID  NAME  POOL  SIZE  CAPABILITIES  PARAMETERS  MUTABLE  NODES\n\nPOOL  VOLUMES  SIZE\n\nNODE  VOLUMES  SIZE\n"
+
+// Rows in etcd are listed, by name, pool and node too, and what is none is refused.
+func TestList(t *testing.T) {
+	t.Parallel()
+	cluster := clusters.Start(t, 1)
+	client := cluster.Client(t)
+	const noMeta = "csid-etcd: --list: meta is not there: nothing was made there yet, or an import was not ended\n"
+	moves(t, "", "--list", cluster.Endpoints()).wants(t, "no rows", 1, "", noMeta)
+	moves(t, threeRows, "--import", cluster.Endpoints()).wants(t, "an import", 0, threeSaid, "")
+	for _, row := range []struct{ words, want string }{
+		{"", listedThree}, {"--volume a", listedThree}, {"--volume b", listedNone}, {"--pool ssd", listedThree}, {"--pool s", listedNone}, {"--node n", listedThree},
+		{"--node n --pool hdd", listedNone},
+	} {
+		moves(t, "", "--list", cluster.Endpoints(), strings.Fields(row.words)...).wants(t, row.words, 0, row.want, "")
+	}
+	put(t, client, name+"/volumes/00000000000000000001", strings.Replace(blockRow, "1a060a001a020801", "1a", 1))
+	moves(t, "", "--list", cluster.Endpoints()).wants(t, "capabilities that are none", 1, "",
+		"csid-etcd: --list: volumes/00000000000000000001: its caps or params are not those of a volume\n")
+	put(t, client, name+"/volumes/00000000000000000001", "{}")
+	got := moves(t, "", "--list", cluster.Endpoints())
+	if got.status != 1 || got.said != "" || !strings.HasPrefix(got.fail, "csid-etcd: --list: volumes/00000000000000000001: its value is not spelled ") {
+		t.Errorf("a broken row: %v", got)
+	}
+}
+
+// document reads what --list --json prints.
+func document(t *testing.T, text string) (read map[string]interface{}) {
+	t.Helper()
+	if err := json.Unmarshal([]byte(text), &read); err != nil {
+		t.Fatalf("%v: %.200s", err, text)
+	}
+	return read
+}
+
+// What is listed is what csid lists of a file with the same rows.
+func TestListAsOfFile(t *testing.T) {
+	t.Parallel()
+	csid := processes.CsidProgram(t)
+	cluster := clusters.Start(t, 1)
+	rows := "volumes/00000000000000000002\t{\"name\":\"a b\",\"bytes\":1610612736,\"pool\":\"ssd\",\"caps\":\"1a0612001a0208011a0c12060a04657874341a020805\"," +
+		"\"params\":\"22060a016b12017622080a016c120361206242050a016d1200\"}\n" +
+		"attachments/00000000000000000002/n,1\t{\"cap\":\"1a0612001a020801\",\"readonly\":0}\n" + strings.Replace(threeRows, `"next_number":2`, `"next_number":3`, 1)
+	if got := moves(t, rows, "--import", cluster.Endpoints()); got.status != 0 {
+		t.Fatal(got)
+	}
+	path := filepath.Join(t.TempDir(), "volumes.db")
+	if out, err := exec.Command(csid, "pipe", "--tables", path).CombinedOutput(); err != nil {
+		t.Fatalf("%v: %s", err, out)
+	}
+	into := exec.Command("sqlite3", "-bail", path)
+	into.Stdin = strings.NewReader(moves(t, "", "--export", cluster.Endpoints()).said)
+	if out, err := into.CombinedOutput(); err != nil {
+		t.Skipf("no sqlite3: %v: %s", err, out)
+	}
+	listed := func(words ...string) string {
+		out, err := exec.Command(csid, append([]string{"--list-tables", path}, words...)...).Output()
+		if err != nil {
+			t.Fatal(err)
+		}
+		return string(out)
+	}
+	if got := moves(t, "", "--list", cluster.Endpoints()); got.said != listed() || !strings.Contains(got.said, "vol-2  a%20b") {
+		t.Errorf("%v\n%s", got, listed())
+	}
+	if got := moves(t, "", "--list", cluster.Endpoints(), "--json"); !reflect.DeepEqual(document(t, got.said), document(t, listed("--json"))) {
+		t.Errorf("%v\n%s", got, listed("--json"))
+	}
+}
+
+// While a program leads and makes changes, what is listed is of one revision, over several pages too: each new volume is at its node but the last one.
+func TestListOfOneRevision(t *testing.T) {
+	t.Parallel()
+	const before = 20000
+	cluster := clusters.Start(t, 1)
+	lines, _ := manyLines(before)
+	if got := moves(t, lines, "--import", cluster.Endpoints()); got.status != 0 {
+		t.Fatal(got)
+	}
+	csid := start(t, cluster.Endpoints(), "--existing").leads(t).dial(t)
+	stop, stopped := make(chan struct{}), make(chan struct{})
+	defer func() {
+		close(stop)
+		<-stopped
+	}()
+	go func() {
+		defer close(stopped)
+		for n := before + 1; ; n++ {
+			select {
+			case <-stop:
+				return
+			default:
+			}
+			csid.commits(t, addVolume(uint64(n), fmt.Sprintf("v%d", n)))
+			csid.commits(t, attach(uint64(n), "n1", false))
+		}
+	}()
+	seen := map[int]bool{}
+	for deadline := time.Now().Add(time.Minute); len(seen) < 4 && time.Now().Before(deadline); {
+		got := moves(t, "", "--list", cluster.Endpoints(), "--json")
+		if got.status != 0 {
+			t.Fatal(got)
+		}
+		volumes := document(t, got.said)["volumes"].([]interface{})
+		for i, one := range volumes[before:] {
+			v := one.(map[string]interface{})
+			if nodes := v["nodes"].([]interface{}); v["name"] != fmt.Sprintf("v%d", before+i+1) || len(nodes) == 0 && before+i < len(volumes)-1 {
+				t.Fatalf("volume %d of %d: %v", before+i+1, len(volumes), v)
+			}
+		}
+		seen[len(volumes)] = true
+	}
+	if len(seen) < 4 {
+		t.Errorf("%d states were seen", len(seen))
+	}
+}
