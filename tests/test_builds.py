@@ -1,11 +1,13 @@
 """./build and ./run with an rt that is played, over crates that have nothing in them."""
 
+import contextlib
 import os
 import shutil
+import signal
 import subprocess
 import sys
 
-from tests.support.processes import TOP
+from tests.support.processes import TOP, wait
 from tests.support.rows import RowTest
 
 
@@ -39,6 +41,30 @@ echo "$name|${*/--jobs=*/}|$listed|$built|$(ls src)|$(ls out 2>/dev/null | paste
 mkdir -p out/rlib
 echo "$name" >"out/rlib/$name"
 """
+# What serves on the socket of its words: csid itself, or an rt that runs its sources. It writes down how it was
+# called, and a SIGINT, which is not for it.
+SERVER = """#!/usr/bin/env python3
+import os, signal, socket, sys
+def note(line):
+    with open(os.environ["CALLS"], "a") as calls:
+        calls.write(line + "\\n")
+signal.signal(signal.SIGINT, lambda *_: note("interrupted"))
+note("%s %d" % (" ".join(sys.argv[1:]), os.getpid()))
+served = socket.socket(socket.AF_UNIX)
+served.bind(sys.argv[sys.argv.index("--socket") + 1])
+sys.stderr.write("csid: v.db: volumes 0\\n")
+signal.pause()
+"""
+# A Probe, and how csid replies to it with what it is known by there, worked out from docs/PROTOCOL.md.
+PROBE = b"\x00\x16/csi.v1.Identity/Probe\x00\x00\x00\x00\x00"
+SENT = "sent 00162f6373692e76312e4964656e746974792f50726f62650000000000: /csi.v1.Identity/Probe\n"
+REPLIES = [
+    (r"\0\0\0\0\0\0\0\4\n\2\10\1", "got 00000000000000040a020801: 0 OK, ready true\n"),
+    (r"\0\0\0\0\0\0\0\2\n\0", "got 00000000000000020a00: 0 OK, ready false\n"),
+    (r"\0\0\0\0\0\0\0\0", "got 0000000000000000: 0 OK, ready -\n"),
+    (r"\r\0\15out of memory\0\0\0\0\0", "got 0d000d6f7574206f66206d656d6f72790000000000: 13 out of memory\n"),
+    (r"\0\0", "got 0000: no whole reply\n"),
+]
 
 
 class Place:
@@ -66,19 +92,30 @@ class Place:
             file.write(text)
         os.chmod(self.path(name), mode)
 
-    def run(self, *words, rt="bin", faulty="", typed=""):
-        """What a script ends with, and the calls of rt."""
-        self.write("calls", "")
-        variables = {
+    def variables(self, rt="bin", faulty=""):
+        return {
             **os.environ,
             "CALLS": self.calls,
             "FAULTY": faulty,
             "PATH": "%s:/usr/bin:/bin" % self.path(rt),
         }
+
+    def build(self, program):
+        """Puts a program where ./build puts csid, newer than all that it is made of."""
+        self.write("crates/csid/out/csid", program, 0o755)
+        date = os.stat(self.path("crates/csid/out/csid")).st_mtime - 10
+        for at, _, names in os.walk(self.path("crates")):
+            for name in names if "/out" not in at else []:
+                os.utime(os.path.join(at, name), (date, date))
+        os.utime(self.path("crates.txt"), (date, date))
+
+    def run(self, *words, rt="bin", faulty="", typed=""):
+        """What a script ends with, and the calls of rt."""
+        self.write("calls", "")
         done = subprocess.run(
             [sys.executable, *words] if words[0] == "./build" else words,
             cwd=self.folder,
-            env=variables,
+            env=self.variables(rt, faulty),
             input=typed,
             capture_output=True,
             text=True,
@@ -95,6 +132,25 @@ class Place:
             for it in names
             if "/out" in at
         )
+
+
+def take_sigint():
+    """SIGINT is taken as a terminal's processes take it: what runs the tests may ignore it."""
+    signal.signal(signal.SIGINT, signal.SIG_DFL)
+
+
+def end_group(pid):
+    with contextlib.suppress(ProcessLookupError):
+        os.killpg(pid, signal.SIGKILL)
+
+
+def runs(pid):
+    """Whether a process is there that has not ended."""
+    try:
+        with open("/proc/%d/stat" % pid) as file:
+            return file.read().rsplit(") ", 1)[1][0] != "Z"
+    except FileNotFoundError:
+        return False
 
 
 class BuildsTest(RowTest):
@@ -179,4 +235,78 @@ class BuildsTest(RowTest):
                 )
                 if not is_built:
                     self.row("it is said", "not proved" in error, True)
-                    self.row("how it is tried", calls[0].split("|")[:2], ["csid", "try -- serve x"])
+                    words = "try --seconds 1000000000 -- serve x"
+                    self.row("how it is tried", calls[0].split("|")[:2], ["csid", words])
+
+    def test_probe(self):
+        """Without words ./run shows the call and the reply."""
+        with open(self.place.path("crates/csid/stdin"), "wb") as file:
+            file.write(PROBE)
+        for reply, wanted in REPLIES:
+            self.place.build("#!/bin/sh\ncmp - crates/csid/stdin && printf '%s'\n" % reply)
+            done = subprocess.run(
+                ["./run"],
+                cwd=self.folder,
+                env=self.place.variables(),
+                stdin=subprocess.DEVNULL,
+                capture_output=True,
+                text=True,
+                timeout=SECONDS,
+            )
+            self.row("the reply %r" % reply, (done.stdout, done.returncode), (SENT + wanted, 0))
+
+    def test_serve(self):
+        """./run serve says when csid serves, and ends it and removes its socket by SIGINT to all processes,
+        as a terminal gives it, and by SIGTERM to itself.
+        """
+        words = ["serve", "--socket", "a.sock", "--tables", "v.db", "--idle", "60"]
+        whole = ["serve", "--socket", self.place.path("a.sock"), "--tables", self.place.path("v.db")]
+        tried = "try --seconds 1000000000 -- %s --idle 60" % " ".join(whole)
+        for is_built, asked in [(False, tried), (True, " ".join(words))]:
+            if is_built:
+                self.place.build(SERVER)
+            else:
+                self.place.write("bin/rt", SERVER, 0o755)
+            for number in (signal.SIGINT, signal.SIGTERM):
+                self.check_serve(is_built, asked, number, words)
+
+    def check_serve(self, is_built, asked, number, words):
+        what = "%s, by %s" % ("the program" if is_built else "the sources", number.name)
+        self.place.write("calls", "")
+        with open(self.place.path("said"), "w+") as said:
+            run = subprocess.Popen(
+                ["./run", *words],
+                cwd=self.folder,
+                env=self.place.variables(),
+                stdin=subprocess.DEVNULL,
+                stdout=subprocess.DEVNULL,
+                stderr=said,
+                start_new_session=True,
+                preexec_fn=take_sigint,
+            )
+            self.addCleanup(end_group, run.pid)
+
+            def lines():
+                said.seek(0)
+                return said.read().splitlines()
+
+            socket = self.place.path("a.sock")
+            serves = "run: csid serves on %s; Ctrl-C ends it" % socket
+            self.row("it says that it serves: " + what, wait(lambda: serves in lines()), True)
+            self.row("what is not proved is said: " + what, "not proved" in lines()[0], not is_built)
+            (os.killpg if number == signal.SIGINT else os.kill)(run.pid, number)
+            self.row("its status: " + what, run.wait(SECONDS), 0)
+            self.row("its last line: " + what, lines()[-1], "run: ended; %s is removed" % socket)
+        with open(self.place.calls) as calls:
+            call, _, pid = calls.read().rstrip("\n").rpartition(" ")
+        self.row("how it was called: " + what, call, asked)
+        self.row("nothing is left: " + what, (os.path.exists(socket), runs(int(pid))), (False, False))
+
+    def test_serve_over_a_file(self):
+        """Where something stands at the socket's path nothing is begun."""
+        self.place.write("a.sock", "mine")
+        status, out, error, calls = self.place.run("./run", "serve", "--tables", "v.db", "--socket=a.sock")
+        line = "run: %s: a file stands there already; remove it if no csid serves on it\n"
+        wanted = (7, "", line % self.place.path("a.sock"), [])
+        self.row("a file", (status, out, error, calls), wanted)
+        self.row("it stays", os.path.exists(self.place.path("a.sock")), True)

@@ -41,6 +41,13 @@ time.sleep(60)
 # How a server ends a connection, in place of a reply.
 CLOSED, RESET, SILENT = b"", "reset", "silent"
 CUT_SHORT, GARBAGE = READY[:5], b"HTTP/1.1 400 Bad Request\r\n"
+# Heads of frames of HTTP/2 on stream 0: SETTINGS with one setting, as grpc-go begins, and without one (RFC 9113,
+# 4.1 and 6.5).
+SETTINGS, NO_SETTINGS = (
+    bytes.fromhex("000006 04 00 00000000 000500004000"),
+    bytes.fromhex("000000 04 00 00000000"),
+)
+OTHER_SOCKET = ": a gRPC socket (HTTP/2): give the socket of csid, or the one that the front has by --control"
 NO_REPLY, NOT_READ, LATE, AT_BYTE_5 = (
     "closed without a reply",
     "a read failed",
@@ -98,10 +105,24 @@ TRIED = [
         1,
     ),
     ("so is what is no reply", ["--tries", "5"], [GARBAGE], "", [], "bad status at byte 0", 3),
+    ("so is how a gRPC server begins", ["--tries", "5"], [SETTINGS], "", [], OTHER_SOCKET, 3),
+    ("so is the shortest such begin", ["--tries", "5"], [NO_SETTINGS], "", [], OTHER_SOCKET, 3),
+    ("another frame of HTTP/2", [], [bytes.fromhex("000004 03 00")], "", [], "bad text length at byte 1", 3),
+    ("a longer one", [], [bytes.fromhex("000106 04 00")], "", [], "bad text length at byte 1", 3),
+    ("less than its head", [], [bytes.fromhex("000006")], "", [], "bad text length at byte 1", 3),
+    ("another flag", [], [bytes.fromhex("000000 01 00")], "", [], "bad flag at byte 3", 3),
     ("a reply in time", ["--timeout", "10"], [READY], SHOWN, [], "", 0),
     ("silent", ["--timeout", "1"], [SILENT], "", [], ": no reply within the time of --timeout", 5),
     ("silent, then not", ["--tries", "2", "--timeout", "1"], [SILENT, READY], SHOWN, [LATE], "", 0),
 ]
+
+
+def waits(path):
+    """The line of a try that has no reply after 3 seconds."""
+    return (
+        "csictl: %s: no reply for 3 s, still waiting: csid serves one connection at a time, and a front keeps"
+        " it while it runs (use its control socket); --timeout bounds the wait\n" % path
+    )
 
 
 class Peer:
@@ -347,6 +368,80 @@ class CallTest(CsictlTest):
         )
         listener.close()
         os.unlink(path)
+
+    def test_long_waits(self):
+        """A try without a reply after 3 seconds is a line, once."""
+        path = os.path.join(self.folder, "slow.sock")
+        listener = socket.socket(socket.AF_UNIX)
+        listener.bind(path)
+        listener.listen(0)
+
+        def answer_late():
+            peer, _ = listener.accept()
+            while peer.recv(4096):
+                pass
+            time.sleep(4)
+            peer.sendall(READY)
+            peer.close()
+
+        def ask(*words):
+            return text(
+                run([self.csictl, "call", "--socket", path, "--method", "Probe"] + list(words), input=b"")
+            )
+
+        thread = threading.Thread(target=answer_late)
+        thread.start()
+        came = ask()
+        thread.join()
+        self.row("answered after 4 s", came, (SHOWN, waits(path), 0))
+        late = "csictl: %s: %s\n" % (path, LATE)
+        # Nobody takes it from the backlog: it is connected, and not answered.
+        self.row("7 s without an answer", ask("--timeout", "7"), ("", waits(path) + late, 5))
+        self.row("no longer than 3 s", ask("--timeout", "3"), ("", late, 5))
+        self.row("no room for one more", ask("--timeout", "4"), ("", waits(path) + late, 5))
+        listener.close()
+
+    def test_socket_that_is_not_given(self):
+        """Without --socket the environment names it, and without that it is where the units have it."""
+        server = Server(self.csid, os.path.join(self.folder, "c.sock"), "--connections", "4")
+        probe = [self.csictl, "call", "--method", "Probe"]
+        shown = (SHOWN, "", 0)
+
+        def ask(words, **variables):
+            rest = {name: value for name, value in os.environ.items() if name != "CSID_SOCKET"}
+            return text(run(words, input=b"", env={**rest, **variables}))
+
+        self.row("by the environment", ask(probe, CSID_SOCKET=server.path), shown)
+        self.row("--socket first", ask(probe + ["--socket", server.path], CSID_SOCKET="no.sock"), shown)
+        self.row(
+            "an environment that is no text",
+            ask(probe, CSID_SOCKET=b"\xff"),
+            ("", "csictl: CSID_SOCKET: no text\n", 2),
+        )
+        neither = (
+            "csictl: no socket: give --socket PATH, or CSID_SOCKET in the environment; neither"
+            " /run/csid-front/control.sock nor /run/csid/csid.sock exists\n"
+        )
+        # In a mount namespace of its own /run is empty, but for what a row puts there.
+        put = "mount -t tmpfs none /run && mkdir /run/csid /run/csid-front && %s && exec \"$@\""
+        control, csid = (
+            "ln -s %s /run/%s" % (server.path, place) for place in ("csid-front/control.sock", "csid/csid.sock")
+        )
+        if run(["unshare", "--mount", "sh", "-c", put % "true", "sh", "true"])[2] == 0:
+            for name, made, variable, wanted in [
+                ("none", "true", "", ("", neither, 2)),
+                ("the control socket first", control + " && touch /run/csid/csid.sock", "", shown),
+                ("the socket of csid", csid, "", shown),
+                (
+                    "the environment first",
+                    control,
+                    "no.sock",
+                    ("", "csictl: no.sock: No such file or directory (os error 2)\n", 5),
+                ),
+            ]:
+                came = ask(["unshare", "--mount", "sh", "-c", put % made, "sh", *probe], CSID_SOCKET=variable)
+                self.row("in /run: " + name, came, wanted)
+        server.kill()
 
     def test_tries(self):
         """A call that is tried again: what is sent, what is said, and that there is a pause before each

@@ -1,7 +1,12 @@
 """Replies as JSON, and walks over all pages."""
 
+import os
+import socket
+import threading
+
 from tests.support.csictl import CONTROLLER, CREATE, Line, READY, VOL_1, call, entry, ok, refusal, run, text
 from tests.support.rows import CsictlTest
+from tests.support.processes import SECONDS
 from tests.test_csictl_call import CLOSED, Peer
 from tests.test_csictl_show import PAGE
 
@@ -195,62 +200,165 @@ JSON = [
     ),
 ]
 
-# Each row: what it shows, further words, what each connection is answered, standard output, standard error,
-# status.
+class Pages:
+    """A server that answers the calls of each connection one after the other, and keeps them. In place of an
+    answer it closes a connection at CLOSED.
+    """
+
+    def __init__(self, folder, connections):
+        self.path, self.connections, self.calls = os.path.join(folder, "pages.sock"), connections, []
+        self.listener = socket.socket(socket.AF_UNIX)
+        self.listener.bind(self.path)
+        self.listener.listen(8)
+        self.listener.settimeout(SECONDS)
+        self.thread = threading.Thread(target=self.serve)
+        self.thread.start()
+
+    def serve(self):
+        for deeds in self.connections:
+            try:
+                peer, _ = self.listener.accept()
+            except TimeoutError:
+                break
+            with peer, peer.makefile("rb") as calls:
+                self.calls.append([])
+                for deed in deeds:
+                    given = taken(calls)
+                    if given:
+                        self.calls[-1].append(given)
+                    if deed is CLOSED or not given:
+                        break
+                    peer.sendall(deed)
+                else:
+                    # It ends its writing, or goes away.
+                    if more := calls.read():
+                        self.calls[-1].append(more)
+
+    def end(self):
+        """The calls of each connection, and of one more than there was to be."""
+        self.thread.join()
+        self.listener.setblocking(False)
+        try:
+            self.listener.accept()
+            self.calls.append("one more")
+        except BlockingIOError:
+            pass
+        self.listener.close()
+        os.unlink(self.path)
+        return self.calls
+
+
+def taken(calls):
+    """The next call of a stream, or what there is of it."""
+    size = calls.read(2)
+    head = calls.read(int.from_bytes(size, "big") + 5)
+    return size + head + calls.read(int.from_bytes(head[-4:], "big"))
+
+
+# Each row: what it shows, further words, what the calls of each connection are answered, standard output, the
+# reasons of further tries, the last line on standard error, status.
 WALKS = [
-    ("one page", [], [ok(entry(1))], "0 OK %s\nvolume vol-1 1048576 -\n" % entry(1), "", 0),
+    ("one page", [], [[ok(entry(1))]], "0 OK %s\nvolume vol-1 1048576 -\n" % entry(1), [], "", 0),
     (
         "three pages",
         [],
-        [ok(entry(1) + "120131"), ok(entry(2) + "120132"), ok(entry(3))],
+        [[ok(entry(1) + "120131"), ok(entry(2) + "120132"), ok(entry(3))]],
         "0 OK %s\nvolume vol-1 1048576 -\nnext 1\n0 OK %s\nvolume vol-2 1048576 -\nnext 2\n0 OK %s\nvolume"
         " vol-3 1048576 -\n" % (entry(1) + "120131", entry(2) + "120132", entry(3)),
+        [],
         "",
         0,
     ),
     (
         "three pages in JSON",
         ["--json"],
-        [ok(entry(1) + "120131"), ok(entry(2) + "120132"), ok(entry(3))],
+        [[ok(entry(1) + "120131"), ok(entry(2) + "120132"), ok(entry(3))]],
         '{"entries":[%s],"nextToken":""}\n' % ",".join(map(entry_in_json, (1, 2, 3))),
+        [],
         "",
         0,
     ),
-    ("nothing in JSON", ["--json"], [ok("")], '{"entries":[],"nextToken":""}\n', "", 0),
+    ("nothing in JSON", ["--json"], [[ok("")]], '{"entries":[],"nextToken":""}\n', [], "", 0),
     (
         "a refusal behind a page",
         [],
-        [ok(entry(1) + "120131"), refusal(10, "bad token")],
+        [[ok(entry(1) + "120131"), refusal(10, "bad token")]],
         "0 OK %s\nvolume vol-1 1048576 -\nnext 1\n10 ABORTED bad token\n" % (entry(1) + "120131"),
+        [],
         "",
         1,
     ),
     (
         "a refusal behind a page, in JSON",
         ["--json"],
-        [ok(entry(1) + "120131"), refusal(10, "bad token")],
+        [[ok(entry(1) + "120131"), refusal(10, "bad token")]],
         '{"code":10,"message":"bad token"}\n',
+        [],
         "",
         1,
     ),
     (
         "pages in a ring",
         ["--json"],
-        [ok(entry(1) + "120131"), ok(entry(2) + "120131")],
+        [[ok(entry(1) + "120131"), ok(entry(2) + "120131")]],
         "",
+        [],
         "csictl: the pages have no end\n",
         3,
     ),
-    ("a page that is none", ["--json"], [ok("0a")], "", "csictl: the body is no response of the method\n", 3),
+    ("a page that is none", ["--json"], [[ok("0a")]], "", [], "csictl: the body is no response of the method\n", 3),
     (
         "a page that is not answered",
         ["--json"],
-        [ok(entry(1) + "120131"), CLOSED],
+        [[ok(entry(1) + "120131"), CLOSED]],
         "",
-        Line("csictl: ", "closed without a reply"),
+        [],
+        "csictl: PATH: closed without a reply\n",
+        5,
+    ),
+    (
+        "a page that is answered by a second try",
+        ["--json", "--tries", "2"],
+        [[ok(entry(1) + "120131"), CLOSED], [ok(entry(2) + "120132"), ok(entry(3))]],
+        '{"entries":[%s],"nextToken":""}\n' % ",".join(map(entry_in_json, (1, 2, 3))),
+        ["closed without a reply"],
+        "",
+        0,
+    ),
+    (
+        "each page has its tries",
+        ["--json", "--tries", "2"],
+        [[CLOSED], [ok(entry(1) + "120131"), CLOSED], [ok(entry(2) + "120132"), CLOSED], [ok(entry(3))]],
+        '{"entries":[%s],"nextToken":""}\n' % ",".join(map(entry_in_json, (1, 2, 3))),
+        ["closed without a reply"] * 3,
+        "",
+        0,
+    ),
+    (
+        "no try is left for a page",
+        ["--json", "--tries", "2"],
+        [[ok(entry(1) + "120131"), CLOSED], [CLOSED]],
+        "",
+        ["closed without a reply"],
+        "csictl: PATH: closed without a reply\n",
         5,
     ),
 ]
+
+
+def asked_of(connections):
+    """The calls of a walk over pages of one entry, by connections: a page that is not answered is asked for
+    again.
+    """
+    tokens, wanted = iter(["", "120131", "120132"]), []
+    token = next(tokens)
+    for deeds in connections:
+        wanted.append([])
+        for deed in deeds:
+            wanted[-1].append(call(CONTROLLER + "ListVolumes", "0801" + token))
+            if deed is not CLOSED:
+                token = next(tokens, "")
+    return wanted
 
 
 class JsonTest(CsictlTest):
@@ -298,33 +406,13 @@ class JsonTest(CsictlTest):
                 (None, Line("csictl: standard output: "), 5),
             )
         peer.end()
-        for name, words, deeds, out, said, status in WALKS:
-            peer = Peer(self.folder, deeds)
-            came = text(
-                run(
-                    [
-                        self.csictl,
-                        "call",
-                        "--all",
-                        "--socket",
-                        peer.path,
-                        "--method",
-                        "ListVolumes",
-                        "--max",
-                        "1",
-                    ]
-                    + words,
-                    input=b"",
-                )
-            )
-            self.row("" + name, came, (out, said, status))
-            calls, _ = peer.end()
-            tokens = ["", "120131", "120132"][: len(deeds)]
-            self.row(
-                "what was asked: " + name,
-                calls,
-                [call(CONTROLLER + "ListVolumes", "0801" + token) for token in tokens],
-            )
+        for name, words, connections, out, reasons, last, status in WALKS:
+            pages = Pages(self.folder, connections)
+            asked = [self.csictl, "call", "--all", "--socket", pages.path, "--method", "ListVolumes", "--max", "1"]
+            came = text(run(asked + words, input=b""))
+            said = "".join("csictl: PATH: %s: try 2 of 2\n" % why for why in reasons) + last
+            self.row("" + name, came, (out, said.replace("PATH", pages.path), status))
+            self.row("what was asked: " + name, pages.end(), asked_of(connections))
         # With the six bytes before it the first token makes a message of 1,048,576 bytes, the most that a
         # frame holds.
         for name, token, rest, came in [
@@ -341,7 +429,7 @@ class JsonTest(CsictlTest):
                 ("", "csictl: the message has more than 1048576 bytes\n", 2),
             ),
         ]:
-            peer = Peer(self.folder, [ok(token)] + rest)
+            pages = Pages(self.folder, [[ok(token)] + rest])
             asked = [
                 self.csictl,
                 "call",
@@ -350,7 +438,7 @@ class JsonTest(CsictlTest):
                 "--timeout",
                 "10",
                 "--socket",
-                peer.path,
+                pages.path,
                 "--method",
                 "ListVolumes",
                 "--max",
@@ -359,12 +447,12 @@ class JsonTest(CsictlTest):
             self.row("a token " + name, text(run(asked, input=b"")), came)
             self.row(
                 "what was asked: a token " + name,
-                peer.end()[0]
-                == [call(CONTROLLER + "ListVolumes", "0801" + it) for it in ["", token][: 1 + len(rest)]],
+                pages.end()
+                == [[call(CONTROLLER + "ListVolumes", "0801" + it) for it in ["", token][: 1 + len(rest)]]],
                 True,
             )
         tokens = ["12%02x%s" % (len(str(number)), str(number).encode().hex()) for number in range(1, 102)]
-        peer = Peer(self.folder, [ok(token) for token in tokens] + [ok("")])
+        pages = Pages(self.folder, [[ok(token) for token in tokens] + [ok("")]])
         self.row(
             "102 pages",
             text(
@@ -375,7 +463,7 @@ class JsonTest(CsictlTest):
                         "--all",
                         "--json",
                         "--socket",
-                        peer.path,
+                        pages.path,
                         "--method",
                         "ListVolumes",
                     ],
@@ -386,12 +474,12 @@ class JsonTest(CsictlTest):
         )
         self.row(
             "what was asked: 102 pages",
-            peer.end()[0],
-            [call(CONTROLLER + "ListVolumes", token) for token in ["", *tokens]],
+            pages.end(),
+            [[call(CONTROLLER + "ListVolumes", token) for token in ["", *tokens]]],
         )
-        peer = Peer(self.folder, [ok(entry(3))])
+        pages = Pages(self.folder, [[ok(entry(3))]])
         run(
-            [self.csictl, "call", "--all", "--socket", peer.path, "--method", "ListVolumes", "--token", "2"],
+            [self.csictl, "call", "--all", "--socket", pages.path, "--method", "ListVolumes", "--token", "2"],
             input=b"",
         )
-        self.row("from a token on", peer.end()[0], [call(CONTROLLER + "ListVolumes", "120132")])
+        self.row("from a token on", pages.end(), [[call(CONTROLLER + "ListVolumes", "120132")]])

@@ -412,8 +412,44 @@ RECONFIGURED = [
 ]
 
 
+# What --check-tables says before the line of a row that is to blame: of a volume and of an attachment that, and
+# of some rows something else, or nothing.
+BROKEN_A = "volume 1: it is vol-1 (a), 1 MiB in pool p1"
+EXPLAINED = {
+    "a number of 0": None,
+    "a number of -5": None,
+    "an empty name": "volume 1: it is vol-1 (), 1 MiB in pool p1",
+    "a name of 129 bytes": "volume 1: it is vol-1 (%s), 1 MiB in pool p1" % ("a" * 129),
+    "a name with the byte 07": "volume 1: it is vol-1 (a\\u{7}b), 1 MiB in pool p1",
+    "a pool that is none": "volume 1: it is vol-1 (a), 1 MiB in pool p3",
+    "a pool in upper case": "volume 1: it is vol-1 (a), 1 MiB in pool P1",
+    "a size of 0": "volume 1: it is vol-1 (a), 0 B in pool p1",
+    "a size below 0": None,
+    "a size of 1 MiB and 1": "volume 1: it is vol-1 (a), 1048577 B in pool p1",
+    "a pool above its bytes": "pool p2: its volumes have 5 MiB, and it has 4 MiB",
+    "an attachment without a volume": None,
+    "three volumes at a node": "node n1: 3 volumes are attached there, and it can have 2",
+    "a pool that is smaller": "pool p1: its volumes have 2 MiB, and it has 1 MiB",
+    "a node with less room": "node n1: 2 volumes are attached there, and it can have 1",
+}
+
+
+def explained(name, line):
+    """What is said before the line of a row, or nothing."""
+    is_of_a = line.startswith("volume 1") and KIND not in line
+    return EXPLAINED.get(name, BROKEN_A if is_of_a else None)
+
+
 class AdoptionTest(CsidTest):
     """Tables that are adopted or refused: rows by hand, and files of earlier releases."""
+
+    def refused(self, name, tables, line, config=None):
+        """The check of tables says more about a row, and then the line by which they are refused."""
+        out, said, status = tables.says(line)
+        more = explained(name, line)
+        if more is not None:
+            said = "csid: %s: %s\n" % (tables.path, more) + said
+        self.row("checked: " + name, tables.check(config), (out, said, status))
 
     def test_constraints(self):
         """Rows that stand for no State are told by the first rule that they break."""
@@ -422,7 +458,7 @@ class AdoptionTest(CsidTest):
             before = tables.new().script(text).rows()
             if line is not None:
                 kept = tables.files()
-                self.row("checked: " + name, tables.check(), tables.says(line))
+                self.refused(name, tables, line)
                 self.row("checked: to the byte as it was: " + name, tables.files(), kept)
             self.row("adopted: " + name, tables.run(frame(PROBE)), tables.says(line))
             self.row("adopted: as it was: " + name, tables.rows(), before)
@@ -446,7 +482,7 @@ class AdoptionTest(CsidTest):
             write(config, configuration)
             tables.new().script(text)
             if line is not None:
-                self.row("checked: " + name, tables.check(config), tables.says(line))
+                self.refused(name, tables, line, config)
             self.row("reconfigured: " + name, tables.run(frame(PROBE), config), tables.says(line))
         write(config, sample((b"10485760", b"%d" % (200000 * MIB))))
         tables.new().script(MANY % (100000, BLOCK_CAPS) + next_is(200000))

@@ -6,7 +6,7 @@ import sqlite3
 import subprocess
 import threading
 
-from tests.support.configs import LARGE_POOL, NODES, REFUSED, SAMPLE, pools, sample
+from tests.support.configs import FAULTS, LARGE_POOL, NODES, REFUSED, SAMPLE, pools, sample
 from tests.support.frames import ASKED, CREATE_A, NO_MEMORY, VOLUME_1, WRITE_FAILED, controller, reply
 from tests.support.processes import NOT_THERE, SECONDS, TOP, run, small_memory, write
 from tests.support.rows import CsidTest
@@ -37,13 +37,18 @@ class CheckTest(CsidTest):
         ]:
             write(config, text)
             self.row("checked: " + name, run([self.csid, "--check-config", config]), (summary, said, 0))
-        for name, text, line in REFUSED:
+        more = [name for name, _, _ in FAULTS]
+        for name, text, line in [row for row in REFUSED if row[0] not in more]:
             write(config, text)
             self.row(
                 "checked: " + name,
                 run([self.csid, "--check-config", config]),
                 (b"", "csid: %s: %s\n" % (config, line), 3),
             )
+        for name, text, lines in FAULTS:
+            write(config, text)
+            said = "".join("csid: %s: %s\n" % (config, line) for line in lines)
+            self.row("all faults: " + name, run([self.csid, "--check-config", config]), (b"", said, 3))
         absent = os.path.join(self.folder, "absent")
         self.row(
             "checked: no configuration",

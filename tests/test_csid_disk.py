@@ -335,7 +335,8 @@ class DiskTest(CsidTest):
             controller("ListVolumes"),
         )
         server = Server(self.csid, self.folder, tables=os.path.join(disk, "volumes.db"))
-        begun, down = server.line(NEW) + server.has(0, 0, 1), server.line(DOWN)
+        begun = server.line(NEW) + server.has(0, 0, 1)
+        down = server.line("the database refused a call: " + FULL) + server.line(DOWN)
         self.row("a create", server.ask(create), reply(VOLUME_1))
         with server.connect() as peer:
             peer.sendall(listing)

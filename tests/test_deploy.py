@@ -10,6 +10,7 @@ import subprocess
 import tempfile
 
 from tests.support.deploy import (
+    DEFAULTS,
     DIFFERENCES,
     ETCD_MANIFEST,
     ETCD_PROGRAMS,
@@ -27,6 +28,7 @@ from tests.support.deploy import (
     commands,
     etcd_commands,
     need,
+    over_etcd,
     plain,
     read,
     seconds,
@@ -35,7 +37,24 @@ from tests.support.deploy import (
     value,
     without,
 )
+from tests.support.processes import TOP
 from tests.support.rows import RowTest
+
+# Each unit that serves: what it is called where it speaks, and which statuses are an end as asked for, or no
+# reason to be started again.
+STATUSES = [
+    ("csid.service", "csid", [], ["2 3"]),
+    ("csid-front.service", "csid-front", ["1"], ["2"]),
+    (ETCD_UNIT, "csid-etcd", [], ["2"]),
+]
+
+
+def said(script, **variables):
+    """What a shell's status is, and its line on standard error."""
+    done = subprocess.run(
+        ["sh", "-c", script], env={"PATH": os.environ["PATH"], **variables}, capture_output=True, text=True
+    )
+    return done.returncode, done.stderr
 
 
 class DeployTest(RowTest):
@@ -253,6 +272,7 @@ class DeployTest(RowTest):
             self.row(
                 "the folder of " + path, os.path.dirname(path), "/run/" + unit.all("RuntimeDirectory")[0]
             )
+        self.check_controls()
         nomad = Nomad()
         self.row(
             "the endpoint of the Nomad job",
@@ -273,6 +293,42 @@ class DeployTest(RowTest):
             endpoint,
         )
 
+    def check_controls(self):
+        """Each front has a control socket in a folder that is there, and the image has csictl for it."""
+        unit = Unit(UNITS[1])
+        self.row(
+            "the folder of the unit's control socket",
+            os.path.dirname(value(unit.words(), "--control")),
+            "/run/" + unit.all("RuntimeDirectory")[0],
+        )
+        for manifest in [Kubernetes(), Kubernetes(ETCD_MANIFEST)]:
+            front = manifest.containers["front"]
+            folder = os.path.dirname(value(front["command"], "--control"))
+            self.row(
+                "the folder of the manifest's control socket",
+                {m["mountPath"]: m["name"] for m in front["volumeMounts"]}.get(folder),
+                "backend",
+            )
+            self.row(
+                "where the client finds it in the manifest",
+                {it["name"]: it.get("value") for it in front["env"]}.get("CSID_SOCKET"),
+                value(front["command"], "--control"),
+            )
+        nomad = Nomad()
+        front = nomad.command("front")
+        self.row(
+            "the folder of the job's control socket",
+            os.path.dirname(value(front, "--control")),
+            os.path.dirname(value(front, "--csid")),
+        )
+        self.row(
+            "where the client finds it in the job",
+            nomad.one(r'CSID_SOCKET = "(.*?)"'),
+            value(front, "--control"),
+        )
+        files = re.search(r"^COPY (.*) \S+$", read("Dockerfile"), re.M).group(1).split()
+        self.row("the client is in the image", "csictl" in files, True)
+
     def test_ends(self):
         """What ends the programs waits longer than the front; what starts them again never gives up."""
         manifest, nomad, self.front = Kubernetes(), Nomad(), Unit(UNITS[1])
@@ -290,6 +346,63 @@ class DeployTest(RowTest):
                 (unit.all("Restart"), unit.all("StartLimitIntervalSec")),
                 (["always"], ["0"]),
             )
+
+    def test_statuses(self):
+        """What is refused for its arguments or its configuration is not started again, and what systemd says
+        of a status is put right.
+        """
+        for name, program, done, refused in STATUSES:
+            unit = Unit(name)
+            self.row(
+                "the statuses of " + name,
+                (unit.all("SuccessExitStatus"), unit.all("RestartPreventExitStatus")),
+                (done, refused),
+            )
+            (command,) = unit.all("ExecStopPost")
+            for code, status, line in [
+                ("exited", "3", "%s: ended with status 3: see EXIT STATUS in man %s\n" % (program, program)),
+                ("exited", "0", ""),
+                ("killed", "TERM", ""),
+                (None, None, ""),
+            ]:
+                given = {"EXIT_CODE": code, "EXIT_STATUS": status} if code else {}
+                self.row(
+                    "what %s says of %s %s" % (name, code, status),
+                    said(unit.script(command), **given),
+                    (0, line),
+                )
+
+    def test_reload(self):
+        """A reload is refused, with what helps instead, by a status that no end as asked for has."""
+        for name, program, done, _ in STATUSES:
+            unit = Unit(name)
+            (command,) = unit.all("ExecReload")
+            status, line = said(unit.script(command))
+            hint = ": systemctl restart %s\n" % program
+            self.row(
+                "a reload of " + name,
+                (str(status) in done, status, line.startswith(program + ": "), line.endswith(hint)),
+                (False, 69, True, True),
+            )
+
+    def test_pages(self):
+        """The units name pages of manual that are made."""
+        with open(os.path.join(TOP, "packaging", "manual")) as file:
+            made = set(re.findall(r'Page\(\s+"([\w-]+)",\s+(\d),', file.read()))
+        for name in [*UNITS, FIRST, ETCD_UNIT]:
+            named = re.findall(r"man:([\w-]+)\((\d)\)", " ".join(Unit(name).all("Documentation")))
+            self.row("the pages that %s names" % name, (bool(named), set(named) - made), (True, set()))
+
+    def test_defaults(self):
+        """The file of options shows what the units have without it."""
+        units = [Unit(name) for name in UNITS]
+        self.row(
+            "where it is", [it.all("EnvironmentFile") for it in units], [["-/etc/default/csid"]] * len(units)
+        )
+        shown = dict(re.findall(r'^#(\w+)="(.*)"$', read(DEFAULTS), re.M))
+        given = {name: value for it in units for name, value in it.variables().items()}
+        del given["CSI_ENDPOINT"]
+        self.row("what it shows", shown, given)
 
     def test_metrics(self):
         """Each front tells metrics where they are looked for; the dashboard and the alerts can be read."""
@@ -373,6 +486,11 @@ class DeployTest(RowTest):
                 {os.path.dirname(value(etcd, it)) for it in TLS},
                 {"/etc/csid-etcd"},
             )
+        self.row(
+            "what is looked at before a start over etcd, where there is no file",
+            over_etcd(UNITS[0]).all("ExecStartPre"),
+            [],
+        )
         unit = Unit(ETCD_UNIT)
         self.row(
             "the folders of " + ETCD_UNIT,
@@ -424,7 +542,7 @@ class DeployTest(RowTest):
         for name, options in [
             ("csid-etcd", ["--listen", "--revision", "--cacert"]),
             ("csid", ["--log", "--socket", "--config"]),
-            ("front", ["--csid"]),
+            ("front", ["--csid", "--control"]),
         ]:
             container = manifest.containers[name]
             mounts = {m["mountPath"]: m["name"] for m in container["volumeMounts"]}

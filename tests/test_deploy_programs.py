@@ -138,6 +138,51 @@ class ProgramsTest(ProgramTest):
                     (4, b"mine"),
                 )
 
+    def test_checks_before_a_start(self):
+        """What csid.service looks at before a start: a file that is missing is not made, and what makes it is
+        named; tables that are refused end the start; a configuration that is refused is left to csid.
+        """
+        if not os.access(self.csid, os.X_OK):
+            self.skipTest("%s is not built" % self.csid)
+        unit = Unit(UNITS[0])
+        missing, check = map(unit.script, unit.all("ExecStartPre"))
+        file, config = value(unit.words(), "--tables"), value(unit.words(), "--config")
+        with tempfile.TemporaryDirectory() as folder:
+
+            def ended(script):
+                for there, here in [(file, "/volumes.db"), (config, "/config")]:
+                    script = script.replace(there, folder + here)
+                script = script.replace("/usr/local/bin/csid", self.csid)
+                done = subprocess.run(["sh", "-c", script], capture_output=True, text=True, timeout=SECONDS)
+                return done.returncode, done.stdout, done.stderr.replace(folder, "")
+
+            def put(name, text):
+                with open(os.path.join(folder, name), "w") as content:
+                    content.write(text)
+
+            put("config", Nomad().config() + "\n")
+            status, _, line = ended(missing)
+            self.row("no file", (status, "systemctl start csid-new " in line), (1, True))
+            self.row("none is made", os.path.exists(folder + "/volumes.db"), False)
+            put("volumes.db-wal", "changes")
+            self.row("a log alone is left to the check", ended(missing), (0, "", ""))
+            os.unlink(folder + "/volumes.db-wal")
+            subprocess.run(
+                [self.csid, "pipe", "--tables", folder + "/volumes.db", "--config", folder + "/config"],
+                stdin=subprocess.DEVNULL,
+                check=True,
+                timeout=SECONDS,
+            )
+            has = "volumes 0, attachments 0, next number 1, format 2\n"
+            self.row("a file", (ended(missing), ended(check)), ((0, "", ""), (0, has, "")))
+            put("config", "")
+            line = "csid: /config: the key 'name' is missing\n"
+            self.row("a configuration that is refused", ended(check), (0, "", line))
+            put("config", Nomad().config() + "\n")
+            put("volumes.db", "mine")
+            status, _, line = ended(check)
+            self.row("tables that are refused", (status, line.startswith("csid: /volumes.db: ")), (1, True))
+
     def test_first_processes(self):
         """The very commands of the manifest, as first processes of a namespace of their own, end by SIGTERM.
         Only folders and programs differ.

@@ -1,11 +1,26 @@
-"""The commands of the recipes of docs/OPERATING.md, run as they stand there."""
+"""The commands of the recipes of docs/OPERATING.md and docs/DEVICES.md, run as they stand there."""
 
+import functools
 import glob
+import importlib.util
 import os
+import re
 import shutil
 
 from tests.support.processes import TOP
-from tests.support.recipes import NODES, OWNER, POOLS, Place, RecipeTest, create, has, publish, stands
+from tests.support.recipes import (
+    ME,
+    NODES,
+    OWNER,
+    POOLS,
+    Place,
+    RecipeTest,
+    blocks,
+    create,
+    has,
+    publish,
+    stands,
+)
 
 
 class RecipesTest(RecipeTest):
@@ -97,8 +112,10 @@ class RecipesTest(RecipeTest):
             )
             self.row("without a fault", (errors, status), ("", 0))
             place.must("sqlite3 /var/lib/csid/volumes.db 'UPDATE meta SET next_number = 40'")
+            more = "volume 40: it is vol-40 (pvc-40), 1 MiB in pool p1"
+            said = "csid: volumes.db: %s\n"
             self.row(
-                "a number that is too low", place.check(), ("", "csid: volumes.db: " + stands(low) + "\n", 4)
+                "a number that is too low", place.check(), ("", said % more + said % stands(low), 4)
             )
             self.row("a further next number", place.recipe(restore, 2), ("41\n" + has(3, 1, 41), "", 0))
             place.front_calls(["Probe"])
@@ -128,30 +145,33 @@ class RecipesTest(RecipeTest):
             "volume 1: its pool is not one of the configuration",
             "volume 1 at node n1: its node is not one of the configuration",
         )
+        is_a = "volume 1: it is vol-1 (a), 1 MiB in pool p1"
         changes = [
-            ("a further pool", {**POOLS, "p3": (1, "c")}, NODES, None),
-            ("a further node", POOLS, {**NODES, "n3": 1}, None),
-            ("a larger pool", {**POOLS, "p1": (20, "a")}, NODES, None),
-            ("a node with more volumes", POOLS, {**NODES, "n1": 3}, None),
-            ("a pool of just its volumes", {**POOLS, "p1": (2, "a")}, NODES, None),
+            ("a further pool", {**POOLS, "p3": (1, "c")}, NODES, None, None),
+            ("a further node", POOLS, {**NODES, "n3": 1}, None, None),
+            ("a larger pool", {**POOLS, "p1": (20, "a")}, NODES, None, None),
+            ("a node with more volumes", POOLS, {**NODES, "n1": 3}, None, None),
+            ("a pool of just its volumes", {**POOLS, "p1": (2, "a")}, NODES, None, None),
             (
                 "a pool of less",
                 {**POOLS, "p1": (1, "a")},
                 NODES,
                 "pool p1: its volumes have more bytes than it has",
+                "pool p1: its volumes have 2 MiB, and it has 1 MiB",
             ),
             (
                 "a node with fewer volumes",
                 POOLS,
                 {**NODES, "n1": 1},
                 "node n1: more volumes are attached there than it can have",
+                "node n1: 2 volumes are attached there, and it can have 1",
             ),
-            ("a pool that is gone", {"p2": (4, "b")}, NODES, pool),
-            ("a pool that is renamed", {"fast": (10, "a"), "p2": (4, "b")}, NODES, pool),
-            ("a node that is gone", POOLS, {"n2": 2}, node),
-            ("a node that is renamed", POOLS, {"n7": 2, "n2": 2}, node),
-            ("a node without volumes that is gone", POOLS, {"n1": 2}, None),
-            ("other segments", {**POOLS, "p1": (10, "x")}, NODES, None),
+            ("a pool that is gone", {"p2": (4, "b")}, NODES, pool, is_a),
+            ("a pool that is renamed", {"fast": (10, "a"), "p2": (4, "b")}, NODES, pool, is_a),
+            ("a node that is gone", POOLS, {"n2": 2}, node, is_a),
+            ("a node that is renamed", POOLS, {"n7": 2, "n2": 2}, node, is_a),
+            ("a node without volumes that is gone", POOLS, {"n1": 2}, None, None),
+            ("other segments", {**POOLS, "p1": (10, "x")}, NODES, None, None),
         ]
         with Place(self.csictl, self.csid) as place:
             for words in [
@@ -162,31 +182,45 @@ class RecipesTest(RecipeTest):
                 publish("vol-2", "n1"),
             ]:
                 place.call(*words)
-            for name, pools, nodes, line in changes:
+            for name, pools, nodes, line, more in changes:
                 place.configure(pools, nodes)
+                said = "csid: volumes.db: %s\n"
                 want = (
                     (has(3, 2, 4), "", 0)
                     if line is None
-                    else ("", "csid: volumes.db: %s\n" % stands(line), 4)
+                    else ("", said % more + said % stands(line), 4)
                 )
                 self.row(name, place.in_folder("csid --check-tables volumes.db --config $config.new"), want)
             place.rows()
-            counts = [
-                ("pool, count(*), sum(bytes)", "volumes", "pool", "p1|2|2097152\np2|1|1048576\n"),
-                ("node, count(*)", "attachments", "node", "n1|2\n"),
-            ]
-            for columns, table, key, want in counts:
-                self.row(
-                    "count of " + table,
-                    place.in_folder(
-                        'sqlite3 volumes.db "SELECT %s FROM %s GROUP BY %s"' % (columns, table, key)
-                    ),
-                    (want, "", 0),
-                )
+            headings = (
+                "ID     NAME  POOL  SIZE   CAPABILITIES              PARAMETERS  MUTABLE  NODES\n"
+            )
+            row = "vol-%d  %s     %s    1 MiB  block:SINGLE_NODE_WRITER  -           -        %s\n"
+            self.row(
+                "what each pool and node has",
+                place.in_folder("csid --list-tables volumes.db"),
+                (
+                    headings
+                    + row % (1, "a", "p1", "n1")
+                    + row % (2, "b", "p1", "n1")
+                    + row % (3, "c", "p2", "-")
+                    + "\nPOOL  VOLUMES  SIZE\np1    2        2 MiB\np2    1        1 MiB\n"
+                    + "\nNODE  VOLUMES  SIZE\nn1    2        2 MiB\n",
+                    "",
+                    0,
+                ),
+            )
             self.row(
                 "a pool that is emptied",
                 place.recipe("### A pool that is emptied"),
-                ("vol-3|c|1048576\n", "", 0),
+                (
+                    headings
+                    + row % (3, "c", "p2", "-")
+                    + "\nPOOL  VOLUMES  SIZE\np2    1        1 MiB\n"
+                    + "\nNODE  VOLUMES  SIZE\n",
+                    "",
+                    0,
+                ),
             )
 
     def test_change(self):
@@ -217,7 +251,11 @@ class RecipesTest(RecipeTest):
             self.row(
                 "a pool that is taken away",
                 said[1:],
-                ("csid: volumes.db: volume 1: its pool is not one of the configuration\n", 4),
+                (
+                    "csid: volumes.db: volume 1: it is vol-1 (a), 1 MiB in pool fast\n"
+                    "csid: volumes.db: volume 1: its pool is not one of the configuration\n",
+                    4,
+                ),
             )
             self.row("the configuration stays", place.call(*create("a", "x")), "0 OK\nvolume vol-1 1048576\n")
 
@@ -298,3 +336,85 @@ class RecipesTest(RecipeTest):
                 place.shell('sqlite3 %s/volumes.db "%s"' % (place.copies(), size)),
                 ("4096\n", "", 0),
             )
+
+
+class DevicesTest(RecipeTest):
+    """The commands of docs/DEVICES.md."""
+
+    def test_size(self):
+        """The size of a volume, by the page that begins after the number before its own."""
+        with Place(self.csictl, self.csid) as place:
+            for number in range(1, 8):
+                place.call("CreateVolume", "--name", "pvc-%d" % number, "--mode", "1")
+            out, errors, status = place.recipe("## How a node plugin learns of a volume", page="DEVICES.md")
+            shown = re.sub("^0 OK .*\n", "", out), errors, status
+            self.row("the seventh", shown, ("volume vol-7 1048576 -\n", "", 0))
+            place.must("systemctl stop csid-front")
+            place.call("DeleteVolume", "--volume", "vol-7")
+            out, errors, status = place.recipe("## How a node plugin learns of a volume", page="DEVICES.md")
+            self.row("none after it is deleted", (out, errors, status), ("0 OK -\n", "", 0))
+
+    def test_data_without_volume(self):
+        """Of the data on a device those are shown whose volumes are not listed, and none where there is no
+        listing.
+        """
+        heading = "## When they are swept"
+        with Place(self.csictl, self.csid) as place:
+            data = os.path.join(place.top, "data")
+            os.mkdir(data)
+            for name in ["vol-1.img", "vol-2.img", "vol-3.img", "vol-10.img", "vol-1.img.new", "lost+found"]:
+                open(os.path.join(data, name), "x").close()
+            for name in ["a", "b", "c"]:
+                place.call(*create(name))
+            place.call("DeleteVolume", "--volume", "vol-2")
+            said = place.recipe(heading, page="DEVICES.md", data=data, TMPDIR=place.top)
+            self.row("data without a volume", said, ("vol-10\nvol-2\n", "", 0))
+            place.must("systemctl stop csid-front csid; rm -f /run/csid/csid.sock")
+            out, errors, _ = place.recipe(heading, page="DEVICES.md", data=data, TMPDIR=place.top)
+            self.row("where nobody serves", (out, "No such file or directory" in errors), ("", True))
+
+
+class KubernetesTest(RecipeTest):
+    """The commands of docs/DEPLOY.md by which the file comes out of its claim and into it."""
+
+    def setUp(self):
+        super().setUp()
+        if importlib.util.find_spec("yaml") is None:
+            self.skipTest("python's yaml is not installed")
+
+    def test_copy_and_restore(self):
+        """A pod makes one more volume while it ends, which is in the log alone. After the restore the volume
+        that was made since the copy is not there, and its number is not given again.
+        """
+        first, out, again = blocks("### A copy of the file in Kubernetes", "DEPLOY.md")
+        begin, end, start = blocks("### A restore of the file in Kubernetes", "DEPLOY.md")
+        into = blocks("### In Kubernetes, from etcd to a file", "ETCD.md")[2]
+        raised = blocks("### A restore")[2]
+        volume = functools.partial(create, key="topology.pools.example.org/zone")
+        with Place(self.csictl, self.csid, is_new=False, kubectl=ME) as place:
+            os.mkdir(place.top + "/root/deploy")
+            for name in ["kubernetes.yaml", "kubernetes-tables.yaml"]:
+                shutil.copy(os.path.join(TOP, "deploy", name), place.top + "/root/deploy")
+            place.front_calls(volume("a"), volume("b"))
+            place.front_calls(volume("late"), name="last-frames")
+            place.must("kubectl apply --filename /root/deploy/kubernetes.yaml")
+            place.front_calls(["Probe"])
+            said = place.shell(first + out + again)
+            whole = "volumes.db: OK\nvolumes.db-wal: OK\n" + has(3, 0, 4)
+            self.row("a copy", said, (whole, "", 0))
+            self.row("csid serves again", place.control.runs("csid") is not None, True)
+            (copies,) = glob.glob(place.top + "/root/kubernetes-*")
+            place.must("systemctl stop csid-front")
+            since = place.call(*volume("since"))
+            self.row("a volume since the copy", since, "0 OK\nvolume vol-4 1073741824\n")
+            place.front_calls(["Probe"], name="last-frames")
+            place.must("systemctl start csid-front")
+            said = place.shell(begin + end + raised + into + start, copies=copies)
+            served = "csid: /var/lib/csid/volumes.db: " + has(3, 0, 41)
+            self.row("a restore", said, ("41\n" + has(3, 0, 41) + "volumes.db: OK\n" + served, "", 0))
+            place.must("systemctl stop csid-front")
+            self.row("the next volume", place.call(*volume("d")), "0 OK\nvolume vol-41 1073741824\n")
+            place.must("systemctl stop csid")
+            self.row("what is restored", place.rows(), ({1: "a", 2: "b", 3: "late", 41: "d"}, 42))
+            (aside,) = glob.glob(place.folder + "restored-*/volumes.db")
+            self.row("what stood there", place.rows(aside), ({1: "a", 2: "b", 3: "late", 4: "since"}, 5))

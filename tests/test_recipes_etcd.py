@@ -260,7 +260,8 @@ class EtcdRecipesTest(RecipeTest):
         if importlib.util.find_spec("yaml") is None:
             self.skipTest("python's yaml is not installed")
         page, volume = "ETCD.md", functools.partial(create, key="topology.pools.example.org/zone")
-        no_new_rows, out, aside, to_deployment = blocks("### In Kubernetes, from a file to etcd", page)
+        no_new_rows, aside, to_deployment = blocks("### In Kubernetes, from a file to etcd", page)
+        _, out, _ = blocks("### A copy of the file in Kubernetes", "DEPLOY.md")
         no_new, to_nothing, into, to_stateful_set = blocks("### In Kubernetes, from etcd to a file", page)
         # The steps that are those of the recipes without Kubernetes.
         rows_into_etcd = blocks("### From a file to etcd", page)[1]

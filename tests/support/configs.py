@@ -202,6 +202,85 @@ REFUSED = [
     ),
 ]
 
+# Each row: what it shows, a configuration, and all of its faults in order.
+NO_DEFAULT = "the default size is not a positive multiple of 1048576 bytes"
+NO_GREATEST = "the greatest size is not a positive multiple of 1048576 bytes"
+FAULTS = [
+    (
+        "an empty configuration",
+        b"",
+        [
+            "the key 'name' is missing",
+            "the key 'vendor_version' is missing",
+            "the key 'default_bytes' is missing",
+            "the key 'greatest_bytes' is missing",
+            "the key 'pool' is missing",
+        ],
+    ),
+    (
+        "one in each part",
+        sample(
+            (b"pools.example.org", b"a b"),
+            (b"1.0.0", b""),
+            (b"= 1048576", b"= 1"),
+            (b"= 8388608", b"= 3"),
+            (b'name = "p1"\n', b""),
+            (b"= 4194304", b"= 0"),
+            (b'id = "n1"\n', b""),
+            (b'id = "n2"\nmax_volumes = 2', b'id = ""\nmax_volumes = 0'),
+        ),
+        [
+            "plugin name a b: " + NO_NAME,
+            NO_VERSION,
+            NO_DEFAULT,
+            NO_GREATEST,
+            "pool 1: the key 'name' is missing",
+            "pool p2: the bytes are not a positive multiple of 1048576",
+            "node 1: the key 'id' is missing",
+            "node : " + NO_ID,
+            "node : the greatest number of volumes is not 1 to 100000",
+        ],
+    ),
+    (
+        "two of a name, and of all pools",
+        sample((b'"p2"', b'"p1"'), (b'"n2"', b'"n1"'), (b"= 10485760", b"= %d" % (1 << 62))),
+        [
+            "pool p1: an earlier pool has the name",
+            "the bytes of all pools together are above 2^62",
+            "node n1: an earlier node has the id",
+        ],
+    ),
+    (
+        "17 pools and 65 nodes, one of each with a fault",
+        sample((b'"p2"', b'"p 2"'), (NODES, b"")) + pools(15) + NODES.replace(b'"n2"', b'""') + nodes(63),
+        [
+            "there are more than 16 pools",
+            "pool p 2: " + NO_POOL_NAME,
+            "there are more than 64 nodes",
+            "node : " + NO_ID,
+        ],
+    ),
+    (
+        "a greatest size above 2^62, and a default above that",
+        sample(
+            (b"= 1048576", b"= %d" % ((1 << 62) + (2 << 20))),
+            (b"= 8388608", b"= %d" % ((1 << 62) + (1 << 20))),
+        ),
+        ["the default size is above the greatest", "the greatest size is above 2^62 bytes"],
+    ),
+    (
+        "pools and nodes that are numbers, and sizes that are texts",
+        b'pool = [1, 2]\nnode = 3\ndefault_bytes = "1"\ngreatest_bytes = "2"\n'
+        b'name = "a"\nvendor_version = "1"\n',
+        [
+            "the key 'default_bytes' " + NO_COUNT,
+            "the key 'greatest_bytes' " + NO_COUNT,
+            "the key 'pool' is no array of tables",
+            "the key 'node' is no array of tables",
+        ],
+    ),
+]
+
 LARGE_POOL = b"""\
 name = "pools.example.org"
 vendor_version = "1.0.0"

@@ -18,6 +18,8 @@ DEPLOY = os.path.join(TOP, "deploy")
 UNITS = ["csid.service", "csid-front.service"]
 # Started by hand, once.
 FIRST = "csid-new.service"
+# What the operator changes of the options.
+DEFAULTS = "csid.default"
 # Two replicas over etcd: the unit beside these, what differs in them, and the manifest.
 ETCD_UNIT = "csid-etcd.service"
 DIFFERENCES = {"csid.service": "etcd.d/csid.conf", "csid-front.service": "etcd.d/csid-front.conf"}
@@ -71,8 +73,23 @@ class Unit:
                 found = found + [value] if value else []
         return found
 
+    def variables(self):
+        """What the unit itself says of variables; the last word counts."""
+        words = [word for line in self.all("Environment") for word in shlex.split(line)]
+        return dict(word.split("=", 1) for word in words)
+
     def words(self):
-        return shlex.split(self.all("ExecStart")[0])
+        """The words that it starts; a variable that is a word stands for as many as its value has."""
+        given, words = self.variables(), []
+        for word in shlex.split(self.all("ExecStart")[0]):
+            words += given[word[1:]].split() if word.startswith("$") else [word]
+        return words
+
+    def script(self, command):
+        """What a shell is given by a command of the unit."""
+        shell, option, text = shlex.split(command)
+        assert (shell, option) == ("/bin/sh", "-c"), command
+        return text.replace("$$", "$")
 
 
 class Nomad:

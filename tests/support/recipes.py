@@ -240,7 +240,11 @@ class Cluster(Control):
             self.start(unit)
 
     def scale(self, *words):
-        """The pod ends behind this call, and answers further calls meanwhile."""
+        """The pod ends after this call, and answers further calls until then. That of the StatefulSet begins
+        again by another one.
+        """
+        if words == ("statefulset", "csid", "--replicas", "1"):
+            return self.begin_statefulset()
         assert words[1:] == ("csid", "--replicas", "0") and os.path.exists(self.objects + words[0]), words
         subprocess.Popen(
             [sys.argv[0], "--namespace", "csid", "end_units"],
@@ -400,9 +404,9 @@ class Place:
         said = self.shell(text)
         assert said[2] == 0, (text, said)
 
-    def recipe(self, heading, number=0, **variables):
+    def recipe(self, heading, number=0, page="OPERATING.md", **variables):
         """What a block of a recipe says, run in the folder of the file."""
-        return self.shell(blocks("## Copies and restores")[0] + blocks(heading)[number], **variables)
+        return self.shell(blocks("## Copies and restores")[0] + blocks(heading, page)[number], **variables)
 
     def in_folder(self, command):
         """What a command says that stands in the page, in the folder of the file."""

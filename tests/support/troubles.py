@@ -90,6 +90,7 @@ OF_FILE = (
     "there is no such file, and none is made",
     "a change was refused, by the database or for memory; from then on .*",
     "the database refused a read",
+    "the database refused a call: (database or disk is full|disk I/O error)",
     "the database failed: .*",
 )
 DISK_LINES = re.compile(

@@ -1,0 +1,503 @@
+"""The commands of csictl for people, over csid, and over peers that are played."""
+
+import os
+
+from tests.support.csictl import CONTROLLER, CREATE, Line, Server, VOL_1, call, ok, refusal, run, text
+from tests.support.rows import CsictlTest
+from tests.test_csictl_call import CLOSED, Peer
+from tests.test_csictl_json import Pages
+
+
+def varint(number):
+    out = b""
+    while number > 0x7F:
+        out += bytes([number & 0x7F | 0x80])
+        number >>= 7
+    return out + bytes([number])
+
+
+def part(number, payload):
+    """A field of wire type 2."""
+    return varint(8 * number + 2) + varint(len(payload)) + payload
+
+
+def pairs(number, of):
+    return b"".join(part(number, part(1, key.encode()) + part(2, of[key].encode())) for key in sorted(of))
+
+
+def entry(name, size, topologies=(), nodes=(), **context):
+    """An entry of ListVolumes in hexadecimal digits; of topologies, pairs each (docs/PROTOCOL.md, "Messages")."""
+    volume = b"\x08" + varint(size % (1 << 64)) + part(2, name.encode()) + pairs(3, context)
+    volume += b"".join(part(5, pairs(1, segments)) for segments in topologies)
+    return part(1, part(1, volume) + part(2, b"".join(part(1, it.encode()) for it in nodes))).hex()
+
+
+GIB, MIB = 1 << 30, 1 << 20
+THREE = [
+    entry("vol-1", GIB, [{"zone": "a"}], ["n1"], pool="p1"),
+    entry("vol-22", 5 * MIB, [{"zone": "b", "rack": "7"}], ["n1", "n2"], pool="p22"),
+    entry("vol-3", 1000),
+]
+NEXT = "120131"
+HEADINGS = "ID  SIZE  TOPOLOGY  NODES  POOL\n"
+VOLUMES = (
+    "ID      SIZE    TOPOLOGY       NODES  POOL\n"
+    "vol-1   1 GiB   zone=a         n1     p1\n"
+    "vol-22  5 MiB   rack=7,zone=b  n1,n2  p22\n"
+    "vol-3   1000 B  -              -      -\n"
+)
+OUTDATED = refusal(10, "bad starting token")
+IN_JSON = (
+    '{"entries":[{"status":{"publishedNodeIds":["n1","n2"]},"volume":{"accessibleTopology":'
+    '[{"segments":{"rack":"7","zone":"b"}}],"capacityBytes":"5242880","volumeContext":{"pool":"p22"},'
+    '"volumeId":"vol-22"}}],"nextToken":""}\n'
+)
+
+# Each row: what it shows, words, what the calls of each connection are answered, the tokens of the calls, standard
+# output, standard error, status.
+SHOWN = [
+    ("volumes", ["volumes"], [[ok("".join(THREE))]], [[""]], VOLUMES, "", 0),
+    ("no volumes", ["volumes"], [[ok("")]], [[""]], HEADINGS, "", 0),
+    (
+        "volumes of two pages",
+        ["volumes"],
+        [[ok(THREE[0] + NEXT), ok(THREE[1] + THREE[2])]],
+        [["", NEXT]],
+        VOLUMES,
+        "",
+        0,
+    ),
+    (
+        "volumes of a node",
+        ["volumes", "--node", "n2"],
+        [[ok("".join(THREE))]],
+        [[""]],
+        "ID      SIZE   TOPOLOGY       NODES  POOL\nvol-22  5 MiB  rack=7,zone=b  n1,n2  p22\n",
+        "",
+        0,
+    ),
+    ("volumes of no node", ["volumes", "--node", "n"], [[ok("".join(THREE))]], [[""]], HEADINGS, "", 0),
+    ("volumes of a node in JSON", ["volumes", "--json", "--node", "n2"], [[ok("".join(THREE))]], [[""]], IN_JSON, "", 0),
+    (
+        "words that are escaped, and topologies",
+        ["volumes"],
+        [[ok(entry("v 1%", 0, [{"zone": "a"}, {"zone": "b"}], ["n\n"], pool="p\t"))]],
+        [[""]],
+        "ID        SIZE  TOPOLOGY       NODES  POOL\nv%201%25  0 B   zone=a;zone=b  n%0A   p%09\n",
+        "",
+        0,
+    ),
+    ("an entry without a volume", ["volumes"], [[ok("0a00")]], [[""]], HEADINGS + "-   -     -         -      -\n", "", 0),
+    (
+        "nodes",
+        ["nodes"],
+        [[ok("".join(THREE))]],
+        [[""]],
+        "NODE  VOLUMES  IDS\nn1    2        vol-1,vol-22\nn2    1        vol-22\n",
+        "",
+        0,
+    ),
+    ("no nodes", ["nodes"], [[ok(THREE[2])]], [[""]], "NODE  VOLUMES  IDS\n", "", 0),
+    (
+        "pools",
+        ["pools"],
+        [[ok("".join(THREE) + entry("vol-4", GIB // 2, [{"zone": "a"}], pool="p1"))]],
+        [[""]],
+        "POOL  TOPOLOGY       VOLUMES  SIZE\n"
+        "p1    zone=a         2        1.5 GiB\n"
+        "p22   rack=7,zone=b  1        5 MiB\n"
+        "-     -              1        1000 B\n",
+        "",
+        0,
+    ),
+    (
+        "topologies without pools",
+        ["pools"],
+        [[ok("".join(entry("v", MIB, [{"zone": zone}]) for zone in "aba"))]],
+        [[""]],
+        "POOL  TOPOLOGY  VOLUMES  SIZE\n-     zone=a    2        2 MiB\n-     zone=b    1        1 MiB\n",
+        "",
+        0,
+    ),
+    (
+        "a volume",
+        ["volume", "vol-22"],
+        [[ok("".join(THREE[:2]) + NEXT), ok(THREE[2])]],
+        [["", NEXT]],
+        "ID        vol-22\n"
+        "SIZE      5 MiB\n"
+        "TOPOLOGY  rack=7,zone=b\n"
+        "NODES     n1,n2\n"
+        "POOL      p22\n"
+        "CONTEXT   pool=p22\n",
+        "",
+        0,
+    ),
+    (
+        "a volume that does not exist",
+        ["volume", "vol-2"],
+        [[ok("".join(THREE))]],
+        [[""]],
+        "",
+        "csictl: vol-2: no volume has this id\n",
+        1,
+    ),
+    (
+        "a token that is no longer good",
+        ["volumes"],
+        [[ok(THREE[1] + NEXT), OUTDATED, ok(THREE[0] + NEXT), ok(THREE[1] + THREE[2])]],
+        [["", NEXT, "", NEXT]],
+        VOLUMES,
+        "",
+        0,
+    ),
+    (
+        "tokens that are never good",
+        ["volumes"],
+        [[ok(THREE[0] + NEXT), OUTDATED] * 5],
+        [["", NEXT] * 5],
+        "10 ABORTED bad starting token\n",
+        "",
+        1,
+    ),
+    ("a first page is asked for once", ["nodes"], [[OUTDATED]], [[""]], "10 ABORTED bad starting token\n", "", 1),
+    (
+        "a refusal",
+        ["pools"],
+        [[refusal(13, "store refused")]],
+        [[""]],
+        "13 INTERNAL store refused\n",
+        "",
+        1,
+    ),
+    (
+        "a refusal of a later page in JSON",
+        ["volumes", "--json"],
+        [[ok(THREE[0] + NEXT), refusal(13, "store refused")]],
+        [["", NEXT]],
+        '{"code":13,"message":"store refused"}\n',
+        "",
+        1,
+    ),
+    (
+        "pages in a ring",
+        ["volumes"],
+        [[ok(THREE[0] + NEXT), ok(THREE[1] + NEXT)]],
+        [["", NEXT]],
+        "",
+        "csictl: the pages have no end\n",
+        3,
+    ),
+    (
+        "no page",
+        ["volume", "vol-1"],
+        [[ok("0a")]],
+        [[""]],
+        "",
+        "csictl: the body is no response of the method\n",
+        3,
+    ),
+    (
+        "a page that is answered by a second try",
+        ["volumes", "--tries", "2"],
+        [[ok(THREE[0] + NEXT), CLOSED], [ok(THREE[1] + THREE[2])]],
+        [["", NEXT], [NEXT]],
+        VOLUMES,
+        "csictl: PATH: closed without a reply: try 2 of 2\n",
+        0,
+    ),
+    ("no answer", ["nodes"], [[CLOSED]], [[""]], "", "csictl: PATH: closed without a reply\n", 5),
+]
+
+# Bytes, and how they are shown: in the greatest unit in which they are exact to one decimal.
+SIZES = [
+    (0, "0 B"),
+    (1, "1 B"),
+    (1023, "1023 B"),
+    (1024, "1 KiB"),
+    (1280, "1280 B"),
+    (1536, "1.5 KiB"),
+    (1537, "1537 B"),
+    (MIB - 1, "1048575 B"),
+    (MIB, "1 MiB"),
+    (MIB + 512, "1024.5 KiB"),
+    (1025 * MIB, "1025 MiB"),
+    (3 * GIB // 2, "1.5 GiB"),
+    (1 << 40, "1 TiB"),
+    (1 << 50, "1 PiB"),
+    (1 << 60, "1 EiB"),
+    (7 << 60, "7 EiB"),
+    ((1 << 63) - 1, "9223372036854775807 B"),
+    (-1, "-1 B"),
+]
+
+# Sizes as they are written, and their bytes.
+WRITTEN = [
+    ("0", 0),
+    ("1", 1),
+    ("1B", 1),
+    ("1Ki", 1 << 10),
+    ("1Mi", 1 << 20),
+    ("1Gi", 1 << 30),
+    ("1Ti", 1 << 40),
+    ("1Pi", 1 << 50),
+    ("7Ei", 7 << 60),
+    ("1k", 10**3),
+    ("1K", 10**3),
+    ("1M", 10**6),
+    ("500M", 500 * 10**6),
+    ("1G", 10**9),
+    ("1T", 10**12),
+    ("1P", 10**15),
+    ("9E", 9 * 10**18),
+    ("0010Ki", 10240),
+    ("9223372036854775807", (1 << 63) - 1),
+    ("9007199254740991Ki", (1 << 63) - 1024),
+]
+NO_SIZES = [
+    "",
+    "Ki",
+    "B",
+    "+1",
+    "1.5Gi",
+    "1KiB",
+    "1KB",
+    "1 Ki",
+    " 1",
+    "1ki",
+    "1m",
+    "1e3",
+    "0x1",
+    "8Ei",
+    "10E",
+    "9007199254740992Ki",
+    "9223372036854775808",
+    "18446744073709551617",
+    "18446744073709551616Gi",
+]
+MODES = [
+    ("single-node-writer", 1),
+    ("single-node-reader-only", 2),
+    ("multi-node-reader-only", 3),
+    ("multi-node-single-writer", 4),
+    ("multi-node-multi-writer", 5),
+    ("single-node-single-writer", 6),
+    ("single-node-multi-writer", 7),
+    ("0", 0),
+    ("7", 7),
+    ("8", 8),
+]
+ID, NODE = "0a05766f6c2d31", "12026e31"
+BLOCK = "1a060a001a020801"
+CONTEXT = ok("0a110a08726561646f6e6c79120566616c7365")
+
+# Each row: words, the method, its message, the reply, standard output, standard error, status.
+CHANGES = [
+    (
+        ["create", "pvc-7", "--size", "1Gi"],
+        CREATE,
+        "0a057076632d37 1206 088080808004" + BLOCK,
+        ok(VOL_1),
+        "created vol-1, 1 MiB\n",
+        "",
+        0,
+    ),
+    (
+        [
+            *["create", "--size", "1Gi", "--limit", "2Gi", "--mode", "single-node-reader-only", "--fs", "ext4"],
+            *["--parameters", "tier=fast", "--mutable", "iops=5", "--pool-topology", "zone=a", "a"],
+        ],
+        CREATE,
+        "0a0161 120c 088080808004 108080808008 1a0c 12060a0465787434 1a020802 220c 0a0474696572 120466617374"
+        "3a0d 0a0b 0a09 0a047a6f6e65 120161 4209 0a04696f7073 120135",
+        ok(VOL_1),
+        "created vol-1, 1 MiB\n",
+        "",
+        0,
+    ),
+    (
+        ["create", "a", "--size", "1"],
+        CREATE,
+        "0a0161 1202 0801" + BLOCK,
+        refusal(11, "capacity is out of range"),
+        "11 OUT_OF_RANGE capacity is out of range\n",
+        "",
+        1,
+    ),
+    (
+        ["create", "a", "--size", "1"],
+        CREATE,
+        "0a0161 1202 0801" + BLOCK,
+        ok(""),
+        "",
+        "csictl: the body is no response of the method\n",
+        3,
+    ),
+    (
+        ["publish", "vol-1", "n1"],
+        "ControllerPublishVolume",
+        ID + NODE + BLOCK,
+        CONTEXT,
+        "published vol-1 to n1\n",
+        "",
+        0,
+    ),
+    (
+        ["publish", "vol-1", "n1", "--mode", "7", "--fs", "xfs", "--readonly"],
+        "ControllerPublishVolume",
+        ID + NODE + "1a0b 12050a03786673 1a020807 2001",
+        CONTEXT,
+        "published vol-1 to n1\n",
+        "",
+        0,
+    ),
+    (
+        ["publish", "vol-1", "n1"],
+        "ControllerPublishVolume",
+        ID + NODE + BLOCK,
+        refusal(5, "node not found"),
+        "5 NOT_FOUND node not found\n",
+        "",
+        1,
+    ),
+    (
+        ["unpublish", "vol-1", "n1"],
+        "ControllerUnpublishVolume",
+        ID + NODE,
+        ok(""),
+        "unpublished vol-1 from n1\n",
+        "",
+        0,
+    ),
+    (
+        ["unpublish", "vol-1"],
+        "ControllerUnpublishVolume",
+        ID,
+        ok(""),
+        "unpublished vol-1 from all nodes\n",
+        "",
+        0,
+    ),
+    (["delete", "vol-1"], "DeleteVolume", ID, ok(""), "deleted vol-1\n", "", 0),
+    (["delete", " "], "DeleteVolume", "0a0120", ok(""), "deleted %20\n", "", 0),
+    (
+        ["delete", "vol-1"],
+        "DeleteVolume",
+        ID,
+        refusal(9, "volume is in use"),
+        "9 FAILED_PRECONDITION volume is in use\n",
+        "",
+        1,
+    ),
+    (["delete", "vol-1"], "DeleteVolume", ID, CLOSED, "", "csictl: PATH: closed without a reply\n", 5),
+]
+
+# Words that are refused: status 2, one line, nothing written.
+REFUSED = [
+    (["create", "--size", "1"], "NAME"),
+    (["create", "a"], "--size"),
+    (["create", "a", "b", "--size", "1"], "b"),
+    (["create", "a", "--size", "1", "--limit", "x"], "--limit: no size"),
+    (["create", "a", "--size", "1", "--mode", "writer"], "--mode: no access mode"),
+    (["create", "a", "--size", "1", "--mode", "SINGLE_NODE_WRITER"], "--mode: no access mode"),
+    (["create", "a", "--size", "1", "--mode", "+1"], "--mode: no access mode"),
+    (["create", "a", "--size", "1", "--mode", "2147483648"], "--mode: no access mode"),
+    (["create", "a", "--size", "1", "--parameters", "k"], "="),
+    (["create", "a", "--size", "1", "--topology", "zone=a"], "--topology"),
+    (["create", "a", "--size", "1", "--tries", "11"], "--tries"),
+    (["publish", "vol-1"], "NODE"),
+    (["publish"], "ID"),
+    (["unpublish"], "ID"),
+    (["delete"], "ID"),
+    (["delete", "vol-1", "n1"], "n1"),
+    (["volume"], "ID"),
+    (["volumes", "vol-1"], "vol-1"),
+    (["volumes", "--timeout", "+1"], "--timeout: not decimal digits alone"),
+    (["nodes", "--json"], "--json"),
+    (["pools", "--node", "n1"], "--node"),
+]
+
+
+class PeopleTest(CsictlTest):
+    """The commands for people."""
+
+    def ask(self, path, *words):
+        return text(run([self.csictl, *words, "--socket", path], input=b""))
+
+    def shown(self, name, words, connections, tokens, wanted):
+        """Compares what comes of the pages of a server, and what it was asked."""
+        pages = Pages(self.folder, connections)
+        out, said, status = wanted
+        self.row(name, self.ask(pages.path, *words), (out, said.replace("PATH", pages.path), status))
+        asked = [[call(CONTROLLER + "ListVolumes", token) for token in of] for of in tokens]
+        self.row("what was asked: " + name, pages.end(), asked)
+
+    def change(self, name, words, method, message, reply, wanted):
+        """Compares what comes of a change, and what the server was asked."""
+        peer = Peer(self.folder, [reply])
+        out, said, status = wanted
+        self.row(name, self.ask(peer.path, *words), (out, said.replace("PATH", peer.path), status))
+        calls, _ = peer.end()
+        self.row("what was asked: " + name, calls, [call(CONTROLLER + method, message.replace(" ", ""))])
+
+    def test_listings(self):
+        """What entries of listings say."""
+        for name, words, connections, tokens, *wanted in SHOWN:
+            self.shown(name, words, connections, tokens, tuple(wanted))
+        for size, shown in SIZES:
+            out = "POOL  TOPOLOGY  VOLUMES  SIZE\n-     -         1        %s\n" % shown
+            self.shown("%d bytes" % size, ["pools"], [[ok(entry("v", size))]], [[""]], (out, "", 0))
+
+    def test_changes(self):
+        """The calls of changes, and what is said of their replies."""
+        for words, method, message, reply, *wanted in CHANGES:
+            self.change(" ".join(words), words, method, message, reply, tuple(wanted))
+        for size, wanted in WRITTEN:
+            given = b"\x08" + varint(wanted) if wanted else b""
+            self.change(
+                "the size " + size,
+                ["create", "a", "--size", size],
+                CREATE,
+                "0a0161" + part(2, given).hex() + BLOCK,
+                ok(VOL_1),
+                ("created vol-1, 1 MiB\n", "", 0),
+            )
+        for mode, number in MODES:
+            given = "1a0208%02x" % number if number else "1a00"
+            self.change(
+                "the mode " + mode,
+                ["publish", "vol-1", "n1", "--mode", mode],
+                "ControllerPublishVolume",
+                ID + NODE + part(3, bytes.fromhex("0a00" + given)).hex(),
+                CONTEXT,
+                ("published vol-1 to n1\n", "", 0),
+            )
+
+    def test_words_that_are_refused(self):
+        """Nothing is sent where the words are not understood."""
+        for words, said in REFUSED:
+            self.row("refused: " + " ".join(words), self.ask("s", *words), ("", Line("csictl: ", said), 2))
+        for size in NO_SIZES:
+            words = ["create", "a", "--size=" + size]
+            self.row("refused: " + words[2], self.ask("s", *words), ("", Line("csictl: ", "--size"), 2))
+
+    def test_over_csid(self):
+        """The commands over csid, one after the other."""
+        server = Server(self.csid, os.path.join(self.folder, "p.sock"))
+        row = "ID     SIZE   TOPOLOGY  NODES  POOL\nvol-1  1 MiB  zone=a    %s\n"
+        for words, out, status in [
+            (["volumes"], HEADINGS, 0),
+            (["create", "pvc-7", "--size", "1Mi", "--pool-topology", "zone=a"], "created vol-1, 1 MiB\n", 0),
+            (["volumes"], row % "-      p1", 0),
+            (["publish", "vol-1", "n1"], "published vol-1 to n1\n", 0),
+            (["volumes"], row % "n1     p1", 0),
+            (["nodes"], "NODE  VOLUMES  IDS\nn1    1        vol-1\n", 0),
+            (["pools"], "POOL  TOPOLOGY  VOLUMES  SIZE\np1    zone=a    1        1 MiB\n", 0),
+            (["delete", "vol-1"], "9 FAILED_PRECONDITION volume is in use\n", 1),
+            (["unpublish", "vol-1"], "unpublished vol-1 from all nodes\n", 0),
+            (["delete", "vol-1"], "deleted vol-1\n", 0),
+            (["delete", "vol-1"], "deleted vol-1\n", 0),
+            (["volumes"], HEADINGS, 0),
+        ]:
+            self.row("over csid: " + " ".join(words), self.ask(server.path, *words), (out, "", status))
+        server.kill()

@@ -1,0 +1,287 @@
+"""`csid --list-tables`."""
+
+import json
+import os
+import shutil
+import subprocess
+import threading
+
+from tests.support.configs import sample
+from tests.support.frames import BLOCK, NO_MEMORY, WRITE_FAILED, controller
+from tests.support.processes import SECONDS, TOP, run, small_memory, write
+from tests.support.rows import CsidTest
+from tests.support.tables import (
+    A,
+    BLOCK_CAPS,
+    MANY,
+    MIB,
+    NO_DATABASE,
+    NO_FILE,
+    Tables,
+    attachment,
+    cell,
+    next_is,
+    volume,
+)
+
+# Capabilities as cells have them: a mount of any file system with mode 1, and one of ext4 with mode 5.
+MOUNT = "1a0612001a020801"
+EXT4 = "1a0c12060a04" + b"ext4".hex() + "1a020805"
+
+# Parameters k=v and l=a b, and the mutable parameter m= of no bytes.
+PARAMS = "22060a016b120176" + "22080a016c12036120 62".replace(" ", "") + "42050a016d1200"
+
+ROWS = "".join(
+    [
+        volume(1, "'pvc-1'", 3 << 30, "'ssd'"),
+        volume(2, "'a b'", 1536 << 20, "'hdd'", cell(MOUNT + EXT4), cell(PARAMS)),
+        volume(7, "'pvc-\"7\"'", 5 * MIB, "'ssd'"),
+        volume(8, "'ä' || char(10)", 1 << 62, "'hdd'"),
+        attachment(1, "'n1'"),
+        attachment(2, "'n2'", cell(EXT4)),
+        attachment(2, "'n1'", cell(EXT4)),
+        attachment(8, "'n,1'"),
+        next_is(9),
+    ]
+)
+
+TABLE = (
+    "ID     NAME       POOL  SIZE     CAPABILITIES                                           PA"
+    "RAMETERS   MUTABLE  NODES\n"
+    "vol-1  pvc-1      ssd   3 GiB    block:SINGLE_NODE_WRITER                               - "
+    "           -        n1\n"
+    "vol-2  a%20b      hdd   1.5 GiB  mount:SINGLE_NODE_WRITER,ext4:MULTI_NODE_MULTI_WRITER  k="
+    "v,l=a%20b  m=       n1,n2\n"
+    'vol-7  pvc-"7"    ssd   5 MiB    block:SINGLE_NODE_WRITER                               - '
+    "           -        -\n"
+    "vol-8  %C3%A4%0A  hdd   4 EiB    block:SINGLE_NODE_WRITER                               - "
+    "           -        n,1\n"
+    """
+POOL  VOLUMES  SIZE
+hdd   2        4294967297.5 GiB
+ssd   2        3077 MiB
+
+NODE  VOLUMES  SIZE
+n,1   1        4 EiB
+n1    2        4.5 GiB
+n2    1        1.5 GiB
+"""
+)
+
+
+def entry(number, name, pool, size, nodes, capabilities=None, parameters=None, mutable=None):
+    """A volume as the document has it."""
+    return {
+        "id": "vol-%d" % number,
+        "name": name,
+        "pool": pool,
+        "bytes": size,
+        "capabilities": capabilities or [{"access": "block", "mode": "SINGLE_NODE_WRITER"}],
+        "parameters": parameters or {},
+        "mutableParameters": mutable or {},
+        "nodes": nodes,
+    }
+
+
+DOCUMENT = {
+    "volumes": [
+        entry(1, "pvc-1", "ssd", 3 << 30, ["n1"]),
+        entry(
+            2,
+            "a b",
+            "hdd",
+            1536 << 20,
+            ["n1", "n2"],
+            [
+                {"access": "mount", "fsType": "", "mode": "SINGLE_NODE_WRITER"},
+                {"access": "mount", "fsType": "ext4", "mode": "MULTI_NODE_MULTI_WRITER"},
+            ],
+            {"k": "v", "l": "a b"},
+            {"m": ""},
+        ),
+        entry(7, 'pvc-"7"', "ssd", 5 * MIB, []),
+        entry(8, "ä\n", "hdd", 1 << 62, ["n,1"]),
+    ],
+    "pools": [
+        {"name": "hdd", "volumes": 2, "bytes": (1 << 62) + (1536 << 20)},
+        {"name": "ssd", "volumes": 2, "bytes": (3 << 30) + 5 * MIB},
+    ],
+    "nodes": [
+        {"id": "n,1", "volumes": 1, "bytes": 1 << 62},
+        {"id": "n1", "volumes": 2, "bytes": (3 << 30) + (1536 << 20)},
+        {"id": "n2", "volumes": 1, "bytes": 1536 << 20},
+    ],
+}
+
+EMPTY = b"""\
+ID  NAME  POOL  SIZE  CAPABILITIES  PARAMETERS  MUTABLE  NODES
+
+POOL  VOLUMES  SIZE
+
+NODE  VOLUMES  SIZE
+"""
+
+
+class ListTest(CsidTest):
+    """`csid --list-tables`."""
+
+    def listed(self, tables, *options, **how):
+        return run([self.csid, "--list-tables", tables.path] + list(options), **how)
+
+    def document(self, tables, *options):
+        out, line, status = self.listed(tables, "--json", *options)
+        self.assertEqual((line, status), ("", 0))
+        return json.loads(out)
+
+    def ids(self, tables, *options):
+        return [one["id"] for one in self.document(tables, *options)["volumes"]]
+
+    def test_table(self):
+        """Each volume is a row, in the order of numbers, and each pool and node that has some another."""
+        tables = Tables(self.csid, self.folder).new().script(ROWS)
+        kept = tables.files()
+        self.row("all", self.listed(tables), (TABLE.encode(), "", 0))
+        self.row("none", self.listed(Tables(self.csid, self.folder, "new.db").new()), (EMPTY, "", 0))
+        self.row("none that is chosen", self.listed(tables, "--name", "pvc"), (EMPTY, "", 0))
+        self.row("to the byte as it was", tables.files(), kept)
+
+    def test_json(self):
+        """The document has the values of the rows, and a volume is a line of it."""
+        tables = Tables(self.csid, self.folder).new().script(ROWS)
+        self.row("all", self.document(tables), DOCUMENT)
+        out, _, _ = self.listed(tables, "--json")
+        self.row("its lines", len(out.splitlines()), 1 + 4 + 3)
+        empty = {"volumes": [], "pools": [], "nodes": []}
+        self.row("none", self.document(Tables(self.csid, self.folder, "new.db").new()), empty)
+
+    def test_chosen(self):
+        """A name, a pool and a node choose; a volume fits each that is given. Sums are of what is listed."""
+        tables = Tables(self.csid, self.folder).new().script(ROWS)
+        for name, options, ids in [
+            ("a name", ["--name", "a b"], ["vol-2"]),
+            ("a name that begins alike", ["--name", "pvc-"], []),
+            ("a name of odd characters", ["--name", 'pvc-"7"'], ["vol-7"]),
+            ("a pool", ["--pool", "ssd"], ["vol-1", "vol-7"]),
+            ("a node", ["--node", "n1"], ["vol-1", "vol-2"]),
+            ("a node that comes second", ["--node", "n2"], ["vol-2"]),
+            ("a node of none", ["--node", "n"], []),
+            ("a pool and a node", ["--pool", "hdd", "--node", "n1"], ["vol-2"]),
+            ("a pool and the name of another", ["--pool", "hdd", "--name", "pvc-1"], []),
+            ("an empty name", ["--name", ""], []),
+        ]:
+            self.row(name, self.ids(tables, *options), ids)
+        sums = self.document(tables, "--node", "n2")
+        self.row("the pools of a node", sums["pools"], [{"name": "hdd", "volumes": 1, "bytes": 1536 << 20}])
+        self.row("the nodes of its volumes", [one["id"] for one in sums["nodes"]], ["n1", "n2"])
+
+    def test_many(self):
+        """A listing goes on over pages: 1,000 volumes are one."""
+        for count in 999, 1000, 1001, 2500:
+            tables = Tables(self.csid, self.folder, "many-%d.db" % count).new()
+            tables.script(MANY % (count, BLOCK_CAPS) + next_is(count + 1))
+            self.row("%d volumes" % count, self.ids(tables), ["vol-%d" % n for n in range(1, count + 1)])
+            self.row("the sum of %d" % count, self.document(tables)["pools"][0]["bytes"], count * MIB)
+
+    def test_older_format(self):
+        """Tables of format 1 are listed as they are."""
+        for count in 0, 1, 1000:
+            older = Tables(self.csid, self.folder, "format-1-%d.db" % count)
+            shutil.copy(os.path.join(TOP, "tests", "stored", "format-1-%d.db" % count), older.path)
+            kept = older.files()
+            self.row("%d volumes" % count, self.ids(older), ["vol-%d" % n for n in range(1, count + 1)])
+            self.row("%d volumes, to the byte as it was" % count, older.files(), kept)
+
+    def test_refusals(self):
+        """A file that is no file of tables, and a row that cannot be read, are refused in a line."""
+        tables = Tables(self.csid, self.folder)
+        self.row("no file", self.listed(tables), tables.says("there is no such file, and none is made"))
+        self.row("no file is made", tables.files(), {})
+        self.row(
+            "no path",
+            run([self.csid, "--list-tables", ""]),
+            (b"", "csid: the path of the tables is empty\n", 4),
+        )
+        write(tables.path, b"")
+        self.row("a file of nothing", self.listed(tables), tables.says("it has no tables, and none are made"))
+        write(tables.path, b"x" * 4096)
+        self.row("no database", self.listed(tables), tables.says(NO_DATABASE))
+        unread = "the tables cannot be read after volume %d: --check-tables says why"
+        for name, after, rows in [
+            ("capabilities that are none", 0, volume(1, caps="x'1a'") + next_is(9)),
+            ("a name that is a blob", 0, volume(1, "x'61'") + next_is(9)),
+            (
+                "parameters that are none",
+                1000,
+                MANY % (1000, BLOCK_CAPS) + volume(1001, "'x'", params="x'22'") + next_is(1002),
+            ),
+        ]:
+            tables.new().script(rows)
+            out, line, status = self.listed(tables)
+            self.row(name, (line, status), ("csid: %s: %s\n" % (tables.path, unread % after), 4))
+        tables.new().script(A)
+        write(tables.path + "-journal", b"\x01")
+        self.row("next to a journal", self.listed(tables), tables.says(NO_FILE))
+        os.unlink(tables.path + "-journal")
+        with open("/dev/full", "wb") as full:
+            self.row("a full output", self.listed(tables, stdout=full), (b"", WRITE_FAILED, 5))
+        self.row("no memory", self.listed(tables, preexec_fn=small_memory), (b"", NO_MEMORY, 6))
+
+    def test_served(self):
+        """While csid serves the tables, what is listed is what was committed at one moment."""
+        tables = Tables(self.csid, self.folder).new()
+        config = os.path.join(self.folder, "config.toml")
+        write(config, sample((b"10485760", b"%d" % (1 << 40))))
+        server = subprocess.Popen(
+            tables.command + ["--config", config],
+            stdin=subprocess.PIPE,
+            stdout=subprocess.PIPE,
+            stderr=subprocess.PIPE,
+            bufsize=0,
+        )
+        ended = threading.Event()
+
+        def text(field, value):
+            return bytes([field << 3 | 2, len(value)]) + value
+
+        # One volume after the other is made, published at n1, unpublished and deleted, but for each tenth,
+        # which stays. So there is at most one volume that is not a tenth, and it is the last one.
+        def change():
+            number = 0
+            while not ended.is_set():
+                number += 1
+                volume_id = text(1, b"vol-%d" % number)
+                calls = [("CreateVolume", text(1, b"v%d" % number) + BLOCK)]
+                if number % 10:
+                    calls.append(("ControllerPublishVolume", volume_id + text(2, b"n1") + BLOCK))
+                    calls.append(("ControllerUnpublishVolume", volume_id))
+                    calls.append(("DeleteVolume", volume_id))
+                for method, message in calls:
+                    server.stdin.write(controller(method, message))
+                    head = server.stdout.read(8)
+                    server.stdout.read(int.from_bytes(head[4:8], "big"))
+
+        worker = threading.Thread(target=change, daemon=True)
+        worker.start()
+        seen = []
+        try:
+            for _ in range(60):
+                found = self.document(tables)
+                numbers = [int(one["id"][4:]) for one in found["volumes"]]
+                last = max(numbers, default=0)
+                tenths = [n for n in range(10, last + 1, 10)]
+                others = [n for n in numbers if n % 10]
+                self.assertEqual(numbers, sorted(set(tenths + others)))
+                self.assertLessEqual(len(others), 1)
+                self.assertTrue(not others or others == [last])
+                self.assertEqual([one["name"] for one in found["volumes"]], ["v%d" % n for n in numbers])
+                at = [one["id"] for one in found["volumes"] if one["nodes"]]
+                self.assertIn(at, ([], ["vol-%d" % n for n in others]))
+                counts = [one["volumes"] for one in found["pools"]]
+                self.assertEqual(counts, [len(numbers)] if numbers else [])
+                seen.append((last, len(others), len(at)))
+        finally:
+            ended.set()
+            worker.join(SECONDS)
+            server.stdin.close()
+            server.wait(SECONDS)
+        self.row("states differ", len(set(seen)) > 20, True)

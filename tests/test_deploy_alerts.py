@@ -1,0 +1,92 @@
+"""The alerts and the dashboard as Prometheus reads them: promtool takes their expressions, and the alerts of
+how full it is come at their shares, and after their times.
+"""
+
+import json
+import os
+import re
+import subprocess
+
+from tests.support.deploy import DEPLOY, need, read
+from tests.support.rows import RowTest
+
+ALERTS = os.path.join(DEPLOY, "alerts.yaml")
+# Of what is used, by hundredths, the alerts that must come: a share is above 80 % only where it is more.
+SHARES = [(79, []), (80, []), (81, [80]), (90, [80]), (91, [80, 90])]
+# The alerts, and the series of what is used and of the most, with the label that names one of several.
+FULL = [
+    ("Pool", "csid_front_pool_used_bytes", "csid_front_pool_size_bytes", ', pool="p1"'),
+    ("Node", "csid_front_node_attachments", "csid_front_node_max_volumes", ', node="n1"'),
+    ("Volumes", "csid_front_volumes", "csid_front_max_volumes", ""),
+]
+MINUTES = 60
+
+
+def constant(name, labels, value):
+    series = '%s{job="csid", instance="a"%s}' % (name, labels)
+    return {"series": series, "values": "%dx%d" % (value, MINUTES)}
+
+
+def firing(pattern, minutes, names):
+    """That after so many minutes the alerts of these names are firing, and no other one of the pattern."""
+    return {
+        "expr": 'count by (alertname) (ALERTS{alertstate="firing", alertname=~"%s"})' % pattern,
+        "eval_time": "%dm" % minutes,
+        "exp_samples": [{"labels": '{alertname="%s"}' % name, "value": 1} for name in names],
+    }
+
+
+class AlertsTest(RowTest):
+    """The alerts and the dashboard as Prometheus reads them."""
+
+    def promtool(self, *words):
+        ran = subprocess.run([need("promtool"), *words], capture_output=True, text=True)
+        return ran.returncode, ran.stdout + ran.stderr if ran.returncode else ""
+
+    def check_rules(self, name, series, expectations):
+        path = os.path.join(self.folder, "rules.json")
+        test = {
+            "rule_files": [ALERTS],
+            "evaluation_interval": "1m",
+            "tests": [{"interval": "1m", "input_series": series, "promql_expr_test": expectations}],
+        }
+        with open(path, "w") as file:
+            json.dump(test, file)
+        self.row(name, self.promtool("test", "rules", path), (0, ""))
+
+    def test_rules_are_rules(self):
+        self.row("alerts.yaml", self.promtool("check", "rules", ALERTS), (0, ""))
+
+    def test_queries_are_queries(self):
+        """Each query of the dashboard is taken as the expression of a rule."""
+        queries = [
+            target["expr"] for panel in json.loads(read("dashboard.json"))["panels"] for target in panel["targets"]
+        ]
+        self.assertTrue(queries)
+        rules = [
+            {"record": "query:%d" % number, "expr": re.sub(r"\$__rate_interval", "1m", query)}
+            for number, query in enumerate(queries)
+        ]
+        path = os.path.join(self.folder, "queries.json")
+        with open(path, "w") as file:
+            json.dump({"groups": [{"name": "queries", "rules": rules}]}, file)
+        self.row("the queries", self.promtool("check", "rules", path), (0, ""))
+
+    def test_shares(self):
+        """Each alert of a share comes above its share, after a quarter of an hour."""
+        for what, used, most, labels in FULL:
+            for share, alerts in SHARES:
+                names = ["Csid%sAbove%d" % (what, alert) for alert in alerts]
+                self.check_rules(
+                    "%s at %d %%" % (what, share),
+                    [constant(used, labels, share * 1000), constant(most, labels, 100_000)],
+                    [firing("Csid.+Above.+", 14, []), firing("Csid.+Above.+", 16, names)],
+                )
+
+    def test_old_listing(self):
+        """A listing that ended at 0 seconds is old after 15 minutes, and the alert comes 5 minutes later."""
+        self.check_rules(
+            "a listing that is not repeated",
+            [constant("csid_front_listing_timestamp_seconds", "", 0)],
+            [firing("CsidListingOld", 20, []), firing("CsidListingOld", 22, ["CsidListingOld"])],
+        )

@@ -1,0 +1,228 @@
+"""scripts/lists: the lists of docs/ are those of their sources, and a source that has none is refused."""
+
+import os
+import shutil
+import subprocess
+
+from tests.support.processes import SECONDS, TOP
+from tests.support.rows import RowTest
+
+CRATES = """# Each above what it uses. Bytes:
+low: kit_crate
+
+# Programs, which are proved too:
+high : low
+"""
+LIMITS = """//! Limits.
+
+/// The most bytes of a text: a name, an id, a token, and so on, so that what is said of it is longer than one
+/// line. No more.
+pub const MAX_TEXT_BYTES: usize = 128;
+
+/// The most volumes.
+pub const MAX_VOLUMES: u64 = 100_000;
+
+/// The most bytes of all pools together.
+pub const MAX_POOL_BYTES: u64 = 1 << 62;
+"""
+FAULTS = """/// What is wrong with a pool.
+#[derive(Debug, Error)]
+pub enum PoolRule {
+    /// It is empty.
+    #[error("the name is empty")]
+    Name,
+    /// An earlier one has the name.
+    #[error("an earlier pool has the name")]
+    NameTwice,
+}
+
+/// What is wrong with the sizes.
+pub enum SizeRule {
+    /// They are above the limit.
+    #[error("the sizes are above the limit")]
+    Limit,
+}
+
+/// Why parts make no configuration.
+pub enum ConfigFault {
+    /// There is no pool.
+    #[error("there is no pool")]
+    NoPool,
+    /// The sizes break a rule.
+    #[error(transparent)]
+    Sizes(SizeRule),
+    /// A pool breaks a rule.
+    #[error("pool {name}: {rule}")]
+    Pool {
+        /// The pool's name.
+        name: Text,
+        /// The rule.
+        rule: PoolRule,
+    },
+    /// A node has no id.
+    #[error("node {id}: it has none")]
+    Node {
+        /// The id.
+        id: Text,
+    },
+}
+"""
+FILES = {
+    "crates.txt": CRATES,
+    "crates/csi_config/src/fault.rt": FAULTS,
+    "crates/csi_types/src/limits.rt": LIMITS,
+    "crates/low/src/lib.rt": "//! Bytes, also\n//! long ones. More of them.\n//!\n//! Details.\nmod bytes;\n",
+    "crates/high/src/main.rt": "//! The program, with a sentence that is longer than a line of a page, so that the list\n"
+    "//! goes on in a second line.\n"
+    "mod command;\n",
+    "docs/ARCHITECTURE.md": "Crates:\n<!-- scripts/lists: crates -->\n<!-- end -->\nThe end.\n",
+    "docs/DECISIONS.md": "<!-- scripts/lists: decisions -->\n\n| old |\n\n<!-- end -->\n",
+    "docs/OPERATING.md": """<!-- scripts/lists: limits -->
+<!-- end -->
+
+<!-- scripts/lists: faults -->
+<!-- end -->
+""",
+    "docs/decisions/0001-one.md": "# One thing\n\nState: kept. Date: 2026-01-02.\n\nContext: none.\n",
+    "docs/decisions/0002-two.md": "# Another\n\nState: replaced by 0001. Date: 2026-03-04.\n",
+}
+ARCHITECTURE = """Crates:
+<!-- scripts/lists: crates -->
+
+Bytes:
+
+- `low`: Bytes, also long ones.
+
+Programs:
+
+- `high`: The program, with a sentence that is longer than a line of a page, so that the list goes on in a
+  second line.
+
+<!-- end -->
+The end.
+"""
+DECISIONS = """<!-- scripts/lists: decisions -->
+
+| record | decision | state | date |
+|---|---|---|---|
+| [0001](decisions/0001-one.md) | One thing | kept | 2026-01-02 |
+| [0002](decisions/0002-two.md) | Another | replaced by 0001 | 2026-03-04 |
+
+<!-- end -->
+"""
+OPERATING = """<!-- scripts/lists: limits -->
+
+- `MAX_TEXT_BYTES` is 128: the most bytes of a text: a name, an id, a token, and so on, so that what is said
+  of it is longer than one line.
+- `MAX_VOLUMES` is 100,000: the most volumes.
+- `MAX_POOL_BYTES` is 2^62: the most bytes of all pools together.
+
+<!-- end -->
+
+<!-- scripts/lists: faults -->
+
+    there is no pool
+    the sizes are above the limit
+    pool NAME: the name is empty
+    pool NAME: an earlier pool has the name
+    node ID: it has none
+
+<!-- end -->
+"""
+DIFFERS = "lists: %s differs from its sources: call scripts/lists\n"
+ALL_DIFFER = "".join(DIFFERS % "docs/{}.md".format(it) for it in ("ARCHITECTURE", "DECISIONS", "OPERATING"))
+
+
+class PagesTest(RowTest):
+    """The pages of this repository."""
+
+    def test_lists_are_those_of_their_sources(self):
+        done = subprocess.run(
+            [os.path.join(TOP, "scripts", "lists"), "--check"],
+            capture_output=True,
+            text=True,
+            timeout=SECONDS,
+        )
+        self.row("scripts/lists --check", (done.returncode, done.stdout, done.stderr), (0, "", ""))
+
+
+class ListsTest(RowTest):
+    """scripts/lists over two crates, two records, three limits and five faults."""
+
+    def setUp(self):
+        super().setUp()
+        os.mkdir(os.path.join(self.folder, "scripts"))
+        shutil.copy(os.path.join(TOP, "scripts", "lists"), os.path.join(self.folder, "scripts"))
+        for name, text in FILES.items():
+            self.write(name, text)
+
+    def write(self, name, text):
+        path = os.path.join(self.folder, name)
+        os.makedirs(os.path.dirname(path), exist_ok=True)
+        with open(path, "w", encoding="utf-8") as file:
+            file.write(text)
+
+    def read(self, name):
+        with open(os.path.join(self.folder, name), encoding="utf-8") as file:
+            return file.read()
+
+    def lists(self, *words):
+        done = subprocess.run(
+            ["scripts/lists", *words],
+            cwd=self.folder,
+            capture_output=True,
+            text=True,
+            timeout=SECONDS,
+        )
+        return done.returncode, done.stdout, done.stderr
+
+    def test_check_names_pages_and_writes_none(self):
+        self.row("--check", self.lists("--check"), (1, "", ALL_DIFFER))
+        self.row("the page", self.read("docs/DECISIONS.md"), FILES["docs/DECISIONS.md"])
+
+    def test_lists_are_written(self):
+        self.row("writing", self.lists(), (0, "", ""))
+        self.row("crates", self.read("docs/ARCHITECTURE.md"), ARCHITECTURE)
+        self.row("records", self.read("docs/DECISIONS.md"), DECISIONS)
+        self.row("limits and faults", self.read("docs/OPERATING.md"), OPERATING)
+        self.row("--check", self.lists("--check"), (0, "", ""))
+
+    def test_sources_without_a_list_are_refused(self):
+        rows = [
+            (
+                "docs/DECISIONS.md",
+                "no place\n",
+                "docs/DECISIONS.md has 0 places for the list 'decisions'",
+            ),
+            (
+                "docs/decisions/0002-two.md",
+                "# Another\n\nState: kept.\n",
+                "docs/decisions/0002-two.md does not begin with a title, a state and a date",
+            ),
+            (
+                "crates/high/src/main.rt",
+                "mod command;\n",
+                "crates/high/src/main.rt does not begin with a sentence on the crate",
+            ),
+            (
+                "crates/csi_config/src/fault.rt",
+                "pub enum Fault {\n    /// There is no pool.\n    #[error(\"no pool\")]\n    NoPool,\n}\n",
+                "crates/csi_config/src/fault.rt has no texts of ConfigFault",
+            ),
+            (
+                "crates/csi_types/src/limits.rt",
+                "/// The most.\npub const MOST: u64 = 1;\npub const OTHER: u64 = 2;\n",
+                "crates/csi_types/src/limits.rt says nothing of OTHER",
+            ),
+        ]
+        for name, text, fault in rows:
+            self.write(name, text)
+            self.row(name, self.lists(), (1, "", "lists: %s\n" % fault))
+            self.write(name, FILES[name])
+        os.remove(os.path.join(self.folder, "crates/high/src/main.rt"))
+        missing = "lists: crates/high has no src/lib.rt and no src/main.rt\n"
+        self.row("no source", self.lists(), (1, "", missing))
+
+    def test_arguments_that_are_not_known(self):
+        usage = "usage: scripts/lists [--check]\n"
+        self.row("another word", self.lists("--chek"), (2, "", usage))
