@@ -115,7 +115,7 @@ TOML
         image      = "registry.example.org/csid:1"
         entrypoint = ["tini", "--"]
         command    = "front"
-        args       = ["--csid", "/alloc/csid.sock", "--grace", "20s", "--metrics", ":9809"]
+        args       = ["--csid", "/alloc/csid.sock", "--control", "/alloc/control.sock", "--log-changes", "--grace", "20s", "--metrics", ":9809"]
         ports      = ["metrics"]
 
         readonly_rootfs = true
@@ -129,6 +129,8 @@ TOML
       env {
         CSI_ENDPOINT = "unix:///csi/csi.sock"
         GOMEMLIMIT   = "400MiB"
+        # Where csictl finds the control socket (nomad alloc exec).
+        CSID_SOCKET = "/alloc/control.sock"
       }
 
       resources {

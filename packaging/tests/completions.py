@@ -21,11 +21,17 @@ printf '%s\\n' "${COMPREPLY[@]}"
 # Words, and what is offered for the last of them. The folder of the row has the files 'volumes.db' and
 # 'config.toml'.
 ROWS = [
-    ("csid ", "pipe serve --check-config --check-tables --config --help --version"),
+    (
+        "csid ",
+        "pipe serve --check-config --check-tables --config --list-tables --name --pool --node --json --help"
+        " --version",
+    ),
     ("csid --check-t", "--check-tables"),
     ("csid --check-config c", "config.toml"),
     ("csid --check-tables v", "volumes.db"),
     ("csid --check-tables volumes.db -", "--config"),
+    ("csid --list-tables v", "volumes.db"),
+    ("csid --list-tables volumes.db -", "--name --pool --node --json"),
     ("csid s", "serve"),
     ("csid --v", "--version"),
     ("csid pipe --", "--config --tables --existing --low-memory --help"),
@@ -40,7 +46,24 @@ ROWS = [
     ("csid serve --idle ", ""),
     ("csid serve --connections ", ""),
     ("csid unknown --", ""),
-    ("csictl ", "show frame call vectors --help --version"),
+    (
+        "csictl ",
+        "show frame call vectors volumes nodes pools volume create publish unpublish delete --help --version",
+    ),
+    ("csictl vol", "volumes volume"),
+    ("csictl volumes --", "--node --json --socket --tries --timeout --help"),
+    ("csictl nodes --", "--socket --tries --timeout --help"),
+    ("csictl pools --so", "--socket"),
+    ("csictl pools --socket v", "volumes.db"),
+    ("csictl volume vol-1 --t", "--tries --timeout"),
+    ("csictl create pvc-7 --s", "--size --socket"),
+    ("csictl create pvc-7 --size ", ""),
+    ("csictl create pvc-7 --p", "--parameters --pool-topology"),
+    ("csictl create pvc-7 --mode multi-node-m", "multi-node-multi-writer"),
+    ("csictl publish vol-1 n1 --r", "--readonly"),
+    ("csictl publish --mode single-node-r", "single-node-reader-only"),
+    ("csictl unpublish vol-1 --", "--socket --tries --timeout --help"),
+    ("csictl delete --ti", "--timeout"),
     ("csictl call --ti", "--timeout"),
     ("csictl call --j", "--json"),
     ("csictl call --al", "--all"),
@@ -50,6 +73,22 @@ ROWS = [
     ("csictl call --socket v", "volumes.db"),
     ("csictl call --method Del", "DeleteVolume"),
     ("csictl frame --mode ", ""),
+    (
+        "csictl frame --method CreateVolume --",
+        "--method --name --required --limit --mode --fs --parameters --mutable --topology --message --help",
+    ),
+    ("csictl frame --method DeleteVolume --", "--method --volume --message --help"),
+    (
+        "csictl call --method DeleteVolume --",
+        "--socket --tries --timeout --json --method --volume --message --help",
+    ),
+    (
+        "csictl call --method ListVolumes --socket s --",
+        "--socket --tries --timeout --json --method --max --token --message --help --all",
+    ),
+    ("csictl call --method Probe --a", ""),
+    ("csictl call --method = GetCapacity --m", "--method --mode --message"),
+    ("csictl frame --volume vol-1 --method ControllerModifyVolume --mu", "--mutable"),
     ("csictl unknown --", ""),
     ("csid-front --w", "--waiting"),
     ("csid-front --csid v", "volumes.db"),
@@ -61,6 +100,10 @@ ROWS = [
     ("csid-front --metrics ", ""),
     ("csid-etcd --ex", "--existing --export"),
     ("csid-etcd --new --ex", ""),
+    (
+        "csid-etcd --list --",
+        "--name --endpoints --cacert --cert --key --user --password-file --timeout --volume --pool --node --json",
+    ),
     ("csid-etcd --le", "--lease"),
     ("csid-etcd --listen v", "volumes.db"),
     ("csid-etcd --cacert c", "config.toml"),
@@ -117,12 +160,55 @@ def value_rows(programs):
                 }
 
 
+# A value that csictl takes for each option of a message; those of a capability need its mode.
+VALUES = {
+    "--name": ["a"],
+    "--required": ["1"],
+    "--limit": ["1"],
+    "--mode": ["1"],
+    "--fs": ["ext4", "--mode", "1"],
+    "--parameters": ["k=v"],
+    "--mutable": ["k=v"],
+    "--topology": ["k=v"],
+    "--volume": ["vol-1"],
+    "--node": ["n1"],
+    "--readonly": [],
+    "--max": ["1"],
+    "--token": ["1"],
+    "--message": [""],
+}
+
+
+def field_rows(csictl):
+    """Of each method those options are offered, and no other, that csictl takes for it."""
+    for method in methods():
+        taken = [
+            option
+            for option, value in VALUES.items()
+            if subprocess.run(
+                [csictl, "frame", "--method", method, option, *value], capture_output=True
+            ).returncode
+            == 0
+        ]
+        for command in ("frame", "call"):
+            said = set(offered(["csictl", command, "--method", method, "--"], TOP)[0])
+            yield "the options of %s for %s" % (command, method), sorted(said & set(VALUES)), sorted(taken)
+
+
+def methods():
+    return offered(["csictl", "call", "--method", ""], TOP)[0]
+
+
 def method_rows():
     lists = re.findall(r"^\| `/csi\.v1\.\w+/M` \| (.*) \|$", read("docs", "PROTOCOL.md"), re.M)
-    yield "the methods", sorted(offered(["csictl", "call", "--method", ""], TOP)[0]), sorted(
-        ", ".join(lists).split(", ")
-    )
+    yield "the methods", sorted(methods()), sorted(", ".join(lists).split(", "))
 
 
 def parts(programs):
-    return [word_rows(), option_rows(programs), value_rows(programs), method_rows()]
+    return [
+        word_rows(),
+        option_rows(programs),
+        value_rows(programs),
+        method_rows(),
+        field_rows(programs["csictl"]),
+    ]

@@ -8,7 +8,10 @@ SECONDS = 20
 COMMON = {"--help", "--version"}
 SUBCOMMANDS = {
     "csid": ["pipe", "serve"],
-    "csictl": ["show", "frame", "call", "vectors"],
+    "csictl": [
+        *["show", "frame", "call", "vectors"],
+        *["volumes", "nodes", "pools", "volume", "create", "publish", "unpublish", "delete"],
+    ],
     "csid-front": [],
     "csid-etcd": [],
 }

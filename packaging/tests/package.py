@@ -137,11 +137,17 @@ class System:
         return run("chroot", self.root, *words)
 
     def command(self, unit):
-        """The words that a unit starts."""
+        """The words that a unit starts, and the variables that it sets, of which one may be such a word."""
         text = re.sub(r"\\\n\s*", "", read(self.path("lib/systemd/system/" + unit)))
-        return shlex.split(re.search(r"^ExecStart=(.*)$", text, re.M).group(1)), dict(
-            re.findall(r"^Environment=(\w+)=(.*)$", text, re.M)
+        variables = dict(
+            word.split("=", 1)
+            for line in re.findall(r"^Environment=(.*)$", text, re.M)
+            for word in shlex.split(line)
         )
+        words = []
+        for word in shlex.split(re.search(r"^ExecStart=(.*)$", text, re.M).group(1)):
+            words += variables[word[1:]].split() if word.startswith("$") else [word]
+        return words, variables
 
     @contextlib.contextmanager
     def started(self, unit, socket):
@@ -271,13 +277,13 @@ def use_rows(programs, system):
         "",
         "",
     )
-    with system.started("csid.service", CSID_SOCKET) as csid, system.started(
-        "csid-front.service", FRONT_SOCKET
-    ) as front:
+    with system.started("csid.service", CSID_SOCKET) as csid:
+        # Before the front is started, which keeps a connection to csid.
         yield "csid answers", called(system, "CreateVolume", "--name", "a", "--mode", "1"), (0, VOLUME, "")
-        yield "the front is there", os.path.exists(system.path(FRONT_SOCKET)), True
-        ended(front)
-        yield "it ends when it is asked to", front.returncode, 0
+        with system.started("csid-front.service", FRONT_SOCKET) as front:
+            yield "the front is there", os.path.exists(system.path(FRONT_SOCKET)), True
+            ended(front)
+            yield "it ends when it is asked to", front.returncode, 0
         yield "what csid said", ended(
             csid
         ), "csid: /%s: volumes 0, attachments 0, next number 1, format 2\n" % TABLES

@@ -77,9 +77,10 @@ def folder_rows(folder, name, package):
 
 def files_of(programs):
     """What a release has beside licences: the programs, their pages of manual and completions, and what is
-    committed of README.md, docs/ and deploy/.
+    committed of README.md, docs/ and deploy/, but for docs/theorems, which is about the sources.
     """
-    committed = output("git", "-C", TOP, "ls-files", "README.md", "VERSION", "docs", "deploy").split("\n")
+    parts = ["README.md", "VERSION", "docs", "deploy", ":!docs/theorems"]
+    committed = output("git", "-C", TOP, "ls-files", *parts).split("\n")
     pages = [it + ".1" for it in programs] + ["csid-config.5", "csid-protocol.7"]
     return (
         [it.replace("csid-front", "front") for it in programs]
@@ -184,7 +185,7 @@ def list_rows(path, programs):
     }
     for one, other, stands in [
         ("csid", "sqlite", True),
-        ("csid", "serde-json", False),
+        ("csid", "serde-json", True),
         ("csictl", "serde-json", True),
         ("csictl", "sqlite", False),
         ("clap", "strsim", True),
