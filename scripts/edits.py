@@ -1,0 +1,171 @@
+"""The functions of the crates, by the lines of their sources, and the wrong bodies that are kept: scripts/try-edits says what they are."""
+import collections
+import os
+import re
+
+HEAD = re.compile(r"( *)(?:pub(?:\([a-z]+\))? )?(?:const )?fn (\w+)")
+TRAIT = re.compile(r"( *)(?:pub(?:\([a-z]+\))? )?trait (\w+)")
+IMPL = re.compile(r"( *)impl\b(.*)")
+
+
+class Function(collections.namedtuple("Function", "module name path body")):
+    """A function of a crate: its module, its name, its path below the crate, and its text."""
+
+    def is_called(self, path):
+        """Returns whether the checker's name of a function is that of this one, or of a closure in it."""
+        within = f"{self.module}::" if self.module else ""
+        return path == self.path or path.startswith(within) and f"::fn::{self.name}::" in f"::{path}"
+
+    def has_proof(self, file):
+        """Returns whether a file is one of the function's own proof."""
+        return file.startswith(f"proofs/{self.path.replace('::', '/')}/")
+
+
+def module_of(file):
+    module = file.removeprefix("src/").removesuffix(".rt").removesuffix("/mod").replace("/", "::")
+    return "" if module in ("lib", "main") else module
+
+
+def function_at(file, text, number):
+    """Returns the function that a line of a file is in, its attributes too, or None where it is in none. Lines are counted from 1."""
+    lines = text.split("\n")
+    while number < len(lines) and lines[number - 1].lstrip().startswith("#["):
+        number += 1
+    start = next((it for it in range(min(number, len(lines)) - 1, -1, -1) if HEAD.match(lines[it])), None)
+    if start is None:
+        return None
+    indent, name = HEAD.match(lines[start]).groups()
+    end = next((it for it in range(start, len(lines)) if lines[it].startswith((f"{indent}}}", f"{indent}{{}}")) or lines[it].rstrip().endswith(("{}", ";")) and it == start), None)
+    if end is None or end < number - 1:
+        return None
+    module = module_of(file)
+    return Function(module, name, "::".join(filter(None, [module, type_at(lines, start, indent), name])), "\n".join(lines[start : end + 1]))
+
+
+def type_at(lines, start, indent):
+    """Returns how the checker calls the impl or the trait that a method is in, or nothing of a function that is in none."""
+    if not indent:
+        return ""
+    for it in range(start, -1, -1):
+        found = TRAIT.match(lines[it])
+        if found and len(found[1]) < len(indent):
+            return found[2]
+        found = IMPL.match(lines[it])
+        if found and len(found[1]) < len(indent):
+            end = next((at for at in range(it, len(lines)) if "{" in lines[at]), it)
+            return block_name(" ".join([found[2], *lines[it + 1 : end + 1]]).partition("{")[0])
+    return ""
+
+
+def block_name(head):
+    """Returns how the checker calls the impl with a head, of what follows its word: the type, and the trait with what it is given, as in `AdoptFaultFromSqlError`; or the type
+    with what it is given, unless that is the impl's own parameters alone, as in `Through+MemKeeper+D`."""
+    given, rest = split_brackets(head.strip())
+    own = {it.partition(":")[0].strip() for it in parts_of(given)}
+    trait, is_of_trait, of = rest.strip().rpartition(" for ")
+    refers, name, arguments = [*re.match(r"(&(?:'\w+ )?(?:mut )?)?([\w:]+)(.*)", of).groups()]
+    arguments = split_brackets(arguments)[0]
+    name = ("Ref" if refers else "") + name.split("::")[-1]
+    name = "Any" if name in own else name
+    if is_of_trait:
+        trait, of_trait = [*re.match(r"([\w:]+)(.*)", trait).groups()]
+        words = words_of(split_brackets(of_trait)[0])
+        return name + ("" if trait == "Drop" else trait.split("::")[-1] + "".join(words))
+    if all(it in own or it.startswith("'") for it in parts_of(arguments)):
+        return name
+    return "+".join([name, *words_of(arguments)])
+
+
+def split_brackets(text):
+    """Returns what a text has between its first angle bracket, with which it begins, and the matching one, and what follows."""
+    depth = 0
+    for at, sign in enumerate(text if text.startswith("<") else ""):
+        depth += (sign == "<") - (sign == ">" and text[at - 1] != "-")
+        if not depth:
+            return text[1:at], text[at + 1 :]
+    return "", text
+
+
+def parts_of(text):
+    """Returns the parts of a text between its commas that are in no bracket."""
+    parts, depth = [""], 0
+    for sign in text:
+        depth += (sign in "<([") - (sign in ">)]")
+        if sign == "," and not depth:
+            parts.append("")
+        else:
+            parts[-1] += sign
+    return [it.strip() for it in parts if it.strip()]
+
+
+def words_of(text):
+    """Returns the names of the types in a text, without their paths."""
+    return [it.split("::")[-1] for it in re.findall(r"(?<!['\w])[A-Za-z_][\w:]*", text)]
+
+
+class Edit:
+    """A wrong body: the texts that it puts in the place of others, by file."""
+
+    def __init__(self, crate, name, lines, is_in_gate=False):
+        self.crate, self.name, self.is_in_gate = crate, name, is_in_gate
+        self.pairs, self.reason = [], ""
+        file = old = None
+        for line in lines:
+            if line.startswith("file: "):
+                file = line[len("file: ") :].strip()
+            elif line.startswith("old: "):
+                old = line[len("old: ") :]
+            elif line.startswith(("reason: ", "# ")):
+                self.reason = line.partition(" ")[2]
+            elif line.startswith("new:"):
+                self.pairs.append((file, old, line[len("new:") :].removeprefix(" ")))
+            elif line:
+                raise ValueError(f"{crate}/{name} has a line that begins with no known word: {line}")
+
+    def apply(self, texts):
+        """Puts its texts into those of the crate's files, and returns whether each old text was in its file exactly once. Files that are not in `texts` are read."""
+        changed = {}
+        for file, old, new in self.pairs:
+            text = changed.get(file) or texts.get(file) or read(f"crates/{self.crate}/{file}")
+            if not old or text.count(old) != 1:
+                return False
+            changed[file] = text.replace(old, new)
+        texts.update(changed)
+        return bool(changed)
+
+    def functions(self):
+        """Returns the functions that it changes, by path, or none where it changes more than functions and their own proofs."""
+        found = {}
+        for file, old, _ in self.pairs:
+            if file.startswith("proofs/"):
+                continue
+            text = read(f"crates/{self.crate}/{file}")
+            before, is_there, _ = text.partition(old)
+            own = function_at(file, text, before.count("\n") + 1) if is_there and file.startswith("src/") else None
+            if not own:
+                return {}
+            found[own.path] = own
+        is_own = all(any(it.has_proof(file) for it in found.values()) for file, _, _ in self.pairs if file.startswith("proofs/"))
+        return found if is_own else {}
+
+
+def read(path):
+    with open(path, encoding="utf-8") as file:
+        return file.read()
+
+
+def edits_in(crate):
+    """Returns the edits of a crate: those that the gate tries, and the others."""
+    folder, path = f"crates/{crate}/must-fail", f"tests/edits/{crate}.edits"
+    names = [it for it in sorted(os.listdir(folder)) if it.endswith(".edit")] if os.path.isdir(folder) else []
+    found = [Edit(crate, it.removesuffix(".edit"), read(f"{folder}/{it}").split("\n"), True) for it in names]
+    for paragraph in read(path).split("\n\n") if os.path.isfile(path) else []:
+        head, *lines = paragraph.strip("\n").split("\n")
+        if not head.startswith("edit: "):
+            raise ValueError(f"a paragraph of {path} begins with no 'edit: NAME': {head}")
+        found.append(Edit(crate, head[len("edit: ") :], lines))
+    names = collections.Counter(it.name for it in found)
+    twice = [name for name, count in names.items() if count > 1]
+    if twice:
+        raise ValueError(f"{crate} has two edits that are named {twice[0]}")
+    return found
