@@ -57,6 +57,15 @@ IN_JSON = (
 # output, standard error, status.
 SHOWN = [
     ("volumes", ["volumes"], [[ok("".join(THREE))]], [[""]], VOLUMES, "", 0),
+    (
+        "an id that makes its column no wider",
+        ["volumes"],
+        [[ok(entry("v" * 81, GIB) + entry("vol-2", MIB))]],
+        [[""]],
+        "ID     SIZE   TOPOLOGY  NODES  POOL\n" + "v" * 81 + "  1 GiB  -         -      -\nvol-2  1 MiB  -         -      -\n",
+        "",
+        0,
+    ),
     ("no volumes", ["volumes"], [[ok("")]], [[""]], HEADINGS, "", 0),
     (
         "volumes of two pages",

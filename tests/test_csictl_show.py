@@ -69,12 +69,12 @@ SHOW = [
         0,
     ),
     ("a status that is none", ["show"], bytes.fromhex("01"), "", "csictl: bad status at byte 0\n", 3),
-    ("a text beside an OK", ["show"], bytes.fromhex("000001"), "", "csictl: bad text length at byte 1\n", 3),
+    ("a text with an OK", ["show"], bytes.fromhex("000001"), "", "csictl: bad text length at byte 1\n", 3),
     ("a text too long", ["show"], bytes.fromhex("030401"), "", "csictl: bad text length at byte 1\n", 3),
     ("a byte that is no text", ["show"], bytes.fromhex("0300011f"), "", "csictl: bad text at byte 3\n", 3),
     ("a flag", ["show"], bytes.fromhex("00000001"), "", "csictl: bad flag at byte 3\n", 3),
     (
-        "a body beside a refusal",
+        "a body with a refusal",
         ["show"],
         bytes.fromhex("0300000000000001"),
         "",
@@ -265,7 +265,7 @@ REFUSED = [
     (["call", "--method", "Probe", "--socket", "s", "--all"], "--all: ListVolumes alone has pages"),
     (
         ["call", "--method", "ListVolumes", "--socket", "s", "--all", "--message", ""],
-        "--all beside --message",
+        "--all cannot be used with --message",
     ),
     (["vectors"], "FILE"),
     (["shown"], "shown"),

@@ -145,6 +145,17 @@ class ListTest(CsidTest):
         self.row("none that is chosen", self.listed(tables, "--name", "pvc"), (EMPTY, "", 0))
         self.row("to the byte as it was", tables.files(), kept)
 
+    def test_long_names(self):
+        """A name of 80 bytes makes its column wider; a longer one moves the rest of its own row alone."""
+        for length, width in (80, 80), (81, 4):
+            tables = Tables(self.csid, self.folder, "long-%d.db" % length).new()
+            tables.script(volume(1, "'a'") + volume(2, "'%s'" % ("x" * length)) + next_is(3))
+            out, line, status = self.listed(tables)
+            self.assertEqual((line, status), ("", 0))
+            short, long = out.decode().splitlines()[1:3]
+            self.row("next to %d bytes" % length, short[:width + 11], "vol-1  a".ljust(width + 9) + "p1")
+            self.row("%d bytes" % length, long[:length + 11], "vol-2  " + "x" * length + "  p1")
+
     def test_json(self):
         """The document has the values of the rows, and a volume is a line of it."""
         tables = Tables(self.csid, self.folder).new().script(ROWS)

@@ -143,12 +143,16 @@ func (v *listed) cells() []string {
 	}
 }
 
-// writeRows writes rows in columns, of which two are two spaces apart.
+// A longer cell than this makes no column wider, so that one long cell costs no space in each other row.
+const widest = 80
+
+// writeRows writes rows in columns, of which two are two spaces apart. A cell that is longer than its column moves the rest of its own row to the
+// right.
 func writeRows(out *bufio.Writer, rows [][]string) {
 	widths := make([]int, len(rows[0]))
 	for _, row := range rows {
 		for i, cell := range row {
-			if len(cell) > widths[i] {
+			if len(cell) > widths[i] && len(cell) <= widest {
 				widths[i] = len(cell)
 			}
 		}
@@ -156,8 +160,12 @@ func writeRows(out *bufio.Writer, rows [][]string) {
 	for _, row := range rows {
 		gap := 0
 		for i, cell := range row {
-			out.WriteString(strings.Repeat(" ", gap) + cell)
-			gap = widths[i] - len(cell) + 2
+			out.WriteString(strings.Repeat(" ", gap))
+			out.WriteString(cell)
+			gap = 2
+			if len(cell) < widths[i] {
+				gap += widths[i] - len(cell)
+			}
 		}
 		out.WriteByte('\n')
 	}

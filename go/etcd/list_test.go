@@ -80,6 +80,20 @@ func TestListedTable(t *testing.T) {
 	}
 }
 
+// A cell of 80 bytes makes its column wider; a longer one moves the rest of its own row alone.
+func TestLongCells(t *testing.T) {
+	for _, row := range []struct{ length, width int }{{80, 80}, {81, 1}} {
+		long := strings.Repeat("x", row.length)
+		var shown bytes.Buffer
+		out := bufio.NewWriter(&shown)
+		writeRows(out, [][]string{{"a", "b"}, {long, "c"}})
+		out.Flush()
+		if want := "a" + strings.Repeat(" ", row.width+1) + "b\n" + long + "  c\n"; shown.String() != want {
+			t.Errorf("%q, not %q", shown.String(), want)
+		}
+	}
+}
+
 const listedDocument = `{"volumes": [
   {"id": "vol-1", "name": "pvc-1", "pool": "ssd", "bytes": 3221225472, "capabilities": [{"access": "block", "mode": "SINGLE_NODE_WRITER"}],
    "parameters": {}, "mutableParameters": {}, "nodes": ["n1"]},

@@ -26,9 +26,9 @@ pub struct CommandOption {
     pub name: &'static str,
     pub takes: Takes,
     pub is_required: bool,
-    /// The option that has to stand beside it.
-    pub beside: Option<&'static str>,
-    /// Nothing else may stand beside it.
+    /// The option that must be given with it.
+    pub needs: Option<&'static str>,
+    /// Nothing else may be given with it.
     pub is_alone: bool,
     /// What it is without it.
     pub standard: Option<&'static str>,
@@ -50,7 +50,7 @@ pub const OPTION: CommandOption = CommandOption {
     name: "",
     takes: Takes::Nothing,
     is_required: false,
-    beside: None,
+    needs: None,
     is_alone: false,
     standard: None,
     help: "",
@@ -93,7 +93,7 @@ fn arg<'a>(alloc: Global, option: &CommandOption) -> Result<Arg<'a>, AllocError>
         .required(option.is_required)
         .exclusive(option.is_alone);
     let arg = with_standard(arg, option.standard);
-    match option.beside {
+    match option.needs {
         Some(other) => arg.requires_arg(other),
         None => Ok(arg),
     }
@@ -113,7 +113,7 @@ pub struct Subcommand {
     pub name: &'static str,
     pub about: &'static str,
     pub options: &'static [CommandOption],
-    /// Options behind those, as commands share them.
+    /// Options after those, as commands share them.
     pub shared: &'static [CommandOption],
 }
 
@@ -124,7 +124,7 @@ pub struct CommandLine<'l> {
     pub name: &'static str,
     pub version: &'static str,
     pub about: &'static str,
-    /// Those without a command; a command cannot stand beside them.
+    /// Those without a command; no command can be given with them.
     pub options: &'static [CommandOption],
     pub subcommands: &'l [Subcommand],
 }

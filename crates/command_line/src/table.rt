@@ -5,7 +5,11 @@ use std::alloc::{AllocError, Global};
 // So many spaces are between the longest word of a column and the next column.
 const GAP: usize = 2;
 
-/// Rows of words, which are shown in columns: each is as wide as its longest word.
+// A longer word than this makes no column wider, so that one long word costs no space in each other row.
+const WIDEST: usize = 80;
+
+/// Rows of words, which are shown in columns: each is as wide as its longest word of at most 80 bytes. A longer
+/// word moves the rest of its own row to the right.
 #[derive(Drop)]
 pub struct Table {
     rows: Vec<Vec<String>>,
@@ -30,12 +34,18 @@ fn put_row(out: &mut String, row: &[String], widths: &[usize]) -> Result<(), All
     out.push('\n')
 }
 
+// How wide a word makes its column.
+fn width_of(word: &str) -> usize {
+    if word.len() <= WIDEST { word.len() } else { 0 }
+}
+
 // Makes columns as wide as the words of a row.
 fn widen(widths: &mut Vec<usize>, row: &[String]) -> Result<(), AllocError> {
     for (at, word) in row.iter().enumerate() {
+        let wanted = width_of(word.as_str());
         match widths.get_mut(at) {
-            Some(width) => *width = (*width).max(word.len()),
-            None => widths.push(word.len())?,
+            Some(width) => *width = (*width).max(wanted),
+            None => widths.push(wanted)?,
         }
     }
     Ok(())

@@ -6,6 +6,7 @@ use csi_config::{
 };
 use csi_types::{MAX_NODES, MAX_POOL_BYTES, MAX_POOLS, MAX_VOLUMES, Map, Text};
 use std::alloc::{AllocError, Global};
+use std::collections::BTreeSet;
 use toml::{Table, Value};
 
 const FAULTLESS_SIZES: Sizes = Sizes {
@@ -137,21 +138,9 @@ impl Faults {
         }
     }
 
-    // Adds that an earlier pool has a name, where one has it.
-    fn add_name(&mut self, names: &mut Vec<Text>, name: Text) -> Result<(), AllocError> {
-        if names.iter().any(|earlier| *earlier == name) {
-            self.push(ConfigFault::Pool {
-                name: name.copy(self.alloc)?,
-                rule: PoolRule::NameTwice,
-            })?;
-        }
-        names.push(name)?;
-        Ok(())
-    }
-
     // Adds the faults of a pool, which comes after pools of these names. Its bytes, or none where they are
     // not read.
-    fn add_pool(&mut self, keys: &Keys<'_>, names: &mut Vec<Text>) -> Result<u64, AllocError> {
+    fn add_pool(&mut self, keys: &Keys<'_>, names: &mut BTreeSet<Text>) -> Result<u64, AllocError> {
         let mut pool = self.pool()?;
         let name = self.keep(keys.text(self.alloc, Key::Name))?;
         let bytes = self.keep(keys.count(Key::Bytes))?;
@@ -166,13 +155,16 @@ impl Faults {
         }
         self.judge_pool(pool)?;
         if let Some(name) = name {
-            self.add_name(names, name)?;
+            if !names.insert(name.copy(self.alloc)?)? {
+                let rule = PoolRule::NameTwice;
+                self.push(ConfigFault::Pool { name, rule })?;
+            }
         }
         Ok(bytes.unwrap_or(0))
     }
 
     fn add_each_pool(&mut self, array: &[Value]) -> Result<(), AllocError> {
-        let mut names = Vec::new(self.alloc);
+        let mut names = BTreeSet::new(self.alloc);
         let mut sum: u64 = 0;
         for (index, value) in array.iter().enumerate() {
             let section = Section::Pool(index.saturating_add(1));
@@ -205,20 +197,8 @@ impl Faults {
         Ok(())
     }
 
-    // Adds that an earlier node has an id, where one has it.
-    fn add_id(&mut self, ids: &mut Vec<Text>, id: Text) -> Result<(), AllocError> {
-        if ids.iter().any(|earlier| *earlier == id) {
-            self.push(ConfigFault::Node {
-                id: id.copy(self.alloc)?,
-                rule: NodeRule::IdTwice,
-            })?;
-        }
-        ids.push(id)?;
-        Ok(())
-    }
-
     // Adds the faults of a node, which comes after nodes of these ids.
-    fn add_node(&mut self, keys: &Keys<'_>, ids: &mut Vec<Text>) -> Result<(), AllocError> {
+    fn add_node(&mut self, keys: &Keys<'_>, ids: &mut BTreeSet<Text>) -> Result<(), AllocError> {
         let id = self.keep(keys.text(self.alloc, Key::Id))?;
         let max_volumes = self.keep(keys.count(Key::MaxVolumes))?;
         self.judge_node(Node {
@@ -236,14 +216,17 @@ impl Faults {
                 })?;
             }
         }
-        match id {
-            Some(id) => self.add_id(ids, id),
-            None => Ok(()),
+        if let Some(id) = id {
+            if !ids.insert(id.copy(self.alloc)?)? {
+                let rule = NodeRule::IdTwice;
+                self.push(ConfigFault::Node { id, rule })?;
+            }
         }
+        Ok(())
     }
 
     fn add_each_node(&mut self, array: &[Value]) -> Result<(), AllocError> {
-        let mut ids = Vec::new(self.alloc);
+        let mut ids = BTreeSet::new(self.alloc);
         for (index, value) in array.iter().enumerate() {
             let section = Section::Node(index.saturating_add(1));
             let Some(keys) = self.keep(element(value, Key::Node, section))? else {

@@ -16,7 +16,7 @@ abbrev pub failure_status : Failure → ℕ
 failure_status (failure.Arguments fault) = arguments_status fault
 failure_status (failure.NoMethod name) = 2
 failure_status (failure.NoField method option) = 2
-failure_status (failure.BesideMessage option) = 2
+failure_status (failure.WithMessage option) = 2
 failure_status failure.NotPaged = 2
 failure_status failure.NotHex = 2
 failure_status (failure.NotDecimal option) = 2

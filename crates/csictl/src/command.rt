@@ -37,7 +37,7 @@ static CALLED: [CommandOption; 15] = [
     CommandOption {
         name: "fs",
         takes: Takes::Text("TEXT"),
-        beside: Some("mode"),
+        needs: Some("mode"),
         help: "The capability is a mount of this file system, as ext4, and not a block device",
         ..OPTION
     },

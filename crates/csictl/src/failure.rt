@@ -60,9 +60,9 @@ pub(crate) enum Failure {
         method: Method,
         option: &'static str,
     },
-    /// The message is given beside this option.
-    #[error("--{0} beside --message")]
-    BesideMessage(&'static str),
+    /// The message is given with this option.
+    #[error("--{0} cannot be used with --message")]
+    WithMessage(&'static str),
     /// A method without pages is asked for all of them.
     #[error("--all: ListVolumes alone has pages")]
     NotPaged,
@@ -158,7 +158,7 @@ impl Failure {
             Failure::Arguments(fault) => fault.status(),
             Failure::NoMethod(_)
             | Failure::NoField { .. }
-            | Failure::BesideMessage(_)
+            | Failure::WithMessage(_)
             | Failure::NotPaged
             | Failure::NotHex
             | Failure::NotDecimal(_)

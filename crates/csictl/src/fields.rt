@@ -104,7 +104,7 @@ fn is_odd(arguments: &ArgMatches<'_>, field: &CommandOption) -> bool {
 pub(crate) fn give_none(arguments: &ArgMatches<'_>) -> Result<(), Failure> {
     for field in fields() {
         if is_given(arguments, field.name) {
-            return Err(Failure::BesideMessage(field.name));
+            return Err(Failure::WithMessage(field.name));
         }
     }
     Ok(())

@@ -112,7 +112,7 @@ pub(crate) fn entry(alloc: Global, entry: &Entry) -> Json {
     })
 }
 
-/// A listing of these entries, which ends, or goes on behind a token.
+/// A listing of these entries, which ends, or goes on after a token.
 pub(crate) fn listing(alloc: Global, entries: Vec<Value>, token: &str) -> Json {
     json!(in alloc; {"entries": entries, "nextToken": token})
 }

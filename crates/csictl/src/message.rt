@@ -221,7 +221,7 @@ pub(crate) fn check_paged(method: Method, arguments: &ArgMatches<'_>) -> Result<
         return Err(Failure::NotPaged);
     }
     if arguments.get_str("message").is_some() {
-        return Err(Failure::BesideMessage("all"));
+        return Err(Failure::WithMessage("all"));
     }
     Ok(())
 }

@@ -22,7 +22,7 @@ pub(crate) enum Walked {
     All(Vec<Entry>),
     /// A page was refused.
     Refused(ReceivedReply),
-    /// A page behind the first one was refused, since its token is no longer good.
+    /// A page after the first one was refused, since its token is no longer good.
     Outdated(ReceivedReply),
 }
 

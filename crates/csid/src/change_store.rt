@@ -34,7 +34,7 @@ use std::rc::Rc;
 use std::time::Duration;
 use std::{io, str};
 
-// How many seconds a change store may say nothing while its reply is waited for. Behind that nobody knows
+// How many seconds a change store may say nothing while its reply is waited for. After that nobody knows
 // whether a change was made.
 const LONGEST: u64 = 30;
 
@@ -79,7 +79,7 @@ pub(crate) struct OpenChangeStore {
     pub(crate) stream: UnixStream,
     /// Whether it was asked for a change since the last reply.
     pub(crate) is_asked: Rc<Cell<bool>>,
-    /// Whether it did not lead once: what it has is read anew.
+    /// Whether it did not lead once: what it has is read again.
     pub(crate) is_cut: bool,
 }
 
@@ -96,7 +96,7 @@ impl Drop for OpenChangeStore {
 
 impl OpenChangeStore {
     /// Whether calls may be answered over it: nothing was refused, and it leads.
-    pub(crate) fn stands(&self, alloc: Global) -> bool {
+    pub(crate) fn is_usable(&self, alloc: Global) -> bool {
         let has_all = self.keeper.is_current() && !self.keeper.is_down();
         has_all && !self.is_cut && leads(alloc, &self.stream)
     }
@@ -264,7 +264,7 @@ fn read_tables<P: Peer, S: Alter + Drop>(
 }
 
 // Reads and judges all that a change store has, over a connection to a new database, and says what that is.
-// The database is gone behind it.
+// The database is gone after that.
 fn read_change_store<P: Peer + Drop, S: Alter + Drop>(
     console: &Console<'_>,
     config: &Config,
@@ -292,7 +292,7 @@ fn read_change_store<P: Peer + Drop, S: Alter + Drop>(
 }
 
 // The same over files in memory: there a row that comes in takes as many steps as its tree is deep, where the
-// store of rows in memory would move all rows behind it.
+// store of rows in memory would move all rows after it.
 fn read_over_memory<P: Peer + Drop>(
     console: &Console<'_>,
     config: &Config,

@@ -6,11 +6,10 @@ ghost use Rattle.std.specs.Prelude.{◌≡◌, false};
 use crate::config::{checked_configuration, configuration};
 use crate::console::Console;
 use crate::content::{Content, read_content};
-use crate::copy::open_copy;
-use crate::existing::FileFault;
+use crate::copy::open_tables_copy;
 use crate::explain::explain;
 use crate::failure::Failure;
-use crate::tables::{adoption_failure, check_existing, database_failure};
+use crate::tables::{adoption_failure, database_failure};
 use csi_adoption::{AdoptError, adopt};
 use csi_config::Config;
 use sqlite::{Alter, Connection};
@@ -63,9 +62,6 @@ fn adopted<S: Alter + Drop>(
     requires { conn.in_transaction ≡ false }
 {
     let alloc = console.rt.alloc();
-    if conn.schema().tables.is_empty() {
-        return Err(Failure::of_tables(alloc, path, &FileFault::Blank));
-    }
     let content = read_content(&mut conn);
     if let Err(AdoptError { fault, mut conn }) = adopt(alloc, conn, config) {
         explain(console, path, &mut conn, config, &fault);
@@ -89,10 +85,6 @@ pub(crate) fn check_tables(
 ) -> Result<(), Failure> {
     let rt = console.rt;
     let config = configuration(console, config, true)?;
-    if path.is_empty() {
-        return Err(Failure::NoTablesPath);
-    }
-    check_existing(rt, path)?;
-    let content = adopted(console, path, open_copy(rt, path)?, &config)?;
+    let content = adopted(console, path, open_tables_copy(rt, path)?, &config)?;
     tell(rt, &content)
 }

@@ -85,14 +85,14 @@ const TABLES: CommandOption = CommandOption {
 
 const EXISTING: CommandOption = CommandOption {
     name: "existing",
-    beside: Some("tables"),
+    needs: Some("tables"),
     help: "Refuses a file of volumes that is missing or has no tables, and makes none",
     ..OPTION
 };
 
 const LOW_MEMORY: CommandOption = CommandOption {
     name: "low-memory",
-    beside: Some("tables"),
+    needs: Some("tables"),
     help: "Reads from the file of volumes for each call, and keeps none of them in memory",
     ..OPTION
 };
@@ -112,7 +112,7 @@ static CHECKS: [CommandOption; 8] = [
         ..OPTION
     },
     CommandOption {
-        beside: Some("check-tables"),
+        needs: Some("check-tables"),
         help: "The configuration by which tables are judged; without it the sample configuration",
         ..CONFIG
     },
@@ -125,27 +125,27 @@ static CHECKS: [CommandOption; 8] = [
     CommandOption {
         name: "name",
         takes: Takes::Text("NAME"),
-        beside: Some("list-tables"),
+        needs: Some("list-tables"),
         help: "Lists the volume with this name alone",
         ..OPTION
     },
     CommandOption {
         name: "pool",
         takes: Takes::Text("NAME"),
-        beside: Some("list-tables"),
+        needs: Some("list-tables"),
         help: "Lists the volumes of this pool alone",
         ..OPTION
     },
     CommandOption {
         name: "node",
         takes: Takes::Text("ID"),
-        beside: Some("list-tables"),
+        needs: Some("list-tables"),
         help: "Lists the volumes that are published at this node alone",
         ..OPTION
     },
     CommandOption {
         name: "json",
-        beside: Some("list-tables"),
+        needs: Some("list-tables"),
         help: "Lists in JSON, with a volume a line",
         ..OPTION
     },
@@ -268,7 +268,7 @@ pub(crate) fn odd_store<'a>(matches: &ArgMatches<'a>) -> Option<&'static str> {
     }
 }
 
-// What the arguments behind `serve` ask for.
+// What the arguments after `serve` ask for.
 fn serve_task<'a>(arguments: &ArgMatches<'a>) -> Serving<'a> {
     Serving {
         socket: arguments.get_str("socket").unwrap_or(""),

@@ -4,9 +4,10 @@ ghost use Rattle.std.specs.Prelude.{◌≡◌, false, IfErr, IfOk, IsTrue};
 ghost use Rattle.sqlite_disk.specs.Memory.{memory_is_usable};
 ghost use Rattle.csid.specs.Statuses.{IsOrNoMemory};
 
+use crate::existing::FileFault;
 use crate::failure::Failure;
 use crate::memory::{files_of, open};
-use crate::tables::database_failure;
+use crate::tables::{check_existing, database_failure};
 use sqlite::{Connection, Error, ErrorCode, FileStore, Files};
 use sqlite_disk::Memory;
 use std::alloc::Global;
@@ -39,7 +40,7 @@ fn bytes_of(rt: &HostRuntime, path: &str) -> Result<Vec<u8>, Failure>
     }
 }
 
-// The file that links lead to: SQLite keeps its WAL and its journal beside that one.
+// The file that links lead to: SQLite keeps its WAL and its journal next to that one.
 fn real_path(rt: &HostRuntime, path: &str) -> Result<String, Failure>
     ensures { IfErr result (λ failure. IsOrNoMemory 4 failure) }
 {
@@ -49,14 +50,14 @@ fn real_path(rt: &HostRuntime, path: &str) -> Result<String, Failure>
     }
 }
 
-// The path of what SQLite keeps beside a file.
-fn beside(alloc: Global, real: &str, end: &str) -> Result<String, Failure>
+// The path of what SQLite keeps next to a file, which has this end.
+fn path_with(alloc: Global, real: &str, end: &str) -> Result<String, Failure>
     ensures { IfErr result (λ failure. IsOrNoMemory 4 failure) }
 {
     Ok(format!(in alloc; "{real}{end}")?)
 }
 
-// What a file and its WAL have at one moment. The file is read once more behind its WAL: where it was written
+// What a file and its WAL have at one moment. The file is read once more after its WAL: where it was written
 // meanwhile, both are read again.
 fn copied(rt: &HostRuntime, path: &str, wal_path: &str) -> Result<Files<Memory>, Failure>
     ensures usable { IfOk result (λ files. IsTrue (memory_is_usable files.log)
@@ -81,27 +82,43 @@ fn is_hot(journal: &[u8]) -> bool {
     journal.first().is_some_and(|first| *first != 0)
 }
 
-/// A connection to a copy of a file and its WAL, by reads alone: no lock is taken, and nothing is made or
-/// changed on the disk.
+// A connection to a copy of a file and its WAL.
+fn open_copy(rt: &HostRuntime, path: &str) -> Result<Connection<FileStore<Memory>>, Failure>
+    ensures idle { IfOk result (λ conn. conn.in_transaction ≡ false) }
+    ensures failure { IfErr result (λ failure. IsOrNoMemory 4 failure) }
+{
+    let real = real_path(rt, path)?;
+    let journal = path_with(rt.alloc(), real.as_str(), "-journal")?;
+    if is_hot(bytes_of(rt, journal.as_str())?.as_slice()) {
+        let error = Error::SqliteFailure(ErrorCode::CannotOpen);
+        return Err(database_failure(rt.alloc(), path, &error));
+    }
+    let wal = path_with(rt.alloc(), real.as_str(), "-wal")?;
+    let files = copied(rt, real.as_str(), wal.as_str())?;
+    open(rt.alloc(), path, files)
+}
+
+/// A connection to a copy of the tables in a file, with what is in its WAL, by reads alone: no lock is taken,
+/// and nothing is made or changed on the disk.
 ///
 /// # Errors
 ///
-/// Where the file cannot be read, is written all the time, or is no database; where a journal stands beside
-/// it; or where memory is refused.
-pub(crate) fn open_copy(
+/// Where the path is empty; where there is no file, it cannot be read, is written all the time, is no database
+/// or has no tables; where a journal is next to it; or where memory is refused.
+pub(crate) fn open_tables_copy(
     rt: &HostRuntime,
     path: &str,
 ) -> Result<Connection<FileStore<Memory>>, Failure>
     ensures idle { IfOk result (λ conn. conn.in_transaction ≡ false) }
     ensures failure { IfErr result (λ failure. IsOrNoMemory 4 failure) }
 {
-    let real = real_path(rt, path)?;
-    let journal = beside(rt.alloc(), real.as_str(), "-journal")?;
-    if is_hot(bytes_of(rt, journal.as_str())?.as_slice()) {
-        let error = Error::SqliteFailure(ErrorCode::CannotOpen);
-        return Err(database_failure(rt.alloc(), path, &error));
+    if path.is_empty() {
+        return Err(Failure::NoTablesPath);
     }
-    let wal = beside(rt.alloc(), real.as_str(), "-wal")?;
-    let files = copied(rt, real.as_str(), wal.as_str())?;
-    open(rt.alloc(), path, files)
+    check_existing(rt, path)?;
+    let conn = open_copy(rt, path)?;
+    if conn.schema().tables.is_empty() {
+        return Err(Failure::of_tables(rt.alloc(), path, &FileFault::Blank));
+    }
+    Ok(conn)
 }

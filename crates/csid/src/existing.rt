@@ -6,7 +6,7 @@ use std::fs::{self, File};
 use std::io::{self, ErrorKind, Read};
 use thiserror::Error;
 
-// The header of SQLite's file, and behind it how the first page begins: its kind, and where the number of its
+// The header of SQLite's file, and after it how the first page begins: its kind, and where the number of its
 // cells is.
 const HEADER_BYTES: usize = 105;
 

@@ -8,10 +8,8 @@ mod sums;
 mod text;
 
 use crate::console::Console;
-use crate::copy::open_copy;
-use crate::existing::FileFault;
+use crate::copy::open_tables_copy;
 use crate::failure::Failure;
-use crate::tables::check_existing;
 use csi_keeper::{PageWithNodes, Volume};
 use csi_sql::IdleConnection;
 use csi_tables::{TablesError, TablesFault, page_with_nodes};
@@ -127,23 +125,6 @@ impl TablesCopy<'_> {
     }
 }
 
-// A copy of the tables in a file, which there have to be.
-fn copy_of<'a>(rt: &HostRuntime, path: &'a str) -> Result<TablesCopy<'a>, Failure> {
-    if path.is_empty() {
-        return Err(Failure::NoTablesPath);
-    }
-    check_existing(rt, path)?;
-    let conn = IdleConnection::new(open_copy(rt, path)?);
-    if conn.schema().tables.is_empty() {
-        return Err(Failure::of_tables(rt.alloc(), path, &FileFault::Blank));
-    }
-    Ok(TablesCopy {
-        alloc: rt.alloc(),
-        path,
-        conn,
-    })
-}
-
 /// Lists the volumes of the tables in a file, as they were committed at one moment, and what pools and nodes
 /// have of them.
 ///
@@ -156,7 +137,11 @@ pub(crate) fn list_tables(
     chosen: &Chosen<'_>,
     is_json: bool,
 ) -> Result<(), Failure> {
-    let mut tables = copy_of(console.rt, path)?;
+    let mut tables = TablesCopy {
+        alloc: console.rt.alloc(),
+        path,
+        conn: IdleConnection::new(open_tables_copy(console.rt, path)?),
+    };
     if is_json {
         json::write(console.rt, &mut tables, chosen)
     } else {

@@ -299,7 +299,7 @@ fn say_why(console: &Console<'_>, said: &mut String, failure: &Failure) {
     }
 }
 
-// The change store as it stands, or read anew where it does not stand.
+// The change store as it is, or read again where calls may not be answered over it.
 fn existing_change_store(
     console: &Console<'_>,
     config: &Config,
@@ -307,7 +307,7 @@ fn existing_change_store(
     change_store: Option<OpenChangeStore>,
 ) -> Result<OpenChangeStore, Failure> {
     if let Some(open) = change_store {
-        if open.stands(console.rt.alloc()) {
+        if open.is_usable(console.rt.alloc()) {
             return Ok(open);
         }
     }

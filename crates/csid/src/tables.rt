@@ -165,7 +165,7 @@ pub(crate) fn keeper_or_new<S: Alter + Drop>(
 }
 
 // Copies what was committed into the file itself, and closes it. Where that fails, nothing is lost: it stays
-// in the WAL beside the file.
+// in the WAL next to the file.
 fn disconnect<D: Disk + Drop>(
     alloc: Global,
     path: &str,
