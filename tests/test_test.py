@@ -111,6 +111,14 @@ class TestTest(RowTest):
         self.row("with --no-install", self.ended("--no-install"), wanted)
         self.row("without apt-get", self.ended(), wanted)
 
+    def test_second_try_is_said(self):
+        """A test that passed only when it was run again is named before what is not tested."""
+        self.write("tests/__main__.py", "print('second try: tests.test_a.ATest.test_b')\n")
+        status, last, said, _ = self.ended("--no-install")
+        self.row("the end", (status, last), (0, ["5 passed, 0 failed"]))
+        named = "FAILED once, and passed when it was run again: tests.test_a.ATest.test_b"
+        self.row("the line", said[-len(NEEDS) - 1 :][:1], [named])
+
     def test_what_is_missing_is_installed(self):
         """Each package is named before, and what its part then has is tested."""
         brings = '    %s) ln -sf "$(type -P rm)" %s/bin/%s ;;'

@@ -15,7 +15,7 @@ import (
 )
 
 // How long anything may take before a test gives it up.
-const patience = 20 * time.Second
+const patience = time.Minute
 
 // process is a program that runs; it is killed at the end of the test.
 type process struct {

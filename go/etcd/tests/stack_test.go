@@ -498,7 +498,7 @@ func (f *fleet) kill(client *clientv3.Client) {
 		}
 		revived := false
 		for !f.served(at) {
-			if time.Since(at) > processes.Patience {
+			if time.Since(at) > 20*time.Second {
 				t.Fatalf("kill %d of %v of %s: no service\n%s\n%s\n%s", i, who, s.name, s.log.Log, s.csid.Log, s.front.Log)
 			}
 			// Another one is started in its place behind a moment.

@@ -31,7 +31,7 @@ func TestDeadline(t *testing.T) {
 	if got := front.send(soon(t, 200*time.Millisecond), "/a/b", nil); got.code != codes.DeadlineExceeded {
 		t.Errorf("%v, wanted DEADLINE_EXCEEDED", got)
 	}
-	if spent := time.Since(begin); spent > processes.Patience/2 {
+	if spent := time.Since(begin); spent > 10*time.Second {
 		t.Errorf("it took %v", spent)
 	}
 	processes.Eventually(t, "the call in the log", func() bool { return gaveUp(process, "/a/b") })

@@ -56,7 +56,7 @@ func back(t *testing.T, front *client, name string) (string, time.Duration) {
 		if got.code == codes.OK {
 			return id, time.Since(begin)
 		}
-		if got.code != codes.Unavailable || time.Since(begin) > processes.Patience {
+		if got.code != codes.Unavailable || time.Since(begin) > 20*time.Second {
 			t.Fatalf("%s: %v after %v", name, got, time.Since(begin))
 		}
 	}

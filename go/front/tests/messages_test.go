@@ -148,7 +148,7 @@ func TestMessagesThatNeverCome(t *testing.T) {
 	streams := begins(calls)
 	begin := time.Now()
 	newClient(t, process.Socket).wants(t, probe, "", ok(ready))
-	if spent := time.Since(begin); spent < 200*time.Millisecond || spent > processes.Patience/4 {
+	if spent := time.Since(begin); spent < 200*time.Millisecond || spent > 5*time.Second {
 		t.Errorf("served after %v", spent)
 	}
 	ends := func(streams []grpc.ClientStream) (served int) {

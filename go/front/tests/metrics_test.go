@@ -232,7 +232,7 @@ func TestMetricsWhileCsidStandsStill(t *testing.T) {
 	if told := <-health; told != "503 context deadline exceeded\n" {
 		t.Errorf("told %q", told)
 	}
-	if spent := time.Since(begin); spent > processes.Patience {
+	if spent := time.Since(begin); spent > 20*time.Second {
 		t.Errorf("it took %v", spent)
 	}
 	wantsSeries(t, got, "csid_front_csid_up", map[string]string{"csid_front_csid_up": "0"})

@@ -17,7 +17,7 @@ import (
 )
 
 // Patience is how long anything may take before a test gives it up.
-const Patience = 20 * time.Second
+const Patience = time.Minute
 
 // pathOf is the path that a variable of the environment says, otherwise one from the top of the repository on.
 func pathOf(variable, otherwise string) string {
