@@ -22,6 +22,7 @@ from tests.support.csictl import (
     run,
     text,
 )
+from tests.support.peers import CLOSED, RESET, SILENT, Peer
 from tests.support.processes import SECONDS
 from tests.support.rows import CsictlTest
 
@@ -38,8 +39,6 @@ print("begun", flush=True)
 time.sleep(60)
 """
 
-# How a server ends a connection, in place of a reply.
-CLOSED, RESET, SILENT = b"", "reset", "silent"
 CUT_SHORT, GARBAGE = READY[:5], b"HTTP/1.1 400 Bad Request\r\n"
 # Heads of frames of HTTP/2 on stream 0: SETTINGS with one setting, as grpc-go begins, and without one (RFC 9113,
 # 4.1 and 6.5).
@@ -123,64 +122,6 @@ def waits(path):
         "csictl: %s: no reply for 3 s, still waiting: csid serves one connection at a time, and a front keeps"
         " it while it runs (use its control socket); --timeout bounds the wait\n" % path
     )
-
-
-class Peer:
-    """A server that does one thing on each connection, and keeps the calls that it was sent."""
-
-    def __init__(self, folder, deeds):
-        self.path, self.deeds, self.calls, self.moments = os.path.join(folder, "tried.sock"), deeds, [], []
-        self.listener = socket.socket(socket.AF_UNIX)
-        self.listener.bind(self.path)
-        self.listener.listen(8)
-        self.listener.settimeout(10)
-        self.thread = threading.Thread(target=self.serve)
-        self.thread.start()
-
-    def serve(self):
-        silent = []
-        for deed in self.deeds:
-            try:
-                peer, _ = self.listener.accept()
-            except TimeoutError:
-                # Who was to try again has ended.
-                break
-            self.moments.append(time.monotonic())
-            if deed is RESET:
-                # A call that is not taken resets the connection when it is closed.
-                ended = select.poll()
-                ended.register(peer, select.POLLRDHUP)
-                ended.poll(SECONDS * 1000)
-                self.calls.append(peer.recv(1 << 16, socket.MSG_PEEK))
-                peer.close()
-                continue
-            sent = b""
-            while piece := peer.recv(1 << 16):
-                sent += piece
-            self.calls.append(sent)
-            if deed is SILENT:
-                silent.append(peer)
-                continue
-            peer.sendall(deed)
-            peer.close()
-        for peer in silent:
-            gone = select.poll()
-            gone.register(peer, 0)
-            gone.poll(SECONDS * 1000)
-            peer.close()
-
-    def end(self):
-        """Whether nobody else comes; the calls, and the pauses between the connections."""
-        self.thread.join()
-        self.listener.setblocking(False)
-        try:
-            self.listener.accept()
-            self.calls.append("one more")
-        except BlockingIOError:
-            pass
-        self.listener.close()
-        os.unlink(self.path)
-        return self.calls, [later - earlier for earlier, later in zip(self.moments, self.moments[1:])]
 
 
 class CallTest(CsictlTest):
@@ -459,7 +400,7 @@ class CallTest(CsictlTest):
             if last:
                 said += "csictl: %s%s\n" % (peer.path if last.startswith(":") else "", last)
             self.row("" + name, came, (out, said, status))
-            calls, pauses = peer.end()
+            calls, pauses = peer.end(), peer.pauses()
             self.row("the same call each time: " + name, calls, [call(IDENTITY + "Probe", "")] * len(deeds))
             # Half of each pause is fixed: 50 ms, and twice as much after each try.
             self.row(

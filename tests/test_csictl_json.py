@@ -1,13 +1,8 @@
 """Replies as JSON, and walks over all pages."""
 
-import os
-import socket
-import threading
-
 from tests.support.csictl import CONTROLLER, CREATE, Line, READY, VOL_1, call, entry, ok, refusal, run, text
+from tests.support.peers import CLOSED, Pages, Peer
 from tests.support.rows import CsictlTest
-from tests.support.processes import SECONDS
-from tests.test_csictl_call import CLOSED, Peer
 from tests.test_csictl_show import PAGE
 
 
@@ -199,61 +194,6 @@ JSON = [
         '{"availableCapacity":"9223372036854775807","maximumVolumeSize":null}',
     ),
 ]
-
-class Pages:
-    """A server that answers the calls of each connection one after the other, and keeps them. In place of an
-    answer it closes a connection at CLOSED.
-    """
-
-    def __init__(self, folder, connections):
-        self.path, self.connections, self.calls = os.path.join(folder, "pages.sock"), connections, []
-        self.listener = socket.socket(socket.AF_UNIX)
-        self.listener.bind(self.path)
-        self.listener.listen(8)
-        self.listener.settimeout(SECONDS)
-        self.thread = threading.Thread(target=self.serve)
-        self.thread.start()
-
-    def serve(self):
-        for deeds in self.connections:
-            try:
-                peer, _ = self.listener.accept()
-            except TimeoutError:
-                break
-            with peer, peer.makefile("rb") as calls:
-                self.calls.append([])
-                for deed in deeds:
-                    given = taken(calls)
-                    if given:
-                        self.calls[-1].append(given)
-                    if deed is CLOSED or not given:
-                        break
-                    peer.sendall(deed)
-                else:
-                    # It ends its writing, or goes away.
-                    if more := calls.read():
-                        self.calls[-1].append(more)
-
-    def end(self):
-        """The calls of each connection, and of one more than there was to be."""
-        self.thread.join()
-        self.listener.setblocking(False)
-        try:
-            self.listener.accept()
-            self.calls.append("one more")
-        except BlockingIOError:
-            pass
-        self.listener.close()
-        os.unlink(self.path)
-        return self.calls
-
-
-def taken(calls):
-    """The next call of a stream, or what there is of it."""
-    size = calls.read(2)
-    head = calls.read(int.from_bytes(size, "big") + 5)
-    return size + head + calls.read(int.from_bytes(head[-4:], "big"))
-
 
 # Each row: what it shows, further words, what the calls of each connection are answered, standard output, the
 # reasons of further tries, the last line on standard error, status.

@@ -3,9 +3,8 @@
 import os
 
 from tests.support.csictl import CONTROLLER, CREATE, Line, Server, VOL_1, call, ok, refusal, run, text
+from tests.support.peers import CLOSED, Pages, Peer
 from tests.support.rows import CsictlTest
-from tests.test_csictl_call import CLOSED, Peer
-from tests.test_csictl_json import Pages
 
 
 def varint(number):
@@ -446,7 +445,7 @@ class PeopleTest(CsictlTest):
         peer = Peer(self.folder, [reply])
         out, said, status = wanted
         self.row(name, self.ask(peer.path, *words), (out, said.replace("PATH", peer.path), status))
-        calls, _ = peer.end()
+        calls = peer.end()
         self.row("what was asked: " + name, calls, [call(CONTROLLER + method, message.replace(" ", ""))])
 
     def test_listings(self):

@@ -1,0 +1,120 @@
+"""Servers that are played: csictl's calls are answered as a test says."""
+
+import os
+import select
+import socket
+import threading
+import time
+
+from tests.support.processes import SECONDS
+
+# What a peer does instead of answering with bytes: it closes the connection, with the call taken or not, or is
+# silent until the connection is closed.
+CLOSED, RESET, SILENT = b"", "reset", "silent"
+
+
+class PlayedServer:
+    """A socket, and a thread that takes a connection for each part of a script. It keeps the calls."""
+
+    def __init__(self, folder, script):
+        self.path, self.script, self.calls, self.moments = os.path.join(folder, "played.sock"), script, [], []
+        self.listener = socket.socket(socket.AF_UNIX)
+        self.listener.bind(self.path)
+        self.listener.listen(8)
+        self.listener.settimeout(10)
+        self.thread = threading.Thread(target=self.serve)
+        self.thread.start()
+
+    def serve(self):
+        for part in self.script:
+            try:
+                peer, _ = self.listener.accept()
+            except TimeoutError:
+                # Who was to try again has ended.
+                break
+            self.moments.append(time.monotonic())
+            self.play(peer, part)
+
+    def play(self, peer, part):
+        """Answers a connection, and closes it."""
+        raise NotImplementedError
+
+    def end(self):
+        """The calls, and of one connection more than there was to be."""
+        self.thread.join()
+        self.listener.setblocking(False)
+        try:
+            self.listener.accept()
+            self.calls.append("one more")
+        except BlockingIOError:
+            pass
+        self.listener.close()
+        os.unlink(self.path)
+        return self.calls
+
+    def pauses(self):
+        """The seconds between the connections."""
+        return [later - earlier for earlier, later in zip(self.moments, self.moments[1:])]
+
+
+class Peer(PlayedServer):
+    """A server that does one thing on each connection."""
+
+    def __init__(self, folder, script):
+        self.silent = []
+        super().__init__(folder, script)
+
+    def serve(self):
+        super().serve()
+        for peer in self.silent:
+            gone = select.poll()
+            gone.register(peer, 0)
+            gone.poll(SECONDS * 1000)
+            peer.close()
+
+    def play(self, peer, part):
+        if part is RESET:
+            # A call that is not taken resets the connection when it is closed.
+            ended = select.poll()
+            ended.register(peer, select.POLLRDHUP)
+            ended.poll(SECONDS * 1000)
+            self.calls.append(peer.recv(1 << 16, socket.MSG_PEEK))
+            peer.close()
+            return
+        sent = b""
+        while piece := peer.recv(1 << 16):
+            sent += piece
+        self.calls.append(sent)
+        if part is SILENT:
+            self.silent.append(peer)
+            return
+        peer.sendall(part)
+        peer.close()
+
+
+def next_call(calls):
+    """The next call of a stream, or what there is of it."""
+    size = calls.read(2)
+    head = calls.read(int.from_bytes(size, "big") + 5)
+    return size + head + calls.read(int.from_bytes(head[-4:], "big"))
+
+
+class Pages(PlayedServer):
+    """A server that answers the calls of each connection one after the other. At CLOSED it closes the connection
+    instead.
+    """
+
+    def play(self, peer, part):
+        with peer, peer.makefile("rb") as calls:
+            self.calls.append([])
+            for answer in part:
+                call = next_call(calls)
+                if call:
+                    self.calls[-1].append(call)
+                if answer is CLOSED or not call:
+                    break
+                peer.sendall(answer)
+            else:
+                # It ends its writing, or goes away.
+                if more := calls.read():
+                    self.calls[-1].append(more)
