@@ -1,2 +1,4 @@
 pub mod Lines
+pub mod Sizes
 pub mod Statuses
+pub mod Words

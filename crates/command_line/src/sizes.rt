@@ -1,62 +1,83 @@
 //! Sizes, as people read them.
 
-ghost use Rattle.std.specs.Prelude.{◌≡◌, ◌*◌, IfSome};
+ghost use Rattle.std.specs.Prelude.{◌≡◌, IfOk, codes};
+ghost use Rattle.std.specs.String.{string_bytes};
+ghost use Rattle.command_line.specs.Sizes.{binary_size, half, halves_or_none, halves_text, size_text};
 
 use std::alloc::{AllocError, Global};
 
-// A unit: its name, and its bytes.
+// A unit: its name, and half of its bytes.
 #[derive(Clone, Copy)]
 struct Unit {
     name: &'static str,
-    bytes: u64,
+    half: u64,
 }
 
-// The halves of the units in which sizes are shown, the greatest first.
+// The units in which sizes are shown, the greatest first.
 const SHOWN: [Unit; 6] = [
     Unit {
         name: "EiB",
-        bytes: 1 << 59,
+        half: 1 << 59,
     },
     Unit {
         name: "PiB",
-        bytes: 1 << 49,
+        half: 1 << 49,
     },
     Unit {
         name: "TiB",
-        bytes: 1 << 39,
+        half: 1 << 39,
     },
     Unit {
         name: "GiB",
-        bytes: 1 << 29,
+        half: 1 << 29,
     },
     Unit {
         name: "MiB",
-        bytes: 1 << 19,
+        half: 1 << 19,
     },
     Unit {
         name: "KiB",
-        bytes: 1 << 9,
+        half: 1 << 9,
     },
 ];
 
 // A size in halves of a unit, where it is at least one unit, and no byte is left.
 fn halves_of(bytes: u64, half: u64) -> Option<u64>
-    ensures exact { IfSome result (λ halves. halves * half ≡ bytes) }
+    ensures { result ≡ halves_or_none bytes half }
 {
     let halves = bytes.checked_div(half)?;
-    match halves.checked_mul(half) {
-        Some(product) if product == bytes && halves > 1 => Some(halves),
-        _ => None,
+    if halves > 1 && bytes % half == 0 {
+        Some(halves)
+    } else {
+        None
     }
 }
 
-fn in_halves(alloc: Global, halves: u64, unit: &str) -> Result<String, AllocError> {
+// The decimal of a number of halves.
+fn half_of(halves: u64) -> &'static str
+    ensures { result.now ≡ half halves }
+{
+    if halves % 2 == 0 { "" } else { ".5" }
+}
+
+fn in_halves(alloc: Global, halves: u64, unit: &str) -> Result<String, AllocError>
+    ensures { IfOk result (λ text. string_bytes text ≡ halves_text halves unit.now) }
+{
     let whole = halves / 2;
-    if halves % 2 == 0 {
-        format!(in alloc; "{whole} {unit}")
-    } else {
-        format!(in alloc; "{whole}.5 {unit}")
+    let half = half_of(halves);
+    format!(in alloc; "{whole}{half} {unit}")
+}
+
+// A size in the first of these units in which it is exact to one decimal, otherwise in bytes.
+fn text_in(alloc: Global, units: &[Unit], bytes: u64) -> Result<String, AllocError>
+    ensures { IfOk result (λ text. string_bytes text ≡ size_text units.now bytes) }
+{
+    for unit in units {
+        if let Some(halves) = halves_of(bytes, unit.half) {
+            return in_halves(alloc, halves, unit.name);
+        }
     }
+    format!(in alloc; "{bytes} B")
 }
 
 /// A size in the greatest binary unit in which it is exact to one decimal, as `1 GiB` or `1.5 MiB`; otherwise in
@@ -65,11 +86,8 @@ fn in_halves(alloc: Global, halves: u64, unit: &str) -> Result<String, AllocErro
 /// # Errors
 ///
 /// Where memory was refused.
-pub fn size_text(alloc: Global, bytes: u64) -> Result<String, AllocError> {
-    for unit in &SHOWN {
-        if let Some(halves) = halves_of(bytes, unit.bytes) {
-            return in_halves(alloc, halves, unit.name);
-        }
-    }
-    format!(in alloc; "{bytes} B")
+pub fn size_text(alloc: Global, bytes: u64) -> Result<String, AllocError>
+    ensures ok { IfOk result (λ text. string_bytes text ≡ binary_size bytes) }
+{
+    text_in(alloc, &SHOWN, bytes)
 }

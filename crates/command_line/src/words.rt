@@ -1,25 +1,26 @@
 //! Words of a line: texts in which nothing ends a word, and `-` where there is nothing.
 
+ghost use Rattle.std.specs.Prelude.{◌≡◌, ◌++◌, IfOk, OnOk};
+ghost use Rattle.std.specs.String.{string_bytes};
+ghost use Rattle.percent_encoding.specs.Percent.{percent_encode};
+ghost use Rattle.command_line.specs.Words.{after_mark, or_dash};
+
+use percent_encoding::{AsciiSet, CONTROLS, ascii_set, utf8_percent_encode};
 use std::alloc::{AllocError, Global};
-use std::fmt::Write;
 
-fn put_byte(out: &mut String, byte: u8) -> Result<(), AllocError> {
-    if 0x21 <= byte && byte <= 0x7e && byte != b'%' {
-        return out.push(char::from(byte));
-    }
-    write!(out, "%{byte:02X}")
-}
+// The characters of ASCII that would end a word, and the one that begins an escape.
+const ESCAPED: AsciiSet = ascii_set!(CONTROLS.add(b' ').add(b'%'));
 
-/// Appends a text as a part of a word: a byte outside 0x21 to 0x7E, and `%`, as `%` and two hexadecimal digits.
+/// Appends a text as a part of a word: a byte outside 0x21 to 0x7E, and `%`, as `%` and two hexadecimal digits
+/// (URL Standard, section 1.3).
 ///
 /// # Errors
 ///
 /// Where memory was refused.
-pub fn put_word(out: &mut String, text: &str) -> Result<(), AllocError> {
-    for byte in text.bytes() {
-        put_byte(out, byte)?;
-    }
-    Ok(())
+pub fn put_word(out: &mut String, text: &str) -> Result<(), AllocError>
+    ensures ok { OnOk result (string_bytes out.new ≡ string_bytes out.old ++ percent_encode ESCAPED text.now) }
+{
+    utf8_percent_encode(text, ESCAPED).append_to(out)
 }
 
 /// Appends a part of a list, after this mark where it is not the first one.
@@ -27,7 +28,9 @@ pub fn put_word(out: &mut String, text: &str) -> Result<(), AllocError> {
 /// # Errors
 ///
 /// Where memory was refused.
-pub fn put_next(out: &mut String, mark: &str, part: &str) -> Result<(), AllocError> {
+pub fn put_next(out: &mut String, mark: &str, part: &str) -> Result<(), AllocError>
+    ensures ok { OnOk result (string_bytes out.new ≡ after_mark (string_bytes out.old) mark.now ++ part.now) }
+{
     if !out.is_empty() {
         out.push_str(mark)?;
     }
@@ -39,7 +42,9 @@ pub fn put_next(out: &mut String, mark: &str, part: &str) -> Result<(), AllocErr
 /// # Errors
 ///
 /// Where memory was refused.
-pub fn word(alloc: Global, text: &str) -> Result<String, AllocError> {
+pub fn word(alloc: Global, text: &str) -> Result<String, AllocError>
+    ensures ok { IfOk result (λ word. string_bytes word ≡ or_dash (percent_encode ESCAPED text.now)) }
+{
     let mut out = String::new(alloc);
     put_word(&mut out, text)?;
     or_dash(out)
@@ -50,7 +55,9 @@ pub fn word(alloc: Global, text: &str) -> Result<String, AllocError> {
 /// # Errors
 ///
 /// Where memory was refused.
-pub fn or_dash(text: String) -> Result<String, AllocError> {
+pub fn or_dash(text: String) -> Result<String, AllocError>
+    ensures ok { IfOk result (λ word. string_bytes word ≡ or_dash (string_bytes text)) }
+{
     let mut text = text;
     if text.is_empty() {
         text.push('-')?;

@@ -1,0 +1,12 @@
+-- Words of a line.
+use Rattle.std.specs.Prelude.{ℕ, List, [], ◌∷◌, ◌++◌}
+
+-- a dash where there is nothing
+abbrev pub or_dash : List ℕ → List ℕ
+or_dash [] = 45 ∷ []
+or_dash (byte ∷ rest) = byte ∷ rest
+
+-- a mark after what there is, if there is something
+abbrev pub after_mark : List ℕ → List ℕ → List ℕ
+after_mark [] mark = []
+after_mark (byte ∷ rest) mark = (byte ∷ rest) ++ mark
