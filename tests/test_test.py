@@ -17,6 +17,7 @@ PLAYED = {
     "scripts/try-edits": "",
     "scripts/theorems": "",
     "scripts/check-pages": "",
+    "bench/plots": "",
     "scripts/gate": "echo '5 passed, 0 failed'",
     "go/go": "exit 1",
     "tests/retries": "",

@@ -1,0 +1,94 @@
+"""bench/plots: the plots of docs/PERFORMANCE.md are those of its tables, and a missing table is named."""
+
+import os
+import shutil
+import subprocess
+
+from tests.support.processes import SECONDS, TOP
+from tests.support.rows import RowTest
+
+PAGE = "docs/PERFORMANCE.md"
+OUT_OF_DATE = "plots: docs/plots/%s.svg is out of date: call bench/plots\n"
+GONE = "plots: docs/plots/%s.svg is missing, or has no digest: call bench/plots\n"
+NOT_SHOWN = "plots: docs/PERFORMANCE.md does not show docs/plots/%s.svg\n"
+NO_TABLE = "plots: docs/PERFORMANCE.md, for the plot '%s': '%s' has no table of %s\n"
+NO_ROW = "plots: docs/PERFORMANCE.md, for the plot '%s': there is no row '%s..'\n"
+
+
+class PagesTest(RowTest):
+    """The page of this repository."""
+
+    def test_plots_are_those_of_the_page(self):
+        done = subprocess.run(
+            [os.path.join(TOP, "bench", "plots"), "--check"], capture_output=True, text=True, timeout=SECONDS
+        )
+        self.row("bench/plots --check", (done.returncode, done.stdout, done.stderr), (0, "", ""))
+
+
+class PlotsTest(RowTest):
+    """bench/plots over a copy of the page and its plots."""
+
+    def setUp(self):
+        super().setUp()
+        for name in ["bench/plots", "bench/drawing.py", PAGE]:
+            os.makedirs(os.path.join(self.folder, os.path.dirname(name)), exist_ok=True)
+            shutil.copy(os.path.join(TOP, name), os.path.join(self.folder, name))
+        shutil.copytree(os.path.join(TOP, "docs/plots"), os.path.join(self.folder, "docs/plots"))
+        with open(os.path.join(TOP, PAGE), encoding="utf-8") as file:
+            self.page = file.read()
+
+    def checked(self, *words):
+        done = subprocess.run(
+            ["bench/plots", *words], cwd=self.folder, capture_output=True, text=True, timeout=SECONDS
+        )
+        return done.returncode, done.stdout, done.stderr
+
+    def after(self, old, new):
+        """What --check says of the page with a text replaced that it has."""
+        self.assertIn(old, self.page)
+        with open(os.path.join(self.folder, PAGE), "w", encoding="utf-8") as file:
+            file.write(self.page.replace(old, new))
+        return self.checked("--check")
+
+    def test_changed_numbers_are_reported(self):
+        """A plot is out of date where a number or a label of its own table is another one."""
+        rows = [
+            ("a time of a create", "2.7; 2.6; 3.0 us", "2.7; 2.6; 3.1 us", ["creates"]),
+            ("a time of a start", "4; 44; 487 ms", "4; 44; 488 ms", ["start"]),
+            ("calls a second", "4,336 / 4,683: 0.93", "4,337 / 4,683: 0.93", ["front"]),
+            ("a label", "| probe of 64 KiB |", "| probe of 65 KiB |", ["front"]),
+            ("a hostile message", "2,042 keys | 114 |", "2,042 keys | 115 |", ["hostile"]),
+            ("a number that no plot has", "| a probe | 0.33 us |", "| a probe | 0.34 us |", []),
+            ("a text around a table", "# Performance", "# How fast it is", []),
+        ]
+        for name, old, new, plots in rows:
+            wanted = (1 if plots else 0, "", "".join(OUT_OF_DATE % it for it in plots))
+            self.row(name, self.after(old, new), wanted)
+
+    def test_missing_tables_are_reported(self):
+        """Each plot whose table, row or numbers are not there is named, and the others are compared."""
+        hostile = NO_TABLE % ("hostile", "Hostile messages", "request, ms, MiB")
+        self.row("a table", self.after("| request | ms | MiB |", "| what | ms | MiB |"), (1, "", hostile))
+        self.row("a section", self.after("## Hostile messages", "## Messages"), (1, "", hostile))
+        start = NO_ROW % ("start", "a start over ")
+        self.row("a row", self.after("| a start over 1,000;", "| an end over 1,000;"), (1, "", start))
+        status, _, said = self.after("9; 96; 1,084 ms", "quick")
+        self.row("numbers", (status, said.count("\n"), "'quick'" in said), (1, 1, True))
+        status, _, said = self.after("9; 96; 1,084 ms", "9; 96 ms")
+        self.row("a number", (status, said.count("\n"), "'a start over ..'" in said), (1, 1, True))
+        self.row("it draws none then", self.checked()[0], 1)
+
+    def test_missing_plots_are_reported(self):
+        path = os.path.join(self.folder, "docs/plots/front.svg")
+        with open(path, "w", encoding="utf-8") as file:
+            file.write("<svg/>\n")
+        self.row("another file", self.checked("--check"), (1, "", GONE % "front"))
+        os.remove(path)
+        self.row("no file", self.checked("--check"), (1, "", GONE % "front"))
+        said = self.after("](plots/front.svg)", "](plots/back.svg)")
+        self.row("a page without it", said, (1, "", GONE % "front" + NOT_SHOWN % "front"))
+
+    def test_arguments_that_are_not_known(self):
+        status, out, said = self.checked("--chek")
+        usage = ["usage: bench/plots            writes docs/plots/NAME.svg"]
+        self.row("another word", (status, out, said.splitlines()[:1]), (2, "", usage))
