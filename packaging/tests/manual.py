@@ -62,6 +62,7 @@ SECTIONS = {
         "SYNOPSIS",
         "DESCRIPTION",
         "OPTIONS",
+        "THE FIRST ROW",
         "KEYS AND VALUES",
         "THE LOCK",
         "WHAT IS ANSWERED, AND LINES",
@@ -88,6 +89,7 @@ SECTIONS = {
         "ARGUMENT CHECKS",
         "OTHER REFUSALS",
         "CALLS ANSWERED",
+        "THE CHANGE STORE",
         "FILES",
         "SEE ALSO",
     ],
@@ -116,12 +118,16 @@ TEXTS = [
     ("csid.1", ' ("Arguments that are refused")\n'),
     ("csictl.1", "\\fBcsictl\\fR vectors FILE\n"),
     ("csictl.1", '.SH "FOR SCRIPTS"\n'),
+    ("csictl.1", ".TP\n\\fB/run/csid\\-front/control.sock\\fR\n"),
+    ("csictl.1", 'after 3 seconds ("DESCRIPTION").\n'),
     ("csid-front.1", "\\fBcsid\\-front\\fR \\-\\-version\n"),
     ("csid-front.1", ".SH DESCRIPTION\n.PP\nFor operators: how to run \\fBcsid\\fR for an orchestrator"),
     ("csid-front.1", ' ("Watching the front")\n'),
     ("csid-front.1", '.SH "WATCHING THE FRONT"\n'),
     ("csid-front.1", 'one serves at a time (docs/DEPLOY.md, "Two replicas over etcd").\n'),
     ("csid-front.1", ".TP\n\\fB/run/csid\\-front/csi.sock\\fR\n"),
+    ("csid-front.1", ".TP\n\\fB/run/csid\\-front/control.sock\\fR\n"),
+    ("csid-front.1", ".TP\n\\fB/etc/default/csid\\fR\n"),
     (
         "csid-etcd.1",
         (
@@ -191,6 +197,19 @@ def page_rows(pages):
         yield "in %s: %r" % (name, text), text in pages[name], True
 
 
+def reference_rows(pages):
+    """Where a page names a section of a page of manual, that page has it."""
+    texts = {name: re.sub(r"\\f.|\\(?=-)", "", text) for name, text in pages.items()}
+    headings = {
+        name: {it.strip('"').upper() for it in re.findall(r"^\.S[HS] (.*)$", text, re.M)}
+        for name, text in texts.items()
+    }
+    for name, text in texts.items():
+        for page, number, heading in re.findall(r'([\w-]+)\((\d)\),\s"([^"]+)"', text):
+            of = headings["%s.%s" % (page, number)]
+            yield '%s names "%s" of %s' % (name, heading, page), heading.upper() in of, True
+
+
 def option_rows(pages, programs):
     """The options of a page are those that the program lists."""
     for name, program in programs.items():
@@ -215,7 +234,7 @@ def piece_rows():
             done = run(manual, os.path.join(folder, "man"))
             text = read(os.path.join(folder, "man", "csid-protocol.7")) if done == (0, "") else done
         yield "the piece %r" % piece, re.search(
-            r'\.SH "CALLS ANSWERED"\n(.*?)\.SH FILES', str(text), re.S
+            r'\.SH "CALLS ANSWERED"\n(.*?)\.SH "THE CHANGE STORE"', str(text), re.S
         ).group(1), wanted
 
 
@@ -283,6 +302,7 @@ def made_rows(programs, folder):
     pages = {name: read(os.path.join(folder, name)) for name in os.listdir(folder)}
     yield "the pages", sorted(pages), sorted(SECTIONS)
     yield from page_rows(pages)
+    yield from reference_rows(pages)
     yield from option_rows(pages, programs)
 
 
