@@ -129,6 +129,9 @@ func TestListedJSON(t *testing.T) {
 		if got := shown.String(); !reflect.DeepEqual(readJSON(t, got), readJSON(t, row.want)) || strings.Count(got, "\n") != row.lines {
 			t.Errorf("%s\nwanted\n%s", got, row.want)
 		}
+		if strings.Contains(shown.String(), `\u0020`) {
+			t.Errorf("a space is escaped: %s", shown.String())
+		}
 	}
 }
 

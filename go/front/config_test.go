@@ -27,8 +27,12 @@ func TestConfiguration(t *testing.T) {
 	if err != nil || !reflect.DeepEqual(got, want) {
 		t.Errorf("%v, %v", got, err)
 	}
-	if got, err := readConfiguration(fileOf(t, "[[pool]]\nname = \"p\"\nbytes = 1048576\nunknown = [1]\n")); err != nil || len(got.Nodes) != 0 {
+	const pool = "[[pool]]\nname = \"p\"\nbytes = 1048576\n"
+	if got, err := readConfiguration(fileOf(t, pool+"unknown = [1]\n")); err != nil || len(got.Nodes) != 0 {
 		t.Errorf("a pool without nodes: %v, %v", got, err)
+	}
+	if got, err := readConfiguration(fileOf(t, pool+"[[node]]\nid = \"p\"\nmax_volumes = 1\n")); err != nil || len(got.Nodes) != 1 {
+		t.Errorf("a node that has the name of a pool: %v, %v", got, err)
 	}
 }
 

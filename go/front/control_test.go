@@ -12,6 +12,8 @@ import (
 	"testing"
 	"time"
 
+	"github.com/prometheus/client_golang/prometheus/testutil"
+
 	"fomaheti/frames"
 )
 
@@ -62,7 +64,7 @@ const shortFrame = "0004 2f612f62 00 00000000"
 // Calls of one connection are answered one after the other, also by one that ends its writing at once, with the bytes that csid answers.
 func TestControlCalls(t *testing.T) {
 	path, _ := csid(t, answering(fromHex(t, "09 0002 4142 00 00000000")))
-	_, socket, log := controlled(t, path)
+	c, socket, log := controlled(t, path)
 	conn := dial(t, socket)
 	conn.Write(fromHex(t, shortFrame+shortFrame))
 	conn.CloseWrite()
@@ -72,6 +74,23 @@ func TestControlCalls(t *testing.T) {
 	}
 	if lines := strings.Count(log.String(), "front: control /a/b 9 \"AB\" "); lines != 2 {
 		t.Errorf("logged %q", log)
+	}
+	if waiting := testutil.ToFloat64(c.handler.metrics.waiting); waiting != 0 {
+		t.Errorf("%v calls wait", waiting)
+	}
+}
+
+// A connection that has ended leaves its place to another one.
+func TestManyControlConnections(t *testing.T) {
+	path, _ := csid(t, answering(notFound))
+	_, socket, _ := controlled(t, path)
+	for i := 0; i < 2*maxControls; i++ {
+		conn := dial(t, socket)
+		conn.Write(fromHex(t, shortFrame))
+		conn.CloseWrite()
+		if got, err := io.ReadAll(conn); err != nil || !bytes.Equal(got, notFound) {
+			t.Fatalf("connection %d: %x, %v", i, got, err)
+		}
 	}
 }
 
@@ -181,6 +200,42 @@ func TestEndOfControl(t *testing.T) {
 	if _, err := os.Lstat(socket); !os.IsNotExist(err) {
 		t.Errorf("the socket: %v", err)
 	}
+}
+
+// A peer that keeps its connection after its reply is not waited for at the end, and a connection that is accepted then is closed.
+func TestControlConnectionsAtTheEnd(t *testing.T) {
+	let := make(chan struct{})
+	path, _ := csid(t, func(conn net.Conn) {
+		if isCalled(conn) {
+			<-let
+			conn.Write(notFound)
+		}
+		isCalled(conn)
+	})
+	c, socket, _ := controlled(t, path)
+	runs := dial(t, socket)
+	runs.Write(fromHex(t, shortFrame))
+	for begin := time.Now(); len(c.handler.backend.turn) == 0; time.Sleep(time.Millisecond) {
+		if time.Since(begin) > 10*time.Second {
+			t.Fatal("no call runs")
+		}
+	}
+	c.stop()
+	close(let)
+	if got, err := io.ReadAll(runs); err != nil || !bytes.Equal(got, notFound) {
+		t.Errorf("%x, %v", got, err)
+	}
+	c.wait()
+	c, socket, _ = controlled(t, path)
+	c.mutex.Lock()
+	c.isEnded = true
+	c.mutex.Unlock()
+	late := dial(t, socket)
+	late.Write(fromHex(t, shortFrame))
+	if got, err := io.ReadAll(late); err != nil && !frames.IsClosing(err) || len(got) > 0 {
+		t.Errorf("of a connection that came at the end: %x, %v", got, err)
+	}
+	c.wait()
 }
 
 func TestPeerThatIsGone(t *testing.T) {

@@ -2,6 +2,7 @@ package main
 
 import (
 	"context"
+	"io"
 	"testing"
 	"time"
 
@@ -91,7 +92,7 @@ func TestLateness(t *testing.T) {
 	m.waits(1)
 	m.waits(-1)
 	if m.stillSince != since {
-		t.Error("a further call that waits begins the second anew")
+		t.Error("a further call that waits begins the second again")
 	}
 }
 
@@ -108,4 +109,53 @@ func TestCallsThatWaitForAPlace(t *testing.T) {
 	if err := m.place(ctx); status.Code(err) != codes.Canceled || m.waiting != 0 {
 		t.Error(err, m.waiting)
 	}
+}
+
+// A receiver is kept for the next message without the one that it had. One more than are kept ends.
+func TestReceiversThatAreKept(t *testing.T) {
+	m := newMessages(10)
+	if got, err := m.inTime(func() ([]byte, error) { return []byte("a"), io.EOF }); string(got) != "a" || err != io.EOF {
+		t.Errorf("%q, %v", got, err)
+	}
+	r := <-m.idle
+	if r.message != nil || r.err != nil {
+		t.Errorf("%q, %v are kept", r.message, r.err)
+	}
+	for i := 0; i < maxReceived; i++ {
+		m.keep(newReceiver())
+	}
+	m.keep(r)
+	select {
+	case _, isOpen := <-r.next:
+		if isOpen {
+			t.Error("there is something to receive")
+		}
+	case <-time.After(10 * time.Second):
+		t.Error("a receiver that is not kept goes on")
+	}
+}
+
+// The receiver of a message that is late receives no other one: it is not done.
+func TestReceiverOfALateMessage(t *testing.T) {
+	m := newMessages(10)
+	m.waiting, m.stillSince = 1, time.Now().Add(-stillTime)
+	let := make(chan struct{})
+	if _, err := m.inTime(func() ([]byte, error) { <-let; return []byte("late"), nil }); err != errLate {
+		t.Fatal(err)
+	}
+	m.waiting = 0
+	ended := make(chan string)
+	go func() {
+		got, _ := m.inTime(func() ([]byte, error) { return []byte("next"), nil })
+		ended <- string(got)
+	}()
+	select {
+	case got := <-ended:
+		if got != "next" {
+			t.Errorf("%q", got)
+		}
+	case <-time.After(10 * time.Second):
+		t.Error("it waits for the message that was late")
+	}
+	close(let)
 }
