@@ -66,6 +66,7 @@ func TestListAsOfFile(t *testing.T) {
 	cluster := clusters.Start(t, 1)
 	rows := "volumes/00000000000000000002\t{\"name\":\"a b\",\"bytes\":1610612736,\"pool\":\"ssd\",\"caps\":\"1a0612001a0208011a0c12060a04657874341a020805\"," +
 		"\"params\":\"22060a016b12017622080a016c120361206242050a016d1200\"}\n" +
+		"attachments/00000000000000000002/m\t{\"cap\":\"1a0612001a020801\",\"readonly\":0}\n" +
 		"attachments/00000000000000000002/n,1\t{\"cap\":\"1a0612001a020801\",\"readonly\":0}\n" + strings.Replace(threeRows, `"next_number":2`, `"next_number":3`, 1)
 	if got := moves(t, rows, "--import", cluster.Endpoints()); got.status != 0 {
 		t.Fatal(got)
