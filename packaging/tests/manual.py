@@ -107,7 +107,7 @@ TEXTS = [
     ),
     ("csid.1", ".TP\n\\fB\\-\\-socket PATH\\fR\n"),
     ("csid.1", ".TP\n\\fB/var/lib/csid/volumes.db\\fR\n"),
-    ("csid.1", 'short entries (docs/OPERATING.md, "Time and memory")\n'),
+    ("csid.1", 'a copy in memory (docs/OPERATING.md, "Time and memory")\n'),
     (
         "csid.1",
         (
@@ -141,7 +141,7 @@ TEXTS = [
     ("csid-etcd.1", ".TP\n\\fB/var/lib/csid\\-etcd/revision\\fR\n"),
     ("csid-config.5", '[[pool]]\nname = "p1"\n'),
     ("csid-protocol.7", ".TP\npath length\nbytes: 2, big-endian\n.br\nvalue: 1 to 128\n"),
-    ("csid-protocol.7", ".TP\n0\n\\fBOK\\fR\n"),
+    ("csid-protocol.7", ".TP\n\\fB/csi.v1.Identity/M\\fR\nGetPluginInfo, "),
 ]
 # Pieces of Markdown, and the roff that is made of them.
 PIECES = [
