@@ -1,4 +1,4 @@
-// csid-etcd is the log of a csid whose rows stand in etcd. It hands rows and changes between the two while it holds a lock of etcd: so of several,
+// csid-etcd is the change store of a csid whose rows are in etcd. It hands rows and changes between the two while it holds a lock of etcd: so of several,
 // each with a csid, one serves, and another takes over where that is lost.
 package main
 
@@ -87,7 +87,7 @@ func run(lines *log.Logger) int {
 	return serve(asked, socket, revisions, stop, lines)
 }
 
-// serve stands for the lock and answers csid until a signal comes.
+// serve queues for the lock and answers csid until a signal comes.
 func serve(asked options, socket *sockets.Socket, revisions *revisions, stop <-chan os.Signal, lines *log.Logger) int {
 	ctx, cancel := context.WithCancel(context.Background())
 	defer cancel()

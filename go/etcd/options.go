@@ -71,7 +71,7 @@ func readOptions(given []string, shown io.Writer) (options, error) {
 	flags.SetOutput(io.Discard)
 	flags.StringVar(&asked.name, "name", "", "the `NAME` of the plugin: all keys in etcd begin with it and a slash")
 	flags.StringVar(&asked.listen, "listen", "", "the `PATH` of the socket for csid")
-	flags.StringVar(&endpoints, "endpoints", "127.0.0.1:2379", "the members of etcd, as `HOST:PORT,..`, each also behind https://")
+	flags.StringVar(&endpoints, "endpoints", "127.0.0.1:2379", "the members of etcd, as `HOST:PORT,..`, each also after https://")
 	flags.StringVar(&asked.cacert, "cacert", "", "the `PATH` of the certificates of who signs for etcd")
 	flags.StringVar(&asked.cert, "cert", "", "the `PATH` of this program's own certificate")
 	flags.StringVar(&asked.key, "key", "", "the `PATH` of the key of --cert")
@@ -122,7 +122,7 @@ func (asked options) isOnce() bool {
 	return asked.isNew || asked.isExport || asked.isImport || asked.isList
 }
 
-// checkOnce refuses what says nothing beside that which is done once.
+// checkOnce refuses what means nothing next to that which is done once.
 func checkOnce(flags *flag.FlagSet) (err error) {
 	var once string
 	flags.Visit(func(given *flag.Flag) {

@@ -96,7 +96,7 @@ type front struct {
 	stop    chan os.Signal
 	// Failures of what takes connections.
 	failed chan error
-	// That nothing was answered by csid. Without --standby it is never told.
+	// That nothing was answered by csid. Without --standby it is never said.
 	silent chan error
 }
 

@@ -40,7 +40,7 @@ type options struct {
 	// How long csid may answer nothing. Where it is 0 that has no bound, and the socket is made without csid.
 	standby time.Duration
 	health  bool
-	// Where metrics are told; nowhere if it is empty.
+	// Where metrics are reported; nowhere if it is empty.
 	metrics    string
 	topologies []topology
 	// What csid has room for; nil where there is no --config.
