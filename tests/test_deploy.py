@@ -660,6 +660,17 @@ class DeployTest(RowTest):
             self.row("the container %s of both manifests" % name, sidecar, other.containers[name])
             self.row(name + " elects nobody", [word for word in sidecar["args"] if "election" in word], [])
 
+    def test_chown(self):
+        """csid and the front may give their sockets to a group (--group, --control-group), and csid the WAL the
+        owner of its file: that call is the last that their units allow.
+        """
+        for name in [*UNITS, FIRST]:
+            self.row(
+                "what %s allows last" % name,
+                Unit(name).all("SystemCallFilter")[1:],
+                ["~@privileged @resources", "@chown"],
+            )
+
     def test_privacy(self):
         """Of what the programs keep and of their sockets nothing is for users beside their own, but the
         socket of the front for its group.
