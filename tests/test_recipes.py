@@ -236,6 +236,7 @@ class RecipesTest(RecipeTest):
                 place.recipe(change),
                 ("name pools.example.org, pools 3, nodes 2\n" + has(1, 0, 2), "", 0),
             )
+            self.row("the front is back", place.control.runs("csid-front") is not None, True)
             self.row("a volume in it", place.call(*create("b", "c")), "0 OK\nvolume vol-2 1048576\n")
             place.configure({"p1": (10, "x"), "p3": (1, "c")}, NODES)
             place.recipe(change)
@@ -258,6 +259,23 @@ class RecipesTest(RecipeTest):
                 ),
             )
             self.row("the configuration stays", place.call(*create("a", "x")), "0 OK\nvolume vol-1 1048576\n")
+
+    def test_node_that_died(self):
+        with Place(self.csictl, self.csid) as place:
+            for words in [create("a"), create("b"), create("c")]:
+                place.call(*words)
+            for volume, node in [("vol-1", "n1"), ("vol-2", "n2"), ("vol-3", "n1")]:
+                place.call(*publish(volume, node))
+            self.row(
+                "the volumes of the node are detached",
+                place.recipe("### A node that died", CSID_SOCKET=place.control.socket),
+                ("unpublished vol-1 from n1\nunpublished vol-3 from n1\n", "", 0),
+            )
+            self.row(
+                "those of another one stay",
+                place.call("ListVolumes"),
+                "0 OK\nvolume vol-1 1048576 -\nvolume vol-2 1048576 n2\nvolume vol-3 1048576 -\n",
+            )
 
     def test_move(self):
         move = "### A move to another machine"
