@@ -4,7 +4,6 @@ import functools
 import glob
 import importlib.util
 import os
-import re
 import shutil
 
 from tests.support.processes import TOP
@@ -360,17 +359,18 @@ class DevicesTest(RecipeTest):
     """The commands of docs/DEVICES.md."""
 
     def test_size(self):
-        """The size of a volume, by the page that begins after the number before its own."""
+        """The size of a volume."""
         with Place(self.csictl, self.csid) as place:
             for number in range(1, 8):
                 place.call("CreateVolume", "--name", "pvc-%d" % number, "--mode", "1")
-            out, errors, status = place.recipe("## How a node plugin learns of a volume", page="DEVICES.md")
-            shown = re.sub("^0 OK .*\n", "", out), errors, status
-            self.row("the seventh", shown, ("volume vol-7 1048576 -\n", "", 0))
-            place.must("systemctl stop csid-front")
+            how = dict(page="DEVICES.md", CSID_SOCKET=place.control.socket)
+            out, errors, status = place.recipe("## How a node plugin learns of a volume", **how)
+            shown = "\n".join(out.splitlines()[:2]), errors, status
+            self.row("the seventh", shown, ("ID        vol-7\nSIZE      1 MiB", "", 0))
             place.call("DeleteVolume", "--volume", "vol-7")
-            out, errors, status = place.recipe("## How a node plugin learns of a volume", page="DEVICES.md")
-            self.row("none after it is deleted", (out, errors, status), ("0 OK -\n", "", 0))
+            out, errors, status = place.recipe("## How a node plugin learns of a volume", **how)
+            refused = "", "csictl: vol-7: no volume has this id\n", 1
+            self.row("none after it is deleted", (out, errors, status), refused)
 
     def test_data_without_volume(self):
         """Of the data on a device those are shown whose volumes are not listed, and none where there is no
@@ -385,10 +385,11 @@ class DevicesTest(RecipeTest):
             for name in ["a", "b", "c"]:
                 place.call(*create(name))
             place.call("DeleteVolume", "--volume", "vol-2")
-            said = place.recipe(heading, page="DEVICES.md", data=data, TMPDIR=place.top)
+            how = dict(page="DEVICES.md", data=data, TMPDIR=place.top, CSID_SOCKET=place.control.socket)
+            said = place.recipe(heading, **how)
             self.row("data without a volume", said, ("vol-10\nvol-2\n", "", 0))
             place.must("systemctl stop csid-front csid; rm -f /run/csid/csid.sock")
-            out, errors, _ = place.recipe(heading, page="DEVICES.md", data=data, TMPDIR=place.top)
+            out, errors, _ = place.recipe(heading, **how)
             self.row("where nobody serves", (out, "No such file or directory" in errors), ("", True))
 
 
