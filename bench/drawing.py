@@ -4,6 +4,11 @@ import sys
 
 NEEDS = "%s: this needs matplotlib: apt-get install python3-matplotlib, and call /usr/bin/python3 %s"
 GREY = "#666666"
+# Of lines that are of no program: as different as many can be.
+COLOURS = (
+    "#1f77b4 #ff7f0e #2ca02c #d62728 #9467bd #8c564b #e377c2 #17becf #bcbd22 #7f7f7f"
+    " #0b3d66 #a34f00 #145214 #7a1212 #4b2a75 #4a2b25 #9c2d7c #0a6b76 #6b6c0e #3f3f3f"
+).split()
 
 
 def pyplot(name):
