@@ -22,6 +22,9 @@ def pyplot(name):
         {
             # The ids of an SVG are made from this, and not at random.
             "svg.hashsalt": name,
+            # Letters stay letters, so a text can be searched and read aloud.
+            "svg.fonttype": "none",
+            "font.sans-serif": ["DejaVu Sans", "Verdana", "sans-serif"],
             "font.size": 9,
             "axes.titlesize": 9,
             "axes.titlelocation": "left",
