@@ -19,6 +19,7 @@ from tests.support.tables import (
     NO_FILE,
     Tables,
     attachment,
+    block,
     cell,
     next_is,
     volume,
@@ -113,6 +114,35 @@ DOCUMENT = {
     ],
 }
 
+# A mount of a file system with a space in its name, and of each mode that has a number, a block device.
+ODD = "1a0b 1205 0a03 612062 1a020801".replace(" ", "")
+MODES = [
+    "SINGLE_NODE_WRITER",
+    "SINGLE_NODE_READER_ONLY",
+    "MULTI_NODE_READER_ONLY",
+    "MULTI_NODE_SINGLE_WRITER",
+    "MULTI_NODE_MULTI_WRITER",
+    "SINGLE_NODE_SINGLE_WRITER",
+    "SINGLE_NODE_MULTI_WRITER",
+]
+
+# Each text that a row has, with a space in it: of a name, a pool, a file system, a key, a value and a node.
+SPACES = (
+    volume(1, "'a b'", MIB, "'p 1'", cell(ODD), cell("220a0a03 612062 1203 632064 42050a01201200".replace(" ", "")))
+    + attachment(1, "'n 1'", cell(ODD))
+    + next_is(2)
+)
+ESCAPED = b"""\
+ID     NAME   POOL   SIZE   CAPABILITIES              PARAMETERS   MUTABLE  NODES
+vol-1  a%20b  p%201  1 MiB  a%20b:SINGLE_NODE_WRITER  a%20b=c%20d  %20=     n%201
+
+POOL   VOLUMES  SIZE
+p%201  1        1 MiB
+
+NODE   VOLUMES  SIZE
+n%201  1        1 MiB
+"""
+
 EMPTY = b"""\
 ID  NAME  POOL  SIZE  CAPABILITIES  PARAMETERS  MUTABLE  NODES
 
@@ -144,6 +174,36 @@ class ListTest(CsidTest):
         self.row("none", self.listed(Tables(self.csid, self.folder, "new.db").new()), (EMPTY, "", 0))
         self.row("none that is chosen", self.listed(tables, "--name", "pvc"), (EMPTY, "", 0))
         self.row("to the byte as it was", tables.files(), kept)
+
+    def test_escaped_words(self):
+        """A space ends no word of a row, whichever column it is in."""
+        tables = Tables(self.csid, self.folder).new().script(SPACES)
+        self.row("a space in each text", self.listed(tables), (ESCAPED, "", 0))
+
+    def test_modes(self):
+        """Each access mode by its name, for people and for programs."""
+        tables = Tables(self.csid, self.folder).new()
+        caps = "".join(block(mode) for mode in range(1, 8))
+        tables.script(volume(1, caps=cell(caps)) + next_is(2))
+        out, line, status = self.listed(tables)
+        self.assertEqual((line, status), ("", 0))
+        self.row("in columns", out.decode().splitlines()[1].split()[5], ",".join("block:" + mode for mode in MODES))
+        wanted = [{"access": "block", "mode": mode} for mode in MODES]
+        self.row("in JSON", self.document(tables)["volumes"][0]["capabilities"], wanted)
+
+    def test_greatest_numbers(self):
+        """Numbers up to the greatest that a column has, and sums of bytes up to the greatest of 64 bits."""
+        tables = Tables(self.csid, self.folder).new()
+        numbers = [1 << 61, (1 << 62) - 1, 1 << 62, (1 << 63) - 1]
+        tables.script(
+            "".join(volume(number, "'v%d'" % number, 1 << 62) + attachment(number) for number in numbers)
+        )
+        self.row("ids", self.ids(tables), ["vol-%d" % number for number in numbers])
+        most = (1 << 64) - 1
+        found = self.document(tables)
+        self.row("of the pool", found["pools"], [{"name": "p1", "volumes": 4, "bytes": most}])
+        self.row("of the node", found["nodes"], [{"id": "n1", "volumes": 4, "bytes": most}])
+        self.row("in columns", self.listed(tables)[0].count(b"4        %d B\n" % most), 2)
 
     def test_long_names(self):
         """A name of 80 bytes makes its column wider; a longer one moves the rest of its own row alone."""
