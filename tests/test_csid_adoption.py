@@ -137,6 +137,11 @@ SPOILED = [
         volume(1, size=2 * MIB, pool="'p2'") + volume(2, "'b'", 3 * MIB, "'p2'") + NEXT_9,
         "pool p2: its volumes have more bytes than it has",
     ),
+    (
+        "a pool above its bytes, between others",
+        volume(1) + volume(2, "'b'", 2 * MIB, "'p2'") + volume(3, "'c'", 3 * MIB, "'p2'") + NEXT_9,
+        "pool p2: its volumes have more bytes than it has",
+    ),
     ("no caps", volume(1, caps="x''") + NEXT_9, volume_fault(1, CAPS)),
     ("a mode that is none", volume(1, caps="x'1a060a001a020808'") + NEXT_9, volume_fault(1, CAPS)),
     (
@@ -330,6 +335,18 @@ SPOILED = [
         A + volume(2, "'b'") + volume(3, "'c'") + attachment(1) + attachment(2) + attachment(3),
         "node n1: more volumes are attached there than it can have",
     ),
+    (
+        "three volumes at a node, and one of them at another too",
+        volume(1, caps=SHARED_CAPS)
+        + volume(2, "'b'")
+        + volume(3, "'c'")
+        + attachment(1, cap=SHARED_CAPS)
+        + attachment(1, "'n2'", SHARED_CAPS)
+        + attachment(2)
+        + attachment(3)
+        + NEXT_9,
+        "node n1: more volumes are attached there than it can have",
+    ),
 ]
 
 # All rules are broken at once, and mended one after the other from the first: what breaks each, what mends
@@ -427,8 +444,12 @@ EXPLAINED = {
     "a size below 0": None,
     "a size of 1 MiB and 1": "volume 1: it is vol-1 (a), 1048577 B in pool p1",
     "a pool above its bytes": "pool p2: its volumes have 5 MiB, and it has 4 MiB",
+    "a pool above its bytes, between others": "pool p2: its volumes have 5 MiB, and it has 4 MiB",
     "an attachment without a volume": None,
     "three volumes at a node": "node n1: 3 volumes are attached there, and it can have 2",
+    "three volumes at a node, and one of them at another too": (
+        "node n1: 3 volumes are attached there, and it can have 2"
+    ),
     "a pool that is smaller": "pool p1: its volumes have 2 MiB, and it has 1 MiB",
     "a node with less room": "node n1: 2 volumes are attached there, and it can have 1",
 }

@@ -10,7 +10,7 @@ from tests.support.configs import FAULTS, LARGE_POOL, NODES, REFUSED, SAMPLE, po
 from tests.support.frames import ASKED, CREATE_A, NO_MEMORY, VOLUME_1, WRITE_FAILED, controller, reply
 from tests.support.processes import NOT_THERE, SECONDS, TOP, run, small_memory, write
 from tests.support.rows import CsidTest
-from tests.support.tables import A, Tables, volume
+from tests.support.tables import A, NO_DATABASE, Tables, volume
 
 
 class CheckTest(CsidTest):
@@ -100,6 +100,11 @@ class CheckTest(CsidTest):
             emptied.says("it has no tables, and none are made"),
         )
         connection.close()
+        spoiled = Tables(self.csid, self.folder, "spoiled.db")
+        write(spoiled.path, b"x" * 5000)
+        behind = Tables(self.csid, self.folder, "behind.db")
+        os.symlink(spoiled.path, behind.path)
+        self.row("checked: no database, behind a link", behind.check(), behind.says(NO_DATABASE))
         write(tables.path + "-journal", b"\x01")
         self.row("checked: beside a journal", tables.check(), tables.says("unable to open database file"))
         self.row(
@@ -164,6 +169,7 @@ class CheckTest(CsidTest):
         for name, versions, came in [
             ("once", [0, 1, 1], has[1]),
             ("twice", [0, 1, 0, 0], has[0]),
+            ("nine times", [0, 1] * 5 + [1], has[1]),
             ("all the time", [0, 1] * 5 + [0], None),
         ]:
             tables = Tables(self.csid, self.folder, name + ".db")

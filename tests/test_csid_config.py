@@ -155,7 +155,10 @@ class ConfigTest(CsidTest):
         )
         server = Server(self.csid, self.folder, "--config", config)
         self.row("serve", server.end()[0], said + server.line(NEW) + server.has(0, 0, 1))
-        self.row("pipe", Tables(self.csid, self.folder).run(frame(PROBE), config), (READY, "", 0))
+        tables = Tables(self.csid, self.folder)
+        has = b"volumes 0, attachments 0, next number 1, format 2\n"
+        self.row("--check-tables", tables.check(config), (has, said, 0))
+        self.row("pipe", tables.run(frame(PROBE), config), (READY, "", 0))
         write(config, SAMPLE)
         server = Server(self.csid, self.folder, "--config", config)
         self.row("none", server.end()[0], server.has(0, 0, 1))

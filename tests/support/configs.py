@@ -269,6 +269,27 @@ FAULTS = [
         ["the default size is above the greatest", "the greatest size is above 2^62 bytes"],
     ),
     (
+        "a slip of the pen beside a fault",
+        b"zone = 3\n" + sample((b"pools.example.org", b"a b")),
+        ["plugin name a b: " + NO_NAME],
+    ),
+    (
+        "as many pools, nodes and volumes as there can be, and a name that is none",
+        sample((b"pools.example.org", b"a b"), (b"max_volumes = 2", b"max_volumes = 100000")) + pools(14) + nodes(62),
+        ["plugin name a b: " + NO_NAME],
+    ),
+    (
+        "a pool above 2^62 bytes, and a name that is none",
+        sample((b"pools.example.org", b"a b"), (b"= 10485760", b"= %d" % ((1 << 62) + (1 << 20)))),
+        ["plugin name a b: " + NO_NAME, "the bytes of all pools together are above 2^62"],
+    ),
+    (
+        "four pools of 2^62 bytes, and a name that is none",
+        sample((b"pools.example.org", b"a b"))
+        + b"".join(b'[[pool]]\nname = "r%d"\nbytes = %d\n' % (number, 1 << 62) for number in range(4)),
+        ["plugin name a b: " + NO_NAME, "the bytes of all pools together are above 2^62"],
+    ),
+    (
         "pools and nodes that are numbers, and sizes that are texts",
         b'pool = [1, 2]\nnode = 3\ndefault_bytes = "1"\ngreatest_bytes = "2"\n'
         b'name = "a"\nvendor_version = "1"\n',
