@@ -1,9 +1,10 @@
 """The commands of csictl for people, over csid, and over peers that are played."""
 
 import os
+import time
 
 from tests.support.csictl import CONTROLLER, CREATE, Line, Server, VOL_1, call, ok, refusal, run, text
-from tests.support.peers import CLOSED, Pages, Peer
+from tests.support.peers import CLOSED, Pages, Peer, next_call
 from tests.support.rows import CsictlTest
 
 
@@ -92,6 +93,72 @@ SHOWN = [
         [[ok(entry("v 1%", 0, [{"zone": "a"}, {"zone": "b"}], ["n\n"], pool="p\t"))]],
         [[""]],
         "ID        SIZE  TOPOLOGY       NODES  POOL\nv%201%25  0 B   zone=a;zone=b  n%0A   p%09\n",
+        "",
+        0,
+    ),
+    (
+        "segments and a context that are escaped",
+        ["volume", "a b"],
+        [[ok(entry("a b", MIB, [{"r 1": "7 8"}], ["n 1"], **{"c d": "e f", "pool": "p 1"}))]],
+        [[""]],
+        "ID        a%20b\nSIZE      1 MiB\nTOPOLOGY  r%201=7%208\nNODES     n%201\nPOOL      p%201\n"
+        "CONTEXT   c%20d=e%20f,pool=p%201\n",
+        "",
+        0,
+    ),
+    (
+        "a node that is escaped",
+        ["nodes"],
+        [[ok(entry("a b", MIB, [], ["n 1"]))]],
+        [[""]],
+        "NODE   VOLUMES  IDS\nn%201  1        a%20b\n",
+        "",
+        0,
+    ),
+    (
+        "a node of an entry without a volume",
+        ["nodes"],
+        [[ok("0a06 1204 0a026e31" + THREE[0])]],
+        [[""]],
+        "NODE  VOLUMES  IDS\nn1    2        -,vol-1\n",
+        "",
+        0,
+    ),
+    (
+        "an entry without a volume is in no pool",
+        ["pools"],
+        [[ok("0a00")]],
+        [[""]],
+        "POOL  TOPOLOGY  VOLUMES  SIZE\n",
+        "",
+        0,
+    ),
+    (
+        "two pools of one topology, and one of two",
+        ["pools"],
+        [
+            [
+                ok(
+                    entry("v", MIB, [{"zone": "a"}], pool="p1")
+                    + entry("w", MIB, [{"zone": "a"}], pool="p2")
+                    + entry("x", MIB, [{"zone": "b"}], pool="p1")
+                )
+            ]
+        ],
+        [[""]],
+        "POOL  TOPOLOGY  VOLUMES  SIZE\n"
+        "p1    zone=a    1        1 MiB\n"
+        "p2    zone=a    1        1 MiB\n"
+        "p1    zone=b    1        1 MiB\n",
+        "",
+        0,
+    ),
+    (
+        "more bytes than an int64 holds",
+        ["pools"],
+        [[ok(entry("v", (1 << 63) - 1, pool="p1") + entry("w", 1 << 62, pool="p1"))]],
+        [[""]],
+        "POOL  TOPOLOGY  VOLUMES  SIZE\np1    -         2        9223372036854775807 B\n",
         "",
         0,
     ),
@@ -386,6 +453,42 @@ CHANGES = [
         "",
         0,
     ),
+    (
+        ["create", "a", "--size", "1"],
+        CREATE,
+        "0a0161 1202 0801" + BLOCK,
+        ok("0a08 0800 1204 76203125"),
+        "created v%201%25, 0 B\n",
+        "",
+        0,
+    ),
+    (
+        ["publish", "v 1", "n 1"],
+        "ControllerPublishVolume",
+        "0a03762031 12036e2031" + BLOCK,
+        CONTEXT,
+        "published v%201 to n%201\n",
+        "",
+        0,
+    ),
+    (
+        ["unpublish", "v 1", "n 1"],
+        "ControllerUnpublishVolume",
+        "0a03762031 12036e2031",
+        ok(""),
+        "unpublished v%201 from n%201\n",
+        "",
+        0,
+    ),
+    (
+        ["unpublish", "v 1"],
+        "ControllerUnpublishVolume",
+        "0a03762031",
+        ok(""),
+        "unpublished v%201 from all nodes\n",
+        "",
+        0,
+    ),
     (["delete", "vol-1"], "DeleteVolume", ID, ok(""), "deleted vol-1\n", "", 0),
     (["delete", " "], "DeleteVolume", "0a0120", ok(""), "deleted %20\n", "", 0),
     (
@@ -426,6 +529,19 @@ REFUSED = [
 ]
 
 
+class SlowPages(Pages):
+    """A server that takes a while for each page."""
+
+    def play(self, peer, part):
+        with peer, peer.makefile("rb") as calls:
+            self.calls.append([])
+            for answer in part:
+                self.calls[-1].append(next_call(calls))
+                time.sleep(0.6)
+                peer.sendall(answer)
+            calls.read()
+
+
 class PeopleTest(CsictlTest):
     """The commands for people."""
 
@@ -455,6 +571,12 @@ class PeopleTest(CsictlTest):
         for size, shown in SIZES:
             out = "POOL  TOPOLOGY  VOLUMES  SIZE\n-     -         1        %s\n" % shown
             self.shown("%d bytes" % size, ["pools"], [[ok(entry("v", size))]], [[""]], (out, "", 0))
+
+    def test_time_of_pages(self):
+        """Each page has the time of --timeout, also over a connection that is kept."""
+        pages = SlowPages(self.folder, [[ok(THREE[0] + NEXT), ok(THREE[1] + THREE[2])]])
+        self.row("two slow pages", self.ask(pages.path, "volumes", "--timeout", "1"), (VOLUMES, "", 0))
+        self.row("what was asked", len(pages.end()[0]), 2)
 
     def test_changes(self):
         """The calls of changes, and what is said of their replies."""
