@@ -3,6 +3,7 @@
 import os
 import re
 import shutil
+import socket
 import sqlite3
 import subprocess
 
@@ -25,7 +26,20 @@ from tests.support.frames import (
 from tests.support.processes import SECONDS, fill, little_room, no_byte, no_room, run, small_disk, write
 from tests.support.rows import CsidTest
 from tests.support.server import DOWN, NEW, Server
-from tests.support.tables import BLOCK_CAPS, FULL, IO_FAILED, LOCKED, MANY, MIB, NO_DATABASE, Tables, next_is
+from tests.support.tables import (
+    BLOCK_CAPS,
+    DAMAGED,
+    FULL,
+    IO_FAILED,
+    LOCKED,
+    MANY,
+    MIB,
+    NO_DATABASE,
+    Tables,
+    cell,
+    next_is,
+    pairs,
+)
 
 
 class DiskTest(CsidTest):
@@ -239,6 +253,42 @@ class DiskTest(CsidTest):
             tables.ask("SELECT count(*), max(number) FROM volumes WHERE name = 'b'"),
             [(1, 10001)],
         )
+
+    def test_refused_read(self):
+        """A file of which pages are overwritten while a connection has it open. Where reads go to the file, they
+        are refused and that is told once; where volumes are in memory, nothing is noticed.
+        """
+        config = os.path.join(self.folder, "config.toml")
+        write(config, sample((b"10485760", b"%d" % (20000 * MIB))))
+        listing = controller("ListVolumes", bytes.fromhex("0801 1204") + b"2000")
+        refused = refusal(13, "store refused")
+        page = reply(
+            bytes.fromhex(
+                "0a2b 0a27 08808040 1208 766f6c2d32303031 1a0a 0a04706f6f6c 12027031 2a0b 0a09 0a047a6f6e65 120161"
+                "1200 1204 32303031"
+            )
+        )
+        lines = ["the database refused a call: " + DAMAGED, "the database refused a read"]
+        for words, came, said in [(["--low-memory"], refused, lines), ([], page, [])]:
+            tables = Tables(self.csid, self.folder).new()
+            params = "UPDATE volumes SET params = %s;" % cell(pairs(4, b"k", 4090))
+            tables.script(MANY % (4000, BLOCK_CAPS) + params + next_is(4001))
+            server = Server(self.csid, self.folder, "--config", config, *words)
+            begun = server.lines()
+            with server.connect() as peer:
+                peer.sendall(frame(PROBE))
+                self.row("it has the file", peer.recv(4096), READY)
+                with open(tables.path, "r+b") as file:
+                    rest = os.path.getsize(tables.path) - file.seek(20 * 1024)
+                    file.write(b"x" * rest)
+                for _ in range(2):
+                    peer.sendall(listing)
+                    self.row("a read, %s" % words, peer.recv(4096), came)
+                peer.sendall(frame(PROBE))
+                self.row("it goes on", peer.recv(4096), READY)
+                peer.shutdown(socket.SHUT_WR)
+                self.row("its end", peer.recv(4096), b"")
+            self.row("what was said, %s" % words, server.end()[0], begun + "".join(map(server.line, said)))
 
     def test_order_of_syncs(self):
         """The reply of a create is written behind a sync that follows the writes of its commit."""

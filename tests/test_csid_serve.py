@@ -243,11 +243,9 @@ class ServeTest(CsidTest):
             self.row("and the last one", more[9].recv(4096), READY)
         said = server.lines()[len(begun) :]
         counts = ended(said, CROWDED)
-        self.row(
-            "what was said",
-            sum(counts.values()) == counts["of a line"] + counts["made room for others"] > 0,
-            True,
-        )
+        # 252 waited, and 11 came.
+        self.row("what was said", sum(counts.values()) == counts["of a line"] + counts["made room for others"], True)
+        self.row("each beyond 256", sum(counts.values()), 7)
         with server.connect() as garbage, server.connect() as waiting:
             garbage.sendall(b"garbage")
             waiting.sendall(frame(PROBE))
@@ -360,6 +358,16 @@ class ServeTest(CsidTest):
         self.row("and all are told so", gone(), collections.Counter({"of a line": 10, "had gone": 50}))
         time.sleep(1.1)
         begun = server.lines()
+        line = "csid: bad path length at byte 0\n"
+
+        def refused():
+            return ended(server.lines()[len(begun) :], line)
+
+        self.row("30 with garbage", {server.ask(b"garbage") for _ in range(30)}, {fault(line[6:-1])[0]})
+        self.row("each is told", wait(lambda: sum(refused().values()) == 30), True)
+        self.row("as what it was", set(refused()), {"of a line", "sent a malformed frame"})
+        time.sleep(1.1)
+        begun = server.lines()
         with server.connect() as peer:
             peer.sendall(frame(PROBE)[:7])
         self.row("one that goes after half a frame", wait(lambda: server.lines()[len(begun) :] == GONE), True)
@@ -401,6 +409,9 @@ class ServeTest(CsidTest):
         with contextlib.ExitStack() as peers:
             slow, begin = peers.enter_context(server.connect()), time.monotonic()
             part = peers.enter_context(server.connect())
+            # Of so many that end at once, some have no line of their own.
+            for _ in range(40):
+                peers.enter_context(server.connect()).sendall(frame(PROBE)[:20])
             slow.sendall(frame(PROBE, LONGEST)[:5000])
             part.sendall(frame(PROBE)[:20])
             for number in range(16):
@@ -411,7 +422,12 @@ class ServeTest(CsidTest):
                 "a byte now and then does not make a call's time longer", has_ended(slow, (0.5, 8)), True
             )
             self.row("nor that of one that is not served yet", has_ended(part, (0, 8)), True)
-        self.row("lines for both", wait(lambda: server.lines()[len(begun) :] == SLOW * 2), True)
+
+        def told():
+            return ended(server.lines()[len(begun) :], SLOW)
+
+        self.row("each is told", wait(lambda: sum(told().values()) == 42), True)
+        self.row("as what it was", set(told()), {"of a line", "sent no whole call in time"})
         with contextlib.ExitStack() as peers:
             for number in range(1000):
                 given = (
@@ -440,6 +456,8 @@ class ServeTest(CsidTest):
             told,
             {CROWDED, "csid: no further connection can be taken: Too many open files (os error 24)\n"},
         )
+        # There is room for about 40. Half of them make room each time, until 200 were taken.
+        self.row("how often they make room", 6 < said.count("no further connection") < 12, True)
 
     def test_peers_that_have_gone(self):
         """A peer that has gone costs no opening of the tables."""
