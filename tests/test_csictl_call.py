@@ -2,6 +2,7 @@
 
 import os
 import select
+import shutil
 import socket
 import subprocess
 import sys
@@ -23,7 +24,7 @@ from tests.support.csictl import (
     text,
 )
 from tests.support.peers import CLOSED, RESET, SILENT, Peer
-from tests.support.processes import SECONDS
+from tests.support.processes import SECONDS, copy_for_nobody
 from tests.support.rows import CsictlTest
 
 
@@ -61,6 +62,7 @@ STORE_REFUSED = refusal(13, "store refused")
 # more than these is none: the row fails.
 TRIED = [
     ("answered at once", ["--tries", "5"], [READY], SHOWN, [], "", 0),
+    ("as many tries and seconds as there can be", ["--tries", "10", "--timeout", "86400"], [READY], SHOWN, [], "", 0),
     ("without --tries once", [], [CLOSED], "", [], ": closed without a reply", 5),
     ("once", ["--tries", "1"], [CLOSED], "", [], ": closed without a reply", 5),
     ("closed twice", ["--tries", "3"], [CLOSED, CLOSED, READY], SHOWN, [NO_REPLY, NO_REPLY], "", 0),
@@ -383,6 +385,25 @@ class CallTest(CsictlTest):
                 came = ask(["unshare", "--mount", "sh", "-c", put % made, "sh", *probe], CSID_SOCKET=variable)
                 self.row("in /run: " + name, came, wanted)
         server.kill()
+
+    def test_place_that_may_not_be_looked_into(self):
+        """Where this user may not see whether the first place exists, it is taken, and connecting says why."""
+        if os.geteuid() != 0 or not shutil.which("setpriv"):
+            self.skipTest("the user nobody cannot be taken here")
+        program, _ = copy_for_nobody(self.csictl, self.folder)
+        put = (
+            "mount -t tmpfs none /run && mkdir /run/csid && touch /run/csid/csid.sock && mkdir -m 700 /run/csid-front"
+            ' && exec setpriv --reuid 65534 --regid 65534 --clear-groups "$@"'
+        )
+        words = ["unshare", "--mount", "sh", "-c", put, "sh", program]
+        if run(words + ["--version"])[2] != 0:
+            self.skipTest("no other /run can be put in the place of this one here")
+        rest = {name: value for name, value in os.environ.items() if name != "CSID_SOCKET"}
+        self.row(
+            "a folder of another user",
+            text(run(words + ["call", "--method", "Probe"], input=b"", env=rest)),
+            ("", "csictl: /run/csid-front/control.sock: Permission denied (os error 13)\n", 5),
+        )
 
     def test_tries(self):
         """A call that is tried again: what is sent, what is said, and that there is a pause before each

@@ -8,11 +8,12 @@ import threading
 
 from tests.support.configs import sample
 from tests.support.frames import BLOCK, NO_MEMORY, WRITE_FAILED, controller
-from tests.support.processes import SECONDS, TOP, run, small_memory, write
+from tests.support.processes import SECONDS, TOP, memory_of_20_mib, run, small_memory, write
 from tests.support.rows import CsidTest
 from tests.support.tables import (
     A,
     BLOCK_CAPS,
+    LARGE_CAPS,
     MANY,
     MIB,
     NO_DATABASE,
@@ -293,6 +294,14 @@ class ListTest(CsidTest):
         write(tables.path + "-journal", b"\x01")
         self.row("next to a journal", self.listed(tables), tables.says(NO_FILE))
         os.unlink(tables.path + "-journal")
+        # Both can be opened. The first has capabilities that take memory, and the second as many bytes that are none.
+        large = Tables(self.csid, self.folder, "large.db")
+        for name, caps, wanted in [
+            ("no memory for a volume", LARGE_CAPS, (b"", NO_MEMORY, 6)),
+            ("memory for one that is none", "zeroblob(%d)" % MIB, large.says(unread % 0)),
+        ]:
+            large.new().script(volume(1, caps=caps) + next_is(2))
+            self.row(name, self.listed(large, preexec_fn=memory_of_20_mib), wanted)
         with open("/dev/full", "wb") as full:
             self.row("a full output", self.listed(tables, stdout=full), (b"", WRITE_FAILED, 5))
         self.row("no memory", self.listed(tables, preexec_fn=small_memory), (b"", NO_MEMORY, 6))

@@ -90,6 +90,10 @@ def some_memory():
     resource.setrlimit(resource.RLIMIT_DATA, (48 << 20, 48 << 20))
 
 
+def memory_of_20_mib():
+    resource.setrlimit(resource.RLIMIT_DATA, (20 << 20, 20 << 20))
+
+
 def memory_of_24_mib():
     resource.setrlimit(resource.RLIMIT_DATA, (24 << 20, 24 << 20))
 
