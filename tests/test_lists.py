@@ -71,9 +71,9 @@ FILES = {
     "crates.txt": CRATES,
     "crates/csi_config/src/fault.rt": FAULTS,
     "crates/csi_types/src/limits.rt": LIMITS,
-    "crates/low/src/lib.rt": "//! Bytes, also\n//! long ones. More of them.\n//!\n//! Details.\nmod bytes;\n",
-    "crates/high/src/main.rt": "//! The program, with a sentence that is longer than a line of a page, so that the list\n"
-    "//! goes on in a second line.\n"
+    "crates/low/src/lib.rt": "//! Bytes, also\n//! long ones\n//!\n//! Details. More of them.\nmod bytes;\n",
+    "crates/high/src/main.rt": "//! The program, with a sentence that is longer than a line of a page, so that the item here is\n"
+    "//! well-known in a second line.\n"
     "mod command;\n",
     "docs/ARCHITECTURE.md": "Crates:\n<!-- scripts/lists: crates -->\n<!-- end -->\nThe end.\n",
     "docs/DECISIONS.md": "<!-- scripts/lists: decisions -->\n\n| old |\n\n<!-- end -->\n",
@@ -91,12 +91,12 @@ ARCHITECTURE = """Crates:
 
 Bytes:
 
-- `low`: Bytes, also long ones.
+- `low`: Bytes, also long ones
 
 Programs:
 
-- `high`: The program, with a sentence that is longer than a line of a page, so that the list goes on in a
-  second line.
+- `high`: The program, with a sentence that is longer than a line of a page, so that the item here is
+  well-known in a second line.
 
 <!-- end -->
 The end.
@@ -193,6 +193,11 @@ class ListsTest(RowTest):
                 "docs/DECISIONS.md",
                 "no place\n",
                 "docs/DECISIONS.md has 0 places for the list 'decisions'",
+            ),
+            (
+                "docs/DECISIONS.md",
+                FILES["docs/DECISIONS.md"] * 2,
+                "docs/DECISIONS.md has 2 places for the list 'decisions'",
             ),
             (
                 "docs/decisions/0002-two.md",

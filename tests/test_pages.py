@@ -114,6 +114,10 @@ class PagesTest(RowTest):
         with open(path, "w", encoding="utf-8") as file:
             file.write(text)
 
+    def read(self, name):
+        with open(os.path.join(self.folder, name), encoding="utf-8") as file:
+            return file.read()
+
     def ended(self, name, *words):
         """The status of a script, and its lines."""
         done = subprocess.run(
@@ -147,8 +151,7 @@ class PagesTest(RowTest):
     def test_page_of_crate(self):
         """A page has the public functions, laws and wrong bodies of a crate, and nothing hidden."""
         self.row("made", self.ended("theorems"), (0, []))
-        with open(os.path.join(self.folder, "docs/theorems/low.md"), encoding="utf-8") as file:
-            self.row("its text", file.read(), PAGE)
+        self.row("its text", self.read("docs/theorems/low.md"), PAGE)
         self.row("compared", self.ended("theorems", "--check"), (0, []))
 
     def test_page_that_differs(self):
@@ -170,6 +173,36 @@ class PagesTest(RowTest):
         unneeded = "low::double needs no reason (docs/theorems/reasons)"
         self.row("a reason too many", self.ended("theorems"), (1, [unneeded]))
 
+    def test_lines_of_no_crate(self):
+        """A line of docs/theorems is of a crate, or what was planted or tested of a folder that exists."""
+        self.write("docs/theorems/planted", "low: 3 refused.\ntests: 2 noticed.\nhigh: 1 refused.\n")
+        self.write("docs/theorems/tested", "low: A length | a row\nother: A name | a row\n")
+        self.write("docs/theorems/reasons", "none::double: a sum\n")
+        wanted = [
+            "docs/theorems/planted has a line of no crate: high",
+            "docs/theorems/tested has a line of no crate: other",
+            "docs/theorems/reasons has a line of no crate: none::double",
+        ]
+        self.row("each is named", self.ended("theorems"), (1, wanted))
+        held = "\n## Held by tests alone\n\n|what no clause forbids|rows that hold it|\n|---|---|\n|A length|a row|\n"
+        self.row("the page of the crate", self.read("docs/theorems/low.md"), PAGE + held)
+        rows = self.read("docs/theorems/README.md").splitlines()[-3:]
+        self.row("its line and those of others", [it.split("|")[-2] for it in rows], ["3 refused.", "2 noticed.", "1 refused."])
+
+    def test_page_of_no_crate(self):
+        """A page of a crate that is gone is refused, and taken away."""
+        self.ended("theorems")
+        self.write("docs/theorems/gone.md", "# `gone`\n")
+        self.row("compared", self.ended("theorems", "--check"), (1, [CHANGED.replace("low", "gone")]))
+        self.row("made", self.ended("theorems"), (0, []))
+        self.row("it is gone", os.path.exists(os.path.join(self.folder, "docs/theorems/gone.md")), False)
+
+    def test_wrong_body_of_no_function(self):
+        """A wrong body that changes no function has a line of its own."""
+        self.write("tests/edits/low.edits", EDITS + "\nedit: no_laws\nfile: src/lib.rt\nold: pub mod laws;\nnew: mod laws;\n")
+        self.row("made", self.ended("theorems"), (0, []))
+        self.row("its line", "\nOf no one function: `no_laws`.\n" in self.read("docs/theorems/low.md"), True)
+
     def test_dead_links_and_names(self):
         """What a page refers to exists."""
         sums = "../crates/low/src/sums.rt"
@@ -189,6 +222,8 @@ class PagesTest(RowTest):
             ("no crate", "It is in `csi_low`.", ["no such crate: csi_low"]),
             ("a clause of it", "`few` and `value` of `low::double`", []),
             ("no clause of it", "`few` of `low::half`", ["no such clause: few of low::half"]),
+            ("a clause of another function", "`shifted` of `double`", ["no such clause: shifted of double"]),
+            ("no path in code", "```\ncrates/high\n```", []),
         ]
         self.compare(rows)
 
@@ -201,6 +236,9 @@ class PagesTest(RowTest):
             ("a word in code", "It is `else`.", []),
             ("a wide line", "It is %s." % ("w" * 110), ["117 columns"]),
             ("a wide row", "| It is %s |" % ("w" * 110), []),
+            ("a line of 110 columns", "It is %s." % ("w" * 103), []),
+            ("a line of 111", "It is %s." % ("w" * 104), ["111 columns"]),
+            ("36 words", "a " * 35 + "a", ["36 words: " + "a " * 35 + ".."]),
             ("35 words", words[:100] + "\n" + words[100:], []),
         ]
         self.compare(rows, "--style")
@@ -209,3 +247,13 @@ class PagesTest(RowTest):
         _, said = self.ended("check-pages", "--style", "README.md", "docs/PAGE.md")
         self.row("a figure twice", said[0], "README.md:3: 12 ms is in docs/PAGE.md too")
         self.row("44 words", said[3][:34], "docs/PAGE.md:3: 44 words: It takes")
+        self.write("README.md", "# Low\n")
+        long = "a " * 35 + "a.\n\n"
+        for name, page, status in [
+            ("20 long sentences", long * 20, 0),
+            ("21 long sentences", long * 21, 1),
+            ("4 words of the list in 1,000", "It is.\n\n" * 498 + "It stands behind. Tell whoever.\n", 0),
+            ("5 words of the list in 1,000", "It is.\n\n" * 497 + "It stands behind. Tell whoever else.\n", 1),
+        ]:
+            self.write("docs/PAGE.md", page)
+            self.row(name, self.ended("check-pages", "--style", "docs/PAGE.md")[0], status)
