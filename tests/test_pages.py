@@ -146,7 +146,8 @@ class PagesTest(RowTest):
         status, said = self.places(rows, *words)
         self.row("the status", status, 1)
         for number, (name, _, wanted) in enumerate(rows):
-            self.row(name, said.get(2 * number + 1, []), wanted)
+            self.row(name, said.pop(2 * number + 1, []), wanted)
+        self.row("other lines", said, {})
 
     def test_page_of_crate(self):
         """A page has the public functions, laws and wrong bodies of a crate, and nothing hidden."""

@@ -239,6 +239,12 @@ def control_rows(programs, package):
         yield "the files that have them", sorted(listed), sorted(
             it for it in files if not it.startswith("DEBIAN/")
         )
+        units = [it for it in files if it.startswith("lib/systemd/system/")]
+        examples = [it for it in files if "/examples/etcd.d/" in it]
+        yield "units that name a place of another package", [
+            it for it in units if re.search("/usr/local|/etc/systemd/system", read(tree, it))
+        ], []
+        yield "examples that name one", [it for it in examples if "/usr/local" in read(tree, it)], []
         # As Debian counts: each file in whole KiB, and one for each folder.
         folders = [at for at, _, _ in os.walk(tree) if not os.path.relpath(at, tree).startswith("DEBIAN")]
         sizes = [-(-os.path.getsize(os.path.join(tree, it)) // 1024) for it in listed]
