@@ -6,6 +6,7 @@ programs of systemd there write down
 how they were called.
 """
 import contextlib
+import gzip
 import hashlib
 import os
 import re
@@ -14,6 +15,7 @@ import shutil
 import subprocess
 import tempfile
 import time
+from email.utils import parsedate_to_datetime
 
 from sources import read, version
 from tests.rows import LeftOut
@@ -244,6 +246,11 @@ def control_rows(programs, package):
         yield "units that name a place of another package", [
             it for it in units if re.search("/usr/local|/etc/systemd/system", read(tree, it))
         ], []
+        with gzip.open(os.path.join(tree, "usr/share/doc/csid/changelog.gz"), "rt", encoding="utf-8") as file:
+            dated = file.read().rstrip().rpartition("  ")[2]
+        yield "the date of its changelog", parsedate_to_datetime(dated).timestamp(), os.path.getmtime(
+            os.path.join(tree, "DEBIAN", "control")
+        )
         yield "examples that name one", [it for it in examples if "/usr/local" in read(tree, it)], []
         # As Debian counts: each file in whole KiB, and one for each folder.
         folders = [at for at, _, _ in os.walk(tree) if not os.path.relpath(at, tree).startswith("DEBIAN")]
