@@ -205,6 +205,9 @@ class ListTest(CsidTest):
         self.row("of the pool", found["pools"], [{"name": "p1", "volumes": 4, "bytes": most}])
         self.row("of the node", found["nodes"], [{"id": "n1", "volumes": 4, "bytes": most}])
         self.row("in columns", self.listed(tables)[0].count(b"4        %d B\n" % most), 2)
+        # More than a page of them.
+        tables.new().script(MANY % (1001, BLOCK_CAPS) + "UPDATE volumes SET number = number + %d" % (1 << 62))
+        self.row("1,001 ids", self.ids(tables), ["vol-%d" % ((1 << 62) + number) for number in range(1, 1002)])
 
     def test_long_names(self):
         """A name of 80 bytes makes its column wider; a longer one moves the rest of its own row alone."""
