@@ -456,7 +456,7 @@ class ServeTest(CsidTest):
             told,
             {CROWDED, "csid: no further connection can be taken: Too many open files (os error 24)\n"},
         )
-        # There is room for about 40. Half of them make room each time, until 200 were taken.
+        # There is room for about 40, and 200 come: those that have sent no call make room many at a time.
         self.row("how often they make room", 6 < said.count("no further connection") < 12, True)
 
     def test_peers_that_have_gone(self):
