@@ -5,7 +5,7 @@ import shutil
 import subprocess
 
 from tests.support.processes import SECONDS, TOP
-from tests.support.rows import RowTest
+from tests.support.rows import FilesTest
 
 CRATES = """# Each above what it uses. Bytes:
 low: kit_crate
@@ -133,7 +133,7 @@ DIFFERS = "lists: %s differs from its sources: call scripts/lists\n"
 ALL_DIFFER = "".join(DIFFERS % "docs/{}.md".format(it) for it in ("ARCHITECTURE", "DECISIONS", "OPERATING"))
 
 
-class PagesTest(RowTest):
+class PagesTest(FilesTest):
     """The pages of this repository."""
 
     def test_lists_are_those_of_their_sources(self):
@@ -146,7 +146,7 @@ class PagesTest(RowTest):
         self.row("scripts/lists --check", (done.returncode, done.stdout, done.stderr), (0, "", ""))
 
 
-class ListsTest(RowTest):
+class ListsTest(FilesTest):
     """scripts/lists over two crates, two records, three limits and five faults."""
 
     def setUp(self):
@@ -155,16 +155,6 @@ class ListsTest(RowTest):
         shutil.copy(os.path.join(TOP, "scripts", "lists"), os.path.join(self.folder, "scripts"))
         for name, text in FILES.items():
             self.write(name, text)
-
-    def write(self, name, text):
-        path = os.path.join(self.folder, name)
-        os.makedirs(os.path.dirname(path), exist_ok=True)
-        with open(path, "w", encoding="utf-8") as file:
-            file.write(text)
-
-    def read(self, name):
-        with open(os.path.join(self.folder, name), encoding="utf-8") as file:
-            return file.read()
 
     def lists(self, *words):
         done = subprocess.run(

@@ -5,7 +5,7 @@ import shutil
 import subprocess
 
 from tests.support.processes import SECONDS, TOP
-from tests.support.rows import RowTest
+from tests.support.rows import FilesTest
 
 # A crate with a public function that a wrong body changes, one that calls a private one, and a law.
 LIB = """//! Lengths.
@@ -91,7 +91,7 @@ CHANGED = "docs/theorems/low.md is not what scripts/theorems makes of the source
 LACKING = "low::double has no wrong body and no reason (docs/theorems/reasons)"
 
 
-class PagesTest(RowTest):
+class PagesTest(FilesTest):
     """The two scripts in a folder of their own."""
 
     def setUp(self):
@@ -107,16 +107,6 @@ class PagesTest(RowTest):
         for name in ["reasons", "planted", "tested"]:
             self.write("docs/theorems/" + name, "")
         self.write("README.md", "# Low\n")
-
-    def write(self, name, text):
-        path = os.path.join(self.folder, name)
-        os.makedirs(os.path.dirname(path), exist_ok=True)
-        with open(path, "w", encoding="utf-8") as file:
-            file.write(text)
-
-    def read(self, name):
-        with open(os.path.join(self.folder, name), encoding="utf-8") as file:
-            return file.read()
 
     def ended(self, name, *words):
         """The status of a script, and its lines."""

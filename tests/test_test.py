@@ -6,7 +6,7 @@ import subprocess
 import sys
 
 from tests.support.processes import SECONDS, TOP
-from tests.support.rows import RowTest
+from tests.support.rows import FilesTest
 
 # What ./test calls of the system. Nothing else is on the PATH, so what a part needs is missing.
 TOOLS = "bash basename cat cmp dirname env find grep ls mktemp paste rm sed sort tail tee timeout wc".split()
@@ -59,7 +59,7 @@ NEEDS = {
 }
 
 
-class TestTest(RowTest):
+class TestTest(FilesTest):
     """./test in a folder whose parts do nothing."""
 
     def setUp(self):
@@ -78,11 +78,8 @@ class TestTest(RowTest):
             os.symlink(shutil.which(tool), os.path.join(self.folder, "bin", tool))
 
     def write(self, name, text):
-        path = os.path.join(self.folder, name)
-        os.makedirs(os.path.dirname(path), exist_ok=True)
-        with open(path, "w", encoding="utf-8") as file:
-            file.write(text)
-        os.chmod(path, 0o755)
+        super().write(name, text)
+        os.chmod(os.path.join(self.folder, name), 0o755)
 
     def ended(self, *words):
         """Its status, the last line of standard output, its lines of standard error, and what apt-get was

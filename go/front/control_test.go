@@ -168,8 +168,9 @@ func TestControlPeerThatGoes(t *testing.T) {
 	}
 }
 
-// At the end a call that runs is answered, and one that is not whole is not.
-func TestEndOfControl(t *testing.T) {
+// holding is a csid that answers its first call once it is let.
+func holding(t *testing.T) (string, chan struct{}) {
+	t.Helper()
 	let := make(chan struct{})
 	path, _ := csid(t, func(conn net.Conn) {
 		if isCalled(conn) {
@@ -178,6 +179,12 @@ func TestEndOfControl(t *testing.T) {
 		}
 		isCalled(conn)
 	})
+	return path, let
+}
+
+// At the end a call that runs is answered, and one that is not whole is not.
+func TestEndOfControl(t *testing.T) {
+	path, let := holding(t)
 	c, socket, _ := controlled(t, path)
 	runs, idle := dial(t, socket), dial(t, socket)
 	runs.Write(fromHex(t, shortFrame+shortFrame))
@@ -204,14 +211,7 @@ func TestEndOfControl(t *testing.T) {
 
 // A peer that keeps its connection after its reply is not waited for at the end, and a connection that is accepted then is closed.
 func TestControlConnectionsAtTheEnd(t *testing.T) {
-	let := make(chan struct{})
-	path, _ := csid(t, func(conn net.Conn) {
-		if isCalled(conn) {
-			<-let
-			conn.Write(notFound)
-		}
-		isCalled(conn)
-	})
+	path, let := holding(t)
 	c, socket, _ := controlled(t, path)
 	runs := dial(t, socket)
 	runs.Write(fromHex(t, shortFrame))

@@ -1,5 +1,6 @@
 """Tests whose cases are rows of data."""
 
+import os
 import signal
 import tempfile
 import unittest
@@ -44,6 +45,20 @@ class RowTest(unittest.TestCase):
         with self.subTest(name):
             if came != wanted:
                 self.fail("came:   %s\nwanted: %s" % (shown(came), shown(wanted)))
+
+
+class FilesTest(RowTest):
+    """A test with files of its own in its folder."""
+
+    def write(self, name, text):
+        path = os.path.join(self.folder, name)
+        os.makedirs(os.path.dirname(path), exist_ok=True)
+        with open(path, "w", encoding="utf-8") as file:
+            file.write(text)
+
+    def read(self, name):
+        with open(os.path.join(self.folder, name), encoding="utf-8") as file:
+            return file.read()
 
 
 class CsidTest(RowTest):
