@@ -18,6 +18,10 @@ longer_than most text = nat_lt most (length text)
 abbrev pub is_banned : ℕ → Bool
 is_banned c = nat_le c 8 || c == 11 || c == 12 || (nat_le 14 c && nat_le c 31) || (nat_le 127 c && nat_le c 159)
 
+-- a byte of 0x20 to 0x7E, which is a printable character of ASCII
+abbrev pub is_plain : ℕ → Bool
+is_plain byte = nat_le 32 byte && nat_le byte 126
+
 -- a character of the text is banned
 abbrev pub holds_banned : List ℕ → Bool
 holds_banned text = list_any is_banned (chars text)

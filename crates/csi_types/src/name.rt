@@ -1,7 +1,8 @@
 //! The names of volumes.
 
 ghost use Rattle.std.specs.Prelude.{◌≡◌};
-ghost use Rattle.csi_types.specs.Names.{refused_name, holds_banned, is_banned};
+ghost use Rattle.std.specs.List.{list_all};
+ghost use Rattle.csi_types.specs.Names.{refused_name, holds_banned, is_banned, is_plain};
 
 use crate::limits::MAX_TEXT_BYTES;
 use crate::reason::Reason;
@@ -27,7 +28,14 @@ pub fn name_reason(name: &str) -> Option<Reason>
 fn holds_banned(text: &str) -> bool
     ensures { result ≡ holds_banned text.now }
 {
-    text.chars().any(is_banned)
+    !is_plain(text.as_bytes()) && text.chars().any(is_banned)
+}
+
+/// Whether all bytes are printable ASCII. Almost all names are, and no such character is banned.
+fn is_plain(bytes: &[u8]) -> bool
+    ensures { result ≡ list_all is_plain bytes.now }
+{
+    bytes.iter().all(|byte| (0x20..=0x7e).contains(byte))
 }
 
 fn is_banned(character: char) -> bool
