@@ -74,9 +74,8 @@ class DiskTest(CsidTest):
         connection.close()
         self.row("by nobody", tables.run(controller("ListVolumes"))[0].count(b"vol-1"), 1)
 
-    def test_kill(self):
-        """What was answered stands after SIGKILL, in the log, and the log is of the file."""
-        tables = Tables(self.csid, self.folder)
+    def kill_after_create(self, tables):
+        """Kills csid after it has answered a create, so that the log has it."""
         process = subprocess.Popen(
             tables.command, stdin=subprocess.PIPE, stdout=subprocess.PIPE, stderr=subprocess.PIPE, bufsize=0
         )
@@ -84,6 +83,11 @@ class DiskTest(CsidTest):
         process.stdout.read(len(reply(VOLUME_1)))
         process.kill()
         process.communicate()
+
+    def test_kill(self):
+        """What was answered stands after SIGKILL, in the log, and the log is of the file."""
+        tables = Tables(self.csid, self.folder)
+        self.kill_after_create(tables)
         both, alone = Tables(self.csid, self.folder, "both.db"), Tables(self.csid, self.folder, "alone.db")
         for copy in both, alone:
             shutil.copy(tables.path, copy.path)
@@ -93,6 +97,19 @@ class DiskTest(CsidTest):
         self.row("a copy of the file alone is older", alone.run(listing)[0].count(b"vol-1"), 0)
         self.row("the file", tables.run(listing)[0].count(b"vol-1"), 1)
         self.row("integrity_check", tables.ask("PRAGMA integrity_check"), [("ok",)])
+
+    def test_salts(self):
+        """The salts of a log ("Database File Format" of SQLite, 4.1) are drawn at random, so that frames of an
+        older log are never taken for those of a newer one.
+        """
+        salts = []
+        for name in "one.db", "two.db":
+            tables = Tables(self.csid, self.folder, name)
+            self.kill_after_create(tables)
+            with open(tables.path + "-wal", "rb") as file:
+                salts.append(file.read(24)[16:])
+        self.row("bytes of salts", [len(salt) for salt in salts], [8, 8])
+        self.row("salts are the same", salts[0] == salts[1], False)
 
     def test_replacement(self):
         """The file is deleted, or another one is put in its place, while csid has it open: it goes on over

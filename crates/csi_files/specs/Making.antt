@@ -10,6 +10,11 @@ use Rattle.sqlite_wal.specs.Files.{outcomes}
 use Rattle.sqlite_wal.specs.Reads.{AreClean}
 use Rattle.sqlite_wal.specs.Recovery.{Image}
 use Rattle.sqlite.specs.Files.{image_of}
+use Rattle.std_io.specs.declared.io.kind.ErrorKind.{ErrorKind}
+use Rattle.std_io.specs.declared.io.kind.ErrorKind.TheVariants as kind
+use Rattle.sqlite_pages.specs.declared.error.Error.TheVariants as pages
+use Rattle.csi_files.specs.declared.making.NotLaidOut.{NotLaidOut}
+use Rattle.csi_files.specs.declared.making.NotLaidOut.TheVariants.{Failed}
 use Rattle.csi_files.specs.declared.making.TheConstants.{HEAD, WAL_WITH_FRAME_BYTES, PAGE_BYTES}
 
 -- no database is made yet: the database file is empty, or has what a stop left of its first page, of which
@@ -88,3 +93,8 @@ module _ {D : Type 0} (g : disk.Ghosts D) where
     pub clean : AreClean g after.log after.db → AreClean g before.log before.db
     pub kept : AreClean g after.log after.db → ¬ IsToMake (image_of g before) → AreAsBefore before after
     pub crash : AreClean g after.log after.db → ¬ IsTorn (image_of g before) → MayMake before after
+
+-- why files were not cleared, by the kind of the error
+abbrev pub not_cleared : ErrorKind → NotLaidOut
+not_cleared kind.OutOfMemory = Failed pages.OutOfMemory
+not_cleared _ = Failed pages.Io

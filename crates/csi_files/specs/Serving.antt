@@ -55,6 +55,10 @@ events_of m old new s read AtEnd held holds NoMemory it = []
 abbrev pub HasRefused : Served → Type 0
 HasRefused served = IsTrue served.is_down ⊎ (0 < served.refusals)
 
+-- the store refused none, and is not down
+abbrev pub HasRefusedNone : Served → Type 0
+HasRefusedNone served = (served.refusals ≡ 0) × (served.is_down ≡ false)
+
 -- what contracts see of a store by its counts alone: how many calls it refused, and whether it is down
 abbrev pub counts_model : ℕ → Bool → Model State
 counts_model refusals is_down = record { holds = λ _. ⊤; doubt = 0; refusals = refusals; survivors = λ _. ⊥; tied = ⊤; is_down = is_down }

@@ -14,6 +14,11 @@ use Rattle.sqlite.specs.State.{HasCleanDisk}
 use Rattle.sqlite.specs.declared.error.Error.{Error}
 use Rattle.sqlite.specs.declared.file.Leftover.{Leftover}
 use Rattle.sqlite.specs.declared.file.Leftover.TheVariants as left
+use Rattle.sqlite.specs.declared.error.ErrorCode.{ErrorCode}
+use Rattle.sqlite.specs.declared.error.ErrorCode.TheVariants as code
+use Rattle.sqlite_pages.specs.declared.error.Error.TheVariants as pages
+use Rattle.sqlite_trees.specs.declared.error.StoreError.{StoreError}
+use Rattle.sqlite_trees.specs.declared.error.StoreError.TheVariants as fault
 use Rattle.csi_config.specs.declared.config.Config.{Config}
 use Rattle.csi_keeper.specs.Model.{Model}
 use Rattle.csi_keeper.specs.State.{State, first_state}
@@ -21,6 +26,8 @@ use Rattle.csi_files.specs.Files.{HasState, image_model}
 use Rattle.csi_server.specs.Machine.{Event}
 use Rattle.csi_files.specs.Making.{IsLaidOut, IsMade, IsNotLaidOut, IsToMake, IsUnmade}
 use Rattle.csi_files.specs.Serving.{AreUntouched, IsNotOpened, IsNotServed, Opens, RunsThen, SaysNew}
+use Rattle.csi_files.specs.declared.making.NotLaidOut.{NotLaidOut}
+use Rattle.csi_files.specs.declared.making.NotLaidOut.TheVariants.{Emptied, Failed}
 use Rattle.csi_files.specs.declared.over.Served.{Served}
 use Rattle.csi_files.specs.declared.serving.NotServed.{NotServed}
 use Rattle.csi_files.specs.declared.serving.NotServed.TheVariants.{NotOpened, Blank, NotAdopted, NotCopied, Left, NotClosed}
@@ -51,6 +58,16 @@ abbrev pub StartsThen : Config → Image → Option (List ℕ) → Option (List 
     → (State → List Event → Type 0) → Type 0
 StartsThen config was unread left held holds served Clean Leaves = RunsThen config unread left held holds
     (start_model was served.is_new).holds served Clean (SaysStart was served) Leaves
+
+-- how SQLite names why no database was made, where the disk failed with this fault
+abbrev pub code_of : NotLaidOut → StoreError → ErrorCode
+code_of Emptied _ = code.CannotOpen
+code_of (Failed pages.Corrupt) _ = code.DatabaseCorrupt
+code_of (Failed pages.Full) _ = code.DiskFull
+code_of (Failed pages.OutOfMemory) _ = code.OutOfMemory
+code_of (Failed pages.Io) fault.Full = code.DiskFull
+code_of (Failed pages.Io) fault.Corrupt = code.DatabaseCorrupt
+code_of (Failed pages.Io) _ = code.SystemIoFailure
 
 module _ {D : Type 0} (g : disk.Ghosts D) where
   -- a run may start as this State from each outcome of a crash

@@ -1,12 +1,13 @@
 //! How a database file is made that has none yet.
 
-ghost use Rattle.std.specs.Prelude.{◌≡◌, ◌≢◌, ◌↔◌, ◌<◌, ◌==◌, length, IfErr, IfOk, IsTrue, OnOk};
+ghost use Rattle.std.specs.Prelude.{◌≡◌, ◌↔◌, ◌<◌, ◌==◌, length, IfErr, IfOk, IsTrue, OnOk};
 ghost use Rattle.std.specs.List.{list_all};
+ghost use Rattle.std_io.specs.IoError.{error_kind};
 ghost use Rattle.sqlite_wal.specs.Reads.{AreClean, OnlyReads};
 ghost use Rattle.sqlite.specs.Files.{image_of};
 ghost use Rattle.sqlite_pool.specs.Opening.{AreUsable};
 ghost use Rattle.sqlite_pool.specs.Pool.{state, files};
-ghost use Rattle.csi_files.specs.Making.{AreAsBefore, BeginsPage, IsCreated, IsLaidOut, IsLarger, IsLost, IsNotCreated, IsNotLaidOut, IsPart, IsTorn, IsUnmade, page_byte};
+ghost use Rattle.csi_files.specs.Making.{AreAsBefore, BeginsPage, IsCreated, IsLaidOut, IsLarger, IsLost, IsNotCreated, IsNotLaidOut, IsPart, IsTorn, IsUnmade, not_cleared, page_byte};
 ghost use Rattle.csi_files.specs.Starting.{KeepsStart, StartsAs};
 ghost use Rattle.csi_files.specs.declared.making.TheConstants.{PAGE_BYTES};
 
@@ -243,12 +244,11 @@ fn clear_torn<D: Disk>(alloc: Global, pair: &mut Files<D>) -> io::Result<()>
 
 // Why it was not cleared.
 fn failed(error: io::Error) -> NotLaidOut
-    ensures { result ≢ NotLaidOut.Emptied }
+    ensures { result ≡ not_cleared (error_kind error) }
 {
-    if error.kind() == ErrorKind::OutOfMemory {
-        NotLaidOut::Failed(Error::OutOfMemory)
-    } else {
-        NotLaidOut::Failed(Error::Io)
+    match error.kind() {
+        ErrorKind::OutOfMemory => NotLaidOut::Failed(Error::OutOfMemory),
+        _ => NotLaidOut::Failed(Error::Io),
     }
 }
 

@@ -8,7 +8,7 @@ ghost use Rattle.csi_server.specs.Serving.{Serves};
 ghost use Rattle.csi_server.specs.Volumes.{seen, volumes};
 ghost use Rattle.csi_files.specs.Files.{files_model};
 ghost use Rattle.csi_files.specs.Path.{IsNoFile, IsNotServedAt, over_calls};
-ghost use Rattle.csi_files.specs.Serving.{LeavesAfter};
+ghost use Rattle.csi_files.specs.Serving.{HasRefusedNone, LeavesAfter};
 ghost use Rattle.csi_files.specs.Starting.{OpensMade, StartsThen, start_model};
 
 use crate::over::{Observer, ServeOptions};
@@ -99,6 +99,7 @@ pub fn serve_path<S: Start, O: Observer, R: Read, W: Write>(
         (R.remaining reader.old) (R.remaining reader.new) (W.contents writer.old)
         (W.contents writer.new) r.served
         (AreClean over_calls r.files.log r.files.db) (LeavesAfter over_calls config.now r.files)) }
+    ensures none_refused { IfOk result (λ r. HasRefusedNone r.served) }
     ensures uncopied { IfOk result (λ r. IsTrue options.now.is_low_memory → r.served.is_copied ≡ false) }
     ensures existing { IfOk result (λ r. IsTrue options.now.is_existing → r.served.is_new ≡ false) }
     ensures not_served { IfErr result (IsNotServedAt S.Start config.now options.now.is_existing

@@ -11,7 +11,7 @@ ghost use Rattle.csi_server.specs.Volumes.{seen, volumes};
 ghost use Rattle.csi_files.specs.Files.{files_model, image_model};
 ghost use Rattle.csi_files.specs.Leaving.{GivesUp, IsFinished, IsUnfinished, files_of};
 ghost use Rattle.csi_files.specs.Starting.{EndsClean};
-ghost use Rattle.csi_files.specs.Serving.{AllServed, IsAsked, IsNotServed, LeavesAfter, Opens, ServesThen};
+ghost use Rattle.csi_files.specs.Serving.{AllServed, HasRefusedNone, IsAsked, IsNotServed, LeavesAfter, Opens, ServesThen};
 
 use crate::leaving::leave;
 use crate::over::{Observer, ServeOptions, Served, Unserved, serve_over};
@@ -102,6 +102,7 @@ fn finish<D: Disk + Drop>(
     conn: Connection<FileStore<D>>,
 ) -> Result<Closed<D>, NotServed<D>>
     ensures finished { IfOk result (IsFinished D.Disk served conn) }
+    ensures none_refused { IfOk result (λ r. HasRefusedNone r.served) }
     ensures unfinished { IfErr result (IsUnfinished D.Disk served conn) }
 {
     if served.is_down | (served.refusals > 0) {
@@ -142,6 +143,7 @@ pub fn serve_open<D: Disk + Drop, O: Observer, R: Read, W: Write>(
         (W.contents writer.new) r.served.end) }
     ensures usable { IfOk result (λ r. IsTrue (D.Disk.is_usable r.files.log)
         × IsTrue (D.Disk.is_usable r.files.db)) }
+    ensures none_refused { IfOk result (λ r. HasRefusedNone r.served) }
     ensures uncopied { AllServed D.Disk (λ served. IsTrue options.now.is_low_memory
         → served.is_copied ≡ false) result }
     ensures existing { IsAsked D.Disk options.now.is_existing result }

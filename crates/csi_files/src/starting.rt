@@ -6,9 +6,9 @@ ghost use Rattle.sqlite.specs.Files.{image_of};
 ghost use Rattle.csi_server.specs.Serving.{Serves};
 ghost use Rattle.csi_server.specs.Volumes.{seen, volumes};
 ghost use Rattle.csi_files.specs.Files.{files_model};
-ghost use Rattle.csi_files.specs.Serving.{AllServed, IsAsked, LeavesAfter};
+ghost use Rattle.csi_files.specs.Serving.{AllServed, HasRefusedNone, IsAsked, LeavesAfter};
 ghost use Rattle.csi_files.specs.Making.{IsLaidOut};
-ghost use Rattle.csi_files.specs.Starting.{IsLeftUnmade, IsNotStarted, OpensMade, StartsThen, start_model};
+ghost use Rattle.csi_files.specs.Starting.{IsLeftUnmade, IsNotStarted, OpensMade, StartsThen, code_of, start_model};
 
 use crate::making::{NotLaidOut, lay_out};
 use crate::over::{Observer, ServeOptions};
@@ -23,7 +23,9 @@ use std::alloc::Global;
 use std::io::{Read, Write};
 
 // How SQLite names why no database was made, where the disk failed with this fault, if it did.
-fn code_of(why: NotLaidOut, fault: StoreError) -> ErrorCode {
+fn code_of(why: NotLaidOut, fault: StoreError) -> ErrorCode
+    ensures { result ≡ code_of why fault }
+{
     match why {
         NotLaidOut::Emptied => ErrorCode::CannotOpen,
         NotLaidOut::Failed(pages::Error::Corrupt) => ErrorCode::DatabaseCorrupt,
@@ -125,6 +127,7 @@ pub fn serve_made<D: Disk + Drop, O: Observer, R: Read, W: Write>(
         (AreClean D.Disk r.files.log r.files.db) (LeavesAfter D.Disk config.now r.files)) }
     ensures usable { IfOk result (λ r. IsTrue (D.Disk.is_usable r.files.log)
         × IsTrue (D.Disk.is_usable r.files.db)) }
+    ensures none_refused { IfOk result (λ r. HasRefusedNone r.served) }
     ensures uncopied { AllServed D.Disk (λ served. IsTrue options.now.is_low_memory
         → served.is_copied ≡ false) result }
     ensures existing { IsAsked D.Disk options.now.is_existing result }

@@ -2,7 +2,7 @@
 //! that stop, are full, or lie.
 
 pub(crate) mod disks;
-mod laying;
+pub(crate) mod laying;
 pub(crate) mod running;
 
 use crate::stops;

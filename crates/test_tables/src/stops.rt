@@ -8,11 +8,12 @@ mod trials;
 mod troubled;
 
 use crate::files::disks::Lie;
+use crate::files::laying::holding;
 use crate::files::running::served_by;
 use csi_config::Config;
 use disks::{NEVER, copies, left_of, new_disks, new_files};
 use runs::Wanted;
-use serving::{left_by, outcome_of};
+use serving::{Outcome, left_by, outcome_of};
 use sqlite_disk::{Files, Memory};
 use std::alloc::Global;
 use test_kit::{AnswerRow, RowAnswer, RowFault, bytes_of, number_at};
@@ -35,6 +36,8 @@ pub(crate) enum Ending {
 pub(crate) struct Bench {
     config: Config,
     files: Files<Memory>,
+    // A database was made in the files.
+    is_made: bool,
 }
 
 impl Bench {
@@ -43,6 +46,7 @@ impl Bench {
         Ok(Bench {
             config: Config::sample(alloc)?,
             files: new_files(alloc),
+            is_made: false,
         })
     }
 
@@ -67,6 +71,7 @@ impl Bench {
         );
         if lie.is_none() {
             self.files = left_of_troubled(alloc, &mut disks, false)?;
+            self.is_made = true;
         }
         Ok(outcome?)
     }
@@ -92,18 +97,26 @@ impl Bench {
             "stops" => self.stop(alloc, rest, Way::Once),
             "twice" => self.stop(alloc, rest, Way::Twice),
             "closes" => self.stop(alloc, rest, Way::Closing),
-            "files" => {
-                self.files = new_files(alloc);
-                Ok(String::from_str(alloc, "no bytes")?)
-            }
+            "files" => self.set_files(alloc, rest),
             "freezes" => self.stop(alloc, rest, Way::Running(Trouble::Freezes)),
             "fills" => self.stop(alloc, rest, Way::Running(Trouble::Fills)),
             "new" => {
-                self.files = new_files(alloc);
+                self.set_files(alloc, "-")?;
                 self.stop(alloc, rest, Way::Once)
             }
             _ => Err(RowFault::NotRow),
         }
+    }
+
+    // Files in which no database was made: a database file with these bytes, and a log without any.
+    fn set_files(&mut self, alloc: Global, bytes: &str) -> Result<String, RowFault> {
+        let bytes = bytes_of(alloc, bytes)?;
+        self.files = Files {
+            log: Memory::new(alloc),
+            db: holding(alloc, &bytes)?,
+        };
+        self.is_made = false;
+        Ok(format!(in alloc; "{} bytes", bytes.len())?)
     }
 
     // New files with the tables, over which these calls are made.
@@ -112,7 +125,17 @@ impl Bench {
         let disks = new_disks(alloc, NEVER);
         let (made, mut disks) = left_by(alloc, &self.config, disks, &calls, ending)?;
         self.files = left_of(alloc, &mut disks, false)?;
+        self.is_made = true;
         Ok(made.after)
+    }
+
+    // What a call comes to over the files, or over new ones where no database was made in them.
+    fn outcome_of(&self, alloc: Global, call: &[u8]) -> Result<Outcome, RowFault> {
+        if self.is_made {
+            outcome_of(alloc, &self.config, &self.files, call)
+        } else {
+            outcome_of(alloc, &self.config, &new_files(alloc), call)
+        }
     }
 
     // Stops in a call. The words are how many calls of the disk a run stops later than the last one, and the
@@ -121,11 +144,12 @@ impl Bench {
         let (step, call) = words.split_once(' ').ok_or(RowFault::NotRow)?;
         let step = number_at(&[step], 0)?;
         let call = bytes_of(alloc, call)?;
-        let whole = outcome_of(alloc, &self.config, &self.files, &call)?;
+        let whole = self.outcome_of(alloc, &call)?;
         let wanted = Wanted {
             alloc,
             config: &self.config,
             files: &self.files,
+            is_made: self.is_made,
             call: &call,
             whole: &whole,
         };

@@ -50,8 +50,8 @@ impl fmt::Display for Laid {
     }
 }
 
-// A file that has these bytes.
-fn holding(alloc: Global, bytes: &[u8]) -> Result<Memory, RowFault>
+/// A file that has these bytes.
+pub(crate) fn holding(alloc: Global, bytes: &[u8]) -> Result<Memory, RowFault>
     ensures { IfOk result (λ file. IsTrue (memory_is_usable file)) }
 {
     let mut file = Memory::new(alloc);

@@ -19,6 +19,8 @@ pub(crate) struct Wanted<'a> {
     pub(crate) config: &'a Config,
     /// The files before the call.
     pub(crate) files: &'a Files<Memory>,
+    /// A database was made in them.
+    pub(crate) is_made: bool,
     pub(crate) call: &'a [u8],
     /// The reply to it, and the States before and after it.
     pub(crate) whole: &'a Outcome,
@@ -125,18 +127,13 @@ impl Wanted<'_> {
         })
     }
 
-    // Whether nobody had opened the files before the call.
-    fn is_new(&self) -> bool {
-        self.files.log.bytes().is_empty() && self.files.db.bytes().is_empty()
-    }
-
     // What the next start finds where a run of `csi_files` was in trouble.
     fn find_after_trouble(&self, stop: Stop, files: &Files<Memory>) -> Result<Outcome, RowFault> {
         self.runs_again(stop, files)?;
-        if !self.is_new() {
+        if self.is_made {
             return outcome_of(self.alloc, self.config, files, self.call);
         }
-        // The first page of new files may be torn, and only a run of `csi_files` makes it whole.
+        // The first page may be torn, and only a run of `csi_files` makes it whole.
         let (_, opened) = self.serve(files, b"", &mut Vec::new(self.alloc))?;
         outcome_of(self.alloc, self.config, &opened, self.call)
     }
