@@ -79,6 +79,7 @@ pub counted_from : (config : Config) (first mid last : Model State) (served : Se
     → ServesFrom config first last served unread left held holds
 counted_from config first mid last served unread left held holds quiet up none it = record {
   clean = omega (arith, quiet.clean, it.clean);
+  writes = it.writes;
   serves = (
     it.serves.0,
     it.serves.1,

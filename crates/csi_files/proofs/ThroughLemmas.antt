@@ -22,6 +22,7 @@ module _ {K : Type 0} (model : K → Model State) where
         → ServesFrom config (model keeper) (model last.change_store.keeper) served unread left held holds
     copy_serves opens it = record {
       clean = omega (arith, opens.clean, it.clean);
+      writes = it.writes;
       serves = (
         it.serves.0,
         it.serves.1,

@@ -11,7 +11,7 @@ use Rattle.csi_sql.specs.Tables.{no_schema}
 use Rattle.csi_tables.specs.Keeping.{connection_of, tables_model}
 use Rattle.csi_tables.specs.declared.tables.Tables.{Tables}
 use Rattle.csi_adoption.specs.Adopting.{IsAdopted, IsUnadopted}
-use Rattle.csi_server.specs.Serving.{Serves}
+use Rattle.csi_server.specs.Serving.{Serves, Writes}
 use Rattle.csi_server.specs.Volumes.{seen, volumes}
 use Rattle.csi_files.specs.declared.over.Served.{Served}
 use Rattle.csi_files.specs.declared.over.Unserved.{Unserved}
@@ -25,6 +25,7 @@ with_counts refusals is_down m = record m { refusals = refusals; is_down = is_do
 pub record ServesWith (config : Config) (first last : Model State) (served : Served) (unread left held holds : Option (List ℕ)) : Type 0 where
   pub serves : Serves (volumes config) (seen config first) (seen config last) unread left held holds served.end
   pub clean : first.doubt ≤ last.doubt
+  pub writes : Writes unread left held holds served.end
   pub counted : served.refusals ≡ last.refusals
   pub down : served.is_down ≡ last.is_down
 
@@ -33,6 +34,7 @@ pub record ServesFrom (config : Config) (first last : Model State) (served : Ser
   pub serves : Serves (volumes config) (seen config (with_counts 0 false first))
       (seen config (with_counts served.refusals served.is_down last)) unread left held holds served.end
   pub clean : first.doubt ≤ last.doubt
+  pub writes : Writes unread left held holds served.end
 
 module _ {S : Type 0} (g : Ghosts S) (config : Config) (conn : Held S) where
   -- tables were adopted on a connection, and calls served over them

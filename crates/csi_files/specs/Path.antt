@@ -1,5 +1,5 @@
 -- The files at a path as disks, and why they were not closed after calls.
-use Rattle.std.specs.Prelude.{◌≡◌, ◌⊎◌, ℕ, Bool, true, false, List, Option, Err}
+use Rattle.std.specs.Prelude.{◌≡◌, ◌⊎◌, ℕ, Bool, true, false, List, Option, Result, Ok, Err, ⊤}
 use Rattle.sqlite_disk.specs.declared.Disk as disk
 use Rattle.sqlite_disk.specs.declared.calls.Calls as calls
 use Rattle.sqlite_disk.specs.declared.start.Start as start
@@ -14,10 +14,12 @@ use Rattle.sqlite.specs.declared.error.Error.{Error}
 use Rattle.sqlite.specs.declared.error.Error.TheVariants.{SqliteFailure}
 use Rattle.sqlite.specs.declared.error.ErrorCode.TheVariants.{CannotOpen, DatabaseBusy, OutOfMemory}
 use Rattle.csi_config.specs.declared.config.Config.{Config}
-use Rattle.csi_files.specs.Serving.{AreUntouched, IsAsked}
+use Rattle.csi_files.specs.Serving.{AllServed, AreUntouched, IsAsked}
 use Rattle.csi_files.specs.Starting.{IsNotStarted}
+use Rattle.csi_files.specs.declared.over.Served.{Served}
 use Rattle.csi_files.specs.declared.path.NotServedAt.{NotServedAt}
 use Rattle.csi_files.specs.declared.path.NotServedAt.TheVariants.{NoFiles, NotServed}
+use Rattle.csi_files.specs.declared.serving.Closed.{Closed}
 
 module _ {C S : Type 0} {g : calls.Ghosts C} {first : start.Ghosts S} where
   -- what is said of a file whose calls are recorded, by its record and by what it held
@@ -48,3 +50,10 @@ module _ {S : Type 0} {g : calls.Ghosts Host} (first : start.Ghosts S) (config :
       ((files : Files (Modelled Host S g first)) × IsFresh true files.log × IsFresh false files.db
       × IsNotStarted over_calls config files unread left held holds e)
       × IsAsked over_calls is_existing (Err e)
+
+module _ {S : Type 0} {g : calls.Ghosts Host} {first : start.Ghosts S} where
+  -- what calls came to, also where the files were not closed after them
+  abbrev pub AllServedAt : (Served → Type 0) → Result (Closed (Modelled Host S g first)) (NotServedAt (Modelled Host S g first) over_calls) → Type 0
+  AllServedAt P (Ok closed) = P closed.served
+  AllServedAt P (Err (NoFiles error)) = ⊤
+  AllServedAt P (Err (NotServed e)) = AllServed over_calls P (Err e)

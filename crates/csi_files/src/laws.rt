@@ -30,9 +30,9 @@ pub fn went_on<D: Disk>(config: &Config)
 /// it hears the reply hears the replies to its requests taken once each, and the files have the State after
 /// them.
 ///
-/// The first run may be over files that hold no database yet. A run may end in any way, its calls may be
-/// refused inside and its replies be lost, and the next run is over any contents that a crash leaves of the
-/// files.
+/// The first run may be over files that hold no database yet. A run may end in any way that [`went_on`]
+/// does not leave out, its calls may be refused inside and its replies be lost, and the next run is over any
+/// contents that a crash leaves of the files.
 pub fn lived(config: &Config)
     ensures { LivesOnce config.now }
 {

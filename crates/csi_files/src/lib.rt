@@ -7,10 +7,11 @@
 //! `serve_made` over the files at a path.
 //!
 //! `specs/Files.antt` says which State the bytes of two files have (`HasState`). It is the premise of a run
-//! and what a run leaves, so runs compose: a run that ends, fails or is stopped leaves files of which the
-//! next one is served. `specs/Starting.antt` says from which files a first run may start (`MayStart`), and
-//! `specs/Serving.antt` what is left where the files are not closed. A stop at any moment is a disk that
-//! freezes: what the clauses say of the outcomes of a crash of such a disk is what a stop there leaves.
+//! and what a run leaves, so runs compose: the next run begins from what is left (`laws`), unless a database
+//! could not be opened or the files could not be closed. `specs/Starting.antt` says from which files a first
+//! run may start (`MayStart`), and `specs/Serving.antt` what is left where the files are not closed. A stop
+//! is taken for a disk that freezes: what the clauses say of the outcomes of a crash of such a disk is what a
+//! stop there leaves.
 //!
 //! `making.rt` makes a database in files that hold none; `over.rt` serves calls over a connection to any
 //! store, and `reserve.rt` keeps memory for its next opening; `leaving.rt` gives files up as they are;

@@ -4,10 +4,10 @@ ghost use Rattle.std.specs.Prelude.{◌≡◌, false, true, IfErr, IfOk, IsTrue}
 ghost use Rattle.sqlite_std_file.specs.File.{IsFresh, file_is_usable};
 ghost use Rattle.sqlite_wal.specs.Files.{image_at};
 ghost use Rattle.sqlite_wal.specs.Reads.{AreClean};
-ghost use Rattle.csi_server.specs.Serving.{Serves};
+ghost use Rattle.csi_server.specs.Serving.{Serves, Writes};
 ghost use Rattle.csi_server.specs.Volumes.{seen, volumes};
 ghost use Rattle.csi_files.specs.Files.{files_model};
-ghost use Rattle.csi_files.specs.Path.{IsNoFile, IsNotServedAt, over_calls};
+ghost use Rattle.csi_files.specs.Path.{AllServedAt, IsNoFile, IsNotServedAt, over_calls};
 ghost use Rattle.csi_files.specs.Serving.{HasRefusedNone, LeavesAfter};
 ghost use Rattle.csi_files.specs.Starting.{OpensMade, StartsThen, start_model};
 
@@ -99,8 +99,13 @@ pub fn serve_path<S: Start, O: Observer, R: Read, W: Write>(
         (R.remaining reader.old) (R.remaining reader.new) (W.contents writer.old)
         (W.contents writer.new) r.served
         (AreClean over_calls r.files.log r.files.db) (LeavesAfter over_calls config.now r.files)) }
+    ensures usable { IfOk result (λ r. IsTrue (over_calls.is_usable r.files.log)
+        × IsTrue (over_calls.is_usable r.files.db)) }
+    ensures writes { AllServedAt (λ served. Writes (R.remaining reader.old) (R.remaining reader.new)
+        (W.contents writer.old) (W.contents writer.new) served.end) result }
     ensures none_refused { IfOk result (λ r. HasRefusedNone r.served) }
-    ensures uncopied { IfOk result (λ r. IsTrue options.now.is_low_memory → r.served.is_copied ≡ false) }
+    ensures uncopied { AllServedAt (λ served. IsTrue options.now.is_low_memory → served.is_copied ≡ false)
+        result }
     ensures existing { IfOk result (λ r. IsTrue options.now.is_existing → r.served.is_new ≡ false) }
     ensures not_served { IfErr result (IsNotServedAt S.Start config.now options.now.is_existing
         (R.remaining reader.old) (R.remaining reader.new) (W.contents writer.old) (W.contents writer.new)) }

@@ -6,7 +6,7 @@ ghost use Rattle.sqlite.specs.State.{HasCleanDisk};
 ghost use Rattle.sqlite_wal.specs.Reads.{AreClean};
 ghost use Rattle.sqlite_wal.specs.Recovery.{Image};
 ghost use Rattle.csi_sql.specs.Tables.{no_schema};
-ghost use Rattle.csi_server.specs.Serving.{Serves};
+ghost use Rattle.csi_server.specs.Serving.{Serves, Writes};
 ghost use Rattle.csi_server.specs.Volumes.{seen, volumes};
 ghost use Rattle.csi_files.specs.Files.{files_model, image_model};
 ghost use Rattle.csi_files.specs.Leaving.{GivesUp, IsFinished, IsUnfinished, files_of};
@@ -35,7 +35,7 @@ pub struct Closed<D: Disk> {
     pub files: Files<D>,
 }
 
-/// Why files were not closed after calls, and what is left of them. The next run may begin with what is left.
+/// Why files were not closed after calls, and what is left of them.
 pub enum NotServed<D: Disk> {
     /// The files were not opened: why, and what is left of them. No call was read.
     NotOpened(Error, Leftover<D>),
@@ -143,6 +143,8 @@ pub fn serve_open<D: Disk + Drop, O: Observer, R: Read, W: Write>(
         (W.contents writer.new) r.served.end) }
     ensures usable { IfOk result (λ r. IsTrue (D.Disk.is_usable r.files.log)
         × IsTrue (D.Disk.is_usable r.files.db)) }
+    ensures writes { AllServed D.Disk (λ served. Writes (R.remaining reader.old) (R.remaining reader.new)
+        (W.contents writer.old) (W.contents writer.new) served.end) result }
     ensures none_refused { IfOk result (λ r. HasRefusedNone r.served) }
     ensures uncopied { AllServed D.Disk (λ served. IsTrue options.now.is_low_memory
         → served.is_copied ≡ false) result }

@@ -3,7 +3,7 @@
 ghost use Rattle.std.specs.Prelude.{◌≡◌, false, IfErr, IfOk, IsTrue};
 ghost use Rattle.sqlite_wal.specs.Reads.{AreClean};
 ghost use Rattle.sqlite.specs.Files.{image_of};
-ghost use Rattle.csi_server.specs.Serving.{Serves};
+ghost use Rattle.csi_server.specs.Serving.{Serves, Writes};
 ghost use Rattle.csi_server.specs.Volumes.{seen, volumes};
 ghost use Rattle.csi_files.specs.Files.{files_model};
 ghost use Rattle.csi_files.specs.Serving.{AllServed, HasRefusedNone, IsAsked, LeavesAfter};
@@ -86,7 +86,8 @@ pub(crate) fn open_made<D: Disk + Drop>(
 /// (`MayStart`). Files without a table get new ones, and the first State, unless the options refuse them.
 /// Where memory has no room for a copy of the volumes, reads are answered from the file.
 ///
-/// All of that is promised while the disks return what was written to them (`AreClean`).
+/// All of that is promised while the disks return what was written to them (`AreClean`). Over any disk the
+/// calls that were read have their replies, in order (`writes`), and after `Ok` the store has refused none.
 ///
 /// # Errors
 ///
@@ -127,6 +128,8 @@ pub fn serve_made<D: Disk + Drop, O: Observer, R: Read, W: Write>(
         (AreClean D.Disk r.files.log r.files.db) (LeavesAfter D.Disk config.now r.files)) }
     ensures usable { IfOk result (λ r. IsTrue (D.Disk.is_usable r.files.log)
         × IsTrue (D.Disk.is_usable r.files.db)) }
+    ensures writes { AllServed D.Disk (λ served. Writes (R.remaining reader.old) (R.remaining reader.new)
+        (W.contents writer.old) (W.contents writer.new) served.end) result }
     ensures none_refused { IfOk result (λ r. HasRefusedNone r.served) }
     ensures uncopied { AllServed D.Disk (λ served. IsTrue options.now.is_low_memory
         → served.is_copied ≡ false) result }

@@ -22,6 +22,9 @@ returns-in-Ok-clause-after g c =
 pub returns-in-Ok-clause-usable : goal.returns-in-Ok-clause-usable
 returns-in-Ok-clause-usable g c = IfOk-weaker c.finish.result _ _ (λ outcome it. it.usable) c.finish.ensures.finished
 
+pub returns-in-Ok-clause-writes : goal.returns-in-Ok-clause-writes
+returns-in-Ok-clause-writes g c = all_served g.D.Disk _ c.in-Ok.served c.in-Ok.conn c.in-Ok.ensures.served.run.writes c.finish.result c.finish.ensures.finished c.finish.ensures.unfinished
+
 pub returns-in-Ok-clause-uncopied : goal.returns-in-Ok-clause-uncopied
 returns-in-Ok-clause-uncopied g c = all_served g.D.Disk _ c.in-Ok.served c.in-Ok.conn c.in-Ok.ensures.uncopied c.finish.result c.finish.ensures.finished c.finish.ensures.unfinished
 
@@ -40,6 +43,9 @@ returns-in-Ok-clause-existing g c = asked g.D.Disk _ c.in-Ok.served c.in-Ok.conn
 
 pub returns-in-Err-clause-existing : goal.returns-in-Err-clause-existing
 returns-in-Err-clause-existing g c = unasked g.D.Disk _ c.args.config.now c.args.conn c.in-Err.unserved c.not_served.result c.not_served.ensures c.in-Err.ensures.unserved
+
+pub returns-in-Err-clause-writes : goal.returns-in-Err-clause-writes
+returns-in-Err-clause-writes g c = none_served g.D.Disk _ c.in-Err.unserved c.not_served.result c.not_served.ensures
 
 pub returns-in-Err-clause-uncopied : goal.returns-in-Err-clause-uncopied
 returns-in-Err-clause-uncopied g c = none_served g.D.Disk _ c.in-Err.unserved c.not_served.result c.not_served.ensures
