@@ -3,6 +3,7 @@ pub mod Configured
 pub mod Creation
 pub mod Identity
 pub mod Modify
+pub mod Numbers
 pub mod Offer
 pub mod Pages
 pub mod Places

@@ -11,6 +11,7 @@ ghost use Rattle.csi_machine.specs.Walk.{Call, pages, AreRead, AreChecked, AreOf
 ghost use Rattle.csi_config.specs.Values.{Has};
 ghost use Rattle.std.specs.List.{AllByRecursion};
 ghost use Rattle.csi_rules.specs.Choice.{choice, rooms};
+ghost use Rattle.csi_machine.specs.Numbers.{NumbersRise};
 ghost use Rattle.csi_machine.specs.Offer.{AsksFor, IsNew, exactly, term_of};
 ghost use Rattle.csi_machine.specs.calls.Capacity.{capacity, tell_capacity};
 ghost use Rattle.csi_machine.specs.calls.Create.{create, made, place_in};
@@ -48,6 +49,16 @@ pub fn ids()
 pub fn kept(config: &Config)
     ensures { (s : State) (r : Request) → IsInvariant config.now s → checked r ≡ None
         → IsInvariant config.now (step config.now s r).1 }
+{
+    configured(config);
+}
+
+/// No number is given twice: a request lowers no next number, and a number that was given, and whose volume
+/// was deleted, is not given again. What is answered does not matter.
+#[inline(always)]
+pub fn numbers(config: &Config)
+    ensures { (s : State) (r : Request) → IsInvariant config.now s → checked r ≡ None
+        → NumbersRise s (step config.now s r).1 }
 {
     configured(config);
 }
