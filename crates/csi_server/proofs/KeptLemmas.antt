@@ -32,7 +32,7 @@ module _ (config : Config) where
   path_keeps keep s inv None message = inv
   path_keeps keep s inv (Some m) message = read_keeps keep s inv (read_request m message)
 
-  mark_keeps : Keep → (s : State) → IsInvariant config s → (p : Option Method) (message : List ℕ) (mark : Mark) → IsInvariant config (marked s (after_path (step config) s p message) mark).1
+  pub mark_keeps : Keep → (s : State) → IsInvariant config s → (p : Option Method) (message : List ℕ) (mark : Mark) → IsInvariant config (marked s (after_path (step config) s p message) mark).1
   mark_keeps keep s inv p message Unmarked = path_keeps keep s inv p message
   mark_keeps keep s inv p message OutOfMemory = inv
   mark_keeps keep s inv p message StoreRefused = inv

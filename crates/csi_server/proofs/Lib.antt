@@ -8,6 +8,7 @@ mod Forms
 mod VolumeLemmas
 mod PendingLemmas
 mod KeptLemmas
+mod NumberLemmas
 mod TriesLemmas
 mod LifeLemmas
 mod WalksLemmas

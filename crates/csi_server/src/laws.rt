@@ -17,6 +17,7 @@ ghost use Rattle.csi_server.specs.Identity.{identity};
 ghost use Rattle.csi_server.specs.Requests.{told};
 ghost use Rattle.csi_server.specs.Tries.{Asks, Exchange, asked, spelled_call, events_of, tries_of, heard_of, IsLeft, IsLifeOfCalls, IsLifeOfTwo};
 ghost use Rattle.csi_server.specs.Volumes.{volumes, seen, IsPending};
+ghost use Rattle.csi_machine.specs.Numbers.{NumbersRise};
 ghost use Rattle.csi_machine.specs.Retry.{Leaves, AreTriesOf, all_tries, reported_of, told_once, after_once, state_after as after_tries};
 ghost use Rattle.csi_machine.specs.Step.{step};
 ghost use Rattle.csi_config.specs.Values.{Has};
@@ -31,8 +32,8 @@ use csi_codec::laws::{read_as_meant, reading, round_trip};
 use csi_config::Config;
 use csi_keeper::Keeper;
 use csi_machine::laws::{
-    kept as kept_by_answers, repeat as repeat_request, retry as retry_requests,
-    walk as walk_by_requests,
+    kept as kept_by_answers, numbers as numbers_by_answers, repeat as repeat_request,
+    retry as retry_requests, walk as walk_by_requests,
 };
 use envelope::laws::decimal_is_text;
 
@@ -93,6 +94,19 @@ pub fn kept(config: &Config)
         → IsInvariant config.now t }
 {
     kept_by_answers(config);
+}
+
+/// No number is given twice: a run of the volume machine from a State of the invariant, with any calls and
+/// marks, lowers no next number, and gives no number again whose volume was deleted. Nor does what [`pending`]
+/// says a stop may leave.
+pub fn numbers(config: &Config)
+    ensures run { (s : MachineState) (events : List Event) → IsInvariant config.now s
+        → NumbersRise s (state_after (volumes config.now) s events) }
+    ensures pending { (s : MachineState) (events : List Event) (t : MachineState) → IsInvariant config.now s
+        → IsPending config.now s events t → NumbersRise s t }
+{
+    kept_by_answers(config);
+    numbers_by_answers(config);
 }
 
 /// After a run of the volume machine from a State that alone would have been left by a stop, a stop leaves
