@@ -1,6 +1,6 @@
 //! A connection that has not sent a whole call yet.
 
-ghost use Rattle.std.specs.Prelude.{◌≡◌, ◌⊎◌, ◌≤◌, ◌<◌, true, false, length};
+ghost use Rattle.std.specs.Prelude.{◌≡◌, ◌⊎◌, ◌≤◌, ◌<◌, ◌++◌, true, false, length};
 ghost use Rattle.csid.specs.declared.pending.TheConstants.{ENOUGH};
 ghost use Rattle.csid.specs.Starting.{BeginsCall, BeginsNoCall, BeginsFault, MayBeginCall};
 
@@ -120,7 +120,9 @@ impl Pending {
     }
 
     // Takes a piece of what it sends, which is empty at the end.
-    fn accept(&mut self, piece: &[u8], now: Instant) -> PeerInput {
+    fn accept(&mut self, piece: &[u8], now: Instant) -> PeerInput
+        ensures { result ≡ PeerInput.Something → self.new.sent.items ≡ self.old.sent.items ++ piece.now }
+    {
         if self.sent.extend_from_slice(piece).is_err() {
             return PeerInput::Lost;
         }
