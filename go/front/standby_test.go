@@ -2,22 +2,39 @@ package main
 
 import (
 	"context"
+	"fmt"
 	"io"
 	"net"
 	"net/http"
 	"net/http/httptest"
 	"strings"
+	"sync"
 	"sync/atomic"
 	"testing"
 	"time"
 )
 
-// While replies come a Probe may wait for longer than the bound, and once none comes the watch is over.
+// While replies come a Probe may wait for longer than the limit, and once none comes the watch is over. A machine that is too slow for a limit gets twice as
+// long a one.
 func TestWatchOverABusyCsid(t *testing.T) {
-	const limit, took, callers, busy = 600 * time.Millisecond, 60 * time.Millisecond, 16, 1800 * time.Millisecond
-	var isSilent, longest atomic.Int64
+	for limit := 600 * time.Millisecond; ; limit *= 2 {
+		err := watchABusyCsid(t, limit)
+		if err == nil {
+			return
+		}
+		if limit > 10*time.Second {
+			t.Fatal(err)
+		}
+		t.Logf("a limit of %v: %v", limit, err)
+	}
+}
+
+func watchABusyCsid(t *testing.T, limit time.Duration) error {
+	// Between two replies a Probe is asked, and the calls before it take longer than the limit.
+	took, callers := 2*limit/5, 8
+	var isSilent atomic.Bool
 	path, _ := csid(t, func(conn net.Conn) {
-		for isCalled(conn) && isSilent.Load() == 0 {
+		for isCalled(conn) && !isSilent.Load() {
 			time.Sleep(took)
 			conn.Write(notFound)
 		}
@@ -29,34 +46,39 @@ func TestWatchOverABusyCsid(t *testing.T) {
 	go func() { over <- h.watch(limit) }()
 	ctx, cancel := context.WithCancel(context.Background())
 	defer cancel()
+	select {
+	case err := <-over:
+		return fmt.Errorf("it is over while replies come: %v", err)
+	case <-longWait(ctx, h.backend, callers, 2*limit):
+	}
+	begin := time.Now()
+	isSilent.Store(true)
+	err := <-over
+	if want := fmt.Sprintf("nothing was answered by csid for %v: context deadline exceeded", limit); err == nil || err.Error() != want {
+		return fmt.Errorf("%v, wanted %s", err, want)
+	}
+	if spent := time.Since(begin); spent < limit-took || spent > 4*limit {
+		return fmt.Errorf("it was over after %v", spent)
+	}
+	return nil
+}
+
+// longWait lets so many callers call until the context ends. What it gives is closed once one of them waited for longer than that.
+func longWait(ctx context.Context, b *backend, callers int, length time.Duration) <-chan struct{} {
+	waited := make(chan struct{})
+	var once sync.Once
 	for caller := 0; caller < callers; caller++ {
 		go func() {
 			for ctx.Err() == nil {
 				begin := time.Now()
-				h.backend.call(ctx, "/a/b", nil)
-				if spent := int64(time.Since(begin)); spent > longest.Load() {
-					longest.Store(spent)
+				b.call(ctx, "/a/b", nil)
+				if time.Since(begin) > length {
+					once.Do(func() { close(waited) })
 				}
 			}
 		}()
 	}
-	select {
-	case err := <-over:
-		t.Errorf("it is over while replies come: %v", err)
-	case <-time.After(busy):
-	}
-	if time.Duration(longest.Load()) < limit {
-		t.Errorf("no call waited for longer than %v", time.Duration(longest.Load()))
-	}
-	begin := time.Now()
-	isSilent.Store(1)
-	err := <-over
-	if want := "nothing was answered by csid for 600ms: context deadline exceeded"; err == nil || err.Error() != want {
-		t.Errorf("%v, wanted %s", err, want)
-	}
-	if spent := time.Since(begin); spent < limit || spent > 4*limit {
-		t.Errorf("it was over after %v", spent)
-	}
+	return waited
 }
 
 // Each reply is a sign of life, also a refusal. A connection that is closed unanswered is none.
