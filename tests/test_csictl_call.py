@@ -122,7 +122,7 @@ def waits(path):
     """The line of a try that has no reply after 3 seconds."""
     return (
         "csictl: %s: no reply for 3 s, still waiting: csid serves one connection at a time, and a front keeps"
-        " it while it runs (use its control socket); --timeout bounds the wait\n" % path
+        " it until it had no call for a second (use its control socket); --timeout bounds the wait\n" % path
     )
 
 

@@ -58,7 +58,7 @@ struct Waiting<'a> {
 impl<'a> Waiting<'a> {
     fn new(rt: &'a HostRuntime, path: &str, timeout: Option<Duration>) -> io::Result<Waiting<'a>> {
         let line = format!(in rt.alloc();
-            "{path}: no reply for 3 s, still waiting: csid serves one connection at a time, and a front keeps it while it runs (use its control socket); --timeout bounds the wait"
+            "{path}: no reply for 3 s, still waiting: csid serves one connection at a time, and a front keeps it until it had no call for a second (use its control socket); --timeout bounds the wait"
         )?;
         let mut waiting = Waiting {
             rt,
