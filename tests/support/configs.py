@@ -55,6 +55,7 @@ def nodes(count):
 NO_COUNT = "is no number from 0 to 2^63 - 1"
 NO_NAME = "it is not 1 to 63 ASCII letters, digits, '-' and '.', the first and the last a letter or digit"
 NO_POOL_NAME = "the name is not 1 to 63 ASCII letters, digits, '-', '_' and '.'"
+NO_WHOLE_BYTES = "the bytes are not a positive multiple of 1048576"
 NO_VERSION = "the plugin's version is not 1 to 128 bytes"
 NO_ID = "the id is not 1 to 256 bytes without control characters"
 REFUSED = [
@@ -153,12 +154,12 @@ REFUSED = [
     (
         "a pool of 0 bytes",
         sample((b"= 4194304", b"= 0")),
-        "pool p2: the bytes are not a positive multiple of 1048576",
+        "pool p2: " + NO_WHOLE_BYTES,
     ),
     (
         "a pool of 1 MiB and 1",
         sample((b"= 4194304", b"= 1048577")),
-        "pool p2: the bytes are not a positive multiple of 1048576",
+        "pool p2: " + NO_WHOLE_BYTES,
     ),
     (
         "pools of 2^62 and 1 MiB",
@@ -235,7 +236,7 @@ FAULTS = [
             NO_DEFAULT,
             NO_GREATEST,
             "pool 1: the key 'name' is missing",
-            "pool p2: the bytes are not a positive multiple of 1048576",
+            "pool p2: " + NO_WHOLE_BYTES,
             "node 1: the key 'id' is missing",
             "node : " + NO_ID,
             "node : the greatest number of volumes is not 1 to 100000",
@@ -271,7 +272,37 @@ FAULTS = [
     (
         "a slip of the pen beside a fault",
         b"zone = 3\n" + sample((b"pools.example.org", b"a b")),
-        ["plugin name a b: " + NO_NAME],
+        ["the key 'zone' is not known", "plugin name a b: " + NO_NAME],
+    ),
+    (
+        "keys that are not known of each part, and faults of each",
+        sample(
+            (b"pools.example.org", b"a b"),
+            (b"bytes = 4194304", b"byte = 4194304"),
+            (b"max_volumes = 2", b"max_volumes = 0\nzone = 3"),
+        )
+        + b"[sizes]\n",
+        [
+            "the key 'sizes' is not known",
+            "pool 2: the key 'byte' is not known",
+            "node 1: the key 'zone' is not known",
+            "plugin name a b: " + NO_NAME,
+            "pool 2: the key 'bytes' is missing",
+            "node n1: the greatest number of volumes is not 1 to 100000",
+        ],
+    ),
+    (
+        "a pool and a node without a name, and a further fault of each",
+        sample(
+            (b'name = "p2"\nbytes = 4194304', b"bytes = 4194305"),
+            (b'id = "n2"\nmax_volumes = 2', b"max_volumes = 100001"),
+        ),
+        [
+            "pool 2: the key 'name' is missing",
+            "pool 2: " + NO_WHOLE_BYTES,
+            "node 2: the key 'id' is missing",
+            "node 2: the greatest number of volumes is not 1 to 100000",
+        ],
     ),
     (
         "as many pools, nodes and volumes as there can be, and a name that is none",
@@ -282,6 +313,16 @@ FAULTS = [
         "a pool above 2^62 bytes, and a name that is none",
         sample((b"pools.example.org", b"a b"), (b"= 10485760", b"= %d" % ((1 << 62) + (1 << 20)))),
         ["plugin name a b: " + NO_NAME, "the bytes of all pools together are above 2^62"],
+    ),
+    (
+        "a pool of 2^62 bytes and 1",
+        sample((b"= 10485760", b"= %d" % ((1 << 62) + 1))),
+        ["pool p1: " + NO_WHOLE_BYTES, "the bytes of all pools together are above 2^62"],
+    ),
+    (
+        "a pool above 2^62 bytes with an empty key",
+        sample((b"= 10485760", b"= %d" % ((1 << 62) + (1 << 20))), (b"zone", b'""')),
+        ["pool p1: a segment's key is empty", "the bytes of all pools together are above 2^62"],
     ),
     (
         "four pools of 2^62 bytes, and a name that is none",

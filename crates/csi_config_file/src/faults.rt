@@ -2,7 +2,7 @@
 
 use crate::config_file::{ConfigError, Key, KeyRule, Keys, Section, element};
 use csi_config::{
-    Config, ConfigFault, GRANULE_BYTES, Node, NodeRule, Plugin, Pool, PoolRule, Sizes,
+    Config, ConfigFault, GRANULE_BYTES, Node, NodeRule, Plugin, Pool, PoolRule, Sizes, is_whole,
 };
 use csi_types::{MAX_NODES, MAX_POOL_BYTES, MAX_POOLS, MAX_VOLUMES, Map, Text};
 use std::alloc::{AllocError, Global};
@@ -13,6 +13,11 @@ const FAULTLESS_SIZES: Sizes = Sizes {
     default_bytes: GRANULE_BYTES,
     greatest_bytes: GRANULE_BYTES,
 };
+
+// What tells of a pool or a node whose name or id is not read: its number, as of its section.
+fn number_text(alloc: Global, number: usize) -> Result<Text, AllocError> {
+    Ok(Text::from_string(format!(in alloc; "{number}")?))
+}
 
 // What was found so far.
 #[derive(Drop)]
@@ -138,10 +143,16 @@ impl Faults {
         }
     }
 
-    // Adds the faults of a pool, which comes after pools of these names. Its bytes, or none where they are
-    // not read.
-    fn add_pool(&mut self, keys: &Keys<'_>, names: &mut BTreeSet<Text>) -> Result<u64, AllocError> {
+    // Adds the faults of the pool with this number, which comes after pools of these names. Its bytes, or none
+    // where they are not read.
+    fn add_pool(
+        &mut self,
+        number: usize,
+        keys: &Keys<'_>,
+        names: &mut BTreeSet<Text>,
+    ) -> Result<u64, AllocError> {
         let mut pool = self.pool()?;
+        pool.name = number_text(self.alloc, number)?;
         let name = self.keep(keys.text(self.alloc, Key::Name))?;
         let bytes = self.keep(keys.count(Key::Bytes))?;
         if let Some(segments) = self.keep(keys.segments(self.alloc))? {
@@ -150,7 +161,8 @@ impl Faults {
         if let Some(name) = &name {
             pool.name = name.copy(self.alloc)?;
         }
-        if let Some(bytes) = bytes.filter(|bytes| *bytes <= MAX_POOL_BYTES) {
+        // Where they are whole and too many alone, the fault is that of all pools together.
+        if let Some(bytes) = bytes.filter(|bytes| *bytes <= MAX_POOL_BYTES || !is_whole(*bytes)) {
             pool.bytes = bytes;
         }
         self.judge_pool(pool)?;
@@ -167,11 +179,11 @@ impl Faults {
         let mut names = BTreeSet::new(self.alloc);
         let mut sum: u64 = 0;
         for (index, value) in array.iter().enumerate() {
-            let section = Section::Pool(index.saturating_add(1));
-            let Some(keys) = self.keep(element(value, Key::Pool, section))? else {
+            let number = index.saturating_add(1);
+            let Some(keys) = self.keep(element(value, Key::Pool, Section::Pool(number)))? else {
                 return Ok(());
             };
-            sum = sum.saturating_add(self.add_pool(&keys, &mut names)?);
+            sum = sum.saturating_add(self.add_pool(number, &keys, &mut names)?);
         }
         if sum > MAX_POOL_BYTES {
             self.push(ConfigFault::AllBytes)?;
@@ -197,24 +209,26 @@ impl Faults {
         Ok(())
     }
 
-    // Adds the faults of a node, which comes after nodes of these ids.
-    fn add_node(&mut self, keys: &Keys<'_>, ids: &mut BTreeSet<Text>) -> Result<(), AllocError> {
+    // Adds the faults of the node with this number, which comes after nodes of these ids.
+    fn add_node(
+        &mut self,
+        number: usize,
+        keys: &Keys<'_>,
+        ids: &mut BTreeSet<Text>,
+    ) -> Result<(), AllocError> {
         let id = self.keep(keys.text(self.alloc, Key::Id))?;
         let max_volumes = self.keep(keys.count(Key::MaxVolumes))?;
+        let told = match &id {
+            Some(id) => id.copy(self.alloc)?,
+            None => number_text(self.alloc, number)?,
+        };
         self.judge_node(Node {
-            id: match &id {
-                Some(id) => id.copy(self.alloc)?,
-                None => Text::from_str(self.alloc, "a")?,
-            },
+            id: told.copy(self.alloc)?,
             max_volumes: 1,
         })?;
-        if let (Some(id), Some(max_volumes)) = (&id, max_volumes) {
-            if max_volumes == 0 || max_volumes > MAX_VOLUMES {
-                self.push(ConfigFault::Node {
-                    id: id.copy(self.alloc)?,
-                    rule: NodeRule::Volumes,
-                })?;
-            }
+        if max_volumes.is_some_and(|most| most == 0 || most > MAX_VOLUMES) {
+            let rule = NodeRule::Volumes;
+            self.push(ConfigFault::Node { id: told, rule })?;
         }
         if let Some(id) = id {
             if !ids.insert(id.copy(self.alloc)?)? {
@@ -228,11 +242,11 @@ impl Faults {
     fn add_each_node(&mut self, array: &[Value]) -> Result<(), AllocError> {
         let mut ids = BTreeSet::new(self.alloc);
         for (index, value) in array.iter().enumerate() {
-            let section = Section::Node(index.saturating_add(1));
-            let Some(keys) = self.keep(element(value, Key::Node, section))? else {
+            let number = index.saturating_add(1);
+            let Some(keys) = self.keep(element(value, Key::Node, Section::Node(number)))? else {
                 return Ok(());
             };
-            self.add_node(&keys, &mut ids)?;
+            self.add_node(number, &keys, &mut ids)?;
         }
         Ok(())
     }

@@ -45,7 +45,8 @@ fn tell_unknown(console: &Console<'_>, path: &str, bytes: &[u8]) {
     }
 }
 
-// Says all faults of a configuration that is refused but the last one, which is given.
+// Says the keys that are not known of a configuration that is refused, and then all of its faults but the last
+// one, which is given.
 fn tell_faults(console: &Console<'_>, path: &str, bytes: &[u8], refused: Failure) -> Failure
     requires { IsOrNoMemory 3 refused }
     ensures { IsOrNoMemory 3 result }
@@ -57,13 +58,14 @@ fn tell_faults(console: &Console<'_>, path: &str, bytes: &[u8], refused: Failure
     let Some((last, others)) = faults.as_slice().split_last() else {
         return refused;
     };
+    tell_unknown(console, path, bytes);
     for fault in others {
         console.say_of(path, fault);
     }
     Failure::configuration(alloc, path, last)
 }
 
-/// The configuration of a file. Where it has faults, all are said.
+/// The configuration of a file. Its keys that are not known are said, and where it has faults, all of these.
 ///
 /// # Errors
 ///
