@@ -152,6 +152,9 @@ POOL  VOLUMES  SIZE
 NODE  VOLUMES  SIZE
 """
 
+# Where a listing cannot be read that has no row yet.
+FIRST = "from the first volume on"
+
 
 class ListTest(CsidTest):
     """`csid --list-tables`."""
@@ -280,19 +283,19 @@ class ListTest(CsidTest):
         self.row("a file of nothing", self.listed(tables), tables.says("it has no tables, and none are made"))
         write(tables.path, b"x" * 4096)
         self.row("no database", self.listed(tables), tables.says(NO_DATABASE))
-        unread = "the tables cannot be read after volume %d: --check-tables says why"
-        for name, after, rows in [
-            ("capabilities that are none", 0, volume(1, caps="x'1a'") + next_is(9)),
-            ("a name that is a blob", 0, volume(1, "x'61'") + next_is(9)),
+        unread = "the tables cannot be read %s: --check-tables says why"
+        for name, where, rows in [
+            ("capabilities that are none", FIRST, volume(1, caps="x'1a'") + next_is(9)),
+            ("a name that is a blob", FIRST, volume(1, "x'61'") + next_is(9)),
             (
                 "parameters that are none",
-                1000,
+                "after volume 1000",
                 MANY % (1000, BLOCK_CAPS) + volume(1001, "'x'", params="x'22'") + next_is(1002),
             ),
         ]:
             tables.new().script(rows)
             out, line, status = self.listed(tables)
-            self.row(name, (line, status), ("csid: %s: %s\n" % (tables.path, unread % after), 4))
+            self.row(name, (line, status), ("csid: %s: %s\n" % (tables.path, unread % where), 4))
         tables.new().script(A)
         write(tables.path + "-journal", b"\x01")
         self.row("next to a journal", self.listed(tables), tables.says(NO_FILE))
@@ -301,7 +304,7 @@ class ListTest(CsidTest):
         large = Tables(self.csid, self.folder, "large.db")
         for name, caps, wanted in [
             ("no memory for a volume", LARGE_CAPS, (b"", NO_MEMORY, 6)),
-            ("memory for one that is none", "zeroblob(%d)" % MIB, large.says(unread % 0)),
+            ("memory for one that is none", "zeroblob(%d)" % MIB, large.says(unread % FIRST)),
         ]:
             large.new().script(volume(1, caps=caps) + next_is(2))
             self.row(name, self.listed(large, preexec_fn=memory_of_20_mib), wanted)

@@ -24,6 +24,9 @@ const PAGE: u32 = 1000;
 // No number of a volume is as great: a column has no greater one.
 const NUMBERS: u64 = 1 << 63;
 
+const NONE_READ: &str =
+    "the tables cannot be read from the first volume on: --check-tables says why";
+
 /// Which volumes are listed: those that have each of these that is given.
 #[derive(Clone, Copy)]
 pub(crate) struct Chosen<'a> {
@@ -87,6 +90,9 @@ impl TablesCopy<'_> {
         let alloc = self.alloc;
         if let TablesFault::NoMemory = error.fault {
             return Failure::NoMemory;
+        }
+        if after == 0 {
+            return Failure::of_tables(alloc, self.path, &NONE_READ);
         }
         match format!(in alloc;
             "the tables cannot be read after volume {after}: --check-tables says why"
