@@ -14,6 +14,7 @@
 
 mod command;
 mod lines;
+mod modes;
 mod named;
 mod options;
 mod sizes;
@@ -23,6 +24,7 @@ mod words;
 
 pub use command::{ArgumentsFault, arguments, matches};
 pub use lines::{error_line, is_decimal, say};
+pub use modes::MODE_NAMES;
 pub use named::{Cause, Named, cause};
 pub use options::{CommandLine, CommandOption, OPTION, Subcommand, Takes};
 pub use sizes::size_text;

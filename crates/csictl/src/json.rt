@@ -1,5 +1,6 @@
 //! Replies as JSON: the mapping of proto3, with each field of a message also where it has nothing.
 
+use command_line::MODE_NAMES;
 use csi_types::{
     Access, Capability, Confirmed, Entry, Items, Map as TextMap, Response, Text, VolumeInfo,
 };
@@ -10,7 +11,7 @@ use std::alloc::{AllocError, Global};
 type Json = Result<Value, AllocError>;
 
 // The names of enumerations, by their numbers (CSI specification, 'GetPluginCapabilities',
-// 'ControllerGetCapabilities', 'CreateVolume').
+// 'ControllerGetCapabilities').
 const SERVICES: [&str; 4] = [
     "UNKNOWN",
     "CONTROLLER_SERVICE",
@@ -34,17 +35,6 @@ const CALLS: [&str; 15] = [
     "GET_VOLUME",
     "SINGLE_NODE_MULTI_WRITER",
     "MODIFY_VOLUME",
-];
-
-const MODES: [&str; 8] = [
-    "UNKNOWN",
-    "SINGLE_NODE_WRITER",
-    "SINGLE_NODE_READER_ONLY",
-    "MULTI_NODE_READER_ONLY",
-    "MULTI_NODE_SINGLE_WRITER",
-    "MULTI_NODE_MULTI_WRITER",
-    "SINGLE_NODE_SINGLE_WRITER",
-    "SINGLE_NODE_MULTI_WRITER",
 ];
 
 // A number of an enumeration by its name, if it has one.
@@ -127,7 +117,7 @@ fn entries(alloc: Global, entries: &Items<Entry>, token: &Text) -> Json {
 
 fn capability(alloc: Global, capability: &Capability) -> Json {
     let mode = match capability.mode {
-        Some(mode) => json!(in alloc; {"mode": named(alloc, &MODES, mode)?})?,
+        Some(mode) => json!(in alloc; {"mode": named(alloc, &MODE_NAMES, mode)?})?,
         None => Value::Null,
     };
     match &capability.access {

@@ -1,27 +1,15 @@
 //! The parts of a volume, as people read them.
 
-use command_line::{or_dash, put_next, put_word, size_text, word};
+use command_line::{MODE_NAMES, or_dash, put_next, put_word, size_text, word};
 use csi_keeper::{CapKey, Kind, Volume};
 use csi_types::{Items, Map, Text};
 use std::alloc::{AllocError, Global};
 
-// The access modes of the specification by their numbers ('CreateVolume', `VolumeCapability.AccessMode.Mode`).
-const MODES: [&str; 8] = [
-    "UNKNOWN",
-    "SINGLE_NODE_WRITER",
-    "SINGLE_NODE_READER_ONLY",
-    "MULTI_NODE_READER_ONLY",
-    "MULTI_NODE_SINGLE_WRITER",
-    "MULTI_NODE_MULTI_WRITER",
-    "SINGLE_NODE_SINGLE_WRITER",
-    "SINGLE_NODE_MULTI_WRITER",
-];
-
 /// The name of an access mode.
 pub(crate) fn mode_name(mode: u8) -> &'static str {
-    match MODES.get(usize::from(mode)) {
+    match MODE_NAMES.get(usize::from(mode)) {
         Some(name) => name,
-        None => MODES[0],
+        None => MODE_NAMES[0],
     }
 }
 
