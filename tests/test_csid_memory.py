@@ -8,6 +8,7 @@ from tests.support.frames import ANSWERED, ASKED, BLOCK, NO_MEMORY, PROBE, VOL_1
 from tests.support.processes import (
     SECONDS,
     little_memory,
+    memory_of,
     memory_of_24_mib,
     run,
     some_memory,
@@ -16,7 +17,7 @@ from tests.support.processes import (
 )
 from tests.support.rows import CsidTest
 from tests.support.server import NO_COPY, Server
-from tests.support.tables import BLOCK_CAPS, LARGE_CAPS, MANY, MIB, NEXT_9, Tables, next_is, volume
+from tests.support.tables import BLOCK_CAPS, IO_FAILED, LARGE_CAPS, MANY, MIB, NEXT_9, Tables, next_is, volume
 
 
 SHORT_ENTRIES = "x'1a060a001a020801" + "%s'"
@@ -79,6 +80,18 @@ class MemoryTest(CsidTest):
             tables.run(frame(PROBE), preexec_fn=little_memory),
             (b"", NO_MEMORY, 6),
         )
+
+    def test_copies(self):
+        """Where memory has no room for a copy of tables, no failed disk is named, whatever the copy lacks."""
+        tables = Tables(self.csid, self.folder).new()
+        tables.script(volume(1, "printf('%.*c', 200000, 'x')") + next_is(2))
+        for option in "--check-tables", "--list-tables":
+            lines = [
+                run([self.csid, option, tables.path], preexec_fn=memory_of(quarters << 18))[1]
+                for quarters in range(4, 20)
+            ]
+            self.row(option + ": a failed disk", [line for line in lines if IO_FAILED in line], [])
+            self.row(option + ": want of memory", NO_MEMORY in lines, True)
 
     def test_reserve(self):
         """Volumes do not outgrow the memory of the next opening: creates are refused first, and deletes are

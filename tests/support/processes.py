@@ -98,6 +98,11 @@ def memory_of_24_mib():
     resource.setrlimit(resource.RLIMIT_DATA, (24 << 20, 24 << 20))
 
 
+def memory_of(size):
+    """What gives a process so many bytes of memory."""
+    return lambda: resource.setrlimit(resource.RLIMIT_DATA, (size, size))
+
+
 def statuses(peer, count):
     """The statuses of so many replies of a connection; of fewer where it ends."""
     held, came = b"", []

@@ -9,11 +9,9 @@ ghost use Rattle.csid.specs.Statuses.{IsOrNoMemory};
 use crate::console::Console;
 use crate::content::read_content;
 use crate::failure::Failure;
-use crate::memory::{files_of, open};
+use crate::memory::{files_of, memory_failure, open};
 use crate::peer::Leadership;
-use crate::tables::{
-    adoption_failure, database_failure, keeper_over, report_content, store_failure,
-};
+use crate::tables::{adoption_failure, keeper_over, report_content, store_failure};
 use csi_adoption::{AdoptFault, Foreign};
 use csi_change_store::laws::gives_rows;
 use csi_change_store::{
@@ -179,7 +177,7 @@ fn pages_failure(alloc: Global, path: &str, fault: &ReadFault) -> Failure
         ReadFault::Unanswered(received) => received_failure(alloc, path, received),
         ReadFault::Rows(fault) => rows_failure(alloc, path, fault),
         ReadFault::Endless => Failure::of_tables(alloc, path, &"its pages never end"),
-        ReadFault::Database(error) => database_failure(alloc, path, error),
+        ReadFault::Database(error) => memory_failure(alloc, path, error),
     }
 }
 

@@ -9,7 +9,7 @@ use crate::content::{Content, read_content};
 use crate::copy::open_tables_copy;
 use crate::explain::explain;
 use crate::failure::Failure;
-use crate::tables::{adoption_failure, database_failure};
+use crate::memory::{memory_adoption_failure, memory_failure};
 use csi_adoption::{AdoptError, adopt};
 use csi_config::Config;
 use sqlite::{Alter, Connection};
@@ -51,8 +51,8 @@ pub(crate) fn check_config(console: &Console<'_>, path: &str) -> Result<(), Fail
     tell(console.rt, &Summary { config: &config })
 }
 
-// What tables have that are adopted. It is read first, since an adoption makes them ones of the latest
-// format. Of a row for which they are refused more is said.
+// What tables in memory have that are adopted. It is read first, since an adoption makes them ones of the
+// latest format. Of a row for which they are refused more is said.
 fn adopted<S: Alter + Drop>(
     console: &Console<'_>,
     path: &str,
@@ -65,11 +65,11 @@ fn adopted<S: Alter + Drop>(
     let content = read_content(&mut conn);
     if let Err(AdoptError { fault, mut conn }) = adopt(alloc, conn, config) {
         explain(console, path, &mut conn, config, &fault);
-        return Err(adoption_failure(alloc, path, &fault));
+        return Err(memory_adoption_failure(alloc, path, &fault));
     }
     match content {
         Ok(content) => Ok(content),
-        Err(error) => Err(database_failure(alloc, path, &error)),
+        Err(error) => Err(memory_failure(alloc, path, &error)),
     }
 }
 

@@ -7,8 +7,9 @@ ghost use Rattle.csi_sql.specs.Tables.{no_schema};
 ghost use Rattle.csid.specs.Statuses.{IsOrNoMemory};
 
 use crate::failure::Failure;
-use crate::tables::database_failure;
-use sqlite::{Connection, FileStore, Files, Options};
+use crate::tables::{adoption_failure, database_failure};
+use csi_adoption::AdoptFault;
+use sqlite::{Connection, Error, ErrorCode, FileStore, Files, Options};
 use sqlite_disk::{Disk, Memory};
 use std::alloc::Global;
 
@@ -47,6 +48,32 @@ pub(crate) fn files_of(alloc: Global, wal: &[u8], db: &[u8]) -> Result<Files<Mem
     })
 }
 
+// Whether memory was refused to a database in memory. SQLite reports that of a file as a failure of its disk,
+// and a file in memory has no other one.
+fn is_no_memory(error: &Error) -> bool {
+    matches!(error, Error::SqliteFailure(ErrorCode::SystemIoFailure))
+}
+
+/// Why a database in memory cannot be opened or read.
+pub(crate) fn memory_failure(alloc: Global, path: &str, error: &Error) -> Failure
+    ensures { IsOrNoMemory 4 result }
+{
+    if is_no_memory(error) {
+        return Failure::NoMemory;
+    }
+    database_failure(alloc, path, error)
+}
+
+/// Why the tables of a database in memory were not adopted.
+pub(crate) fn memory_adoption_failure(alloc: Global, path: &str, fault: &AdoptFault) -> Failure
+    ensures { IsOrNoMemory 4 result }
+{
+    match fault {
+        AdoptFault::Store(error) if is_no_memory(error) => Failure::NoMemory,
+        _ => adoption_failure(alloc, path, fault),
+    }
+}
+
 /// A connection to the database that a file and its WAL hold; an empty one, where there is nothing in them.
 /// An error names the path.
 ///
@@ -66,6 +93,6 @@ pub(crate) fn open(
 {
     match Connection::open_files(alloc, files, Options::new(SEED)) {
         Ok(conn) => Ok(conn),
-        Err((error, _)) => Err(database_failure(alloc, path, &error)),
+        Err((error, _)) => Err(memory_failure(alloc, path, &error)),
     }
 }
