@@ -242,16 +242,35 @@ class TablesTest(CsidTest):
         for name, path in [
             ("a folder", self.folder),
             ("a missing folder", missing),
-            ("a name of sqlite's for memory", ":memory:"),
-            ("a name of sqlite's for a file", "file:x.db"),
             ("a device", "/dev/null"),
         ]:
             self.row(
                 "" + name,
-                run([self.csid, "pipe", "--tables", path], input=frame(PROBE), cwd=self.folder),
+                run([self.csid, "pipe", "--tables", path], input=frame(PROBE)),
                 (b"", "csid: %s: %s\n" % (path, NO_FILE), 4),
             )
+        for name, path in [
+            ("a name of sqlite's for memory", ":memory:"),
+            ("a name of sqlite's for a file", "file:x.db"),
+        ]:
+            for words in (
+                ["pipe", "--tables", path],
+                ["pipe", "--tables", path, "--existing"],
+                ["serve", "--socket", "a.sock", "--tables", path],
+                ["--check-tables", path],
+                ["--list-tables", path],
+            ):
+                self.row(
+                    "%s: %s" % (name, words),
+                    run([self.csid] + words, input=frame(PROBE), cwd=self.folder),
+                    (b"", "csid: %s: csid needs the path of a file, and this is none for SQLite\n" % path, 4),
+                )
         self.row("none of them is made", sorted(os.listdir(self.folder)), ["volumes.db", "volumes.db-wal"])
+        self.row(
+            "a path to a file of such a name",
+            run([self.csid, "pipe", "--tables", "./:memory:"], input=frame(PROBE), cwd=self.folder),
+            (READY, "", 0),
+        )
         tables.new().script(A)
         os.symlink("volumes.db", os.path.join(self.folder, "link.db"))
         self.row(

@@ -7,7 +7,7 @@ ghost use Rattle.csid.specs.Statuses.{IsOrNoMemory};
 use crate::existing::FileFault;
 use crate::failure::Failure;
 use crate::memory::{files_of, open};
-use crate::tables::{check_existing, database_failure};
+use crate::tables::{check_existing, check_path, database_failure};
 use sqlite::{Connection, Error, ErrorCode, FileStore, Files};
 use sqlite_disk::Memory;
 use std::alloc::Global;
@@ -103,8 +103,8 @@ fn open_copy(rt: &HostRuntime, path: &str) -> Result<Connection<FileStore<Memory
 ///
 /// # Errors
 ///
-/// Where the path is empty; where there is no file, it cannot be read, is written all the time, is no database
-/// or has no tables; where a journal is next to it; or where memory is refused.
+/// Where the path is none of a file; where there is no file, it cannot be read, is written all the time, is no
+/// database or has no tables; where a journal is next to it; or where memory is refused.
 pub(crate) fn open_tables_copy(
     rt: &HostRuntime,
     path: &str,
@@ -112,9 +112,7 @@ pub(crate) fn open_tables_copy(
     ensures idle { IfOk result (λ conn. conn.in_transaction ≡ false) }
     ensures failure { IfErr result (λ failure. IsOrNoMemory 4 failure) }
 {
-    if path.is_empty() {
-        return Err(Failure::NoTablesPath);
-    }
+    check_path(rt, path)?;
     check_existing(rt, path)?;
     let conn = open_copy(rt, path)?;
     if conn.schema().tables.is_empty() {

@@ -19,6 +19,9 @@ const LEAF: u8 = 13;
 /// Why a file is not taken for tables, and none are made in it.
 #[derive(Clone, Copy, Debug, Error)]
 pub(crate) enum FileFault {
+    /// SQLite takes its path for something else.
+    #[error("csid needs the path of a file, and this is none for SQLite")]
+    NoPath,
     /// There is no file.
     #[error("there is no such file, and none is made")]
     Missing,

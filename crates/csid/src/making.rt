@@ -6,16 +6,11 @@ use std::os::unix::fs::{OpenOptionsExt, PermissionsExt};
 // Its owner alone may read and write a file that is made.
 const OWNER: u32 = 0o600;
 
-// Whether SQLite takes a path for the name of something else than a file, which the opening refuses.
-fn names_no_file(path: &str) -> bool {
-    path == ":memory:" || path.starts_with("file:")
-}
-
 /// Makes a file that is missing, for its owner alone, whatever the process's mask is. What cannot be made so
 /// is left to the opening, which says why.
 /// The kit's library would make a database with 0644.
 pub(crate) fn make_private(rt: &HostRuntime, path: &str) {
-    if names_no_file(path) || !matches!(fs::exists(rt, path), Ok(false)) {
+    if !matches!(fs::exists(rt, path), Ok(false)) {
         return;
     }
     let made = OpenOptions::new()

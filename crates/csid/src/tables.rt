@@ -46,6 +46,28 @@ fn existing_failure(alloc: Global, path: &str, fault: Option<FileFault>) -> Resu
     }
 }
 
+// Whether SQLite takes a path for the name of something else than a file.
+fn names_no_file(path: &str) -> bool {
+    path == ":memory:" || path.starts_with("file:")
+}
+
+/// Looks whether a path may be that of a file of tables.
+///
+/// # Errors
+///
+/// Where it is empty, SQLite takes it for something else, or memory is refused.
+pub(crate) fn check_path(rt: &HostRuntime, path: &str) -> Result<(), Failure>
+    ensures { IfErr result (λ failure. IsOrNoMemory 4 failure) }
+{
+    if path.is_empty() {
+        return Err(Failure::NoTablesPath);
+    }
+    if names_no_file(path) {
+        return Err(Failure::of_tables(rt.alloc(), path, &FileFault::NoPath));
+    }
+    Ok(())
+}
+
 /// Looks whether a file that must have tables has some, as far as that is seen without an opening. Nothing is
 /// changed.
 ///
@@ -74,13 +96,11 @@ pub(crate) fn check_wal(rt: &HostRuntime, path: &str) -> Result<(), Failure>
 ///
 /// # Errors
 ///
-/// Where it has no path, has no tables and must have some, or memory is refused.
+/// Where its path is none, it has no tables and must have some, or memory is refused.
 pub(crate) fn prepare(rt: &HostRuntime, path: &str, is_existing: bool) -> Result<(), Failure>
     ensures { IfErr result (λ failure. IsOrNoMemory 4 failure) }
 {
-    if path.is_empty() {
-        return Err(Failure::NoTablesPath);
-    }
+    check_path(rt, path)?;
     if is_existing {
         return check_existing(rt, path);
     }
