@@ -197,6 +197,10 @@ class BuildsTest(RowTest):
             (status, out, error, calls),
             (2, "", "build: crates.txt has no crate none\n", []),
         )
+        status, out, error, calls = self.place.run("./build", "--help")
+        self.row("its usage", (status, out.split()[:2], error, calls), (0, ["usage:", "./build"], "", []))
+        status, out, error, calls = self.place.run("./build", "--quick")
+        self.row("an option", (status, out, error.split()[:2], calls), (2, "", ["usage:", "./build"], []))
         status, out, error, calls = self.place.run("./build")
         self.row(
             "without a crate the gate proves all, and its progress is shown",
