@@ -1,6 +1,7 @@
 """bench/plots: the plots of docs/PERFORMANCE.md are those of its tables, and a missing table is named."""
 
 import os
+import re
 import shutil
 import subprocess
 
@@ -43,6 +44,19 @@ class PlotsTest(RowTest):
         )
         return done.returncode, done.stdout, done.stderr
 
+    def cell(self, begin, number):
+        """A cell of the first row of the page that begins so: 1 is the first one."""
+        line = next(line for line in self.page.splitlines() if line.startswith(begin))
+        return line.split("|")[number].strip()
+
+    def other(self, begin, number):
+        """That row up to the cell, and the same with another first number in the cell."""
+        cell = self.cell(begin, number)
+        changed = re.sub(r"\d(?![\d,.])", lambda digit: str((int(digit[0]) + 1) % 10), cell, count=1)
+        line = next(line for line in self.page.splitlines() if line.startswith(begin))
+        old = line[: line.index("| %s |" % cell) + len(cell) + 4]
+        return old, old.replace("| %s |" % cell, "| %s |" % changed)
+
     def after(self, old, new):
         """What --check says of the page with a text replaced that it has."""
         self.assertIn(old, self.page)
@@ -53,12 +67,12 @@ class PlotsTest(RowTest):
     def test_changed_numbers_are_reported(self):
         """A plot is out of date where a number or a label of its own table is another one."""
         rows = [
-            ("a time of a create", "2.7; 2.6; 3.0 us", "2.7; 2.6; 3.1 us", ["creates"]),
-            ("a time of a start", "4; 44; 487 ms", "4; 44; 488 ms", ["start"]),
-            ("calls a second", "4,336 / 4,683: 0.93", "4,337 / 4,683: 0.93", ["front"]),
+            ("a time of a create", *self.other("| a create, from none to 1,000; 10,000;", 2), ["creates"]),
+            ("a time of a start", *self.other("| a start over 1,000;", 3), ["start"]),
+            ("calls a second", *self.other("| create and delete in turn, on a disk |", 2), ["front"]),
             ("a label", "| probe of 64 KiB |", "| probe of 65 KiB |", ["front"]),
-            ("a hostile message", "2,042 keys | 114 |", "2,042 keys | 115 |", ["hostile"]),
-            ("a number that no plot has", "| a probe | 0.33 us |", "| a probe | 0.34 us |", []),
+            ("a hostile message", *self.other("| 84 topologies of 2,042 keys |", 2), ["hostile"]),
+            ("a number that no plot has", *self.other("| a probe |", 2), []),
             ("a text around a table", "# Performance", "# How fast it is", []),
         ]
         for name, old, new, plots in rows:
@@ -72,9 +86,10 @@ class PlotsTest(RowTest):
         self.row("a section", self.after("## Hostile messages", "## Messages"), (1, "", hostile))
         start = NO_ROW % ("start", "a start over ")
         self.row("a row", self.after("| a start over 1,000;", "| an end over 1,000;"), (1, "", start))
-        status, _, said = self.after("9; 96; 1,084 ms", "quick")
+        times = self.cell("| a start over 1,000;", 2)
+        status, _, said = self.after(times, "quick")
         self.row("numbers", (status, said.count("\n"), "'quick'" in said), (1, 1, True))
-        status, _, said = self.after("9; 96; 1,084 ms", "9; 96 ms")
+        status, _, said = self.after(times, "; ".join(times.split("; ")[:2]) + " ms")
         self.row("a number", (status, said.count("\n"), "'a start over ..'" in said), (1, 1, True))
         self.row("it draws none then", self.checked()[0], 1)
 
