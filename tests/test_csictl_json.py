@@ -1,6 +1,7 @@
 """Replies as JSON, and walks over all pages."""
 
 from tests.support.csictl import CONTROLLER, CREATE, Line, READY, VOL_1, call, entry, ok, refusal, run, text
+from tests.support.frames import MODE_NAMES
 from tests.support.peers import CLOSED, Pages, Peer
 from tests.support.rows import CsictlTest
 from tests.test_csictl_show import PAGE
@@ -34,16 +35,7 @@ CALLS = (
     "SINGLE_NODE_MULTI_WRITER",
     "MODIFY_VOLUME",
 )
-MODES = (
-    "UNKNOWN",
-    "SINGLE_NODE_WRITER",
-    "SINGLE_NODE_READER_ONLY",
-    "MULTI_NODE_READER_ONLY",
-    "MULTI_NODE_SINGLE_WRITER",
-    "MULTI_NODE_MULTI_WRITER",
-    "SINGLE_NODE_SINGLE_WRITER",
-    "SINGLE_NODE_MULTI_WRITER",
-)
+MODES = ("UNKNOWN", *MODE_NAMES)
 
 
 def each(names, form):

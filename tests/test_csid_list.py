@@ -7,7 +7,7 @@ import subprocess
 import threading
 
 from tests.support.configs import sample
-from tests.support.frames import BLOCK, NO_MEMORY, WRITE_FAILED, controller
+from tests.support.frames import BLOCK, MODE_NAMES, NO_MEMORY, WRITE_FAILED, controller
 from tests.support.processes import SECONDS, TOP, memory_of_20_mib, run, small_memory, write
 from tests.support.rows import CsidTest
 from tests.support.tables import (
@@ -115,17 +115,8 @@ DOCUMENT = {
     ],
 }
 
-# A mount of a file system with a space in its name, and of each mode that has a number, a block device.
+# A mount of a file system with a space in its name.
 ODD = "1a0b 1205 0a03 612062 1a020801".replace(" ", "")
-MODES = [
-    "SINGLE_NODE_WRITER",
-    "SINGLE_NODE_READER_ONLY",
-    "MULTI_NODE_READER_ONLY",
-    "MULTI_NODE_SINGLE_WRITER",
-    "MULTI_NODE_MULTI_WRITER",
-    "SINGLE_NODE_SINGLE_WRITER",
-    "SINGLE_NODE_MULTI_WRITER",
-]
 
 # Each text that a row has, with a space in it: of a name, a pool, a file system, a key, a value and a node.
 SPACES = (
@@ -191,8 +182,9 @@ class ListTest(CsidTest):
         tables.script(volume(1, caps=cell(caps)) + next_is(2))
         out, line, status = self.listed(tables)
         self.assertEqual((line, status), ("", 0))
-        self.row("in columns", out.decode().splitlines()[1].split()[5], ",".join("block:" + mode for mode in MODES))
-        wanted = [{"access": "block", "mode": mode} for mode in MODES]
+        wanted = ",".join("block:" + mode for mode in MODE_NAMES)
+        self.row("in columns", out.decode().splitlines()[1].split()[5], wanted)
+        wanted = [{"access": "block", "mode": mode} for mode in MODE_NAMES]
         self.row("in JSON", self.document(tables)["volumes"][0]["capabilities"], wanted)
 
     def test_greatest_numbers(self):

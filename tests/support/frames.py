@@ -132,3 +132,15 @@ def listed(number, *nodes):
 
 
 ONE = reply(bytes.fromhex("0a28") + VOLUME_1 + bytes.fromhex("1200"))
+
+# The names of access modes, by their numbers from 1 (CSI specification, 'CreateVolume',
+# VolumeCapability.AccessMode.Mode).
+MODE_NAMES = (
+    "SINGLE_NODE_WRITER",
+    "SINGLE_NODE_READER_ONLY",
+    "MULTI_NODE_READER_ONLY",
+    "MULTI_NODE_SINGLE_WRITER",
+    "MULTI_NODE_MULTI_WRITER",
+    "SINGLE_NODE_SINGLE_WRITER",
+    "SINGLE_NODE_MULTI_WRITER",
+)
